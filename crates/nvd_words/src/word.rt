@@ -1,0 +1,36 @@
+ghost use Rattle.std.specs.Prelude.{◌≡◌, ◌+◌, ◌≤◌, length};
+ghost use Rattle.std.specs.Int.{w16, w32, w64};
+ghost use Rattle.nvd_words.specs.Bytes.{number_at};
+
+/// The number of the eight bytes at a place, low byte first.
+#[tactic(auto, unfolding(crate::specs::Bytes::number_at))]
+pub fn word_at(bytes: &[u8], at: usize) -> u64
+    requires { at + 8 ≤ length bytes.now }
+    ensures { result ≡ number_at w64 bytes.now at }
+{
+    let mut word = [0; 8];
+    word.copy_from_slice(&bytes[at..at + 8]);
+    u64::from_le_bytes(word)
+}
+
+/// The number of the four bytes at a place, low byte first.
+#[tactic(auto, unfolding(crate::specs::Bytes::number_at))]
+pub fn u32_at(bytes: &[u8], at: usize) -> u32
+    requires { at + 4 ≤ length bytes.now }
+    ensures { result ≡ number_at w32 bytes.now at }
+{
+    let mut half = [0; 4];
+    half.copy_from_slice(&bytes[at..at + 4]);
+    u32::from_le_bytes(half)
+}
+
+/// The number of the two bytes at a place, low byte first.
+#[tactic(auto, unfolding(crate::specs::Bytes::number_at))]
+pub fn u16_at(bytes: &[u8], at: usize) -> u16
+    requires { at + 2 ≤ length bytes.now }
+    ensures { result ≡ number_at w16 bytes.now at }
+{
+    let mut quarter = [0; 2];
+    quarter.copy_from_slice(&bytes[at..at + 2]);
+    u16::from_le_bytes(quarter)
+}
