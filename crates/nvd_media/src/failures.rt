@@ -1,0 +1,45 @@
+ghost use Rattle.std.specs.Prelude.{◌≡◌, ◌≤◌};
+ghost use Rattle.nvd_media.specs.Causes.{HasCause, Rose};
+
+use crate::traits::Failed;
+
+/// Which calls of a form in memory fail, by their numbers from 0, and how many did.
+#[derive(Drop)]
+pub struct Failures {
+    failing: Vec<u64>,
+    calls: u64,
+    pub faults: u64,
+}
+
+impl Failures {
+    pub fn new(failing: Vec<u64>) -> Failures
+        ensures { result.faults ≡ 0 }
+    {
+        Failures {
+            failing,
+            calls: 0,
+            faults: 0,
+        }
+    }
+
+    /// Counts a call, and answers whether it goes on.
+    pub fn next_call(&mut self) -> Result<(), Failed>
+        ensures cause { HasCause self.old.faults self.new.faults result }
+    {
+        let call = self.calls;
+        self.calls = self.calls.saturating_add(1);
+        if self.failing.contains(&call) {
+            return Err(self.fail());
+        }
+        Ok(())
+    }
+
+    /// Counts a failure.
+    pub fn fail(&mut self) -> Failed
+        ensures later { self.old.faults ≤ self.new.faults }
+        ensures rose { Rose self.old.faults self.new.faults }
+    {
+        self.faults = self.faults.saturating_add(1);
+        Failed
+    }
+}
