@@ -1,112 +1,61 @@
-ghost use Rattle.std.specs.Prelude.{◌≡◌, ◌+◌, ◌≤◌, length};
-ghost use Rattle.label_codec.specs.Label.{label_of, label_reading, has_checksum, bytes_at};
-ghost use Rattle.label_codec.specs.Sizes.{size_fault_of};
-
 use crate::name::Name;
-use nvd_words::{fletcher64_without, guid_read, u32_at, u16_at, word_at};
 use uuid::Uuid;
 
-/// The label of one module's part of a namespace.
+/// The label of one module's part of a namespace (UEFI 2.10, section 13.19, EFI_NVDIMM_LABEL).
 #[derive(Clone, Copy, Debug)]
 pub struct Label {
+    /// The namespace: Uuid, 16 bytes at 0, in the order of their text (RFC 9562).
     pub uuid: Uuid,
+    /// The namespace's name: Name, 64 bytes at 16, the bytes before the first zero.
     pub name: Name,
+    /// Flags, 4 bytes at 80: ROLABEL 1, LOCAL 2, UPDATING 8. All bits are kept.
     pub flags: u32,
+    /// How many labels the namespace's set has: NLabel, 2 bytes at 84.
     pub count: u16,
+    /// Which of them this is, from 0: Position, 2 bytes at 86.
     pub position: u16,
+    /// The interleave set's cookie: SetCookie, 8 bytes at 88.
     pub cookie: u64,
+    /// The sector size in bytes: LbaSize, 8 bytes at 96.
     pub lba: u64,
+    /// The first device address of the part on this module: Dpa, 8 bytes at 104.
     pub dpa: u64,
+    /// The bytes of the part on this module: RawSize, 8 bytes at 112.
     pub raw: u64,
+    /// The number of the slot that the label is in: Slot, 4 bytes at 120.
     pub slot: u32,
+    /// Alignment, 1 byte at 124, kept and not used.
     pub align: u8,
+    /// What kind of range it is: TypeGuid, 16 bytes at 128, in GUID order.
     pub kind: Uuid,
+    /// How sectors lie in the range: AddressAbstractionGuid, 16 bytes at 144, in GUID order.
     pub abstraction: Uuid,
+    /// SPALocationCookie, 8 bytes at 160: kept and not checked (this project's rule).
     pub spa_cookie: u64,
 }
 
 /// Which size of a label is odd.
 #[derive(Clone, Copy, Debug, PartialEq, Eq)]
 pub enum SizeField {
+    /// Dpa isn't a multiple of 4,096.
     Dpa,
+    /// Dpa is one, but RawSize isn't, or is 0, or Dpa and RawSize together pass 2^63.
     RawSize,
 }
 
-/// Why bytes are no valid label.
+/// Why a slot has no valid label: the first check that fails, in this order.
 #[derive(Clone, Copy, Debug, PartialEq, Eq)]
 pub enum LabelFault {
+    /// Checksum isn't that of the 256 bytes.
     Checksum,
-    Slot { said: u32 },
-    OddSize { field: SizeField },
-}
-
-/// Which size is odd, if one is.
-#[tactic(auto, unfolding(crate::specs::Sizes::size_fault_of))]
-pub fn has_sizes(dpa: u64, raw: u64) -> Option<SizeField>
-    ensures { result ≡ size_fault_of dpa raw }
-{
-    if dpa % 4096 != 0 {
-        return Some(SizeField::Dpa);
-    }
-    if raw % 4096 != 0 || raw == 0 || u128::from(dpa) + u128::from(raw) > 1 << 63 {
-        return Some(SizeField::RawSize);
-    }
-    None
-}
-
-#[tactic(auto, unfolding(crate::specs::Label::has_checksum))]
-fn has_checksum(bytes: &[u8; 256]) -> bool
-    ensures { result ≡ has_checksum bytes.now }
-{
-    word_at(bytes, 248) == fletcher64_without(bytes, 248)
-}
-
-/// Sixteen bytes at a place.
-fn sixteen_at(bytes: &[u8; 256], at: usize) -> [u8; 16]
-    requires { at + 16 ≤ 256 }
-    ensures { result ≡ bytes_at bytes.now at 16 }
-{
-    let mut sixteen = [0; 16];
-    sixteen.copy_from_slice(&bytes[at..at + 16]);
-    sixteen
-}
-
-#[tactic(auto, unfolding(crate::specs::Label::label_of))]
-fn fields_of(bytes: &[u8; 256]) -> Label
-    ensures { result ≡ label_of bytes.now }
-{
-    Label {
-        uuid: Uuid::from_bytes(sixteen_at(bytes, 0)),
-        name: Name::read(bytes),
-        flags: u32_at(bytes, 80),
-        count: u16_at(bytes, 84),
-        position: u16_at(bytes, 86),
-        cookie: word_at(bytes, 88),
-        lba: word_at(bytes, 96),
-        dpa: word_at(bytes, 104),
-        raw: word_at(bytes, 112),
-        slot: u32_at(bytes, 120),
-        align: bytes[124],
-        kind: guid_read(&sixteen_at(bytes, 128)),
-        abstraction: guid_read(&sixteen_at(bytes, 144)),
-        spa_cookie: word_at(bytes, 160),
-    }
-}
-
-/// Reads the label in a slot.
-#[tactic(auto, using(nvd_words::proofs::Checks::faults))]
-pub fn read_label(bytes: &[u8; 256], slot: u32) -> Result<Label, LabelFault>
-    ensures { result ≡ label_reading bytes.now slot }
-{
-    if !has_checksum(bytes) {
-        return Err(LabelFault::Checksum);
-    }
-    let said = u32_at(bytes, 120);
-    if said != slot {
-        return Err(LabelFault::Slot { said });
-    }
-    if let Some(field) = has_sizes(word_at(bytes, 104), word_at(bytes, 112)) {
-        return Err(LabelFault::OddSize { field });
-    }
-    Ok(fields_of(bytes))
+    /// The Slot field isn't the slot's number.
+    Slot {
+        /// Slot, as it stands.
+        said: u32,
+    },
+    /// Dpa or RawSize is one that no label may have.
+    OddSize {
+        /// Which of the two.
+        field: SizeField,
+    },
 }

@@ -1,0 +1,5 @@
+use Rattle.label_index.proofs.Grammar.{grammar_is_reading}
+use Rattle.label_index.proofs.law.grammar_is_reading.Goals as goal
+
+pub returns : goal.returns
+returns c = grammar_is_reading
