@@ -1,4 +1,4 @@
-ghost use Rattle.std.specs.Prelude.{◌≡◌, ◌≤◌};
+ghost use Rattle.std.specs.Prelude.{◌≡◌, ◌≤◌, ◌↔◌, ◌+◌, ◌-◌, ◌^◌, IsErr, Contains, min};
 ghost use Rattle.nvd_media.specs.Causes.{HasCause, Rose};
 
 use crate::traits::Failed;
@@ -13,7 +13,7 @@ pub struct Failures {
 
 impl Failures {
     pub fn new(failing: Vec<u64>) -> Failures
-        ensures { result.faults ≡ 0 }
+        ensures { result ≡ record { failing = failing; calls = 0; faults = 0 } }
     {
         Failures {
             failing,
@@ -25,6 +25,9 @@ impl Failures {
     /// Counts a call, and answers whether it goes on.
     pub fn next_call(&mut self) -> Result<(), Failed>
         ensures cause { HasCause self.old.faults self.new.faults result }
+        ensures chosen { IsErr result ↔ Contains self.old.failing.items self.old.calls }
+        ensures counted { self.new.calls ≡ min (self.old.calls + 1) (2 ^ 64 - 1) }
+        ensures same { self.new.failing ≡ self.old.failing }
     {
         let call = self.calls;
         self.calls = self.calls.saturating_add(1);
@@ -38,6 +41,8 @@ impl Failures {
     pub fn fail(&mut self) -> Failed
         ensures later { self.old.faults ≤ self.new.faults }
         ensures rose { Rose self.old.faults self.new.faults }
+        ensures calls { self.new.calls ≡ self.old.calls }
+        ensures same { self.new.failing ≡ self.old.failing }
     {
         self.faults = self.faults.saturating_add(1);
         Failed
