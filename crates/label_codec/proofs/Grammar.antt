@@ -1,18 +1,16 @@
 -- A slot is read as a label exactly where its bytes stand for it by the grammar.
-use Rattle.std.proofs.Common.{◌≡◌, ◌≢◌, ℕ, ◌+◌, ◌%◌, ◌^◌, ◌<◌, ◌≤◌, Bool, true, false, eqb, ltb, cond, not, List, [], ◌∷◌, get_or, Option, Some, None, Result, Ok, refl, sym, ap, ◌∙◌, arith, inl, inr}
-use Rattle.std.specs.Prelude.{◌||◌, ◌↔◌}
-use Rattle.std.specs.Int.{w16, w32, w64}
+use Rattle.std.proofs.Common.{◌≡◌, ℕ, ◌+◌, ◌%◌, ◌^◌, ◌≤◌, Bool, true, false, eqb, ltb, cond, not, List, [], ◌∷◌, Option, Some, None, Ok, refl, sym, ap, ◌∙◌, arith, inl, inr}
+use Rattle.std.specs.Prelude.{◌||◌}
+use Rattle.std.specs.Int.{w32, w64}
 use Rattle.std.specs.Option.{option_map}
 use Rattle.std.proofs.lemmas.Bool.{eq-eqb, eqb-true, eqb-false, ne_eqb, ltb-false, le-ltb, not-false, cases_Bool}
 use Rattle.nvd_words.specs.Bytes.{number_at}
 use Rattle.nvd_words.specs.Checks.{first_fault, fault_if, value_unless}
 use Rattle.nvd_words.specs.Fletcher.{fletcher64_of, without_eight}
 use Rattle.label_codec.specs.declared.label.Label.{Label}
-use Rattle.label_codec.specs.declared.label.LabelFault.{LabelFault}
 use Rattle.label_codec.specs.declared.label.LabelFault.TheVariants.{Checksum, Slot, OddSize}
-use Rattle.label_codec.specs.declared.label.SizeField.{SizeField}
 use Rattle.label_codec.specs.Sizes.{size_fault_of}
-use Rattle.label_codec.specs.Label.{label_of, label_reading, has_checksum, bytes_at, name_in}
+use Rattle.label_codec.specs.Label.{label_of, label_reading, has_checksum}
 use Rattle.label_codec.specs.Grammar.{StandsFor, GrammarIsReading}
 
 -- ---- where no fault is found

@@ -1,5 +1,5 @@
 -- What it means that checks in a fixed order were all passed.
-use Rattle.std.proofs.Common.{◌≡◌, Bool, true, false, List, [], ◌∷◌, Result, Ok, refl}
+use Rattle.std.proofs.Common.{◌≡◌, Bool, true, false, List, [], ◌∷◌, Ok, refl}
 use Rattle.nvd_words.specs.Checks.{checked}
 
 -- the first of some checks was passed, and so were the others

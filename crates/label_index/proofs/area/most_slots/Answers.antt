@@ -1,5 +1,4 @@
-use Rattle.std.proofs.Common.{◌≡◌, ◌+◌, ◌-◌, ◌*◌, ◌<◌, ◌≤◌, arith, subst, ap}
-use Rattle.label_index.specs.Area.{greatest, fits_area, index_size_of, slots_of}
+use Rattle.std.proofs.Common.{◌≡◌, ◌+◌, ◌-◌, arith}
 use Rattle.label_index.proofs.Greatest.{slots_end, slots_on}
 use Rattle.label_index.proofs.area.most_slots.Goals as goal
 

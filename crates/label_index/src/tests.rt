@@ -1,0 +1,89 @@
+use super::*;
+
+/// The bytes of a freshly initialised block up to its free slots: side Zero with sequence number 3.
+const ZERO: [u8; 73] = [
+    0x4e, 0x41, 0x4d, 0x45, 0x53, 0x50, 0x41, 0x43, 0x45, 0x5f, 0x49, 0x4e, 0x44, 0x45, 0x58, 0x00,
+    0x00, 0x00, 0x00, 0x01, 0x03, 0x00, 0x00, 0x00, 0x00, 0x00, 0x00, 0x00, 0x00, 0x00, 0x00, 0x00,
+    0x00, 0x01, 0x00, 0x00, 0x00, 0x00, 0x00, 0x00, 0x00, 0x01, 0x00, 0x00, 0x00, 0x00, 0x00, 0x00,
+    0x00, 0x02, 0x00, 0x00, 0x00, 0x00, 0x00, 0x00, 0x02, 0x00, 0x00, 0x00, 0x01, 0x00, 0x02, 0x00,
+    0x33, 0x3a, 0x32, 0xd8, 0xa7, 0x83, 0x93, 0x27, 0x03,
+];
+
+/// The same of side One, with sequence number 2.
+const ONE: [u8; 73] = [
+    0x4e, 0x41, 0x4d, 0x45, 0x53, 0x50, 0x41, 0x43, 0x45, 0x5f, 0x49, 0x4e, 0x44, 0x45, 0x58, 0x00,
+    0x00, 0x00, 0x00, 0x01, 0x02, 0x00, 0x00, 0x00, 0x00, 0x01, 0x00, 0x00, 0x00, 0x00, 0x00, 0x00,
+    0x00, 0x01, 0x00, 0x00, 0x00, 0x00, 0x00, 0x00, 0x00, 0x00, 0x00, 0x00, 0x00, 0x00, 0x00, 0x00,
+    0x00, 0x02, 0x00, 0x00, 0x00, 0x00, 0x00, 0x00, 0x02, 0x00, 0x00, 0x00, 0x01, 0x00, 0x02, 0x00,
+    0x32, 0x3a, 0x32, 0xd8, 0x6c, 0x87, 0x93, 0x27, 0x03,
+];
+
+/// An area of 1,024 bytes with both blocks, as `init` leaves it.
+fn fresh_area() -> [u8; 1024] {
+    let mut area = [0; 1024];
+    area[..73].copy_from_slice(&ZERO);
+    area[256..329].copy_from_slice(&ONE);
+    area
+}
+
+#[test]
+fn a_fresh_area_is_read(rt: HostRuntime) {
+    let area = fresh_area();
+    let zero = read_index(rt.alloc(), &area, Side::Zero);
+    let one = read_index(rt.alloc(), &area, Side::One);
+    assert_eq!(rt; current(&zero, &one), Some(Side::Zero));
+    for (read, side, seq) in [(zero, Side::Zero, 3), (one, Side::One, 2)] {
+        let Ok(block) = read else {
+            assert!(rt; false, "the block isn't read");
+            return;
+        };
+        assert_eq!(rt; block.side, side);
+        assert_eq!(rt; block.seq, seq);
+        assert_eq!(rt; (block.size, block.slots), (256, 2));
+        assert_eq!(rt; block.free.as_slice(), [true, true].as_slice());
+        assert_eq!(rt; block.free.count(), 2);
+    }
+}
+
+/// A byte of a block, what is put there, and what is then found.
+#[test]
+fn damage_is_named(rt: HostRuntime) {
+    let cases = [
+        (0u8, b'n', IndexFault::Signature),
+        (15, 1, IndexFault::Signature),
+        (20, 0, IndexFault::Sequence),
+        (20, 4, IndexFault::Sequence),
+        (60, 2, IndexFault::Version { major: 2, minor: 2 }),
+        (62, 1, IndexFault::Version { major: 1, minor: 1 }),
+        (
+            63,
+            1,
+            IndexFault::Version {
+                major: 1,
+                minor: 258,
+            },
+        ),
+        (31, 1, IndexFault::Offsets),
+        (33, 2, IndexFault::Offsets),
+        (47, 1, IndexFault::Offsets),
+        (49, 3, IndexFault::Offsets),
+        (19, 0, IndexFault::Slots),
+        (56, 0, IndexFault::Slots),
+        (56, 3, IndexFault::Slots),
+        (59, 1, IndexFault::Slots),
+        (16, 1, IndexFault::Checksum),
+        (21, 1, IndexFault::Checksum),
+        (64, 0, IndexFault::Checksum),
+        (72, 1, IndexFault::Checksum),
+        (255, 1, IndexFault::Checksum),
+    ];
+    for (at, byte, fault) in cases {
+        let mut area = fresh_area();
+        area[usize::from(at)] = byte;
+        area[256 + usize::from(at)] = byte;
+        for side in [Side::Zero, Side::One] {
+            let found = read_index(rt.alloc(), &area, side).err();
+            assert_eq!(rt; found, Some(fault), "byte {at}");
+        }
+    }
+}
