@@ -1,0 +1,6 @@
+pub mod Digits
+pub mod Whole
+pub mod Ending
+pub mod Causes
+pub mod Utf8
+pub mod Faults

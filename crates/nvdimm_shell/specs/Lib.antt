@@ -1,0 +1,8 @@
+pub mod Numbers
+pub mod Words
+pub mod Outcome
+pub mod Texts
+pub mod Found
+pub mod Labels
+pub mod Run
+pub mod Laws

@@ -1,0 +1,60 @@
+-- What a run does, seen from outside.
+use Rattle.std.specs.Prelude.{◌≡◌, ◌⊎◌, ℕ, Bool, true, false, IsTrue, IsSome, List, ◌++◌, Option, Some, None, MatchOption, codes, take}
+use Rattle.std.specs.Io.KnownBytes.{Keeps, Appends}
+use Rattle.nvd_media.specs.Images.{Images, IsSameSet, Becomes, IsUnfinished}
+use Rattle.nvdimm_shell.specs.declared.status.Status.{Status}
+use Rattle.nvdimm_shell.specs.declared.status.Status.TheVariants as status
+use Rattle.nvdimm_shell.specs.declared.words.Command.{Command}
+use Rattle.nvdimm_shell.specs.declared.words.Command.TheVariants.{Labels}
+use Rattle.nvdimm_shell.specs.Words.{command_of}
+use Rattle.nvdimm_shell.specs.Outcome.{Outcome, usage, lf, status_of}
+use Rattle.nvdimm_shell.specs.Labels.{labels_outcome}
+
+-- ---- a case for each command
+
+-- what a command may come to, for images and a script
+abbrev pub Comes : Command → Images → List ℕ → Outcome → Type 0
+Comes (Labels m) set script outcome = outcome ≡ labels_outcome m set
+
+-- whether a command reads the script
+abbrev pub reads_script : Command → Bool
+reads_script (Labels m) = false
+
+-- ---- once for all commands
+
+-- a command comes to this, whatever images and script are told
+abbrev pub ComesTold : Command → Option Images → Option (List ℕ) → Outcome → Type 0
+ComesTold command held left outcome =
+    (set : Images) (script : List ℕ) → held ≡ Some set → (IsTrue (reads_script command) → left ≡ Some script) → Comes command set script outcome
+
+-- what the words come to
+abbrev pub IsDue : List (List ℕ) → Option Images → Option (List ℕ) → Outcome → Type 0
+IsDue words held left outcome = MatchOption (command_of words) (outcome ≡ usage) (λ command. ComesTold command held left outcome)
+
+-- the script is as it was, unless the words are those of a command that reads it
+abbrev pub LeavesScript : List (List ℕ) → Option (List ℕ) → Option (List ℕ) → Type 0
+LeavesScript words left left' = MatchOption (command_of words) (left' ≡ left) (λ command. reads_script command ≡ false → left' ≡ left)
+
+-- the sink has what an outcome saves, and is untouched where it saves nothing
+abbrev pub Saves : Option Images → Option Images → Option Images → Type 0
+Saves None made made' = made' ≡ made
+Saves (Some set) made made' = Becomes made made' (λ _ now. IsSameSet now set)
+
+-- the text has a front of what was to be printed
+abbrev pub AppendsPart : Option (List ℕ) → Option (List ℕ) → List ℕ → Type 0
+AppendsPart text text' bytes = (n : ℕ) × Appends text text' (take n bytes)
+
+-- after a write fault an outcome was due and its set wasn't finished and nothing was printed; or an outcome was due and
+-- printing stopped before its end; or printing `read fault` did
+abbrev pub FailedToWrite : (Outcome → Type 0) → Option Images → Option Images → Option (List ℕ) → Option (List ℕ) → Type 0
+FailedToWrite due made made' text text' =
+    ((outcome : Outcome) × due outcome × IsSome outcome.saved × Becomes made made' IsUnfinished × Keeps text text')
+    ⊎ ((outcome : Outcome) × due outcome × Saves outcome.saved made made' × AppendsPart text text' outcome.text)
+    ⊎ ((made' ≡ made) × AppendsPart text text' (codes "read fault" ++ lf))
+
+-- what stands outside after a status
+abbrev pub Ends : (Outcome → Type 0) → Option Images → Option Images → Option (List ℕ) → Option (List ℕ) → Status → Type 0
+Ends due made made' text text' status.ReadFault = (made' ≡ made) × Appends text text' (codes "read fault" ++ lf)
+Ends due made made' text text' status.WriteFault = FailedToWrite due made made' text text'
+Ends due made made' text text' status.OutOfMemory = (made' ≡ made) × Keeps text text'
+Ends due made made' text text' other = (outcome : Outcome) × due outcome × (status_of outcome.ending ≡ other) × Saves outcome.saved made made' × Appends text text' outcome.text

@@ -1,0 +1,196 @@
+//! The command `labels`: a module's current index block and its labels.
+ghost use Rattle.std.specs.Prelude.{◌≡◌, ◌≢◌, ◌≤◌, ◌<◌, ◌+◌, ◌*◌, ◌++◌, List, ℕ, Option, IfOk, OnOk, None, length, string_bytes};
+ghost use Rattle.nvdimm_shell.specs.Found.{Shows, IsSized};
+ghost use Rattle.nvdimm_shell.specs.Outcome.{outcome_of};
+ghost use Rattle.nvdimm_shell.specs.Labels.{object_outcome, area_outcome, size_outcome, block_outcome, fault_outcome, index_line, label_line, bad_line, numbers_text, ending_text, used_line, slot_line, lines_from};
+ghost use Rattle.label_index.specs.Area.{IsAreaSize};
+
+use crate::area::Found;
+use crate::outcome::Answer;
+use crate::status::Ending;
+use crate::texts::{label_fault_text, mode_text, name_text};
+use label_area::{AreaFault, current_block, read_slot};
+use label_codec::{Label, LabelFault};
+use label_index::{IndexBlock, Side};
+use std::alloc::{AllocError, Global};
+
+/// An answer that names a fault of the images.
+fn image_answer(text: String) -> Answer
+    ensures { outcome_of result ≡ record { ending = Ending.Image; text = string_bytes text; saved = None } }
+{
+    Answer {
+        ending: Ending::Image,
+        text: text.into_bytes(),
+    }
+}
+
+/// The line of the current index block.
+fn index_line(alloc: Global, block: &IndexBlock) -> Result<String, AllocError>
+    ensures { IfOk result (λ text. string_bytes text ≡ index_line block.now) }
+{
+    let side = match block.side {
+        Side::Zero => 0,
+        Side::One => 1,
+    };
+    format!(in alloc;
+        "index {} seq {} slots {} free {}\n",
+        side,
+        block.seq,
+        block.slots,
+        block.free.count()
+    )
+}
+
+/// The line of a label.
+fn label_line(alloc: Global, slot: u32, label: &Label) -> Result<Vec<u8>, AllocError>
+    ensures { IfOk result (λ line. line.items ≡ label_line slot label.now) }
+{
+    let mut line = format!(in alloc; "label {} {} ", slot, label.uuid)?.into_bytes();
+    line.extend_from_slice(&name_text(alloc, label.name.bytes())?)?;
+    line.extend_from_slice(numbers(alloc, label)?.as_bytes())?;
+    line.extend_from_slice(ending(alloc, label)?.as_bytes())?;
+    Ok(line)
+}
+
+/// The numbers in a label's line.
+fn numbers(alloc: Global, label: &Label) -> Result<String, AllocError>
+    ensures { IfOk result (λ text. string_bytes text ≡ numbers_text label.now) }
+{
+    format!(in alloc;
+        " pos {} of {} dpa {} size {} flags {} lba {}",
+        label.position, label.count, label.dpa, label.raw, label.flags, label.lba
+    )
+}
+
+/// The end of a label's line.
+fn ending(alloc: Global, label: &Label) -> Result<String, AllocError>
+    ensures { IfOk result (λ text. string_bytes text ≡ ending_text label.now) }
+{
+    let mode = mode_text(alloc, label.mode())?;
+    let cookie = hex::encode(alloc, label.cookie.to_be_bytes())?;
+    format!(in alloc; " mode {} cookie {}\n", mode, cookie)
+}
+
+/// The line of a used slot without a valid label.
+fn bad_line(alloc: Global, slot: u32, fault: LabelFault) -> Result<Vec<u8>, AllocError>
+    ensures { IfOk result (λ line. line.items ≡ bad_line slot fault) }
+{
+    let fault = label_fault_text(alloc, fault)?;
+    Ok(format!(in alloc; "bad {} {}\n", slot, fault)?.into_bytes())
+}
+
+/// The line of a used slot.
+fn used_line(alloc: Global, area: &[u8], size: u64, slot: u32) -> Result<Vec<u8>, AllocError>
+    requires { 2 * size + 256 * slot + 256 ≤ length area.now }
+    ensures { IfOk result (λ line. line.items ≡ used_line area.now size slot) }
+{
+    match read_slot(area, size, slot) {
+        Ok(label) => label_line(alloc, slot, &label),
+        Err(fault) => bad_line(alloc, slot, fault),
+    }
+}
+
+/// The line of a slot, none where it is free.
+fn slot_line(
+    alloc: Global,
+    area: &[u8],
+    size: u64,
+    slot: u32,
+    free: bool,
+) -> Result<Vec<u8>, AllocError>
+    requires { 2 * size + 256 * slot + 256 ≤ length area.now }
+    ensures { IfOk result (λ line. line.items ≡ slot_line area.now size slot free) }
+{
+    if free {
+        Ok(Vec::new(alloc))
+    } else {
+        used_line(alloc, area, size, slot)
+    }
+}
+
+/// Adds the lines of an area's slots to a text.
+fn add_lines(
+    alloc: Global,
+    area: &[u8],
+    block: &IndexBlock,
+    text: &mut Vec<u8>,
+) -> Result<(), AllocError>
+    requires fits { 2 * block.now.size + 256 * length block.now.free ≤ length area.now }
+    requires small { length area.now ≤ 1048576 }
+    ensures { OnOk result (text.new.items ≡ text.old.items ++ lines_from area.now block.now.size 0 block.now.free) }
+{
+    for (slot, free) in block.free.as_slice().iter().enumerate() {
+        let line = slot_line(alloc, area, block.size, slot as u32, *free)?;
+        text.extend_from_slice(&line)?;
+    }
+    Ok(())
+}
+
+/// The answer on an area with a current block.
+fn block_answer(alloc: Global, area: &[u8], block: &IndexBlock) -> Result<Answer, AllocError>
+    requires fits { 2 * block.now.size + 256 * length block.now.free ≤ length area.now }
+    requires small { length area.now ≤ 1048576 }
+    ensures { IfOk result (λ answer. outcome_of answer ≡ block_outcome area.now block.now) }
+{
+    let mut text = index_line(alloc, block)?.into_bytes();
+    add_lines(alloc, area, block, &mut text)?;
+    Ok(Answer {
+        ending: Ending::Done,
+        text,
+    })
+}
+
+/// The answer on an area without a current block.
+fn fault_answer(alloc: Global, module: u32, fault: AreaFault) -> Result<Answer, AllocError>
+    ensures text { IfOk result (λ answer. outcome_of answer ≡ fault_outcome «module» fault) }
+    ensures finding { IfOk result (λ _. fault ≢ AreaFault.OutOfMemory) }
+{
+    match fault {
+        AreaFault::Unsupported { major, minor } => Ok(image_answer(format!(in alloc;
+            "image labels {} Unsupported {} {}\n",
+            module, major, minor
+        )?)),
+        AreaFault::NoIndex => Ok(image_answer(format!(in alloc;
+            "image labels {} NoIndex\n",
+            module
+        )?)),
+        AreaFault::OutOfMemory => Err(AllocError),
+    }
+}
+
+/// The answer on a whole area.
+fn area_answer(alloc: Global, module: u32, area: &[u8]) -> Result<Answer, AllocError>
+    requires { IsAreaSize (length area.now) }
+    ensures { IfOk result (λ answer. outcome_of answer ≡ area_outcome «module» area.now) }
+{
+    match current_block(alloc, area) {
+        Ok(block) => block_answer(alloc, area, &block),
+        Err(fault) => fault_answer(alloc, module, fault),
+    }
+}
+
+/// The answer where the object is absent.
+fn missing_answer(alloc: Global, module: u32) -> Result<Answer, AllocError>
+    ensures { IfOk result (λ answer. outcome_of answer ≡ object_outcome «module» None) }
+{
+    Ok(image_answer(format!(in alloc; "image labels {} Missing\n", module)?))
+}
+
+/// The answer where the object's length is no label area's size.
+fn size_answer(alloc: Global, module: u32, length: u64) -> Result<Answer, AllocError>
+    ensures { IfOk result (λ answer. outcome_of answer ≡ size_outcome «module» length) }
+{
+    Ok(image_answer(format!(in alloc; "image labels {} Size {}\n", module, length)?))
+}
+
+/// The answer of `labels` on what was found of the module's label area.
+pub fn labels_answer(alloc: Global, module: u32, found: Found) -> Result<Answer, AllocError>
+    requires { IsSized found }
+    ensures { IfOk result (λ answer. (object : Option (List ℕ)) → Shows object found → outcome_of answer ≡ object_outcome «module» object) }
+{
+    match found {
+        Found::Missing => missing_answer(alloc, module),
+        Found::Odd(length) => size_answer(alloc, module, length),
+        Found::Whole(area) => area_answer(alloc, module, &area),
+    }
+}

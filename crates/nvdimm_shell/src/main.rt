@@ -1,0 +1,85 @@
+//! `nvdimm_shell`: a manager of NVDIMM images.
+//!
+//! ```text
+//! nvdimm_shell IN OUT COMMAND ..
+//!
+//!  IN/labels-0.bin ──► bytes ──► index blocks, labels ──► lines ──► standard output, exit status
+//!      nvd_media       area        label_index, label_codec   labels, texts    top, main
+//!                                  label_area
+//! ```
+//!
+//! IN is an image directory; OUT is the directory of the image set that a command writes, and `-` for
+//! the commands that write none. [`top::run`] does the work over the outside's traits, so that its
+//! contract says all of it, and `main` gives it the real objects.
+//!
+//! A command is a case of `Comes` in `specs/Run.antt`, an entry of `specs/Words.antt`, and a handler
+//! that makes an [`outcome::Answer`] without a source or a sink; faults of reading and writing and want
+//! of memory are handled once, for all commands, by `Ends` and in `top`.
+#![tactic(auto)]
+
+mod area;
+mod labels;
+mod laws;
+mod numbers;
+mod outcome;
+mod status;
+mod texts;
+mod top;
+mod words;
+
+use crate::status::Status;
+use nvd_media::{DirImages, ListChooser, NoGate, StdText, TextSink};
+use std::alloc::AllocError;
+use std::env;
+use std::process::ExitCode;
+use std::rt::{Env, Files};
+use std::sync::Wait;
+use std::thread::Threads;
+
+/// The words of the command line after the program's name. `None` where one isn't text.
+fn command_line(rt: &(impl Env + AllocGlobal)) -> Option<Result<Vec<String>, AllocError>> {
+    let args = env::args(rt).ok()?;
+    Some(args.skip(1).collect(rt.alloc()))
+}
+
+/// Ends a run whose words aren't a command line.
+fn usage<O: TextSink>(text: &mut O) -> Status {
+    match text.write(b"usage\n") {
+        Ok(()) => Status::Usage,
+        Err(_) => Status::WriteFault,
+    }
+}
+
+/// Runs the command of a command line on the directories that it names.
+fn status_of<R: Files + AllocGlobal + Print + Threads + Wait + Sync>(
+    rt: &R,
+    words: &[String],
+) -> Status {
+    let mut text = StdText::new(rt);
+    let [source, sink, command @ ..] = words else {
+        return usage(&mut text);
+    };
+    if command.is_empty() {
+        return usage(&mut text);
+    }
+    top::run(
+        rt,
+        rt.alloc(),
+        command,
+        &mut DirImages::new(rt, source.as_str()),
+        &mut StdText::new(rt),
+        &mut DirImages::new(rt, sink.as_str()),
+        &mut text,
+        &mut ListChooser::new(Vec::new(rt.alloc())),
+        &NoGate,
+    )
+}
+
+fn main(rt: HostRuntime) -> ExitCode {
+    let status = match command_line(&rt) {
+        Some(Ok(words)) => status_of(&rt, &words),
+        Some(Err(_)) => Status::OutOfMemory,
+        None => usage(&mut StdText::new(&rt)),
+    };
+    ExitCode::from(status.exit_status())
+}

@@ -1,0 +1,140 @@
+ghost use Rattle.std.specs.Prelude.{◌≡◌, ◌≢◌, ◌⊎◌, ◌++◌, codes, map, string_bytes, false, IfOk, Err};
+ghost use Rattle.std.specs.Option.{ForSome};
+ghost use Rattle.std.specs.Io.KnownBytes.{Appends};
+ghost use Rattle.nvd_media.specs.Causes.{Rose};
+ghost use Rattle.nvd_media.specs.Images.{IsEmptySet};
+ghost use Rattle.nvdimm_shell.specs.Outcome.{outcome_of, lf};
+ghost use Rattle.nvdimm_shell.specs.Run.{ComesTold, reads_script, IsDue, LeavesScript, Ends, AppendsPart};
+
+use crate::area::read_area;
+use crate::labels::labels_answer;
+use crate::outcome::{Answer, usage_answer};
+use crate::status::{Status, Stop};
+use crate::words::{Command, command_from};
+use nvd_media::{Chooser, Gate, ImageSink, ImageSource, TextSink, TextSource};
+use std::alloc::{AllocError, Global};
+use std::sync::Wait;
+use std::thread::Threads;
+
+/// The answer of a handler, or the stop for want of memory.
+fn found_memory(answer: Result<Answer, AllocError>) -> Result<Answer, Stop>
+    ensures same { IfOk result (λ x. answer ≡ Ok x) }
+    ensures memory { result ≢ Err Stop.ReadFault }
+{
+    match answer {
+        Ok(answer) => Ok(answer),
+        Err(_) => Err(Stop::OutOfMemory),
+    }
+}
+
+/// What a command comes to.
+fn perform<S: ImageSource, T: TextSource>(
+    alloc: Global,
+    command: Command,
+    images: &mut S,
+    _script: &mut T,
+) -> Result<Answer, Stop>
+    ensures told { IfOk result (λ answer. ComesTold command (S.held images.old) (T.left _script.old) (outcome_of answer)) }
+    ensures same { S.held images.new ≡ S.held images.old }
+    ensures unread { reads_script command ≡ false → T.left _script.new ≡ T.left _script.old }
+    ensures failed { result ≡ Err Stop.ReadFault → Rose (S.faults images.old) (S.faults images.new) }
+{
+    match command {
+        Command::Labels(module) => {
+            let found = read_area(alloc, images, module)?;
+            found_memory(labels_answer(alloc, module, found))
+        }
+    }
+}
+
+/// What the words come to.
+fn answer_to<S: ImageSource, T: TextSource>(
+    alloc: Global,
+    words: &[String],
+    images: &mut S,
+    script: &mut T,
+) -> Result<Answer, Stop>
+    ensures due { IfOk result (λ answer. IsDue (map string_bytes words.now) (S.held images.old) (T.left script.old) (outcome_of answer)) }
+    ensures same { S.held images.new ≡ S.held images.old }
+    ensures unread { LeavesScript (map string_bytes words.now) (T.left script.old) (T.left script.new) }
+    ensures failed { result ≡ Err Stop.ReadFault → Rose (S.faults images.old) (S.faults images.new) }
+{
+    match command_from(words) {
+        Some(command) => perform(alloc, command, images, script),
+        None => found_memory(usage_answer(alloc)),
+    }
+}
+
+/// Prints the text of an answer. No answer has an image set to save yet.
+#[tactic(auto, using(crate::proofs::Ending::endings))]
+fn conclude<K: ImageSink, O: TextSink>(answer: &Answer, _out: &mut K, text: &mut O) -> Status
+    ensures ends { Ends (λ outcome. outcome ≡ outcome_of answer.now) (K.made _out.old) (K.made _out.new) (O.written text.old) (O.written text.new) result }
+    ensures no_read { result ≢ Status.ReadFault }
+    ensures failed { result ≡ Status.WriteFault → Rose (O.faults text.old) (O.faults text.new) }
+{
+    match text.write(&answer.text) {
+        Ok(()) => answer.ending.status(),
+        Err(_) => Status::WriteFault,
+    }
+}
+
+/// Ends a run that has no answer.
+fn stopped<O: TextSink>(stop: Stop, text: &mut O) -> Status
+    ensures memory { stop ≡ Stop.OutOfMemory → (result ≡ Status.OutOfMemory) × (O.written text.new ≡ O.written text.old) }
+    ensures read { stop ≡ Stop.ReadFault → ((result ≡ Status.WriteFault) × AppendsPart (O.written text.old) (O.written text.new) (codes "read fault" ++ lf)) ⊎ ((result ≡ Status.ReadFault) × Appends (O.written text.old) (O.written text.new) (codes "read fault" ++ lf)) }
+    ensures failed { result ≡ Status.WriteFault → Rose (O.faults text.old) (O.faults text.new) }
+{
+    match stop {
+        Stop::OutOfMemory => Status::OutOfMemory,
+        Stop::ReadFault => match text.write(b"read fault\n") {
+            Ok(()) => Status::ReadFault,
+            Err(_) => Status::WriteFault,
+        },
+    }
+}
+
+/// Does what the words ask for, and answers how it ended.
+///
+/// The words are those after the two directories of the command line: a command's name and what follows
+/// it. `out` was not written to, where it tells.
+///
+/// - `ends`: what is printed and saved is what is due for the words, the images and the script, as far
+///   as they are told (`specs/Run.antt`). Status 2 is due exactly where the words aren't a command line,
+///   3 where the images show a fault, 0 else; after 5 the text is `read fault`; 7 is the one status that
+///   is free, and prints nothing.
+/// - `read_fault`, `write_fault`: status 5 and 6 come only where the count of faults of the images, of
+///   the text, rose in this call.
+/// - `kept`, `unread`: the images are never written, and a script is left that the command doesn't read.
+#[tactic(auto, using(crate::proofs::Ending::endings))]
+pub fn run<
+    R: Threads + Wait + Sync,
+    S: ImageSource,
+    T: TextSource,
+    K: ImageSink,
+    O: TextSink,
+    C: Chooser,
+    G: Gate,
+>(
+    _rt: &R,
+    alloc: Global,
+    words: &[String],
+    images: &mut S,
+    script: &mut T,
+    out: &mut K,
+    text: &mut O,
+    _choose: &mut C,
+    _gate: &G,
+) -> Status
+    requires { ForSome (K.made out.old) IsEmptySet }
+    ensures ends { Ends (IsDue (map string_bytes words.now) (S.held images.old) (T.left script.old))
+        (K.made out.old) (K.made out.new) (O.written text.old) (O.written text.new) result }
+    ensures read_fault { result ≡ Status.ReadFault → Rose (S.faults images.old) (S.faults images.new) }
+    ensures write_fault { result ≡ Status.WriteFault → Rose (O.faults text.old) (O.faults text.new) }
+    ensures kept { S.held images.new ≡ S.held images.old }
+    ensures unread { LeavesScript (map string_bytes words.now) (T.left script.old) (T.left script.new) }
+{
+    match answer_to(alloc, words, images, script) {
+        Ok(answer) => conclude(&answer, out, text),
+        Err(stop) => stopped(stop, text),
+    }
+}
