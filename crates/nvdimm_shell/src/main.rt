@@ -18,11 +18,15 @@
 #![tactic(auto)]
 
 mod area;
+#[cfg(test)]
+mod areas;
 mod labels;
 mod laws;
 mod numbers;
 mod outcome;
 mod status;
+#[cfg(test)]
+mod tests;
 mod texts;
 mod top;
 mod words;
