@@ -149,25 +149,13 @@ length_spelling b enough = omega (arith, length-map-range_with_len (λ k. number
 
 -- ---- its bytes are bytes
 
-bits_below : (bits : List Bool) → number_of_bits bits < 2 ^ length bits
-bits_below [] = omega arith
-bits_below (true ∷ bits) = omega (arith, pow-succ' 2 (length bits), bits_below bits)
-bits_below (false ∷ bits) = omega (arith, pow-succ' 2 (length bits), bits_below bits)
-
-bits_256 : (bits : List Bool) (n : ℕ) → length bits ≡ n → 2 ^ n ≤ 256 → number_of_bits bits < 256
-bits_256 bits n e le = omega (arith, bits_below bits, ap (λ (k : ℕ). 2 ^ k) e)
-
-byte_of_bits : (bits : List Bool) → length bits ≤ 8 → number_of_bits bits < 256
-byte_of_bits [] le = omega arith
-byte_of_bits (a ∷ []) le = bits_256 (a ∷ []) 1 refl (omega arith)
-byte_of_bits (a ∷ b ∷ []) le = bits_256 (a ∷ b ∷ []) 2 refl (omega arith)
-byte_of_bits (a ∷ b ∷ c ∷ []) le = bits_256 (a ∷ b ∷ c ∷ []) 3 refl (omega arith)
-byte_of_bits (a ∷ b ∷ c ∷ d ∷ []) le = bits_256 (a ∷ b ∷ c ∷ d ∷ []) 4 refl (omega arith)
-byte_of_bits (a ∷ b ∷ c ∷ d ∷ e ∷ []) le = bits_256 (a ∷ b ∷ c ∷ d ∷ e ∷ []) 5 refl (omega arith)
-byte_of_bits (a ∷ b ∷ c ∷ d ∷ e ∷ f ∷ []) le = bits_256 (a ∷ b ∷ c ∷ d ∷ e ∷ f ∷ []) 6 refl (omega arith)
-byte_of_bits (a ∷ b ∷ c ∷ d ∷ e ∷ f ∷ g ∷ []) le = bits_256 (a ∷ b ∷ c ∷ d ∷ e ∷ f ∷ g ∷ []) 7 refl (omega arith)
-byte_of_bits (a ∷ b ∷ c ∷ d ∷ e ∷ f ∷ g ∷ h ∷ []) le = bits_256 (a ∷ b ∷ c ∷ d ∷ e ∷ f ∷ g ∷ h ∷ []) 8 refl (omega arith)
-byte_of_bits (a ∷ b ∷ c ∷ d ∷ e ∷ f ∷ g ∷ h ∷ i ∷ bits) le = absurd (omega arith)
+-- so many bits are a number below that power of two
+pub bits_below : (n : ℕ) (bits : List Bool) → length bits ≤ n → number_of_bits bits < 2 ^ n
+bits_below zero [] le = omega arith
+bits_below zero (b ∷ bits) le = absurd (omega (arith, le))
+bits_below (suc n) [] le = omega (arith, pow-succ' 2 n, bits_below n [] (omega arith))
+bits_below (suc n) (true ∷ bits) le = omega (arith, pow-succ' 2 n, bits_below n bits (omega (arith, le)))
+bits_below (suc n) (false ∷ bits) le = omega (arith, pow-succ' 2 n, bits_below n bits (omega (arith, le)))
 
 map_bytes : (f : ℕ → ℕ) (a n : ℕ) → ((k : ℕ) → f k < 256) → AreBytes (map f (range_with_len a n))
 map_bytes f a zero lt = no_bytes
@@ -175,7 +163,7 @@ map_bytes f a (suc n) lt = one_byte (f a) (map f (range_with_len (a + 1) n)) (lt
 
 tail_bytes : (b : IndexBlock) → AreBytes (tail_of b)
 tail_bytes b = map_bytes (λ k. number_of_bits (take 8 (drop (8 * k) b.free))) 0 (b.size - 72)
-    (λ k. byte_of_bits (take 8 (drop (8 * k) b.free)) (omega (arith, length-take 8 (drop (8 * k) b.free))))
+    (λ k. bits_below 8 (take 8 (drop (8 * k) b.free)) (omega (arith, length-take 8 (drop (8 * k) b.free))))
 
 head_bytes : (b : IndexBlock) → AreBytes (head_of b)
 head_bytes b =
