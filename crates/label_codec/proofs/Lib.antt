@@ -1,2 +1,3 @@
 pub mod Grammar
-pub mod Rows
+pub mod Spelled
+mod Rows

@@ -55,7 +55,7 @@ no_double_reading b writable area size s c g =
     let ok = writable.1 in
     let sized : size ≡ b.size = sym g.my_size ∙ size_at b (small writable.0 b ok) in
     let placed : place_of b.size s ≡ place_of b.size b.side =
-        ap (λ (k : ℕ). place_of k s) (sym sized) ∙ sym g.my_offset ∙ my_at b (places b.size b.side (small writable.0 b ok)).0 in
+    ap (λ (k : ℕ). place_of k s) (sym sized) ∙ sym g.my_offset ∙ my_at b (places b.size b.side (small writable.0 b ok)).0 in
     sym (record_is area size s (spelling_of b) c g)
     ∙ ap (λ (t : Side). index_of t (spelling_of b)) (same_side b.size s b.side (omega (arith, enough writable.0 b ok)) placed) ∙ index_is writable.0 b ok
 

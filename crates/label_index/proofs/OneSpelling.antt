@@ -64,14 +64,14 @@ free_byte_is : (area size : ℕ) (s : Side) (block : List ℕ) (b : IndexBlock) 
 free_byte_is area size s block b k bytes ok clean lt =
     get_or-drop 72 block k 0
     ∙ byte_is 8 (take 8 (drop (8 * k) b.free)) (get_or block (72 + k) 0) (omega (arith, length-take 8 (drop (8 * k) b.free))) (bytes.each (72 + k))
-        (λ j l. get_or-take 8 (drop (8 * k) b.free) j false l ∙ get_or-drop (8 * k) b.free j false
-            ∙ bit_is area size s block b (8 * k + j) ok clean (omega (arith, l, lt)) ∙ bit_at block k j l)
+    (λ j l. get_or-take 8 (drop (8 * k) b.free) j false l ∙ get_or-drop (8 * k) b.free j false
+    ∙ bit_is area size s block b (8 * k + j) ok clean (omega (arith, l, lt)) ∙ bit_at block k j l)
 
 tail_is : (area size : ℕ) (s : Side) (block : List ℕ) (b : IndexBlock) → AreBytes block → length block ≡ size → IsBlockOf area size s block b → IsClean size block
     → b.size ≡ size → drop 72 block ≡ tail_of b
 tail_is area size s block b bytes len ok clean same =
     fill_by_all (λ k. number_of_bits (take 8 (drop (8 * k) b.free))) (drop 72 block) (b.size - 72) 0 (omega (arith, length-drop 72 block, len, same))
-        (λ k lt. free_byte_is area size s block b k bytes ok clean (omega (arith, lt, same)))
+    (λ k lt. free_byte_is area size s block b k bytes ok clean (omega (arith, lt, same)))
 
 -- ---- the bytes before the Checksum
 
@@ -108,6 +108,6 @@ one_spelling area size s block b bytes len ok clean =
     let tail = tail_is area size s block b bytes len ok clean same in
     let front = front_is b block (drop 64 block) head in
     let sum : number_at w64 block 64 ≡ fletcher64_of (head_of b ++ (replicate 8 0 ++ tail_of b)) =
-        ok.sum ∙ ap (λ (h : List ℕ). fletcher64_of (h ++ replicate 8 0 ++ drop 72 block)) front ∙ ap (λ (t : List ℕ). fletcher64_of (head_of b ++ replicate 8 0 ++ t)) tail in
+    ok.sum ∙ ap (λ (h : List ℕ). fletcher64_of (h ++ replicate 8 0 ++ drop 72 block)) front ∙ ap (λ (t : List ℕ). fletcher64_of (head_of b ++ replicate 8 0 ++ t)) tail in
     head ∙ ap (λ (r : List ℕ). head_of b ++ r) (next_eight block 64 72 (fletcher64_of (head_of b ++ (replicate 8 0 ++ tail_of b))) bytes refl long sum
     ∙ ap (λ (r : List ℕ). to_le_bytes w64 (fletcher64_of (head_of b ++ (replicate 8 0 ++ tail_of b))) ++ r) tail)

@@ -74,8 +74,16 @@ offsets : (b : IndexBlock) → b.size ≤ 1048576 → has_offsets b.size b.side 
 unfolding has_offsets
 offsets b le =
     let p = places b.size b.side le in
-    rw (my_at b p.0, size_at b le, other_at b p.1, labels_at b le,
-        eq-eqb (place_of b.size b.side) (place_of b.size b.side) refl, eq-eqb b.size b.size refl, eq-eqb (other_place_of b.size b.side) (other_place_of b.size b.side) refl, eq-eqb (2 * b.size) (2 * b.size) refl) refl
+    rw (
+      my_at b p.0,
+      size_at b le,
+      other_at b p.1,
+      labels_at b le,
+      eq-eqb (place_of b.size b.side) (place_of b.size b.side) refl,
+      eq-eqb b.size b.size refl,
+      eq-eqb (other_place_of b.size b.side) (other_place_of b.size b.side) refl,
+      eq-eqb (2 * b.size) (2 * b.size) refl,
+    ) refl
 
 slotted : (area : ℕ) (b : IndexBlock) → IsValid area b → has_slots area b.size (spelling_of b) ≡ true
 unfolding has_slots

@@ -30,9 +30,9 @@ pub unsummed : (head zero tail into : List ℕ) (n : ℕ) → length head ≡ 64
 unsummed head zero tail into n lh lz long len =
     let first = first_two head zero into lh lz long in
     let again : head ++ (zero ++ drop 72 into) ≡ (head ++ zero) ++ (drop 72 into ++ []) =
-        sym (append_assoc head zero (drop 72 into)) ∙ ap (λ (r : List ℕ). (head ++ zero) ++ r) (sym (append-nil (drop 72 into))) in
+    sym (append_assoc head zero (drop 72 into)) ∙ ap (λ (r : List ℕ). (head ++ zero) ++ r) (sym (append-nil (drop 72 into))) in
     let rest : length (drop 72 into) ≡ n =
-        omega (arith, len, length_two head zero into lh lz long, length-drop 72 into) in
+    omega (arith, len, length_two head zero into lh lz long, length-drop 72 into) in
     ap (λ (xs : List ℕ). put_mid 72 n xs tail) (first ∙ again)
     ∙ put_part (head ++ zero) (drop 72 into) [] tail 72 n (omega (arith, length-append head zero, lh, lz)) rest
     ∙ append_assoc head zero (tail ++ []) ∙ ap (λ (r : List ℕ). head ++ (zero ++ r)) (append-nil tail)
@@ -46,11 +46,11 @@ unfolding spelling_of
 written b head zero tail into le n sum eh ez long sized len et es el =
     let two = length_two head zero into (ap length eh) (ap length ez) long in
     let rest : length (take n (drop 72 (put_mid 64 8 (head ++ drop 64 into) zero))) ≡ b.size - 72 =
-        length-take n (drop 72 (put_mid 64 8 (head ++ drop 64 into) zero)) ∙ omega (arith, length-drop 72 (put_mid 64 8 (head ++ drop 64 into) zero), two, len, sized) in
+    length-take n (drop 72 (put_mid 64 8 (head ++ drop 64 into) zero)) ∙ omega (arith, length-drop 72 (put_mid 64 8 (head ++ drop 64 into) zero), two, len, sized) in
     let whole = unsummed head zero tail into n (ap length eh) (ap length ez) long len in
     let tail_is : tail ≡ tail_of b = et ∙ ap (λ (k : ℕ). bit_bytes k b.free) rest in
     let sum_is : sum ≡ fletcher64_of (head_of b ++ (replicate 8 0 ++ tail_of b)) =
-        es ∙ ap fletcher64_of (whole ∙ ap (λ (h : List ℕ). h ++ (zero ++ tail)) eh ∙ ap (λ (z : List ℕ). head_of b ++ (z ++ tail)) ez ∙ ap (λ (t : List ℕ). head_of b ++ (replicate 8 0 ++ t)) tail_is) in
+    es ∙ ap fletcher64_of (whole ∙ ap (λ (h : List ℕ). h ++ (zero ++ tail)) eh ∙ ap (λ (z : List ℕ). head_of b ++ (z ++ tail)) ez ∙ ap (λ (t : List ℕ). head_of b ++ (replicate 8 0 ++ t)) tail_is) in
     ap (λ (xs : List ℕ). put_mid 64 8 xs le) whole ∙ put_part head zero tail le 64 8 (ap length eh) (ap length ez)
     ∙ ap (λ (h : List ℕ). h ++ (le ++ tail)) eh ∙ ap (λ (s : List ℕ). head_of b ++ (s ++ tail)) (el ∙ ap (to_le_bytes w64) sum_is)
     ∙ ap (λ (t : List ℕ). head_of b ++ (to_le_bytes w64 (fletcher64_of (head_of b ++ (replicate 8 0 ++ tail_of b))) ++ t)) tail_is

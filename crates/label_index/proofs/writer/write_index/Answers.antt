@@ -16,5 +16,5 @@ pub returns : goal.returns
 returns c =
     let long : 72 ≤ length c.args.into.now = omega (arith, c.requires.len, enough c.requires.writable.0 c.args.block.now c.requires.writable.1) in
     written c.args.block.now c.copy_from_slice.new.self c.copy_from_slice-2.new.self c.write.new.into c.args.into.now c.copy_from_slice-3.new.self _ c.fletcher64-sum.result
-        (c.copy_from_slice.ensures.after ∙ c.head_bytes.ensures) c.copy_from_slice-2.ensures.after long c.requires.len refl c.write.ensures c.fletcher64-sum.ensures
-        (c.copy_from_slice-3.ensures.after ∙ c.to_le_bytes.ensures)
+    (c.copy_from_slice.ensures.after ∙ c.head_bytes.ensures) c.copy_from_slice-2.ensures.after long c.requires.len refl c.write.ensures c.fletcher64-sum.ensures
+    (c.copy_from_slice-3.ensures.after ∙ c.to_le_bytes.ensures)

@@ -6,4 +6,4 @@ use Rattle.label_index.proofs.free.FreeList.write.Goals as goal
 pub returns : goal.returns
 returns c =
     fill_by_all (λ k. number_of_bits (take 8 (drop (8 * k) c.args.self.now))) c.loop-at.into (length c.args.into.now) 0 c.loop-at.auto.into
-        (λ k lt. c.loop-at.invariant k (omega (arith, lt, c.loop-at-test.false)))
+    (λ k lt. c.loop-at.invariant k (omega (arith, lt, c.loop-at-test.false)))

@@ -1,0 +1,36 @@
+-- Which labels can be written; this project's rule.
+use Rattle.std.specs.Prelude.{◌≡◌, ◌≢◌, ℕ, ◌^◌, ◌<◌, ◌≤◌, length, slice_index, None}
+use Rattle.nvd_words.specs.Bytes.{AreBytes}
+use Rattle.label_codec.specs.declared.label.Label.{Label}
+use Rattle.label_codec.specs.Sizes.{size_fault_of}
+
+-- what no type says of a label that can be written: its name has no zero byte, and its sizes aren't odd
+pub record IsSound (l : Label) : Type 0 where
+  pub no_zero : (i : ℕ) → i < length l.name → slice_index l.name i ≢ 0
+  pub sizes : size_fault_of l.dpa l.raw ≡ None
+
+-- what the types say of each field's range
+pub record HasRanges (l : Label) : Type 0 where
+  pub uuid_len : length l.uuid ≡ 16
+  pub uuid_bytes : AreBytes l.uuid
+  pub name_len : length l.name ≤ 64
+  pub name_bytes : AreBytes l.name
+  pub flags : l.flags < 2 ^ 32
+  pub count : l.count < 2 ^ 16
+  pub position : l.position < 2 ^ 16
+  pub cookie : l.cookie < 2 ^ 64
+  pub lba : l.lba < 2 ^ 64
+  pub dpa : l.dpa < 2 ^ 64
+  pub raw : l.raw < 2 ^ 64
+  pub slot : l.slot < 2 ^ 32
+  pub align : l.align < 256
+  pub kind_len : length l.kind ≡ 16
+  pub kind_bytes : AreBytes l.kind
+  pub abstraction_len : length l.abstraction ≡ 16
+  pub abstraction_bytes : AreBytes l.abstraction
+  pub spa_cookie : l.spa_cookie < 2 ^ 64
+
+-- a label that can be written
+pub record IsWritable (l : Label) : Type 0 where
+  pub sound : IsSound l
+  pub ranges : HasRanges l
