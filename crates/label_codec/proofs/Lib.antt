@@ -1,3 +1,5 @@
 pub mod Grammar
 pub mod Spelled
+pub mod OneSpelling
+pub mod Laws
 mod Rows

@@ -30,6 +30,10 @@ sum_of l = fletcher64_of (body_of l ++ replicate 8 0)
 abbrev pub front_of : Label → List ℕ
 front_of l = l.uuid ++ padded 64 l.name
 
+-- the bytes from 80 on, with the Checksum
+abbrev pub rest_of : Label → List ℕ
+rest_of l = fields_of l ++ to_le_bytes w64 (sum_of l)
+
 pub length_padded : (name : List ℕ) → length name ≤ 64 → length (padded 64 name) ≡ 64
 length_padded name le = length-append name (replicate (64 - length name) 0) ∙ omega (arith, length-replicate {A = ℕ} (64 - length name) 0)
 
@@ -42,7 +46,7 @@ body_is l = sym (append_assoc l.uuid (padded 64 l.name) (fields_of l))
 pub length_body : (l : Label) → IsWritable l → length (body_of l) ≡ 248
 length_body l ok = ap length (body_is l) ∙ length-append (front_of l) (fields_of l) ∙ omega (arith, length_front l ok)
 
-spelling_is : (l : Label) → spelling_of l ≡ front_of l ++ (fields_of l ++ to_le_bytes w64 (sum_of l))
+pub spelling_is : (l : Label) → spelling_of l ≡ front_of l ++ (fields_of l ++ to_le_bytes w64 (sum_of l))
 unfolding spelling_of
 spelling_is l = ap (λ (b : List ℕ). b ++ to_le_bytes w64 (sum_of l)) (body_is l) ∙ append_assoc (front_of l) (fields_of l) (to_le_bytes w64 (sum_of l))
 
@@ -193,7 +197,7 @@ length_spelling l ok = ap length (spelling_is l) ∙ length-append (front_of l) 
 -- ---- its bytes are bytes
 
 -- each byte of an identifier in GUID order is one of its bytes
-swap_bytes : (xs : List ℕ) → AreBytes xs → AreBytes (swap_fields xs)
+pub swap_bytes : (xs : List ℕ) → AreBytes xs → AreBytes (swap_fields xs)
 swap_bytes xs all =
     one_byte _ _ (all.each 3) (one_byte _ _ (all.each 2) (one_byte _ _ (all.each 1) (one_byte _ _ (all.each 0)
     (one_byte _ _ (all.each 5) (one_byte _ _ (all.each 4) (one_byte _ _ (all.each 7) (one_byte _ _ (all.each 6)

@@ -1,4 +1,4 @@
-ghost use Rattle.std.specs.Prelude.{◌≤◌, IfOk};
+ghost use Rattle.std.specs.Prelude.{◌≡◌, ◌≤◌, IfOk};
 ghost use Rattle.label_index.specs.Area.{IsAreaSize};
 ghost use Rattle.label_index.specs.Valid.{IsValid};
 
@@ -97,9 +97,11 @@ fn damage_is_named(rt: HostRuntime) {
 /// The block of a freshly initialised area of so many bytes, all of whose slots are free.
 fn fresh_block(alloc: Global, area: u64, side: Side, seq: u32) -> Result<IndexBlock, AllocError>
     requires sized { IsAreaSize area }
+    requires few { area ≤ 131072 }
     requires low { 1 ≤ seq }
     requires high { seq ≤ 3 }
-    ensures { IfOk result (IsValid area) }
+    ensures valid { IfOk result (IsValid area) }
+    ensures size { IfOk result (λ block. block.size ≡ 256) }
 {
     let slots = slots_for(area);
     let free = FreeList::from_vec(vec![in alloc; true; slots as usize]?);
@@ -115,12 +117,13 @@ fn fresh_block(alloc: Global, area: u64, side: Side, seq: u32) -> Result<IndexBl
 /// What `init` writes, over bytes that are all ones.
 #[test]
 fn a_fresh_area_is_written(rt: HostRuntime) -> Result<(), Fail> {
-    let mut area = [0xff; 512];
+    let mut area = [0; 1024];
+    area[..512].fill(0xff);
     let one = fresh_block(rt.alloc(), 1024, Side::One, 2)?;
     let zero = fresh_block(rt.alloc(), 1024, Side::Zero, 3)?;
-    write_index(&mut area[256..], &one);
+    write_index(&mut area[256..512], &one);
     write_index(&mut area[..256], &zero);
-    assert_eq!(rt; area.as_slice(), &fresh_area()[..512]);
+    assert_eq!(rt; area, fresh_area());
     Ok(())
 }
 

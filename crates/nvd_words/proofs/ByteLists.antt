@@ -1,5 +1,5 @@
 -- Lists of bytes, and the numbers that stand in them.
-use Rattle.std.proofs.Common.{◌≡◌, ℕ, zero, suc, ◌+◌, ◌<◌, ◌≤◌, Bool, true, ltb, List, [], ◌∷◌, ◌++◌, length, take, drop, get_or, replicate, refl, sym, ap, ◌∙◌, arith, inl, inr, subst}
+use Rattle.std.proofs.Common.{◌≡◌, ℕ, zero, suc, ◌+◌, ◌^◌, ◌<◌, ◌≤◌, Bool, true, ltb, List, [], ◌∷◌, ◌++◌, length, take, drop, get_or, replicate, refl, sym, ap, ◌∙◌, arith, inl, inr, subst}
 use Rattle.std.specs.Prelude.{◌&&◌}
 use Rattle.std.specs.Int.{w16, w32, w64, to_le_bytes}
 use Rattle.std.proofs.lemmas.Bool.{and_parts, ltb-true, cases_lt}
@@ -91,3 +91,19 @@ next_byte [] at to x e within is = absurd (omega arith)
 next_byte (y ∷ xs) zero to x e within is = ap (λ (k : ℕ). k ∷ xs) is ∙ ap (λ (k : ℕ). x ∷ drop k (y ∷ xs)) e
 next_byte (y ∷ xs) (suc at) zero x e within is = absurd (omega arith)
 next_byte (y ∷ xs) (suc at) (suc to) x e within is = next_byte xs at to x (omega arith) (omega arith) is
+
+-- ---- a number in bytes fits its width
+
+pub two_below : (xs : List ℕ) (at : ℕ) → AreBytes xs → number_at w16 xs at < 2 ^ 16
+unfolding number_at
+two_below xs at all = let part = take_bytes 2 (drop at xs) (drop_bytes at xs all) in omega (arith, part.each 0, part.each 1)
+
+pub four_below : (xs : List ℕ) (at : ℕ) → AreBytes xs → number_at w32 xs at < 2 ^ 32
+unfolding number_at
+four_below xs at all = let part = take_bytes 4 (drop at xs) (drop_bytes at xs all) in omega (arith, part.each 0, part.each 1, part.each 2, part.each 3)
+
+pub eight_below : (xs : List ℕ) (at : ℕ) → AreBytes xs → number_at w64 xs at < 2 ^ 64
+unfolding number_at
+eight_below xs at all =
+    let part = take_bytes 8 (drop at xs) (drop_bytes at xs all) in
+    omega (arith, part.each 0, part.each 1, part.each 2, part.each 3, part.each 4, part.each 5, part.each 6, part.each 7)
