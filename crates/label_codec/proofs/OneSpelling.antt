@@ -9,10 +9,9 @@ use Rattle.nvd_words.proofs.GuidOrder.{swap_twice}
 use Rattle.nvd_words.proofs.ByteLists.{next_part, next_byte, next_two, next_four, next_eight}
 use Rattle.label_codec.specs.declared.label.Label.{Label}
 use Rattle.label_codec.specs.Name.{text_in}
-use Rattle.label_codec.specs.Label.{bytes_at, name_in, padded, body_of, spelling_of}
+use Rattle.label_codec.specs.Label.{bytes_at, name_in, padded, fields_of, body_of, spelling_of}
 use Rattle.label_codec.specs.Grammar.{StandsFor}
 use Rattle.label_codec.specs.Laws.{IsClean, SpellingIsTheOne}
-use Rattle.label_codec.proofs.Spelled.{fields_of, body_is}
 
 -- the Name field is the name and zeros
 name_field : (bytes : List ℕ) (number : ℕ) (l : Label) → StandsFor bytes number l → IsClean bytes → take 64 (drop 16 bytes) ≡ padded 64 l.name

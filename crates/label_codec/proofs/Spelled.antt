@@ -14,15 +14,7 @@ use Rattle.nvd_words.specs.Fletcher.{fletcher64_of, without_eight}
 use Rattle.label_codec.specs.declared.label.Label.{Label}
 use Rattle.label_codec.specs.Name.{text_in}
 use Rattle.label_codec.specs.Writable.{IsWritable}
-use Rattle.label_codec.specs.Label.{label_of, label_reading, has_checksum, bytes_at, padded, body_of, spelling_of}
-
--- the bytes from 80 on
-abbrev pub fields_of : Label → List ℕ
-fields_of l =
-    to_le_bytes w32 l.flags ++ (to_le_bytes w16 l.count ++ (to_le_bytes w16 l.position
-    ++ (to_le_bytes w64 l.cookie ++ (to_le_bytes w64 l.lba ++ (to_le_bytes w64 l.dpa ++ (to_le_bytes w64 l.raw
-    ++ (to_le_bytes w32 l.slot ++ (l.align ∷ replicate 3 0 ++ (swap_fields l.kind ++ (swap_fields l.abstraction
-    ++ (to_le_bytes w64 l.spa_cookie ++ replicate 80 0)))))))))))
+use Rattle.label_codec.specs.Label.{label_of, label_reading, has_checksum, bytes_at, padded, fields_of, body_of, spelling_of}
 
 abbrev pub sum_of : Label → ℕ
 sum_of l = fletcher64_of (body_of l ++ replicate 8 0)
