@@ -12,7 +12,7 @@ use Rattle.label_codec.specs.declared.label.Label.{Label}
 use Rattle.label_codec.specs.Name.{text_in}
 use Rattle.label_codec.specs.Label.{label_of, bytes_at, name_in, padded, spelling_of}
 use Rattle.label_codec.specs.Grammar.{StandsFor}
-use Rattle.label_codec.specs.Writable.{IsSound, HasRanges, IsWritable}
+use Rattle.label_codec.specs.Writable.{IsSound, NumbersFit, BytesFit, IsWritable}
 use Rattle.label_codec.specs.Laws.{IsClean, SpellingStands, SpellingReadsBack, SpellingIsClean, NoSharedSpelling, NoDoubleReading, ReadIsWritable}
 use Rattle.label_codec.proofs.Grammar.{reads_grammar, label_is, sizes_test}
 use Rattle.label_codec.proofs.Spelled.{swap_bytes}
@@ -35,8 +35,8 @@ no_shared_spelling a b wa wb e = sym (spelled.label_is a wa) ∙ ap label_of e �
 field_at : (l : Label) → IsWritable l → bytes_at (spelling_of l) 16 64 ≡ padded 64 l.name
 field_at l ok =
     ap (λ (b : List ℕ). take 64 (drop 16 b)) (spelled.spelling_is l ∙ append_assoc l.uuid (padded 64 l.name) (spelled.rest_of l))
-    ∙ ap (take 64) (drop_at l.uuid (padded 64 l.name ++ spelled.rest_of l) 16 ok.ranges.uuid_len)
-    ∙ take_at (padded 64 l.name) (spelled.rest_of l) 64 (spelled.length_padded l.name ok.ranges.name_len)
+    ∙ ap (take 64) (drop_at l.uuid (padded 64 l.name ++ spelled.rest_of l) 16 ok.bytes.uuid_len)
+    ∙ take_at (padded 64 l.name) (spelled.rest_of l) 64 (spelled.length_padded l.name ok.bytes.name_len)
 
 pub spelling_is_clean : SpellingIsClean
 spelling_is_clean l ok =
@@ -73,31 +73,35 @@ read_is_sound bytes number l g = record {
   sizes = sizes_test l.dpa l.raw (record { dpa_whole = g.dpa_whole; raw_whole = g.raw_whole; raw_some = g.raw_some; raw_ends = g.raw_ends });
 }
 
-read_has_ranges : (bytes : List ℕ) (number : ℕ) (l : Label) → AreBytes bytes → length bytes ≡ 256 → StandsFor bytes number l → HasRanges l
-read_has_ranges bytes number l all len g =
+numbers_fit : (bytes : List ℕ) (number : ℕ) (l : Label) → AreBytes bytes → StandsFor bytes number l → NumbersFit l
+numbers_fit bytes number l all g = record {
+  flags = omega (arith, g.flags, four_below bytes 80 all);
+  count = omega (arith, g.count, two_below bytes 84 all);
+  position = omega (arith, g.position, two_below bytes 86 all);
+  cookie = omega (arith, g.cookie, eight_below bytes 88 all);
+  lba = omega (arith, g.lba, eight_below bytes 96 all);
+  dpa = omega (arith, g.dpa, eight_below bytes 104 all);
+  raw = omega (arith, g.raw, eight_below bytes 112 all);
+  slot = omega (arith, g.slot, four_below bytes 120 all);
+  align = omega (arith, g.align, all.each 124);
+  spa_cookie = omega (arith, g.spa_cookie, eight_below bytes 160 all);
+}
+
+bytes_fit : (bytes : List ℕ) (number : ℕ) (l : Label) → AreBytes bytes → length bytes ≡ 256 → StandsFor bytes number l → BytesFit l
+bytes_fit bytes number l all len g =
     let part : (at n : ℕ) → AreBytes (take n (drop at bytes)) = λ at n. take_bytes n (drop at bytes) (drop_bytes at bytes all) in
     record {
       uuid_len = ap length g.uuid ∙ length-take 16 bytes ∙ omega (arith, len);
-      uuid_bytes = subst AreBytes (sym g.uuid) (part 0 16);
+      uuid = subst AreBytes (sym g.uuid) (part 0 16);
       name_len = omega (arith, ap length g.name, text_short (bytes_at bytes 16 64), length-take 64 (drop 16 bytes));
-      name_bytes = subst AreBytes (sym g.name) (text_bytes (bytes_at bytes 16 64) (part 16 64));
-      flags = omega (arith, g.flags, four_below bytes 80 all);
-      count = omega (arith, g.count, two_below bytes 84 all);
-      position = omega (arith, g.position, two_below bytes 86 all);
-      cookie = omega (arith, g.cookie, eight_below bytes 88 all);
-      lba = omega (arith, g.lba, eight_below bytes 96 all);
-      dpa = omega (arith, g.dpa, eight_below bytes 104 all);
-      raw = omega (arith, g.raw, eight_below bytes 112 all);
-      slot = omega (arith, g.slot, four_below bytes 120 all);
-      align = omega (arith, g.align, all.each 124);
+      name = subst AreBytes (sym g.name) (text_bytes (bytes_at bytes 16 64) (part 16 64));
       kind_len = ap length g.kind;
-      kind_bytes = subst AreBytes (sym g.kind) (swap_bytes (bytes_at bytes 128 16) (part 128 16));
+      kind = subst AreBytes (sym g.kind) (swap_bytes (bytes_at bytes 128 16) (part 128 16));
       abstraction_len = ap length g.abstraction;
-      abstraction_bytes = subst AreBytes (sym g.abstraction) (swap_bytes (bytes_at bytes 144 16) (part 144 16));
-      spa_cookie = omega (arith, g.spa_cookie, eight_below bytes 160 all);
+      abstraction = subst AreBytes (sym g.abstraction) (swap_bytes (bytes_at bytes 144 16) (part 144 16));
     }
 
 pub read_is_writable : ReadIsWritable
 read_is_writable bytes number l all len e =
     let g = reads_grammar bytes number l e in
-    record { sound = read_is_sound bytes number l g; ranges = read_has_ranges bytes number l all len g }
+    record { sound = read_is_sound bytes number l g; numbers = numbers_fit bytes number l all g; bytes = bytes_fit bytes number l all len g }

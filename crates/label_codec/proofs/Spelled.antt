@@ -30,7 +30,7 @@ pub length_padded : (name : List ℕ) → length name ≤ 64 → length (padded 
 length_padded name le = length-append name (replicate (64 - length name) 0) ∙ omega (arith, length-replicate {A = ℕ} (64 - length name) 0)
 
 pub length_front : (l : Label) → IsWritable l → length (front_of l) ≡ 80
-length_front l ok = length-append l.uuid (padded 64 l.name) ∙ omega (arith, ok.ranges.uuid_len, length_padded l.name ok.ranges.name_len)
+length_front l ok = length-append l.uuid (padded 64 l.name) ∙ omega (arith, ok.bytes.uuid_len, length_padded l.name ok.bytes.name_len)
 
 pub body_is : (l : Label) → body_of l ≡ front_of l ++ fields_of l
 body_is l = sym (append_assoc l.uuid (padded 64 l.name) (fields_of l))
@@ -53,63 +53,63 @@ past w l k n ok e = ap (λ (m : ℕ). from_le_bytes w (take (byte_len w) (drop m
 
 flags_in : (l : Label) → IsWritable l → number_at w32 (fields_of l ++ to_le_bytes w64 (sum_of l)) 0 ≡ l.flags
 unfolding number_at
-flags_in l ok = from_le_bytes-to_le_bytes_4 l.flags ok.ranges.flags
+flags_in l ok = from_le_bytes-to_le_bytes_4 l.flags ok.numbers.flags
 
 flags_at : (l : Label) → IsWritable l → number_at w32 (spelling_of l) 80 ≡ l.flags
 flags_at l ok = past w32 l 0 80 ok refl ∙ flags_in l ok
 
 count_in : (l : Label) → IsWritable l → number_at w16 (fields_of l ++ to_le_bytes w64 (sum_of l)) 4 ≡ l.count
 unfolding number_at
-count_in l ok = from_le_bytes-to_le_bytes_2 l.count ok.ranges.count
+count_in l ok = from_le_bytes-to_le_bytes_2 l.count ok.numbers.count
 
 count_at : (l : Label) → IsWritable l → number_at w16 (spelling_of l) 84 ≡ l.count
 count_at l ok = past w16 l 4 84 ok refl ∙ count_in l ok
 
 position_in : (l : Label) → IsWritable l → number_at w16 (fields_of l ++ to_le_bytes w64 (sum_of l)) 6 ≡ l.position
 unfolding number_at
-position_in l ok = from_le_bytes-to_le_bytes_2 l.position ok.ranges.position
+position_in l ok = from_le_bytes-to_le_bytes_2 l.position ok.numbers.position
 
 position_at : (l : Label) → IsWritable l → number_at w16 (spelling_of l) 86 ≡ l.position
 position_at l ok = past w16 l 6 86 ok refl ∙ position_in l ok
 
 cookie_in : (l : Label) → IsWritable l → number_at w64 (fields_of l ++ to_le_bytes w64 (sum_of l)) 8 ≡ l.cookie
 unfolding number_at
-cookie_in l ok = from_le_bytes-to_le_bytes_8 l.cookie ok.ranges.cookie
+cookie_in l ok = from_le_bytes-to_le_bytes_8 l.cookie ok.numbers.cookie
 
 cookie_at : (l : Label) → IsWritable l → number_at w64 (spelling_of l) 88 ≡ l.cookie
 cookie_at l ok = past w64 l 8 88 ok refl ∙ cookie_in l ok
 
 lba_in : (l : Label) → IsWritable l → number_at w64 (fields_of l ++ to_le_bytes w64 (sum_of l)) 16 ≡ l.lba
 unfolding number_at
-lba_in l ok = from_le_bytes-to_le_bytes_8 l.lba ok.ranges.lba
+lba_in l ok = from_le_bytes-to_le_bytes_8 l.lba ok.numbers.lba
 
 lba_at : (l : Label) → IsWritable l → number_at w64 (spelling_of l) 96 ≡ l.lba
 lba_at l ok = past w64 l 16 96 ok refl ∙ lba_in l ok
 
 dpa_in : (l : Label) → IsWritable l → number_at w64 (fields_of l ++ to_le_bytes w64 (sum_of l)) 24 ≡ l.dpa
 unfolding number_at
-dpa_in l ok = from_le_bytes-to_le_bytes_8 l.dpa ok.ranges.dpa
+dpa_in l ok = from_le_bytes-to_le_bytes_8 l.dpa ok.numbers.dpa
 
 dpa_at : (l : Label) → IsWritable l → number_at w64 (spelling_of l) 104 ≡ l.dpa
 dpa_at l ok = past w64 l 24 104 ok refl ∙ dpa_in l ok
 
 raw_in : (l : Label) → IsWritable l → number_at w64 (fields_of l ++ to_le_bytes w64 (sum_of l)) 32 ≡ l.raw
 unfolding number_at
-raw_in l ok = from_le_bytes-to_le_bytes_8 l.raw ok.ranges.raw
+raw_in l ok = from_le_bytes-to_le_bytes_8 l.raw ok.numbers.raw
 
 raw_at : (l : Label) → IsWritable l → number_at w64 (spelling_of l) 112 ≡ l.raw
 raw_at l ok = past w64 l 32 112 ok refl ∙ raw_in l ok
 
 slot_in : (l : Label) → IsWritable l → number_at w32 (fields_of l ++ to_le_bytes w64 (sum_of l)) 40 ≡ l.slot
 unfolding number_at
-slot_in l ok = from_le_bytes-to_le_bytes_4 l.slot ok.ranges.slot
+slot_in l ok = from_le_bytes-to_le_bytes_4 l.slot ok.numbers.slot
 
 slot_at : (l : Label) → IsWritable l → number_at w32 (spelling_of l) 120 ≡ l.slot
 slot_at l ok = past w32 l 40 120 ok refl ∙ slot_in l ok
 
 spa_in : (l : Label) → IsWritable l → number_at w64 (fields_of l ++ to_le_bytes w64 (sum_of l)) 80 ≡ l.spa_cookie
 unfolding number_at
-spa_in l ok = from_le_bytes-to_le_bytes_8 l.spa_cookie ok.ranges.spa_cookie
+spa_in l ok = from_le_bytes-to_le_bytes_8 l.spa_cookie ok.numbers.spa_cookie
 
 spa_at : (l : Label) → IsWritable l → number_at w64 (spelling_of l) 160 ≡ l.spa_cookie
 spa_at l ok = past w64 l 80 160 ok refl ∙ spa_in l ok
@@ -125,15 +125,15 @@ align_at : (l : Label) → IsWritable l → get_or (spelling_of l) 124 0 ≡ l.a
 align_at l ok = sym (get_or-drop 80 (spelling_of l) 44 0) ∙ ap (λ (b : List ℕ). get_or b 44 0) (drop_past l 0 ok)
 
 kind_at : (l : Label) → IsWritable l → swap_fields (bytes_at (spelling_of l) 128 16) ≡ l.kind
-kind_at l ok = ap (λ (b : List ℕ). swap_fields (take 16 b)) (drop_past l 48 ok) ∙ swap_twice l.kind ok.ranges.kind_len
+kind_at l ok = ap (λ (b : List ℕ). swap_fields (take 16 b)) (drop_past l 48 ok) ∙ swap_twice l.kind ok.bytes.kind_len
 
 abstraction_at : (l : Label) → IsWritable l → swap_fields (bytes_at (spelling_of l) 144 16) ≡ l.abstraction
-abstraction_at l ok = ap (λ (b : List ℕ). swap_fields (take 16 b)) (drop_past l 64 ok) ∙ swap_twice l.abstraction ok.ranges.abstraction_len
+abstraction_at l ok = ap (λ (b : List ℕ). swap_fields (take 16 b)) (drop_past l 64 ok) ∙ swap_twice l.abstraction ok.bytes.abstraction_len
 
 uuid_at : (l : Label) → IsWritable l → bytes_at (spelling_of l) 0 16 ≡ l.uuid
 uuid_at l ok =
     ap (take 16) (spelling_is l ∙ append_assoc l.uuid (padded 64 l.name) (fields_of l ++ to_le_bytes w64 (sum_of l)))
-    ∙ take_at l.uuid (padded 64 l.name ++ (fields_of l ++ to_le_bytes w64 (sum_of l))) 16 ok.ranges.uuid_len
+    ∙ take_at l.uuid (padded 64 l.name ++ (fields_of l ++ to_le_bytes w64 (sum_of l))) 16 ok.bytes.uuid_len
 
 text_zeros : (n : ℕ) → text_in (replicate n 0) ≡ []
 text_zeros zero = refl
@@ -154,8 +154,8 @@ text_back (x ∷ name) zeros some none =
 pub name_at : (l : Label) → IsWritable l → text_in (bytes_at (spelling_of l) 16 64) ≡ l.name
 name_at l ok =
     ap (λ (b : List ℕ). text_in (take 64 (drop 16 b))) (spelling_is l ∙ append_assoc l.uuid (padded 64 l.name) (fields_of l ++ to_le_bytes w64 (sum_of l)))
-    ∙ ap (λ (b : List ℕ). text_in (take 64 b)) (drop_at l.uuid (padded 64 l.name ++ (fields_of l ++ to_le_bytes w64 (sum_of l))) 16 ok.ranges.uuid_len)
-    ∙ ap text_in (take_at (padded 64 l.name) (fields_of l ++ to_le_bytes w64 (sum_of l)) 64 (length_padded l.name ok.ranges.name_len))
+    ∙ ap (λ (b : List ℕ). text_in (take 64 b)) (drop_at l.uuid (padded 64 l.name ++ (fields_of l ++ to_le_bytes w64 (sum_of l))) 16 ok.bytes.uuid_len)
+    ∙ ap text_in (take_at (padded 64 l.name) (fields_of l ++ to_le_bytes w64 (sum_of l)) 64 (length_padded l.name ok.bytes.name_len))
     ∙ text_back l.name (replicate (64 - length l.name) 0) ok.sound.no_zero (text_zeros (64 - length l.name))
 
 pub label_is : (l : Label) → IsWritable l → label_of (spelling_of l) ≡ l
@@ -200,13 +200,13 @@ fields_bytes : (l : Label) → IsWritable l → AreBytes (fields_of l)
 fields_bytes l ok =
     both_bytes (to_le_bytes w32 l.flags) _ (four_bytes l.flags) (both_bytes (to_le_bytes w16 l.count) _ (two_bytes l.count) (both_bytes (to_le_bytes w16 l.position) _ (two_bytes l.position)
     (both_bytes (to_le_bytes w64 l.cookie) _ (eight_bytes l.cookie) (both_bytes (to_le_bytes w64 l.lba) _ (eight_bytes l.lba) (both_bytes (to_le_bytes w64 l.dpa) _ (eight_bytes l.dpa)
-    (both_bytes (to_le_bytes w64 l.raw) _ (eight_bytes l.raw) (both_bytes (to_le_bytes w32 l.slot) _ (four_bytes l.slot) (one_byte l.align _ ok.ranges.align
-    (both_bytes (replicate 3 0) _ (zero_bytes 3) (both_bytes (swap_fields l.kind) _ (swap_bytes l.kind ok.ranges.kind_bytes) (both_bytes (swap_fields l.abstraction) _ (swap_bytes l.abstraction ok.ranges.abstraction_bytes)
+    (both_bytes (to_le_bytes w64 l.raw) _ (eight_bytes l.raw) (both_bytes (to_le_bytes w32 l.slot) _ (four_bytes l.slot) (one_byte l.align _ ok.numbers.align
+    (both_bytes (replicate 3 0) _ (zero_bytes 3) (both_bytes (swap_fields l.kind) _ (swap_bytes l.kind ok.bytes.kind) (both_bytes (swap_fields l.abstraction) _ (swap_bytes l.abstraction ok.bytes.abstraction)
     (both_bytes (to_le_bytes w64 l.spa_cookie) (replicate 80 0) (eight_bytes l.spa_cookie) (zero_bytes 80)))))))))))))
 
 pub bytes_spelling : (l : Label) → IsWritable l → AreBytes (spelling_of l)
 bytes_spelling l ok =
     subst AreBytes (sym (spelling_is l))
         (both_bytes (front_of l) (fields_of l ++ to_le_bytes w64 (sum_of l))
-            (both_bytes l.uuid (padded 64 l.name) ok.ranges.uuid_bytes (both_bytes l.name (replicate (64 - length l.name) 0) ok.ranges.name_bytes (zero_bytes (64 - length l.name))))
+            (both_bytes l.uuid (padded 64 l.name) ok.bytes.uuid (both_bytes l.name (replicate (64 - length l.name) 0) ok.bytes.name (zero_bytes (64 - length l.name))))
             (both_bytes (fields_of l) (to_le_bytes w64 (sum_of l)) (fields_bytes l ok) (eight_bytes (sum_of l))))

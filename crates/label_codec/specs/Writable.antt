@@ -9,12 +9,8 @@ pub record IsSound (l : Label) : Type 0 where
   pub no_zero : (i : ℕ) → i < length l.name → slice_index l.name i ≢ 0
   pub sizes : size_fault_of l.dpa l.raw ≡ None
 
--- what the types say of each field's range
-pub record HasRanges (l : Label) : Type 0 where
-  pub uuid_len : length l.uuid ≡ 16
-  pub uuid_bytes : AreBytes l.uuid
-  pub name_len : length l.name ≤ 64
-  pub name_bytes : AreBytes l.name
+-- what the types say of the fields that are numbers
+pub record NumbersFit (l : Label) : Type 0 where
   pub flags : l.flags < 2 ^ 32
   pub count : l.count < 2 ^ 16
   pub position : l.position < 2 ^ 16
@@ -24,13 +20,21 @@ pub record HasRanges (l : Label) : Type 0 where
   pub raw : l.raw < 2 ^ 64
   pub slot : l.slot < 2 ^ 32
   pub align : l.align < 256
-  pub kind_len : length l.kind ≡ 16
-  pub kind_bytes : AreBytes l.kind
-  pub abstraction_len : length l.abstraction ≡ 16
-  pub abstraction_bytes : AreBytes l.abstraction
   pub spa_cookie : l.spa_cookie < 2 ^ 64
+
+-- what the types say of the fields that are bytes
+pub record BytesFit (l : Label) : Type 0 where
+  pub uuid_len : length l.uuid ≡ 16
+  pub uuid : AreBytes l.uuid
+  pub name_len : length l.name ≤ 64
+  pub name : AreBytes l.name
+  pub kind_len : length l.kind ≡ 16
+  pub kind : AreBytes l.kind
+  pub abstraction_len : length l.abstraction ≡ 16
+  pub abstraction : AreBytes l.abstraction
 
 -- a label that can be written
 pub record IsWritable (l : Label) : Type 0 where
   pub sound : IsSound l
-  pub ranges : HasRanges l
+  pub numbers : NumbersFit l
+  pub bytes : BytesFit l

@@ -1,7 +1,8 @@
-ghost use Rattle.std.specs.Prelude.{◌≡◌, ◌++◌, replicate};
-ghost use Rattle.label_codec.specs.Label.{spelling_of, fields_of};
-ghost use Rattle.label_codec.specs.Writable.{IsSound};
+ghost use Rattle.std.specs.Prelude.{◌≡◌, ◌++◌, replicate, Ok};
+ghost use Rattle.label_codec.specs.Label.{spelling_of, fields_of, label_reading};
+ghost use Rattle.label_codec.specs.Writable.{IsSound, IsWritable};
 
+use crate::known::know_writable;
 use crate::label::Label;
 use crate::layout::{
     ABSTRACTION_AT, ALIGN_AT, CHECKSUM_AT, COOKIE_AT, COUNT_AT, DPA_AT, FLAGS_AT, KIND_AT,
@@ -16,8 +17,11 @@ use nvd_words::{fletcher64, guid_bytes};
 /// the label, in the slot that the label names ([`crate::spelling_reads_back`]).
 pub fn write_label(into: &mut [u8; 256], label: &Label)
     requires { IsSound label.now }
-    ensures { into.new ≡ spelling_of label.now }
+    ensures spelled { into.new ≡ spelling_of label.now }
+    ensures read { label_reading into.new label.now.slot ≡ Ok label.now }
+    ensures writable { IsWritable label.now }
 {
+    know_writable(label);
     *into = fixed_fields(label);
     into[UUID_AT..NAME_AT].copy_from_slice(label.uuid.as_bytes());
     into[NAME_AT..FLAGS_AT].copy_from_slice(&label.name.field());
