@@ -49,6 +49,3 @@ pub fixed : (l : Label) (flags count position cookie lba dpa raw slot kind abstr
 fixed l flags count position cookie lba dpa raw slot kind abstraction spa ef ec ep ek el ed er es et ea eo = λ i.
     put_mid 160 8 (put_mid 144 16 (put_mid 128 16 (set (put_mid 120 4 (put_mid 112 8 (put_mid 104 8 (put_mid 96 8 (put_mid 88 8 (put_mid 86 2 (put_mid 84 2
         (put_mid 80 4 (replicate 256 0) (ef i)) (ec i)) (ep i)) (ek i)) (el i)) (ed i)) (er i)) (es i)) 124 l.align) (et i)) (ea i)) (eo i)
-
-pub length_body : (l : Label) → length l.uuid ≡ 16 → length (padded 64 l.name) ≡ 64 → length (body_of l) ≡ 248
-length_body l lu ln = length-append l.uuid (padded 64 l.name ++ fields_of l) ∙ omega (arith, lu, length-append (padded 64 l.name) (fields_of l), ln)

@@ -1,12 +1,13 @@
 -- Which labels can be written; this project's rule.
-use Rattle.std.specs.Prelude.{◌≡◌, ◌≢◌, ℕ, ◌^◌, ◌<◌, ◌≤◌, length, slice_index, None}
+use Rattle.std.specs.Prelude.{◌≡◌, ◌^◌, ◌<◌, ◌≤◌, length, None}
 use Rattle.nvd_words.specs.Bytes.{AreBytes}
 use Rattle.label_codec.specs.declared.label.Label.{Label}
+use Rattle.label_codec.specs.Name.{HasNoZero}
 use Rattle.label_codec.specs.Sizes.{size_fault_of}
 
 -- what no type says of a label that can be written: its name has no zero byte, and its sizes aren't odd
 pub record IsSound (l : Label) : Type 0 where
-  pub no_zero : (i : ℕ) → i < length l.name → slice_index l.name i ≢ 0
+  pub no_zero : HasNoZero l.name
   pub sizes : size_fault_of l.dpa l.raw ≡ None
 
 -- what the types say of the fields that are numbers

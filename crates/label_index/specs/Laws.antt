@@ -5,10 +5,14 @@ use Rattle.nvd_words.specs.Bytes.{number_at, AreBytes}
 use Rattle.label_index.specs.declared.index.Side.{Side}
 use Rattle.label_index.specs.declared.index.IndexBlock.{IndexBlock}
 use Rattle.label_index.specs.Area.{block_size_of, IsAreaSize}
-use Rattle.label_index.specs.Index.{place_of, is_free, index_reading}
+use Rattle.label_index.specs.Index.{place_of, is_free, block_reading, index_reading}
 use Rattle.label_index.specs.Grammar.{IsBlockOf}
 use Rattle.label_index.specs.Valid.{IsValid, IsWritable}
 use Rattle.label_index.specs.Spelling.{spelling_of}
+
+-- a block is read as a record, on the record's side of each area that it is valid in
+abbrev pub ReadsBack : List ℕ → IndexBlock → Type 0
+ReadsBack block b = (area : ℕ) → IsValid area b → block_reading area b.size b.side block ≡ Ok b
 
 -- a law: the spelling of a record stands for that record, on its side of an area that it is valid in
 abbrev pub SpellingStands : Type 0

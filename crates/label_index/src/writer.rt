@@ -1,5 +1,6 @@
 ghost use Rattle.std.specs.Prelude.{◌≡◌, ◌≤◌, length};
 ghost use Rattle.label_index.specs.Valid.{IsWritable};
+ghost use Rattle.label_index.specs.Laws.{ReadsBack};
 ghost use Rattle.label_index.specs.Spelling.{spelling_of, head_of};
 
 use crate::index::IndexBlock;
@@ -18,7 +19,8 @@ use nvd_words::fletcher64;
 pub fn write_index(into: &mut [u8], block: &IndexBlock)
     requires len { length into.old ≡ block.now.size }
     requires writable { IsWritable block.now }
-    ensures { into.new ≡ spelling_of block.now }
+    ensures spelled { into.new ≡ spelling_of block.now }
+    ensures read { ReadsBack into.new block.now }
 {
     into[..CHECKSUM_AT].copy_from_slice(&head_bytes(block));
     into[CHECKSUM_AT..FREE_AT].copy_from_slice(&[0; 8]);
