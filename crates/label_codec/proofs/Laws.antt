@@ -1,5 +1,5 @@
 -- The laws of the spelling of labels.
-use Rattle.std.proofs.Common.{◌≡◌, ◌≢◌, ℕ, zero, suc, ◌+◌, ◌-◌, ◌^◌, ◌<◌, ◌≤◌, Bool, true, false, not, eqb, List, [], ◌∷◌, ◌++◌, length, take, drop, get_or, replicate, refl, sym, ap, ◌∙◌, subst, arith, append_assoc, inl, inr}
+use Rattle.std.proofs.Common.{◌≡◌, ◌≢◌, ℕ, zero, suc, ◌+◌, ◌-◌, ◌^◌, ◌<◌, ◌≤◌, Bool, true, false, not, eqb, List, [], ◌∷◌, ◌++◌, length, take, drop, get_or, replicate, refl, sym, ap, ◌∙◌, subst, arith, append_assoc, Ok, inl, inr}
 use Rattle.std.specs.Int.{w16, w32, w64}
 use Rattle.std.specs.List.{prefix_len}
 use Rattle.std.proofs.lemmas.Bool.{eqb-true, eq-eqb, ne_eqb, cases_eq}
@@ -10,7 +10,7 @@ use Rattle.nvd_words.specs.Bytes.{number_at, AreBytes}
 use Rattle.nvd_words.proofs.ByteLists.{take_bytes, drop_bytes, two_below, four_below, eight_below}
 use Rattle.label_codec.specs.declared.label.Label.{Label}
 use Rattle.label_codec.specs.Name.{text_in}
-use Rattle.label_codec.specs.Label.{label_of, bytes_at, name_in, padded, spelling_of}
+use Rattle.label_codec.specs.Label.{label_of, label_reading, bytes_at, name_in, padded, spelling_of}
 use Rattle.label_codec.specs.Grammar.{StandsFor}
 use Rattle.label_codec.specs.Writable.{IsSound, NumbersFit, BytesFit, IsWritable}
 use Rattle.label_codec.specs.Laws.{IsClean, SpellingStands, SpellingReadsBack, SpellingIsClean, NoSharedSpelling, NoDoubleReading, ReadIsWritable}
@@ -59,7 +59,7 @@ text_no_zero bytes i lt zero_there =
     let test : ℕ → Bool = λ b. not (eqb b 0) in
     let within : i < prefix_len test bytes = omega (arith, lt, length-take (prefix_len test bytes) bytes) in
     clash (eqb (get_or bytes i 0) 0) (prefix_len_passes test bytes i 0 within)
-        (eq-eqb (get_or bytes i 0) 0 (sym (get_or-take (prefix_len test bytes) bytes i 0 within) ∙ zero_there))
+    (eq-eqb (get_or bytes i 0) 0 (sym (get_or-take (prefix_len test bytes) bytes i 0 within) ∙ zero_there))
 
 text_short : (bytes : List ℕ) → length (text_in bytes) ≤ length bytes
 text_short bytes = omega (arith, length-take (prefix_len (λ (b : ℕ). not (eqb b 0)) bytes) bytes)
@@ -72,6 +72,10 @@ read_is_sound bytes number l g = record {
   no_zero = subst (λ (name : List ℕ). (i : ℕ) → i < length name → get_or name i 0 ≢ 0) (sym g.name) (text_no_zero (bytes_at bytes 16 64));
   sizes = sizes_test l.dpa l.raw (record { dpa_whole = g.dpa_whole; raw_whole = g.raw_whole; raw_some = g.raw_some; raw_ends = g.raw_ends });
 }
+
+-- the label that was read has a name without a zero byte, and sizes that aren't odd
+pub sound_if_read : (bytes : List ℕ) (number : ℕ) (l : Label) → label_reading bytes number ≡ Ok l → IsSound l
+sound_if_read bytes number l e = read_is_sound bytes number l (reads_grammar bytes number l e)
 
 numbers_fit : (bytes : List ℕ) (number : ℕ) (l : Label) → AreBytes bytes → StandsFor bytes number l → NumbersFit l
 numbers_fit bytes number l all g = record {

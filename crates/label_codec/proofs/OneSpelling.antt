@@ -60,7 +60,7 @@ one_spelling bytes number l all len ok clean =
     let front : take 248 bytes ≡ body_of l = ap (take 248) body ∙ take_at (body_of l) (drop 248 bytes) 248 body_len in
     let none : drop 256 bytes ≡ [] = drop_all 256 bytes (omega (arith, len)) in
     let sum : number_at w64 bytes 248 ≡ fletcher64_of (body_of l ++ replicate 8 0) =
-        ok.sum ∙ ap (λ (h : List ℕ). fletcher64_of (h ++ replicate 8 0 ++ drop 256 bytes)) front
-        ∙ ap (λ (t : List ℕ). fletcher64_of (body_of l ++ replicate 8 0 ++ t)) none ∙ ap fletcher64_of (append-nil (body_of l ++ replicate 8 0)) in
+    ok.sum ∙ ap (λ (h : List ℕ). fletcher64_of (h ++ replicate 8 0 ++ drop 256 bytes)) front
+    ∙ ap (λ (t : List ℕ). fletcher64_of (body_of l ++ replicate 8 0 ++ t)) none ∙ ap fletcher64_of (append-nil (body_of l ++ replicate 8 0)) in
     body ∙ ap (λ (r : List ℕ). body_of l ++ r) (next_eight bytes 248 256 (fletcher64_of (body_of l ++ replicate 8 0)) all refl (omega (arith, len)) sum
     ∙ ap (λ (r : List ℕ). to_le_bytes w64 (fletcher64_of (body_of l ++ replicate 8 0)) ++ r) none ∙ append-nil (to_le_bytes w64 (fletcher64_of (body_of l ++ replicate 8 0))))

@@ -207,6 +207,6 @@ fields_bytes l ok =
 pub bytes_spelling : (l : Label) → IsWritable l → AreBytes (spelling_of l)
 bytes_spelling l ok =
     subst AreBytes (sym (spelling_is l))
-        (both_bytes (front_of l) (fields_of l ++ to_le_bytes w64 (sum_of l))
-            (both_bytes l.uuid (padded 64 l.name) ok.bytes.uuid (both_bytes l.name (replicate (64 - length l.name) 0) ok.bytes.name (zero_bytes (64 - length l.name))))
-            (both_bytes (fields_of l) (to_le_bytes w64 (sum_of l)) (fields_bytes l ok) (eight_bytes (sum_of l))))
+    (both_bytes (front_of l) (fields_of l ++ to_le_bytes w64 (sum_of l))
+    (both_bytes l.uuid (padded 64 l.name) ok.bytes.uuid (both_bytes l.name (replicate (64 - length l.name) 0) ok.bytes.name (zero_bytes (64 - length l.name))))
+    (both_bytes (fields_of l) (to_le_bytes w64 (sum_of l)) (fields_bytes l ok) (eight_bytes (sum_of l))))

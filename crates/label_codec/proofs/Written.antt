@@ -44,8 +44,8 @@ pub fixed : (l : Label) (flags count position cookie lba dpa raw slot kind abstr
     → lba ≡ to_le_bytes w64 l.lba → dpa ≡ to_le_bytes w64 l.dpa → raw ≡ to_le_bytes w64 l.raw → slot ≡ to_le_bytes w32 l.slot
     → kind ≡ swap_fields l.kind → abstraction ≡ swap_fields l.abstraction → spa ≡ to_le_bytes w64 l.spa_cookie
     → put_mid 160 8 (put_mid 144 16 (put_mid 128 16 (set (put_mid 120 4 (put_mid 112 8 (put_mid 104 8 (put_mid 96 8 (put_mid 88 8 (put_mid 86 2 (put_mid 84 2
-        (put_mid 80 4 (replicate 256 0) flags) count) position) cookie) lba) dpa) raw) slot) 124 l.align) kind) abstraction) spa
-      ≡ replicate 80 0 ++ (fields_of l ++ replicate 8 0)
+    (put_mid 80 4 (replicate 256 0) flags) count) position) cookie) lba) dpa) raw) slot) 124 l.align) kind) abstraction) spa
+    ≡ replicate 80 0 ++ (fields_of l ++ replicate 8 0)
 fixed l flags count position cookie lba dpa raw slot kind abstraction spa ef ec ep ek el ed er es et ea eo = λ i.
     put_mid 160 8 (put_mid 144 16 (put_mid 128 16 (set (put_mid 120 4 (put_mid 112 8 (put_mid 104 8 (put_mid 96 8 (put_mid 88 8 (put_mid 86 2 (put_mid 84 2
-        (put_mid 80 4 (replicate 256 0) (ef i)) (ec i)) (ep i)) (ek i)) (el i)) (ed i)) (er i)) (es i)) 124 l.align) (et i)) (ea i)) (eo i)
+    (put_mid 80 4 (replicate 256 0) (ef i)) (ec i)) (ep i)) (ek i)) (el i)) (ed i)) (er i)) (es i)) 124 l.align) (et i)) (ea i)) (eo i)

@@ -6,7 +6,8 @@ use crate::known::know_writable;
 use crate::label::Label;
 use crate::layout::{
     ABSTRACTION_AT, ALIGN_AT, CHECKSUM_AT, COOKIE_AT, COUNT_AT, DPA_AT, FLAGS_AT, KIND_AT,
-    LABEL_BYTES, LBA_AT, NAME_AT, POSITION_AT, RAW_AT, RESERVED_AT, SLOT_AT, SPA_COOKIE_AT, UUID_AT,
+    LABEL_BYTES, LBA_AT, NAME_AT, POSITION_AT, RAW_AT, RESERVED_AT, SLOT_AT, SPA_COOKIE_AT,
+    UUID_AT,
 };
 use nvd_words::{fletcher64, guid_bytes};
 

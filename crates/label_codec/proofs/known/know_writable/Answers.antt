@@ -17,9 +17,15 @@ returns c =
     record {
       sound = record { no_zero = c.requires.no_zero; sizes = c.requires.sizes };
       numbers = record {
-        flags = c.know_numbers_of_set.ensures.flags; count = c.know_numbers_of_set.ensures.count; position = c.know_numbers_of_set.ensures.position;
-        cookie = c.know_numbers_of_set.ensures.cookie; lba = c.know_numbers_of_set.ensures.lba; dpa = c.know_numbers_of_part.ensures.dpa;
-        raw = c.know_numbers_of_part.ensures.raw; slot = c.know_numbers_of_part.ensures.slot; align = c.know_numbers_of_part.ensures.align;
+        flags = c.know_numbers_of_set.ensures.flags;
+        count = c.know_numbers_of_set.ensures.count;
+        position = c.know_numbers_of_set.ensures.position;
+        cookie = c.know_numbers_of_set.ensures.cookie;
+        lba = c.know_numbers_of_set.ensures.lba;
+        dpa = c.know_numbers_of_part.ensures.dpa;
+        raw = c.know_numbers_of_part.ensures.raw;
+        slot = c.know_numbers_of_part.ensures.slot;
+        align = c.know_numbers_of_part.ensures.align;
         spa_cookie = c.know_numbers_of_part.ensures.spa_cookie;
       };
       bytes = record {

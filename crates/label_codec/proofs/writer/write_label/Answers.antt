@@ -9,8 +9,8 @@ returns-clause-spelled c =
     let label = c.args.label.now in
     let ok = c.know_writable.ensures in
     written label c.copy_from_slice.new.self c.copy_from_slice-2.new.self c.fixed_fields.result c.copy_from_slice-3.new.self c.fletcher64-sum.result
-        (c.copy_from_slice.ensures.after ∙ c.as_bytes.ensures) (c.copy_from_slice-2.ensures.after ∙ c.field.ensures) c.fixed_fields.ensures
-        ok.bytes.uuid_len (length_body label ok) c.fletcher64-sum.ensures (c.copy_from_slice-3.ensures.after ∙ c.to_le_bytes.ensures)
+    (c.copy_from_slice.ensures.after ∙ c.as_bytes.ensures) (c.copy_from_slice-2.ensures.after ∙ c.field.ensures) c.fixed_fields.ensures
+    ok.bytes.uuid_len (length_body label ok) c.fletcher64-sum.ensures (c.copy_from_slice-3.ensures.after ∙ c.to_le_bytes.ensures)
 
 pub returns-clause-read : goal.returns-clause-read
 returns-clause-read c =
