@@ -1,19 +1,17 @@
 -- The laws of the spelling of labels.
-use Rattle.std.proofs.Common.{◌≡◌, ◌≢◌, ℕ, zero, suc, ◌+◌, ◌-◌, ◌^◌, ◌<◌, ◌≤◌, Bool, true, false, not, eqb, List, [], ◌∷◌, ◌++◌, length, take, drop, get_or, replicate, refl, sym, ap, ◌∙◌, subst, arith, append_assoc, Ok, inl, inr}
-use Rattle.std.specs.Int.{w16, w32, w64}
+use Rattle.std.proofs.Common.{◌≡◌, ◌≢◌, ℕ, ◌-◌, ◌<◌, ◌≤◌, Bool, true, false, not, eqb, List, ◌++◌, length, take, drop, get_or, replicate, refl, sym, ap, ◌∙◌, subst, arith, append_assoc, Ok}
 use Rattle.std.specs.List.{prefix_len}
-use Rattle.std.proofs.lemmas.Bool.{eqb-true, eq-eqb, ne_eqb, cases_eq}
+use Rattle.std.proofs.lemmas.Bool.{eq-eqb}
 use Rattle.std.proofs.lemmas.List.Sums.{prefix_len_passes}
-use Rattle.std.proofs.lemmas.List.{get_or-take, take_at, drop_at, drop-drop, length-take, length-drop, length-append}
-use Rattle.uuid.specs.Parts.{swap_fields}
-use Rattle.nvd_words.specs.Bytes.{number_at, AreBytes}
+use Rattle.std.proofs.lemmas.List.{get_or-take, take_at, drop_at, length-take}
+use Rattle.nvd_words.specs.Bytes.{AreBytes}
 use Rattle.nvd_words.proofs.ByteLists.{take_bytes, drop_bytes, two_below, four_below, eight_below}
 use Rattle.label_codec.specs.declared.label.Label.{Label}
 use Rattle.label_codec.specs.Name.{text_in}
-use Rattle.label_codec.specs.Label.{label_of, label_reading, bytes_at, name_in, padded, spelling_of}
+use Rattle.label_codec.specs.Label.{label_of, label_reading, bytes_at, padded, spelling_of}
 use Rattle.label_codec.specs.Grammar.{StandsFor}
 use Rattle.label_codec.specs.Writable.{IsSound, NumbersFit, BytesFit, IsWritable}
-use Rattle.label_codec.specs.Laws.{IsClean, SpellingStands, SpellingReadsBack, SpellingIsClean, NoSharedSpelling, NoDoubleReading, ReadIsWritable}
+use Rattle.label_codec.specs.Laws.{SpellingStands, SpellingReadsBack, SpellingIsClean, NoSharedSpelling, NoDoubleReading, ReadIsWritable}
 use Rattle.label_codec.proofs.Grammar.{reads_grammar, label_is, sizes_test}
 use Rattle.label_codec.proofs.Spelled.{swap_bytes}
 use Rattle.label_codec.proofs.Spelled as spelled

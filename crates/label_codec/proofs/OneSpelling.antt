@@ -1,15 +1,15 @@
 -- The spelling of a label is the one list of 256 bytes that stands for it and is clean.
-use Rattle.std.proofs.Common.{◌≡◌, ℕ, ◌+◌, ◌-◌, ◌≤◌, List, [], ◌∷◌, ◌++◌, length, take, drop, get_or, replicate, refl, sym, ap, ◌∙◌, arith, append_assoc}
+use Rattle.std.proofs.Common.{◌≡◌, ℕ, ◌+◌, ◌≤◌, List, [], ◌∷◌, ◌++◌, length, take, drop, replicate, refl, sym, ap, ◌∙◌, arith, append_assoc}
 use Rattle.std.specs.Int.{w16, w32, w64, to_le_bytes}
 use Rattle.std.proofs.lemmas.List.{take_at, take_min, drop_all, length-append, length-take, length-drop, take-append-drop, append-nil}
 use Rattle.uuid.specs.Parts.{swap_fields}
 use Rattle.nvd_words.specs.Bytes.{number_at, AreBytes}
-use Rattle.nvd_words.specs.Fletcher.{fletcher64_of, without_eight}
+use Rattle.nvd_words.specs.Fletcher.{fletcher64_of}
 use Rattle.nvd_words.proofs.GuidOrder.{swap_twice}
 use Rattle.nvd_words.proofs.ByteLists.{next_part, next_byte, next_two, next_four, next_eight}
 use Rattle.label_codec.specs.declared.label.Label.{Label}
 use Rattle.label_codec.specs.Name.{text_in}
-use Rattle.label_codec.specs.Label.{bytes_at, name_in, padded, fields_of, body_of, spelling_of}
+use Rattle.label_codec.specs.Label.{bytes_at, padded, fields_of, body_of, spelling_of}
 use Rattle.label_codec.specs.Grammar.{StandsFor}
 use Rattle.label_codec.specs.Laws.{IsClean, SpellingIsTheOne}
 

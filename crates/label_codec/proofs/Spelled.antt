@@ -4,7 +4,7 @@ use Rattle.std.specs.List.{prefix_len}
 use Rattle.std.specs.Int.{Width, byte_len, w16, w32, w64, to_le_bytes, from_le_bytes}
 use Rattle.std.proofs.lemmas.Bool.{eq-eqb, ne_eqb}
 use Rattle.std.proofs.lemmas.Nat.{from_le_bytes-to_le_bytes_2, from_le_bytes-to_le_bytes_4, from_le_bytes-to_le_bytes_8}
-use Rattle.std.proofs.lemmas.List.{ext_get_or, length-append, length-replicate, get_or-drop, take_at, drop_at, drop-drop, append-nil, drop_all}
+use Rattle.std.proofs.lemmas.List.{length-append, length-replicate, get_or-drop, take_at, drop_at, drop-drop, append-nil, drop_all}
 use Rattle.uuid.specs.Parts.{swap_fields}
 use Rattle.nvd_words.specs.Bytes.{number_at, AreBytes}
 use Rattle.nvd_words.proofs.GuidOrder.{swap_twice}

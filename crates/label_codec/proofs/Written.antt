@@ -1,9 +1,9 @@
 -- What the writes of a label leave.
-use Rattle.std.proofs.Common.{◌≡◌, ℕ, ◌+◌, List, [], ◌∷◌, ◌++◌, length, take, drop, replicate, refl, sym, ap, ◌∙◌, arith, append_assoc}
+use Rattle.std.proofs.Common.{◌≡◌, ℕ, List, [], ◌++◌, length, drop, replicate, refl, sym, ap, ◌∙◌, append_assoc}
 use Rattle.std.specs.Int.{w16, w32, w64, to_le_bytes}
 use Rattle.std.proofs.Math.ListN.{set}
 use Rattle.uuid.specs.Parts.{swap_fields}
-use Rattle.std.proofs.lemmas.List.{take_at, drop_at, append-nil, length-append}
+use Rattle.std.proofs.lemmas.List.{take_at, drop_at, append-nil}
 use borrow.Rule.Slice.PartMut.{put_mid}
 use Rattle.nvd_words.specs.Fletcher.{fletcher64_of}
 use Rattle.label_codec.specs.declared.label.Label.{Label}

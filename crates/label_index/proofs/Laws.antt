@@ -1,6 +1,6 @@
 -- The laws of the spelling of index blocks.
-use Rattle.std.proofs.Common.{◌≡◌, ℕ, ◌+◌, ◌*◌, ◌/◌, ◌^◌, ◌<◌, ◌≤◌, false, List, [], ◌∷◌, length, take, drop, get_or, refl, sym, ap, ◌∙◌, subst, arith}
-use Rattle.std.specs.Int.{w32, w64}
+use Rattle.std.proofs.Common.{◌≡◌, ℕ, ◌+◌, ◌/◌, ◌≤◌, false, List, [], ◌∷◌, length, take, drop, refl, sym, ap, ◌∙◌, subst, arith}
+use Rattle.std.specs.Int.{w32}
 use Rattle.std.proofs.lemmas.Nat.{from_le_bytes-to_le_bytes_4}
 use Rattle.std.proofs.lemmas.List.{get_or_past}
 use Rattle.nvd_words.specs.Bytes.{number_at}
@@ -10,11 +10,10 @@ use Rattle.label_index.specs.declared.index.Side.TheVariants as side
 use Rattle.label_index.specs.Area.{block_size_of}
 use Rattle.label_index.specs.Index.{block_reading, index_of, place_of}
 use Rattle.label_index.specs.Grammar.{IsBlockOf}
-use Rattle.label_index.specs.Valid.{IsValid}
 use Rattle.label_index.specs.Spelling.{spelling_of}
-use Rattle.label_index.specs.Laws.{IsClean, SpellingStands, SpellingReadsBack, SpellingIsClean, NoSharedSpelling, NoDoubleReading, ReadIsValid}
+use Rattle.label_index.specs.Laws.{SpellingStands, SpellingReadsBack, SpellingIsClean, NoSharedSpelling, NoDoubleReading, ReadIsValid}
 use Rattle.label_index.proofs.Grammar.{reads_grammar, record_is}
-use Rattle.label_index.proofs.Spelled.{spelled, freed, small, few_slots, size_at, my_at, slots_at, places, numbered, index_is, enough}
+use Rattle.label_index.proofs.Spelled.{spelled, freed, small, few_slots, size_at, my_at, slots_at, places, index_is, enough}
 
 pub spelling_stands : SpellingStands
 spelling_stands area b ok = reads_grammar area b.size b.side (spelling_of b) b (spelled area b ok)

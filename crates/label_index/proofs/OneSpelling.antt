@@ -7,7 +7,7 @@ use Rattle.std.proofs.lemmas.List.{get_or-take, get_or-drop, get_or_past, length
 use Rattle.std.proofs.lemmas.List.FromFn.{fill_by_all}
 use Rattle.std.proofs.lemmas.Option.{get_or_from_slice_get}
 use Rattle.nvd_words.specs.Bytes.{number_at, AreBytes}
-use Rattle.nvd_words.specs.Fletcher.{fletcher64_of, without_eight}
+use Rattle.nvd_words.specs.Fletcher.{fletcher64_of}
 use Rattle.nvd_words.proofs.ByteLists.{next_part, next_byte, next_two, next_four, next_eight}
 use Rattle.label_index.specs.declared.index.IndexBlock.{IndexBlock}
 use Rattle.label_index.specs.declared.index.Side.{Side}

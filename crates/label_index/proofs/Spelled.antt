@@ -1,9 +1,8 @@
 -- The spelling of a valid block is read as that block.
-use Rattle.std.proofs.Common.{◌≡◌, ℕ, zero, suc, ◌+◌, ◌-◌, ◌*◌, ◌/◌, ◌%◌, ◌^◌, ◌<◌, ◌≤◌, Bool, true, false, eqb, ltb, List, [], ◌∷◌, ◌++◌, length, take, drop, map, get_or, replicate, Ok, refl, sym, ap, ◌∙◌, arith}
-use Rattle.std.specs.Prelude.{◌&&◌}
+use Rattle.std.proofs.Common.{◌≡◌, ℕ, zero, suc, ◌+◌, ◌-◌, ◌*◌, ◌/◌, ◌%◌, ◌^◌, ◌<◌, ◌≤◌, Bool, true, false, eqb, List, [], ◌∷◌, ◌++◌, length, take, drop, map, get_or, replicate, Ok, refl, sym, ap, ◌∙◌, arith}
 use Rattle.std.specs.List.{range_with_len}
 use Rattle.std.specs.Int.{w16, w32, w64, to_le_bytes}
-use Rattle.std.proofs.lemmas.Bool.{eq-eqb, le-leb, ne_eqb, and_parts, ltb-true}
+use Rattle.std.proofs.lemmas.Bool.{eq-eqb, le-leb, ne_eqb}
 use Rattle.std.proofs.Math.Nat.{zero-div, div-div-eq-div-mul, pow-succ'}
 use Rattle.std.proofs.lemmas.Nat.{from_le_bytes-to_le_bytes_4, from_le_bytes-to_le_bytes_8}
 use Rattle.std.proofs.lemmas.List.{get_or-take, get_or-drop, length-take}
@@ -16,8 +15,7 @@ use Rattle.label_index.specs.declared.index.IndexBlock.{IndexBlock}
 use Rattle.label_index.specs.declared.index.Side.{Side}
 use Rattle.label_index.specs.declared.index.Side.TheVariants as side
 use Rattle.label_index.specs.Index.{block_reading, index_of, place_of, other_place_of, signature, is_free, free_of, has_signature, sequence_of, has_version, has_offsets, has_slots, has_checksum}
-use Rattle.label_index.specs.Area.{round_up, index_size_of, slots_of, block_size_of, IsAreaSize}
-use Rattle.label_index.specs.Valid.{IsValid, IsWritable}
+use Rattle.label_index.specs.Valid.{IsValid}
 use Rattle.label_index.specs.Spelling.{number_of_bits, head_of, tail_of, spelling_of}
 
 -- an index block has at least 256 bytes and less than its area, which is no more than a mebibyte

@@ -1,5 +1,5 @@
 -- Laws of the spelling of index blocks.
-use Rattle.std.specs.Prelude.{◌≡◌, ℕ, ◌-◌, ◌*◌, ◌^◌, ◌<◌, ◌≤◌, false, List, length, take, drop, replicate, Ok}
+use Rattle.std.specs.Prelude.{◌≡◌, ℕ, ◌-◌, ◌*◌, ◌<◌, ◌≤◌, false, List, length, take, drop, replicate, Ok}
 use Rattle.std.specs.Int.{w32}
 use Rattle.nvd_words.specs.Bytes.{number_at, AreBytes}
 use Rattle.label_index.specs.declared.index.Side.{Side}

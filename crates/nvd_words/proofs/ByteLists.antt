@@ -1,10 +1,10 @@
 -- Lists of bytes, and the numbers that stand in them.
-use Rattle.std.proofs.Common.{◌≡◌, ℕ, zero, suc, ◌+◌, ◌^◌, ◌<◌, ◌≤◌, Bool, true, ltb, List, [], ◌∷◌, ◌++◌, length, take, drop, get_or, replicate, refl, sym, ap, ◌∙◌, arith, inl, inr, subst}
+use Rattle.std.proofs.Common.{◌≡◌, ℕ, zero, suc, ◌+◌, ◌^◌, ◌<◌, ◌≤◌, Bool, true, ltb, List, [], ◌∷◌, ◌++◌, length, take, drop, get_or, replicate, sym, ap, ◌∙◌, arith}
 use Rattle.std.specs.Prelude.{◌&&◌}
 use Rattle.std.specs.Int.{w16, w32, w64, to_le_bytes}
-use Rattle.std.proofs.lemmas.Bool.{and_parts, ltb-true, cases_lt}
+use Rattle.std.proofs.lemmas.Bool.{and_parts, ltb-true}
 use Rattle.std.proofs.lemmas.Nat.{le_bytes_2, le_bytes_4, le_bytes_8}
-use Rattle.std.proofs.lemmas.List.{get_or-take, get_or-drop, get_or_past, length-take, length-drop, take-append-drop, drop-drop}
+use Rattle.std.proofs.lemmas.List.{get_or-drop, length-take, length-drop, take-append-drop, drop-drop}
 use Rattle.nvd_words.specs.Bytes.{number_at, AreBytes}
 
 -- ---- which lists are bytes
@@ -71,19 +71,19 @@ pub next_eight : (xs : List ℕ) (at to n : ℕ) → AreBytes xs → at + 8 ≡ 
 unfolding number_at
 next_eight xs at to n all e within is =
     next_part xs (to_le_bytes w64 n) at 8 to e
-        (sym (le_bytes_8 (take 8 (drop at xs)) n (part_length xs at 8 (omega arith)) (take_bytes 8 (drop at xs) (drop_bytes at xs all)).each (sym is)))
+    (sym (le_bytes_8 (take 8 (drop at xs)) n (part_length xs at 8 (omega arith)) (take_bytes 8 (drop at xs) (drop_bytes at xs all)).each (sym is)))
 
 pub next_four : (xs : List ℕ) (at to n : ℕ) → AreBytes xs → at + 4 ≡ to → to ≤ length xs → number_at w32 xs at ≡ n → drop at xs ≡ to_le_bytes w32 n ++ drop to xs
 unfolding number_at
 next_four xs at to n all e within is =
     next_part xs (to_le_bytes w32 n) at 4 to e
-        (sym (le_bytes_4 (take 4 (drop at xs)) n (part_length xs at 4 (omega arith)) (take_bytes 4 (drop at xs) (drop_bytes at xs all)).each (sym is)))
+    (sym (le_bytes_4 (take 4 (drop at xs)) n (part_length xs at 4 (omega arith)) (take_bytes 4 (drop at xs) (drop_bytes at xs all)).each (sym is)))
 
 pub next_two : (xs : List ℕ) (at to n : ℕ) → AreBytes xs → at + 2 ≡ to → to ≤ length xs → number_at w16 xs at ≡ n → drop at xs ≡ to_le_bytes w16 n ++ drop to xs
 unfolding number_at
 next_two xs at to n all e within is =
     next_part xs (to_le_bytes w16 n) at 2 to e
-        (sym (le_bytes_2 (take 2 (drop at xs)) n (part_length xs at 2 (omega arith)) (take_bytes 2 (drop at xs) (drop_bytes at xs all)).each (sym is)))
+    (sym (le_bytes_2 (take 2 (drop at xs)) n (part_length xs at 2 (omega arith)) (take_bytes 2 (drop at xs) (drop_bytes at xs all)).each (sym is)))
 
 -- the one byte at a place
 pub next_byte : (xs : List ℕ) (at to x : ℕ) → at + 1 ≡ to → to ≤ length xs → get_or xs at 0 ≡ x → drop at xs ≡ x ∷ drop to xs

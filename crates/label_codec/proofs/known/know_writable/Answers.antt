@@ -1,5 +1,5 @@
-use Rattle.std.proofs.Common.{◌≡◌, ◌-◌, ◌++◌, ◌≤◌, ℕ, List, ap, subst, sym, refl, length, replicate, arith}
-use Rattle.std.proofs.lemmas.List.{length-append, length-replicate, take_at}
+use Rattle.std.proofs.Common.{◌≡◌, ◌-◌, ◌++◌, ◌≤◌, ℕ, List, subst, refl, length, replicate, arith}
+use Rattle.std.proofs.lemmas.List.{length-append, take_at}
 use Rattle.nvd_words.specs.Bytes.{AreBytes}
 use Rattle.nvd_words.proofs.ByteLists.{take_bytes}
 use Rattle.label_codec.proofs.known.know_writable.Goals as goal

@@ -1,4 +1,4 @@
-use Rattle.std.proofs.Common.{◌≡◌, ◌≤◌, ℕ, Bool, true, false, drop, length, arith, refl, sym, subst}
+use Rattle.std.proofs.Common.{◌≡◌, ◌≤◌, ℕ, Bool, true, false, drop, length, arith}
 use Rattle.std.proofs.lemmas.List.{length-drop}
 use mir.Val.{bool_byte}
 use Rattle.label_index.proofs.Spelled.{bits_below}

@@ -1,4 +1,4 @@
-use Rattle.std.proofs.Common.{◌≡◌, ◌≤◌, ◌-◌, ◌∙◌, ℕ, ap, length, arith, refl}
+use Rattle.std.proofs.Common.{◌≤◌, ◌∙◌, ap, length, arith, refl}
 use Rattle.std.proofs.lemmas.List.{length-take}
 use Rattle.label_index.specs.Index.{block_reading}
 use Rattle.label_index.proofs.Spelled.{enough, spelled}

@@ -1,4 +1,4 @@
-use Rattle.std.proofs.Common.{◌*◌, ◌<◌, ℕ, length, take, drop, arith}
+use Rattle.std.proofs.Common.{◌*◌, length, take, drop, arith}
 use Rattle.std.proofs.lemmas.List.FromFn.{fill_by_all}
 use Rattle.label_index.specs.Spelling.{number_of_bits}
 use Rattle.label_index.proofs.free.FreeList.write.Goals as goal
