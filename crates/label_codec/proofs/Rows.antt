@@ -1,12 +1,18 @@
 -- Worked examples, computed on the definitions.
-use Rattle.std.proofs.Common.{◌≡◌, ◌^◌, ◌++◌, [], ◌∷◌, replicate, Some, None, refl}
+use Rattle.std.proofs.Common.{◌≡◌, ◌≢◌, ℕ, zero, suc, ◌^◌, ◌<◌, ◌++◌, List, [], ◌∷◌, get_or, replicate, Some, None, Ok, refl, arith}
 use Rattle.std.specs.Prelude.{codes}
 use Rattle.uuid.specs.Parts.{swap_fields}
+use Rattle.nvd_words.specs.Bytes.{number_at}
+use Rattle.nvd_words.specs.Checks.{first_fault}
+use Rattle.nvd_words.proofs.ByteLists.{few_bytes, zero_bytes}
+use Rattle.label_codec.specs.declared.label.Label.{Label}
 use Rattle.label_codec.specs.declared.label.SizeField.TheVariants.{Dpa, RawSize}
 use Rattle.label_codec.specs.declared.mode.Mode.TheVariants.{Raw, Sector, Sector1, Other}
+use Rattle.label_codec.specs.Label.{label_of, label_reading, has_checksum, spelling_of}
 use Rattle.label_codec.specs.Mode.{persistent_memory, no_abstraction, btt_2_0, btt_1_1, mode_of}
 use Rattle.label_codec.specs.Name.{text_in}
 use Rattle.label_codec.specs.Sizes.{size_fault_of}
+use Rattle.label_codec.specs.Writable.{IsWritable}
 
 -- the GUIDs as they stand on a medium
 pub memory_bytes : swap_fields persistent_memory ≡ 0x79 ∷ 0xd3 ∷ 0xf0 ∷ 0x66 ∷ 0xf3 ∷ 0xb4 ∷ 0x74 ∷ 0x40 ∷ 0xac ∷ 0x43 ∷ 0x0d ∷ 0x33 ∷ 0x18 ∷ 0xb7 ∷ 0x8c ∷ 0xdb ∷ []
@@ -68,3 +74,58 @@ no_raw = refl
 pub past_the_end : size_fault_of (2 ^ 63) 4096 ≡ Some RawSize
 unfolding size_fault_of
 past_the_end = refl
+
+-- the conditions of the laws are met: a label of four mebibytes from address 0 on, in slot 0
+abbrev plain : Label
+plain = record {
+  uuid = replicate 16 17;
+  name = codes "a";
+  flags = 0;
+  count = 1;
+  position = 0;
+  cookie = 0x0000a3de00001235;
+  lba = 512;
+  dpa = 0;
+  raw = 4194304;
+  slot = 0;
+  align = 0;
+  kind = persistent_memory;
+  abstraction = no_abstraction;
+  spa_cookie = 0;
+}
+
+pub plain_writable : IsWritable plain
+unfolding size_fault_of
+plain_writable = record {
+  sound = record { no_zero = some_byte; sizes = refl };
+  numbers = record {
+    flags = omega arith;
+    count = omega arith;
+    position = omega arith;
+    cookie = omega arith;
+    lba = omega arith;
+    dpa = omega arith;
+    raw = omega arith;
+    slot = omega arith;
+    align = omega arith;
+    spa_cookie = omega arith;
+  };
+  bytes = record {
+    uuid_len = refl;
+    uuid = few_bytes (replicate 16 17) refl;
+    name_len = omega arith;
+    name = few_bytes (codes "a") refl;
+    kind_len = refl;
+    kind = few_bytes persistent_memory refl;
+    abstraction_len = refl;
+    abstraction = zero_bytes 16;
+  };
+}
+  where
+    some_byte : (i : ℕ) → i < 1 → get_or (codes "a") i 0 ≢ 0
+    some_byte zero lt = λ e. absurd (omega (arith, e))
+    some_byte (suc i) lt = absurd (omega (arith, lt))
+
+pub plain_reads_back : label_reading (spelling_of plain) 0 ≡ Ok plain
+unfolding first_fault label_of has_checksum number_at spelling_of size_fault_of
+plain_reads_back = refl

@@ -5,7 +5,7 @@ ghost use Rattle.label_index.specs.Spelling.{spelling_of, head_of};
 
 use crate::index::IndexBlock;
 use crate::layout::{
-    CHECKSUM_AT, FREE_AT, LABEL_OFFSET_AT, LABEL_SIZE, LABEL_SIZE_AT, MAJOR_AT, MINOR_AT,
+    CHECKSUM_AT, FLAGS_AT, FREE_AT, LABEL_OFFSET_AT, LABEL_SIZE, LABEL_SIZE_AT, MAJOR_AT, MINOR_AT,
     MY_OFFSET_AT, MY_SIZE_AT, OTHER_OFFSET_AT, SEQ_AT, SIGNATURE, SLOTS_AT,
 };
 use nvd_words::fletcher64;
@@ -37,7 +37,7 @@ fn head_bytes(block: &IndexBlock) -> [u8; 64]
     let mut head = [0; 64];
     let my_offset = block.side.place(block.size);
     let other_offset = block.side.other_place(block.size);
-    head[..SIGNATURE.len()].copy_from_slice(SIGNATURE);
+    head[..FLAGS_AT].copy_from_slice(SIGNATURE);
     head[LABEL_SIZE_AT] = LABEL_SIZE;
     head[SEQ_AT..MY_OFFSET_AT].copy_from_slice(&block.seq.to_le_bytes());
     head[MY_OFFSET_AT..MY_SIZE_AT].copy_from_slice(&my_offset.to_le_bytes());
