@@ -1,0 +1,10 @@
+//! The NVDIMM firmware interface table.
+#![tactic(auto)]
+
+mod alias;
+mod fields;
+mod header;
+mod structures;
+mod table;
+
+pub use table::{Identity, Lines, Mapping, Nfit, NfitFault, Region};

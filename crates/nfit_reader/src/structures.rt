@@ -1,0 +1,238 @@
+//! The structures of the table, each read as its type says (ACPI 6.5, sections 5.2.25.2 to 5.2.25.6).
+
+ghost use Rattle.std.specs.Prelude.{◌≡◌, ◌+◌, ◌*◌, ◌≤◌, length, IfOk, drop, IsTrue};
+ghost use Rattle.std.specs.Int.{w16, w32};
+ghost use Rattle.nvd_words.specs.Bytes.{number_at};
+ghost use Rattle.nvd_words.specs.Checks.{Answers};
+ghost use Rattle.nfit_reader.specs.Structures.{least_length, has_lines, is_structure, range_of, link_of, lines_of, identity_of, range_structure, interleave_structure, control_structure, structure_of, structures_of, spans_from, IsWhole};
+
+use crate::fields::{eight_at, four_at, two_at};
+use crate::table::{Identity, Lines, NfitFault};
+use nvd_words::Items;
+use std::alloc::{AllocError, Global};
+
+/// A structure that counts for the table. All others are passed over.
+#[derive(Drop)]
+pub(crate) enum Structure {
+    Range(Range),
+    Mapping(Link),
+    Interleave(Interleave),
+    Control(Control),
+    PassedOver,
+}
+
+/// A system physical address range structure, type 0.
+#[derive(Clone, Copy)]
+pub(crate) struct Range {
+    pub index: u16,
+    pub persistent: bool,
+    pub base: u64,
+    pub length: u64,
+}
+
+/// A region mapping structure, type 1, which links a module with a range.
+#[derive(Clone, Copy)]
+pub(crate) struct Link {
+    pub handle: u32,
+    pub range: u16,
+    pub control: u16,
+    pub size: u64,
+    pub offset: u64,
+    pub start: u64,
+    pub interleave: u16,
+    pub ways: u16,
+}
+
+/// An interleave structure, type 2.
+#[derive(Drop)]
+pub(crate) struct Interleave {
+    pub index: u16,
+    pub lines: Lines,
+}
+
+/// A control region structure, type 4.
+#[derive(Clone, Copy)]
+pub(crate) struct Control {
+    pub index: u16,
+    pub identity: Identity,
+}
+
+/// The GUID of persistent memory, 66f0d379-b4f3-4074-ac43-0d3318b78cdb, with the low bytes of its
+/// first three fields first.
+const PERSISTENT_MEMORY: &[u8; 16] = &[
+    0x79, 0xd3, 0xf0, 0x66, 0xf3, 0xb4, 0x74, 0x40, 0xac, 0x43, 0x0d, 0x33, 0x18, 0xb7, 0x8c, 0xdb,
+];
+
+/// The least Length of a type.
+#[tactic(auto, unfolding(crate::specs::Structures::least_length))]
+fn least_length(kind: u16) -> u16
+    ensures { result ≡ least_length kind }
+{
+    match kind {
+        0 => 56,
+        1 => 48,
+        2 => 16,
+        4 => 32,
+        _ => 4,
+    }
+}
+
+/// Whether an interleave structure has at least one line, and room for all of them.
+#[tactic(auto, unfolding(crate::specs::Structures::has_lines))]
+fn has_lines(rest: &[u8]) -> bool
+    requires { 16 ≤ length rest.now }
+    ensures { result ≡ has_lines rest.now }
+{
+    let lines = u64::from(four_at(rest, 8));
+    1 <= lines && 16 + 4 * lines <= u64::from(two_at(rest, 2))
+}
+
+/// Whether bytes begin with a whole structure.
+fn is_structure(rest: &[u8]) -> bool
+    ensures { result ≡ is_structure rest.now }
+{
+    if rest.len() < 4 {
+        return false;
+    }
+    let kind = two_at(rest, 0);
+    let len = two_at(rest, 2);
+    least_length(kind) <= len && len as usize <= rest.len() && (kind != 2 || has_lines(rest))
+}
+
+#[tactic(auto, unfolding(crate::specs::Structures::range_of))]
+fn range_of(span: &[u8]) -> Range
+    requires { 56 ≤ length span.now }
+    ensures { result ≡ range_of span.now }
+{
+    Range {
+        index: two_at(span, 4),
+        persistent: &span[16..32] == PERSISTENT_MEMORY.as_slice(),
+        base: eight_at(span, 32),
+        length: eight_at(span, 40),
+    }
+}
+
+#[tactic(auto, unfolding(crate::specs::Structures::link_of))]
+fn link_of(span: &[u8]) -> Link
+    requires { 48 ≤ length span.now }
+    ensures { result ≡ link_of span.now }
+{
+    Link {
+        handle: four_at(span, 4),
+        range: two_at(span, 12),
+        control: two_at(span, 14),
+        size: eight_at(span, 16),
+        offset: eight_at(span, 24),
+        start: eight_at(span, 32),
+        interleave: two_at(span, 40),
+        ways: two_at(span, 42),
+    }
+}
+
+#[tactic(auto, unfolding(crate::specs::Structures::lines_of))]
+fn lines_of(alloc: Global, span: &[u8]) -> Result<Lines, AllocError>
+    requires lines { 16 + 4 * number_at w32 span.now 8 ≤ length span.now }
+    requires header { 16 ≤ length span.now }
+    ensures { IfOk result (λ lines. lines ≡ lines_of span.now) }
+{
+    let count = four_at(span, 8) as usize;
+    let mut offsets = Items::new(alloc);
+    for line in 0..count {
+        offsets.push(four_at(span, 16 + 4 * line))?;
+    }
+    Ok(Lines {
+        size: four_at(span, 12),
+        offsets,
+    })
+}
+
+#[tactic(auto, unfolding(crate::specs::Structures::identity_of))]
+fn identity_of(span: &[u8]) -> Identity
+    requires { 32 ≤ length span.now }
+    ensures { result ≡ identity_of span.now }
+{
+    Identity {
+        vendor: two_at(span, 6),
+        date: two_at(span, 20),
+        location: span[19],
+        serial: four_at(span, 24),
+    }
+}
+
+#[tactic(auto, unfolding(crate::specs::Structures::range_structure, crate::specs::Structures::range_of))]
+fn range_structure(span: &[u8]) -> Structure
+    requires { 56 ≤ length span.now }
+    ensures { result ≡ range_structure span.now }
+{
+    let range = range_of(span);
+    if two_at(span, 4) == 0 {
+        Structure::PassedOver
+    } else {
+        Structure::Range(range)
+    }
+}
+
+#[tactic(auto, unfolding(crate::specs::Structures::interleave_structure))]
+fn interleave_structure(alloc: Global, span: &[u8]) -> Result<Structure, AllocError>
+    requires lines { 16 + 4 * number_at w32 span.now 8 ≤ length span.now }
+    requires header { 16 ≤ length span.now }
+    ensures { IfOk result (λ s. s ≡ interleave_structure span.now) }
+{
+    let index = two_at(span, 4);
+    if index == 0 {
+        return Ok(Structure::PassedOver);
+    }
+    let lines = lines_of(alloc, span)?;
+    Ok(Structure::Interleave(Interleave { index, lines }))
+}
+
+#[tactic(auto, unfolding(crate::specs::Structures::control_structure))]
+fn control_structure(span: &[u8]) -> Structure
+    requires { 32 ≤ length span.now }
+    ensures { result ≡ control_structure span.now }
+{
+    let index = two_at(span, 4);
+    if index == 0 {
+        Structure::PassedOver
+    } else {
+        Structure::Control(Control {
+            index,
+            identity: identity_of(span),
+        })
+    }
+}
+
+/// The structure that a span is. One of types 0, 2 and 4 with index 0 is passed over.
+fn structure_of(alloc: Global, span: &[u8]) -> Result<Structure, AllocError>
+    requires { IsWhole span.now }
+    ensures { IfOk result (λ s. s ≡ structure_of span.now) }
+{
+    match two_at(span, 0) {
+        0 => Ok(range_structure(span)),
+        1 => Ok(Structure::Mapping(link_of(span))),
+        2 => interleave_structure(alloc, span),
+        4 => Ok(control_structure(span)),
+        _ => Ok(Structure::PassedOver),
+    }
+}
+
+/// The structures that follow one another from byte 40 to the table's end.
+pub(crate) fn structures_in(alloc: Global, table: &[u8]) -> Result<Items<Structure>, NfitFault>
+    requires { 40 ≤ length table.now }
+    ensures reading { Answers NfitFault.OutOfMemory result
+        (structures_of (spans_from (length table.now) 40 (drop 40 table.now))) }
+    ensures few { IfOk result (λ structures. 4 * length structures ≤ length table.now) }
+{
+    let mut structures = Items::new(alloc);
+    let mut at = 40;
+    while at < table.len() {
+        let rest = &table[at..];
+        if !is_structure(rest) {
+            return Err(NfitFault::Structure { at: at as u64 });
+        }
+        let len = two_at(rest, 2) as usize;
+        structures.push(structure_of(alloc, &rest[..len])?)?;
+        at += len;
+    }
+    Ok(structures)
+}
