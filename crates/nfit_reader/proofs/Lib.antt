@@ -1,2 +1,4 @@
 pub mod Little
+pub mod Spans
+pub mod Firsts
 pub mod Rows

@@ -53,7 +53,7 @@ fn sum_of(bytes: &[u8]) -> u8
 
 /// What is wrong with the table before its structures are looked at: the signature, the Length, or
 /// the checksum over all bytes up to Length. Bytes past Length are ignored.
-#[tactic(auto, using(nvd_words::proofs::Checks::faults), unfolding(crate::specs::Table::header_fault))]
+#[tactic(auto, using(crate::proofs::Firsts::firsts), unfolding(crate::specs::Table::header_fault))]
 pub(crate) fn header_fault(bytes: &[u8]) -> Option<NfitFault>
     ensures { result ≡ header_fault bytes.now }
 {

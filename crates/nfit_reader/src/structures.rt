@@ -88,6 +88,7 @@ fn has_lines(rest: &[u8]) -> bool
 }
 
 /// Whether bytes begin with a whole structure.
+#[tactic(auto, using(crate::proofs::Spans::least), unfolding(crate::specs::Structures::is_structure))]
 fn is_structure(rest: &[u8]) -> bool
     ensures { result ≡ is_structure rest.now }
 {
@@ -96,7 +97,10 @@ fn is_structure(rest: &[u8]) -> bool
     }
     let kind = two_at(rest, 0);
     let len = two_at(rest, 2);
-    least_length(kind) <= len && len as usize <= rest.len() && (kind != 2 || has_lines(rest))
+    if len < least_length(kind) || rest.len() < len as usize {
+        return false;
+    }
+    kind != 2 || has_lines(rest)
 }
 
 #[tactic(auto, unfolding(crate::specs::Structures::range_of))]
@@ -203,6 +207,7 @@ fn control_structure(span: &[u8]) -> Structure
 }
 
 /// The structure that a span is. One of types 0, 2 and 4 with index 0 is passed over.
+#[tactic(auto, using(crate::proofs::Spans::whole), unfolding(crate::specs::Structures::structure_of))]
 fn structure_of(alloc: Global, span: &[u8]) -> Result<Structure, AllocError>
     requires { IsWhole span.now }
     ensures { IfOk result (λ s. s ≡ structure_of span.now) }
@@ -216,6 +221,13 @@ fn structure_of(alloc: Global, span: &[u8]) -> Result<Structure, AllocError>
     }
 }
 
+fn rest_of(table: &[u8], at: usize) -> &[u8]
+    requires { at ≤ length table.now }
+    ensures { result.now ≡ drop at table.now }
+{
+    &table[at..]
+}
+
 /// The structures that follow one another from byte 40 to the table's end.
 pub(crate) fn structures_in(alloc: Global, table: &[u8]) -> Result<Items<Structure>, NfitFault>
     requires { 40 ≤ length table.now }
@@ -226,7 +238,7 @@ pub(crate) fn structures_in(alloc: Global, table: &[u8]) -> Result<Items<Structu
     let mut structures = Items::new(alloc);
     let mut at = 40;
     while at < table.len() {
-        let rest = &table[at..];
+        let rest = rest_of(table, at);
         if !is_structure(rest) {
             return Err(NfitFault::Structure { at: at as u64 });
         }
