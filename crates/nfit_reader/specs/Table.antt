@@ -137,15 +137,28 @@ twice_in [] = None
 twice_in (n ∷ names) =
     if list_any (λ other. (other.0 == n.0) && (other.1 == n.1)) names then Some (fault.TwiceIndex n.0 n.1) else twice_in names
 
--- a mapping's indices, in the order range, control region, interleave: the first that names nothing
+-- a mapping is into a range of persistent memory
+abbrev pub is_into_persistent : List Structure → Link → Bool
+is_into_persistent structures m = is_persistent (range_named structures m.range)
+
+-- what a mapping must name and the table lacks: a range, unless the index is 0; where it is into persistent memory,
+-- a control region; and there an interleave structure, unless the index is 0
+unfoldable pub lacks_range : List Structure → Link → Bool
+lacks_range structures m = not (m.range == 0) && is_none (range_named structures m.range)
+
+unfoldable pub lacks_identity : List Structure → Link → Bool
+lacks_identity structures m = is_into_persistent structures m && is_none (identity_named structures m.control)
+
+unfoldable pub lacks_lines : List Structure → Link → Bool
+lacks_lines structures m = is_into_persistent structures m && not (m.interleave == 0) && is_none (lines_named structures m.interleave)
+
+-- the first index of a mapping that names nothing
 unfoldable pub missing_of : List Structure → Link → Option NfitFault
-missing_of structures m =
-    let into = is_persistent (range_named structures m.range) in
-    first_fault (
-        fault_if (not (m.range == 0) && is_none (range_named structures m.range)) (fault.MissingIndex 0 m.range)
-        ∷ fault_if (into && is_none (identity_named structures m.control)) (fault.MissingIndex 4 m.control)
-        ∷ fault_if (into && not (m.interleave == 0) && is_none (lines_named structures m.interleave)) (fault.MissingIndex 2 m.interleave)
-        ∷ [])
+missing_of structures m = first_fault (
+    fault_if (lacks_range structures m) (fault.MissingIndex 0 m.range)
+    ∷ fault_if (lacks_identity structures m) (fault.MissingIndex 4 m.control)
+    ∷ fault_if (lacks_lines structures m) (fault.MissingIndex 2 m.interleave)
+    ∷ [])
 
 -- the bytes of its module that a mapping takes, where it is into a region
 unfoldable pub extent_of : List Structure → Link → Option Extent

@@ -4,6 +4,7 @@
 mod alias;
 mod fields;
 mod header;
+mod names;
 mod structures;
 mod table;
 

@@ -1,0 +1,24 @@
+-- What the maps of the reader hold.
+use Rattle.std.specs.Prelude.{◌≡◌, ℕ, ◌==◌, Bool, ◌&&◌, if◌then◌else◌, List, [], ◌∷◌, filter, Option, Some, None, unwrap_or}
+use Rattle.std.specs.List.{list_any, filter_map}
+use Rattle.std.specs.Ordering.{nat_cmp}
+use Rattle.std.specs.BTreeMap as tree
+use Rattle.nfit_reader.specs.declared.table.NfitFault.{NfitFault}
+use Rattle.nfit_reader.specs.declared.table.NfitFault.TheVariants as fault
+use Rattle.nfit_reader.specs.declared.structures.Structure.{Structure}
+use Rattle.nfit_reader.specs.declared.names.Names.{Names}
+use Rattle.nfit_reader.specs.Table.{range_named, lines_named, identity_named, name_of, place_of}
+
+-- the maps give what indices name in a list of structures
+pub record IsNamed (names : Names) (structures : List Structure) : Type 0 where
+  pub ranges : (index : ℕ) → tree.get nat_cmp names.ranges index ≡ range_named structures index
+  pub lines : (index : ℕ) → tree.get nat_cmp names.lines index ≡ lines_named structures index
+  pub identities : (index : ℕ) → tree.get nat_cmp names.identities index ≡ identity_named structures index
+
+-- the fault of a name that stands again in the rest
+abbrev pub again_of : Option (ℕ × ℕ) → List (ℕ × ℕ) → Option NfitFault
+again_of None rest = None
+again_of (Some n) rest = if list_any (λ other. (other.0 == n.0) && (other.1 == n.1)) rest then Some (fault.TwiceIndex n.0 n.1) else None
+
+unfoldable pub again_in : Structure → List Structure → Option NfitFault
+again_in s rest = again_of (name_of s) (filter_map name_of rest)
