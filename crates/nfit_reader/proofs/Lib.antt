@@ -2,5 +2,6 @@ pub mod Little
 pub mod Spans
 pub mod Firsts
 pub mod Twice
+pub mod Numbers
 pub mod Missing
 pub mod Rows

@@ -4,7 +4,9 @@
 mod alias;
 mod fields;
 mod header;
+mod modules;
 mod names;
+mod regions;
 mod structures;
 mod table;
 
