@@ -1,6 +1,6 @@
 -- What the maps of the reader hold.
 use Rattle.std.specs.Prelude.{◌≡◌, ℕ, ◌==◌, Bool, ◌&&◌, if◌then◌else◌, List, [], ◌∷◌, filter, Option, Some, None, unwrap_or}
-use Rattle.std.specs.List.{list_any, filter_map}
+use Rattle.std.specs.List.{list_any, filter_map, position_from}
 use Rattle.std.specs.Ordering.{nat_cmp}
 use Rattle.std.specs.BTreeMap as tree
 use Rattle.nfit_reader.specs.declared.table.NfitFault.{NfitFault}
@@ -9,11 +9,11 @@ use Rattle.nfit_reader.specs.declared.structures.Structure.{Structure}
 use Rattle.nfit_reader.specs.declared.structures.Range.{Range}
 use Rattle.nfit_reader.specs.declared.structures.Link.{Link}
 use Rattle.nfit_reader.specs.declared.table.Region.{Region}
-use Rattle.std.specs.Vec.{Vec}
+use Rattle.std.specs.Global.{Vec}
 use Rattle.nfit_reader.specs.declared.names.Names.{Names}
-use Rattle.nfit_reader.specs.Table.{range_named, lines_named, identity_named, name_of, place_of, modules_of, is_region, region_of}
+use Rattle.nfit_reader.specs.Table.{range_named, lines_named, identity_named, name_of, place_of, modules_of, is_region, region_of, regions_of}
 
-abbrev pub items_of : Option (Vec Link Global) → List Link
+abbrev pub items_of : Option (Vec Link) → List Link
 items_of None = []
 items_of (Some links) = links.items
 
@@ -27,8 +27,12 @@ pub record IsNamed (names : Names) (structures : List Structure) : Type 0 where
 pub record IsNumbered (numbers : tree.BTreeMap ℕ ℕ) (structures : List Structure) : Type 0 where
   pub places : (handle : ℕ) → tree.get nat_cmp numbers handle ≡ place_of handle (modules_of structures)
 
+-- the map gives the number of the region with an index
+pub record IsPlaced (places : tree.BTreeMap ℕ ℕ) (structures : List Structure) : Type 0 where
+  pub regions : (index : ℕ) → tree.get nat_cmp places index ≡ position_from (λ r. r.index == index) 0 (regions_of structures)
+
 -- the mappings of each group, by the index of their range
-pub record IsGrouped (groups : tree.BTreeMap ℕ (Vec Link Global)) (links : List Link) : Type 0 where
+pub record IsGrouped (groups : tree.BTreeMap ℕ (Vec Link)) (links : List Link) : Type 0 where
   pub group : (index : ℕ) → items_of (tree.get nat_cmp groups index) ≡ filter (λ m. m.range == index) links
 
 -- a range's region, where it is one

@@ -1,12 +1,13 @@
 //! Regions: the ranges of persistent memory with the parts of modules that are mapped into them.
 
-ghost use Rattle.std.specs.Prelude.{◌≡◌, ◌==◌, ℕ, List, [], map, filter, IfOk, unwrap_or, Some, None, if◌then◌else◌};
+ghost use Rattle.std.specs.Prelude.{◌≡◌, ◌==◌, ◌++◌, OnOk, ℕ, List, [], map, filter, IfOk, unwrap_or, Some, None, if◌then◌else◌};
+ghost use Rattle.std.specs.Option.{option_to_list};
 ghost use Rattle.std.specs.List.{filter_map};
 ghost use Rattle.std.specs.Ordering.{nat_cmp};
 ghost use Rattle.std.specs.BTreeMap as tree;
 ghost use Rattle.nfit_reader.specs.declared.structures.Structure.{Structure};
-ghost use Rattle.nfit_reader.specs.Table.{mapping_of, region_of, is_region, as_range, as_link, links_of};
-ghost use Rattle.nfit_reader.specs.Names.{IsNamed, IsNumbered, IsGrouped, region_where};
+ghost use Rattle.nfit_reader.specs.Table.{mapping_of, region_of, regions_of, is_region, as_range, as_link, links_of, links_into, ranges_of};
+ghost use Rattle.nfit_reader.specs.Names.{IsNamed, IsNumbered, IsGrouped, items_of, region_where};
 
 use crate::names::Names;
 use crate::structures::{Link, Range, Structure};
@@ -22,26 +23,20 @@ pub(crate) fn ranges_of(
 ) -> Result<Vec<Range>, AllocError>
     ensures { IfOk result (λ ranges. ranges.items ≡ filter_map as_range structures.now) }
 {
-    let mut ranges = Vec::new(alloc);
-    for structure in structures {
-        if let Structure::Range(range) = structure {
-            ranges.push(*range)?;
-        }
-    }
-    Ok(ranges)
+    structures
+        .iter()
+        .filter_map(|structure| structure.as_range())
+        .collect(alloc)
 }
 
 /// The mappings among structures.
 pub(crate) fn links_of(alloc: Global, structures: &[Structure]) -> Result<Vec<Link>, AllocError>
     ensures { IfOk result (λ links. links.items ≡ filter_map as_link structures.now) }
 {
-    let mut links = Vec::new(alloc);
-    for structure in structures {
-        if let Structure::Mapping(link) = structure {
-            links.push(*link)?;
-        }
-    }
-    Ok(links)
+    structures
+        .iter()
+        .filter_map(|structure| structure.as_link())
+        .collect(alloc)
 }
 
 fn copy_of(alloc: Global, lines: &Lines) -> Result<Lines, AllocError>
@@ -93,6 +88,19 @@ fn mapping_of(
     })
 }
 
+/// Takes the group with an index out.
+#[tactic(auto, using(crate::proofs::Groups::orders))]
+fn taken(alloc: Global, groups: &mut BTreeMap<u16, Vec<Link>>, index: u16) -> Vec<Link>
+    ensures group { result.items ≡ items_of (tree.get nat_cmp groups.old index) }
+    ensures others { (other : ℕ) → tree.get nat_cmp groups.new other
+        ≡ (if index == other then None else tree.get nat_cmp groups.old other) }
+{
+    match groups.remove(&index) {
+        Some(group) => group,
+        None => Vec::new(alloc),
+    }
+}
+
 /// The mappings by the index of their range, each group in the order of the table.
 pub(crate) fn grouped(
     alloc: Global,
@@ -102,12 +110,98 @@ pub(crate) fn grouped(
 {
     let mut groups = BTreeMap::new(alloc);
     for link in links {
-        let mut group = match groups.remove(&link.range) {
-            Some(group) => group,
-            None => Vec::new(alloc),
-        };
+        let mut group = taken(alloc, &mut groups, link.range);
         group.push(*link)?;
         groups.insert(link.range, group)?;
     }
     Ok(groups)
+}
+
+fn is_region(range: Range, group: &[Link]) -> bool
+    ensures { (structures : List Structure) → group.now ≡ links_into structures range.index →
+        result ≡ is_region structures range }
+{
+    range.persistent && !group.is_empty()
+}
+
+/// The region of a range, where it is persistent memory and something is mapped into it.
+#[tactic(auto, unfolding(crate::specs::Names::region_where, crate::specs::Table::region_of))]
+fn region_where(
+    alloc: Global,
+    names: &Names,
+    numbers: &BTreeMap<u32, u32>,
+    group: &[Link],
+    range: Range,
+) -> Result<Option<Region>, AllocError>
+    ensures { (structures : List Structure) → IsNamed names.now structures → IsNumbered numbers.now structures →
+        group.now ≡ links_into structures range.index →
+        IfOk result (λ region. region ≡ region_where structures range) }
+{
+    if !is_region(range, group) {
+        return Ok(None);
+    }
+    let mappings = mappings_of(alloc, names, numbers, group)?;
+    Ok(Some(Region {
+        index: range.index,
+        base: range.base,
+        length: range.length,
+        mappings,
+    }))
+}
+
+fn mappings_of(
+    alloc: Global,
+    names: &Names,
+    numbers: &BTreeMap<u32, u32>,
+    group: &[Link],
+) -> Result<Items<Mapping>, AllocError>
+    ensures { (structures : List Structure) → IsNamed names.now structures → IsNumbered numbers.now structures →
+        IfOk result (λ mappings. mappings ≡ map (mapping_of structures) group.now) }
+{
+    let mut mappings = Items::new(alloc);
+    for link in group {
+        mappings.push(mapping_of(alloc, names, numbers, *link)?)?;
+    }
+    Ok(mappings)
+}
+
+/// The mappings of the group with an index.
+fn group_of(groups: &BTreeMap<u16, Vec<Link>>, index: u16) -> &[Link]
+    ensures { result.now ≡ items_of (tree.get nat_cmp groups.now index) }
+{
+    match groups.get(&index) {
+        Some(group) => group,
+        None => &[],
+    }
+}
+
+fn push_some(regions: &mut Items<Region>, region: Option<Region>) -> Result<(), AllocError>
+    ensures { OnOk result (regions.new ≡ regions.old ++ option_to_list region) }
+{
+    if let Some(region) = region {
+        regions.push(region)?;
+    }
+    Ok(())
+}
+
+/// The regions, in the order of their ranges.
+pub(crate) fn regions_of(
+    alloc: Global,
+    names: &Names,
+    numbers: &BTreeMap<u32, u32>,
+    ranges: &[Range],
+    links: &[Link],
+) -> Result<Items<Region>, AllocError>
+    ensures { (structures : List Structure) → IsNamed names.now structures → IsNumbered numbers.now structures →
+        ranges.now ≡ ranges_of structures → links.now ≡ links_of structures →
+        IfOk result (λ regions. regions ≡ regions_of structures) }
+{
+    let groups = grouped(alloc, links)?;
+    let mut regions = Items::new(alloc);
+    for range in ranges {
+        let group = group_of(&groups, range.index);
+        let region = region_where(alloc, names, numbers, group, *range)?;
+        push_some(&mut regions, region)?;
+    }
+    Ok(regions)
 }

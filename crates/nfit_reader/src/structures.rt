@@ -5,6 +5,7 @@ ghost use Rattle.std.specs.Int.{w16, w32};
 ghost use Rattle.nvd_words.specs.Bytes.{number_at};
 ghost use Rattle.nvd_words.specs.Checks.{Answers};
 ghost use Rattle.nfit_reader.specs.Structures.{least_length, has_lines, is_structure, range_of, link_of, lines_of, identity_of, range_structure, interleave_structure, control_structure, structure_of, structures_of, spans_from, IsWhole};
+ghost use Rattle.nfit_reader.specs.Table.{as_range, as_link};
 
 use crate::fields::{eight_at, four_at, two_at};
 use crate::table::{Identity, Lines, NfitFault};
@@ -19,6 +20,26 @@ pub(crate) enum Structure {
     Interleave(Interleave),
     Control(Control),
     PassedOver,
+}
+
+impl Structure {
+    pub(crate) fn as_range(&self) -> Option<Range>
+        ensures { result ≡ as_range self.now }
+    {
+        match self {
+            Structure::Range(range) => Some(*range),
+            _ => None,
+        }
+    }
+
+    pub(crate) fn as_link(&self) -> Option<Link>
+        ensures { result ≡ as_link self.now }
+    {
+        match self {
+            Structure::Mapping(link) => Some(*link),
+            _ => None,
+        }
+    }
 }
 
 /// A system physical address range structure, type 0.
