@@ -4,5 +4,7 @@ pub mod Firsts
 pub mod Twice
 pub mod Numbers
 pub mod Groups
+pub mod Extents
+pub mod Readings
 pub mod Missing
 pub mod Rows

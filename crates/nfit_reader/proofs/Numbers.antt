@@ -116,3 +116,14 @@ listed_old contains contains' modules x xs all l old put = record {
 pub listed_all : (contains : ℕ → Bool) (modules all : List ℕ) → IsListed contains modules [] all → modules ≡ distinct_after [] all
 unfolding distinct_after
 listed_all contains modules all l = sym (append-nil modules) ∙ l.listed
+
+length-distinct_after : (seen xs : List ℕ) → length (distinct_after seen xs) ≤ length xs
+unfolding distinct_after
+length-distinct_after seen [] = omega arith
+length-distinct_after seen (x ∷ xs) = elim (cases_Bool (list_any (λ y. eqb y x) seen)) [
+    inl old ↦ rw old (let few = length-distinct_after seen xs in omega arith)
+  | inr new ↦ rw new (let few = length-distinct_after (x ∷ seen) xs in omega arith)
+  ]
+
+pub listed_few : (contains : ℕ → Bool) (modules all : List ℕ) → IsListed contains modules [] all → length modules ≤ length all
+listed_few contains modules all l = rw (listed_all contains modules all l) (length-distinct_after [] all)

@@ -183,12 +183,18 @@ alias_in [] = None
 alias_in (a ∷ extents) =
     unwrap_or (option_map (λ b. Some (fault.Alias a.«module» a.region b.region)) (find (is_alias a) extents)) (alias_in extents)
 
+abbrev pub too_large : List Structure → Option NfitFault
+too_large structures = fault_if (nat_lt 64 (length (modules_of structures))) (fault.TooLarge (length (modules_of structures)))
+
+abbrev pub aliasing : List Structure → Option NfitFault
+aliasing structures = alias_in (extents_of structures)
+
 abbrev pub table_faults : List Structure → List (Option NfitFault)
 table_faults structures =
     twice_in (filter_map name_of structures)
     ∷ first_fault (map (missing_of structures) (links_of structures))
-    ∷ fault_if (nat_lt 64 (length (modules_of structures))) (fault.TooLarge (length (modules_of structures)))
-    ∷ alias_in (extents_of structures)
+    ∷ too_large structures
+    ∷ aliasing structures
     ∷ []
 
 unfoldable pub table_reading : List Structure → Result Nfit NfitFault

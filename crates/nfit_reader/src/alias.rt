@@ -1,6 +1,6 @@
 //! Mappings into two regions that share bytes of a module.
 
-ghost use Rattle.std.specs.Prelude.{◌≡◌, ◌==◌, ◌<◌, ◌^◌, ℕ, List, map, length, find, IfOk, option_copied};
+ghost use Rattle.std.specs.Prelude.{◌≡◌, ◌==◌, ◌<◌, ◌^◌, ◌+◌, ℕ, List, map, length, drop, find, IfOk, option_copied};
 ghost use Rattle.std.specs.List.{filter_map, position_from};
 ghost use Rattle.std.specs.Ordering.{nat_cmp};
 ghost use Rattle.std.specs.BTreeMap as tree;
@@ -9,8 +9,10 @@ ghost use Rattle.nfit_reader.specs.Table.{is_alias, alias_in, place_of, extent_o
 ghost use Rattle.nfit_reader.specs.Names.{IsNumbered, IsPlaced};
 
 use crate::modules::places_of;
+use crate::regions::push_some;
 use crate::structures::Link;
 use crate::table::{NfitFault, Region};
+use nvd_words::Items;
 use std::alloc::{AllocError, Global};
 use std::collections::BTreeMap;
 
@@ -42,20 +44,25 @@ fn first_alias(a: Extent, others: &[Extent]) -> Option<Extent>
     others.iter().copied().find(|b| is_alias(a, *b))
 }
 
+fn others_after(extents: &[Extent], place: usize) -> &[Extent]
+    requires { place < length extents.now }
+    ensures { result.now ≡ drop (place + 1) extents.now }
+{
+    &extents[place + 1..]
+}
+
 /// The first extent that one further on is an alias of, and the first of those.
 pub(crate) fn alias_in(extents: &[Extent]) -> Option<NfitFault>
     ensures { result ≡ alias_in extents.now }
 {
-    let mut left = extents;
-    while let [a, others @ ..] = left {
-        if let Some(b) = first_alias(*a, others) {
+    for (place, a) in extents.iter().enumerate() {
+        if let Some(b) = first_alias(*a, others_after(extents, place)) {
             return Some(NfitFault::Alias {
                 module: a.module,
                 a: a.region,
                 b: b.region,
             });
         }
-        left = others;
     }
     None
 }
@@ -97,17 +104,15 @@ pub(crate) fn extents_of(
     numbers: &BTreeMap<u32, u32>,
     regions: &[Region],
     links: &[Link],
-) -> Result<Vec<Extent>, AllocError>
+) -> Result<Items<Extent>, AllocError>
     requires { length regions.now < 2 ^ 32 }
     ensures { (structures : List Structure) → IsNumbered numbers.now structures → regions.now ≡ regions_of structures →
-        IfOk result (λ extents. extents.items ≡ filter_map (extent_of structures) links.now) }
+        IfOk result (λ extents. extents ≡ filter_map (extent_of structures) links.now) }
 {
     let places = region_numbers(alloc, regions)?;
-    let mut extents = Vec::new(alloc);
+    let mut extents = Items::new(alloc);
     for link in links {
-        if let Some(extent) = extent_of(numbers, &places, *link) {
-            extents.push(extent)?;
-        }
+        push_some(&mut extents, extent_of(numbers, &places, *link))?;
     }
     Ok(extents)
 }

@@ -6,8 +6,10 @@ mod fields;
 mod header;
 mod modules;
 mod names;
+mod read;
 mod regions;
 mod structures;
 mod table;
 
+pub use read::read_nfit;
 pub use table::{Identity, Lines, Mapping, Nfit, NfitFault, Region};

@@ -1,6 +1,6 @@
 //! Modules, numbered in the order of first appearance of their device handles.
 
-ghost use Rattle.std.specs.Prelude.{◌≡◌, ◌^◌, ◌<◌, ℕ, [], length, map, IfOk};
+ghost use Rattle.std.specs.Prelude.{◌≡◌, ◌^◌, ◌<◌, ◌≤◌, ℕ, [], length, map, IfOk};
 ghost use Rattle.std.specs.Ordering.{nat_cmp};
 ghost use Rattle.std.specs.BTreeMap as tree;
 ghost use Rattle.nfit_reader.specs.Table.{distinct_after, place_of};
@@ -12,7 +12,9 @@ use std::collections::{BTreeMap, BTreeSet};
 
 /// The device handle of each module, by its number.
 pub(crate) fn modules_of(alloc: Global, links: &[Link]) -> Result<Items<u32>, AllocError>
-    ensures { IfOk result (λ modules. modules ≡ distinct_after [] (map (λ m. m.handle) links.now)) }
+    ensures numbered { IfOk result (λ modules.
+        modules ≡ distinct_after [] (map (λ m. m.handle) links.now)) }
+    ensures few { IfOk result (λ modules. length modules ≤ length links.now) }
 {
     let mut seen = BTreeSet::new(alloc);
     let mut modules = Items::new(alloc);

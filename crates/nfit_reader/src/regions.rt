@@ -1,6 +1,6 @@
 //! Regions: the ranges of persistent memory with the parts of modules that are mapped into them.
 
-ghost use Rattle.std.specs.Prelude.{◌≡◌, ◌==◌, ◌++◌, OnOk, ℕ, List, [], map, filter, IfOk, unwrap_or, Some, None, if◌then◌else◌};
+ghost use Rattle.std.specs.Prelude.{◌≡◌, ◌≤◌, ◌==◌, ◌++◌, OnOk, length, ℕ, List, [], map, filter, IfOk, unwrap_or, Some, None, if◌then◌else◌};
 ghost use Rattle.std.specs.Option.{option_to_list};
 ghost use Rattle.std.specs.List.{filter_map};
 ghost use Rattle.std.specs.Ordering.{nat_cmp};
@@ -175,11 +175,12 @@ fn group_of(groups: &BTreeMap<u16, Vec<Link>>, index: u16) -> &[Link]
     }
 }
 
-fn push_some(regions: &mut Items<Region>, region: Option<Region>) -> Result<(), AllocError>
-    ensures { OnOk result (regions.new ≡ regions.old ++ option_to_list region) }
+/// Adds a value at the end, where there is one.
+pub(crate) fn push_some<T: Drop>(items: &mut Items<T>, item: Option<T>) -> Result<(), AllocError>
+    ensures { OnOk result (items.new ≡ items.old ++ option_to_list item) }
 {
-    if let Some(region) = region {
-        regions.push(region)?;
+    if let Some(item) = item {
+        items.push(item)?;
     }
     Ok(())
 }
@@ -192,9 +193,10 @@ pub(crate) fn regions_of(
     ranges: &[Range],
     links: &[Link],
 ) -> Result<Items<Region>, AllocError>
-    ensures { (structures : List Structure) → IsNamed names.now structures → IsNumbered numbers.now structures →
-        ranges.now ≡ ranges_of structures → links.now ≡ links_of structures →
+    ensures regions { (structures : List Structure) → IsNamed names.now structures →
+        IsNumbered numbers.now structures → ranges.now ≡ ranges_of structures → links.now ≡ links_of structures →
         IfOk result (λ regions. regions ≡ regions_of structures) }
+    ensures few { IfOk result (λ regions. length regions ≤ length ranges.now) }
 {
     let groups = grouped(alloc, links)?;
     let mut regions = Items::new(alloc);

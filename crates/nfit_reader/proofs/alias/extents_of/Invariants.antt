@@ -7,4 +7,4 @@ use Rattle.nfit_reader.proofs.alias.extents_of.Given as goal
 
 abbrev pub invariant-loop-link : goal.invariant-loop-link
 invariant-loop-link l = (structures : List Structure) → IsNumbered l.numbers structures → l.regions ≡ regions_of structures →
-    l.extents.items ≡ filter_map (extent_of structures) (take l.link-index l.links)
+    l.extents ≡ filter_map (extent_of structures) (take l.link-index l.links)

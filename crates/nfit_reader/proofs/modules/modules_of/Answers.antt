@@ -1,9 +1,9 @@
-use Rattle.std.proofs.Common.{◌≡◌, ℕ, ◌+◌, ◌++◌, ◌∷◌, [], true, false, not, map, drop, nat_cmp, refl, sym, ap, ◌∙◌, subst, arith}
+use Rattle.std.proofs.Common.{◌≡◌, ℕ, ◌+◌, ◌++◌, ◌∷◌, [], true, false, not, map, drop, nat_cmp, refl, sym, ap, ◌∙◌, subst, arith, length-map}
 use Rattle.std.specs.BTreeSet as bag
 use Rattle.std.proofs.lemmas.List.{at_drop_more, at_drop_all}
 use Rattle.std.proofs.lemmas.Bool.{not-true, not-false}
 use Rattle.nfit_reader.specs.declared.structures.Link.{Link}
-use Rattle.nfit_reader.proofs.Numbers.{IsListed, listed_first, listed_new, listed_old, listed_all}
+use Rattle.nfit_reader.proofs.Numbers.{IsListed, listed_first, listed_new, listed_old, listed_all, listed_few}
 use Rattle.nfit_reader.proofs.modules.modules_of.Goals as goal
 use Rattle.nfit_reader.proofs.modules.modules_of.Goals.{then-branch+in_ok-push, else-branch}
 
@@ -33,8 +33,12 @@ loop-link-preserved c =
             (listed_old old new c.loop-link.modules _ rest all now (not-false _ (sym c.in_ok-insert.ensures.added ∙ w.if-branch.false)) c.in_ok-insert.ensures.updates.0)
     ]
 
-pub returns : goal.returns
-returns c =
-    let all = map handle c.args.links.now in
-    let ended = at_drop_all (map handle) c.args.links.now c.loop-link.link-index c.loop-link-test.false in
-    listed_all (bag.contains nat_cmp c.loop-link.seen) c.loop-link.modules all (subst (λ xs. IsListed (bag.contains nat_cmp c.loop-link.seen) c.loop-link.modules xs all) ended c.loop-link.invariant)
+ended : (c : goal.After-drop-seen-2) → IsListed (bag.contains nat_cmp c.loop-link.seen) c.loop-link.modules [] (map handle c.args.links.now)
+ended c = subst (λ xs. IsListed (bag.contains nat_cmp c.loop-link.seen) c.loop-link.modules xs (map handle c.args.links.now))
+    (at_drop_all (map handle) c.args.links.now c.loop-link.link-index c.loop-link-test.false) c.loop-link.invariant
+
+pub returns-clause-numbered : goal.returns-clause-numbered
+returns-clause-numbered c = listed_all (bag.contains nat_cmp c.loop-link.seen) c.loop-link.modules (map handle c.args.links.now) (ended c)
+
+pub returns-clause-few : goal.returns-clause-few
+returns-clause-few c = let few = listed_few (bag.contains nat_cmp c.loop-link.seen) c.loop-link.modules (map handle c.args.links.now) (ended c) in rw length-map at few
