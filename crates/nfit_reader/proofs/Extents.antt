@@ -1,5 +1,5 @@
 -- Regions by index, and extents that meet.
-use Rattle.std.proofs.Common.{◌≡◌, ◌≢◌, ℕ, ◌+◌, ◌<◌, ◌≤◌, eqb, List, [], ◌∷◌, map, drop, length, get_or, cond, Option, Some, None, refl, sym, ap, ◌∙◌, inl, inr}
+use Rattle.std.proofs.Common.{◌≡◌, ℕ, ◌+◌, ◌<◌, ◌≤◌, eqb, List, [], ◌∷◌, map, drop, length, get_or, cond, Some, None, refl, sym, ap, ◌∙◌}
 use Rattle.std.specs.Option.{option_map, unwrap_or}
 use Rattle.std.specs.List.{position_from, find}
 use Rattle.std.proofs.lemmas.List.{at_drop_more, at_drop_all}
@@ -23,13 +23,13 @@ pub alias_here : (extents : List Extent) (i : ℕ) (d b : Extent) → i < length
     → Some (fault.Alias (get_or extents i d).«module» (get_or extents i d).region b.region) ≡ alias_in (drop i extents)
 alias_here extents i d b h e =
     sym (alias_at extents i d h
-        ∙ ap (λ o. unwrap_or (option_map (λ b. Some (fault.Alias (get_or extents i d).«module» (get_or extents i d).region b.region)) o) (alias_in (drop (i + 1) extents))) (sym e))
+    ∙ ap (λ o. unwrap_or (option_map (λ b. Some (fault.Alias (get_or extents i d).«module» (get_or extents i d).region b.region)) o) (alias_in (drop (i + 1) extents))) (sym e))
 
 pub alias_more : (extents : List Extent) (i : ℕ) (d : Extent) → i < length extents → None ≡ find (is_alias (get_or extents i d)) (drop (i + 1) extents)
     → alias_in (drop (i + 1) extents) ≡ alias_in (drop i extents)
 alias_more extents i d h e =
     sym (alias_at extents i d h
-        ∙ ap (λ o. unwrap_or (option_map (λ b. Some (fault.Alias (get_or extents i d).«module» (get_or extents i d).region b.region)) o) (alias_in (drop (i + 1) extents))) (sym e))
+    ∙ ap (λ o. unwrap_or (option_map (λ b. Some (fault.Alias (get_or extents i d).«module» (get_or extents i d).region b.region)) o) (alias_in (drop (i + 1) extents))) (sym e))
 
 pub alias_end : (extents : List Extent) (i : ℕ) → length extents ≤ i → None ≡ alias_in (drop i extents)
 unfolding alias_in

@@ -1,10 +1,10 @@
 -- Mappings by range, and ranges that are regions.
-use Rattle.std.proofs.Common.{◌≡◌, ℕ, ◌+◌, ◌<◌, ◌≤◌, Bool, true, false, cond, not, eqb, ◌&&◌, List, [], ◌∷◌, ◌++◌, length, take, drop, map, get_or, Option, Some, None, nat_cmp, refl, sym, ap, ◌∙◌, inl, inr, subst, append_assoc, arith}
+use Rattle.std.proofs.Common.{◌≡◌, ℕ, ◌+◌, ◌<◌, Bool, true, false, cond, not, eqb, ◌&&◌, List, [], ◌∷◌, ◌++◌, length, take, map, get_or, Option, Some, None, nat_cmp, refl, sym, ap, ◌∙◌, inl, inr, arith}
 use Rattle.std.specs.Ordering.{is_eq}
 use Rattle.std.specs.Option.{option_to_list}
 use Rattle.std.specs.List.{list_any, filter, filter_map, cons_option}
 use Rattle.std.proofs.lemmas.List.{take_more, append-nil}
-use Rattle.std.proofs.lemmas.List.Elements.{filter-append, filter_map-append, filter_more}
+use Rattle.std.proofs.lemmas.List.Elements.{filter_map-append, filter_more}
 use Rattle.std.proofs.lemmas.Bool.{cases_Bool, eq-eqb, ne_eqb, cases_eq}
 use Rattle.nfit_reader.specs.declared.structures.Structure.{Structure}
 use Rattle.nfit_reader.specs.declared.structures.Link.{Link}
@@ -20,9 +20,9 @@ pub ruleset orders = (is_eq-nat_cmp)
 list_any-filter : {A : Type 0} (p : A → Bool) (xs : List A) → not (eqb (length (filter p xs)) 0) ≡ list_any p xs
 list_any-filter p [] = refl
 list_any-filter p (x ∷ xs) = elim (cases_Bool (p x)) [
-    inl here ↦ let some : eqb (length (x ∷ filter p xs)) 0 ≡ false = ne_eqb (length (x ∷ filter p xs)) 0 (λ e. omega arith) in rw here (ap not some)
+  | inl here ↦ let some : eqb (length (x ∷ filter p xs)) 0 ≡ false = ne_eqb (length (x ∷ filter p xs)) 0 (λ e. omega arith) in rw here (ap not some)
   | inr on ↦ rw on (list_any-filter p xs)
-  ]
+]
 
 pub region_test : (structures : List Structure) (r : Range) (group : List Link) → group ≡ links_into structures r.index
     → (r.persistent && not (eqb (length group) 0)) ≡ is_region structures r
@@ -42,15 +42,15 @@ group_more f g h links i d group lt inv others is put q =
     let due = filter_more (λ m. eqb m.range q) links i d lt in
     let told : h q ≡ cond (eqb link.range q) (Some group) (g q) = put q ∙ ap (λ b. cond b (Some group) (g q)) (is_eq-nat_cmp link.range q) in
     elim (cases_eq link.range q) [
-      inl same ↦
-        let e : eqb link.range q ≡ true = eq-eqb link.range q same in
-        let here : h q ≡ Some group = told ∙ ap (λ b. cond b (Some group) (g q)) e in
-        let old : items_of (f link.range) ≡ filter (λ m. eqb m.range q) (take i links) = ap (λ k. items_of (f k)) same ∙ inv q in
-        ap items_of here ∙ is ∙ ap (λ ys. ys ++ link ∷ []) old ∙ sym (due ∙ ap (λ b. filter (λ m. eqb m.range q) (take i links) ++ cond b (link ∷ []) []) e)
-    | inr other ↦
-        let e : eqb link.range q ≡ false = ne_eqb link.range q other in
-        let there : h q ≡ f q = told ∙ ap (λ b. cond b (Some group) (g q)) e ∙ others q ∙ ap (λ b. cond b None (f q)) e in
-        ap items_of there ∙ inv q ∙ sym (due ∙ ap (λ b. filter (λ m. eqb m.range q) (take i links) ++ cond b (link ∷ []) []) e ∙ append-nil (filter (λ m. eqb m.range q) (take i links)))
+      | inl same ↦
+          let e : eqb link.range q ≡ true = eq-eqb link.range q same in
+          let here : h q ≡ Some group = told ∙ ap (λ b. cond b (Some group) (g q)) e in
+          let old : items_of (f link.range) ≡ filter (λ m. eqb m.range q) (take i links) = ap (λ k. items_of (f k)) same ∙ inv q in
+          ap items_of here ∙ is ∙ ap (λ ys. ys ++ link ∷ []) old ∙ sym (due ∙ ap (λ b. filter (λ m. eqb m.range q) (take i links) ++ cond b (link ∷ []) []) e)
+      | inr other ↦
+          let e : eqb link.range q ≡ false = ne_eqb link.range q other in
+          let there : h q ≡ f q = told ∙ ap (λ b. cond b (Some group) (g q)) e ∙ others q ∙ ap (λ b. cond b None (f q)) e in
+          ap items_of there ∙ inv q ∙ sym (due ∙ ap (λ b. filter (λ m. eqb m.range q) (take i links) ++ cond b (link ∷ []) []) e ∙ append-nil (filter (λ m. eqb m.range q) (take i links)))
     ]
 
 -- ---- one item more
@@ -69,6 +69,6 @@ pub filter_map-region_where : (structures : List Structure) (ranges : List Range
 unfolding region_where
 filter_map-region_where structures [] = refl
 filter_map-region_where structures (r ∷ ranges) = elim (cases_Bool (is_region structures r)) [
-    inl yes' ↦ rw yes' (ap (λ xs. region_of structures r ∷ xs) (filter_map-region_where structures ranges))
+  | inl yes' ↦ rw yes' (ap (λ xs. region_of structures r ∷ xs) (filter_map-region_where structures ranges))
   | inr no' ↦ rw no' (filter_map-region_where structures ranges)
-  ]
+]

@@ -1,5 +1,5 @@
 -- What byteorder reads is what std's bytes give.
-use Rattle.std.proofs.Common.{◌≡◌, ℕ, List, get_or, take, drop, length, ◌-◌, arith, ap, ◌∙◌}
+use Rattle.std.proofs.Common.{◌≡◌, ℕ, List, take, arith}
 use Rattle.std.specs.Int.{w16, w32, w64, from_le_bytes}
 use Rattle.std.proofs.lemmas.List.{get_or-take}
 use Rattle.byteorder.specs.Endian.{little_number}
@@ -14,5 +14,14 @@ little_four xs =
 
 pub little_eight : (xs : List ℕ) → little_number 8 xs ≡ from_le_bytes w64 (take 8 xs)
 little_eight xs =
-    omega (arith, get_or-take 8 xs 0 0 (omega arith), get_or-take 8 xs 1 0 (omega arith), get_or-take 8 xs 2 0 (omega arith), get_or-take 8 xs 3 0 (omega arith),
-        get_or-take 8 xs 4 0 (omega arith), get_or-take 8 xs 5 0 (omega arith), get_or-take 8 xs 6 0 (omega arith), get_or-take 8 xs 7 0 (omega arith))
+    omega (
+      arith,
+      get_or-take 8 xs 0 0 (omega arith),
+      get_or-take 8 xs 1 0 (omega arith),
+      get_or-take 8 xs 2 0 (omega arith),
+      get_or-take 8 xs 3 0 (omega arith),
+      get_or-take 8 xs 4 0 (omega arith),
+      get_or-take 8 xs 5 0 (omega arith),
+      get_or-take 8 xs 6 0 (omega arith),
+      get_or-take 8 xs 7 0 (omega arith),
+    )

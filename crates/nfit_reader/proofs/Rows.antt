@@ -1,12 +1,12 @@
 -- Worked rows, computed.
-use Rattle.std.proofs.Common.{◌≡◌, ℕ, ◌+◌, ◌-◌, ◌%◌, ◌++◌, List, [], ◌∷◌, Some, None, Ok, Err, replicate, sum, length, codes, refl}
+use Rattle.std.proofs.Common.{◌≡◌, ℕ, ◌-◌, ◌%◌, ◌++◌, List, [], ◌∷◌, Some, Ok, Err, replicate, sum, length, codes, refl}
 use Rattle.std.specs.Int.{w16, w32, w64, to_le_bytes}
 use Rattle.nvd_words.specs.Bytes.{number_at}
 use Rattle.nvd_words.specs.Checks.{first_fault}
 use Rattle.nfit_reader.specs.declared.table.Mapping.{Mapping}
-use Rattle.nfit_reader.specs.declared.table.NfitFault.TheVariants.{Length, Signature, Structure, MissingIndex, TwiceIndex, Alias}
+use Rattle.nfit_reader.specs.declared.table.NfitFault.TheVariants.{Length, Signature, Structure}
 use Rattle.nfit_reader.specs.Structures.{spans_from, structure_of, range_structure, interleave_structure, control_structure, least_length, is_structure, has_lines, range_of, link_of, lines_of, identity_of}
-use Rattle.nfit_reader.specs.Table.{nfit_reading, distinct_after, twice_in, alias_in, is_alias, mapping_of, region_of, regions_of, missing_of, extent_of, table_reading, said_of, header_fault}
+use Rattle.nfit_reader.specs.Table.{nfit_reading, distinct_after, twice_in, alias_in, is_alias, mapping_of, region_of, regions_of, missing_of, lacks_range, lacks_identity, lacks_lines, extent_of, table_reading, said_of, header_fault}
 use Rattle.nfit_reader.specs.Structures.{persistent_memory}
 
 -- an SPA range: index, base, length
@@ -32,7 +32,6 @@ table_of said body =
     let head = codes "NFIT" ++ to_le_bytes w32 said in
     head ++ (1 ∷ (256 - sum (head ++ 1 ∷ body) % 256) % 256 ∷ replicate 30 0) ++ body
 
-
 pub pair_length : length (table_of 276 structures) ≡ 276
 pair_length = refl
 
@@ -51,7 +50,7 @@ pub pair_read : nfit_reading (table_of 276 structures) ≡ Ok (record {
   modules = 1 ∷ 2 ∷ [];
   regions = record { index = 1; base = 4294967296; length = 67108864; mappings = pair_mapping 0 0 1 ∷ pair_mapping 1 4096 2 ∷ [] } ∷ [];
 })
-unfolding number_at first_fault spans_from structure_of range_structure interleave_structure control_structure least_length is_structure has_lines range_of link_of lines_of identity_of distinct_after twice_in alias_in is_alias mapping_of region_of regions_of missing_of extent_of table_reading said_of header_fault
+unfolding number_at first_fault spans_from structure_of range_structure interleave_structure control_structure least_length is_structure has_lines range_of link_of lines_of identity_of distinct_after twice_in alias_in is_alias mapping_of region_of regions_of missing_of lacks_range lacks_identity lacks_lines extent_of table_reading said_of header_fault
 pair_read = refl
 
 -- four bytes short

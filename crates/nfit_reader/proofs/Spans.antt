@@ -1,5 +1,5 @@
 -- The list of spans, from any place on.
-use Rattle.std.proofs.Common.{◌≡◌, ◌≢◌, ℕ, zero, suc, ◌+◌, ◌-◌, ◌*◌, ◌<◌, ◌≤◌, Bool, true, false, cond, not, ◌&&◌, ◌||◌, eqb, leb, List, [], ◌∷◌, ◌++◌, length, take, drop, map, get_or, min, Result, Ok, Err, refl, sym, ap, ◌∙◌, subst, arith, length-drop, append_assoc}
+use Rattle.std.proofs.Common.{◌≡◌, ℕ, zero, suc, ◌+◌, ◌-◌, ◌*◌, ◌<◌, ◌≤◌, true, false, not, ◌&&◌, ◌||◌, eqb, leb, List, [], ◌∷◌, ◌++◌, length, take, drop, get_or, Result, Ok, Err, refl, sym, ap, ◌∙◌, subst, arith, length-drop, append_assoc}
 use Rattle.std.proofs.lemmas.List.{take-take, drop-take, drop-drop, get_or-take, get_or-drop, length-take-le, drop_all, length_push, append-nil}
 use Rattle.std.proofs.lemmas.Bool.{and_parts, leb-true, not_from_true, eq-eqb, cases_Bool}
 use Rattle.std.proofs.Common.{inl, inr}
@@ -16,9 +16,17 @@ use Rattle.nfit_reader.specs.Table.{said_of}
 
 pub little_said : (bytes : List ℕ) → little_number 4 (get_or bytes 4 0 ∷ get_or bytes 5 0 ∷ get_or bytes 6 0 ∷ get_or bytes 7 0 ∷ []) ≡ said_of bytes
 unfolding said_of number_at
-little_said bytes = omega (arith,
-    get_or-take 4 (drop 4 bytes) 0 0 (omega arith), get_or-take 4 (drop 4 bytes) 1 0 (omega arith), get_or-take 4 (drop 4 bytes) 2 0 (omega arith), get_or-take 4 (drop 4 bytes) 3 0 (omega arith),
-    get_or-drop 4 bytes 0 0, get_or-drop 4 bytes 1 0, get_or-drop 4 bytes 2 0, get_or-drop 4 bytes 3 0)
+little_said bytes = omega (
+  arith,
+  get_or-take 4 (drop 4 bytes) 0 0 (omega arith),
+  get_or-take 4 (drop 4 bytes) 1 0 (omega arith),
+  get_or-take 4 (drop 4 bytes) 2 0 (omega arith),
+  get_or-take 4 (drop 4 bytes) 3 0 (omega arith),
+  get_or-drop 4 bytes 0 0,
+  get_or-drop 4 bytes 1 0,
+  get_or-drop 4 bytes 2 0,
+  get_or-drop 4 bytes 3 0,
+)
 
 -- a number that stands in the front of bytes
 pub number_at-take : (w : Width) (n : ℕ) (xs : List ℕ) (at : ℕ) → at + byte_len w ≤ n → number_at w (take n xs) at ≡ number_at w xs at
@@ -64,8 +72,8 @@ fits rest e =
       least = leb-true _ _ d.1;
       inside = leb-true _ _ b.1;
       lines = λ two.
-        let no : other ≡ false = not_from_true _ (eq-eqb _ _ two) in
-        leb-true _ _ (and_parts some room (rw no at a.1)).1;
+          let no : other ≡ false = not_from_true _ (eq-eqb _ _ two) in
+          leb-true _ _ (and_parts some room (rw no at a.1)).1;
     }
 
 -- a structure takes four bytes at least
@@ -87,10 +95,10 @@ span_is_whole rest e =
       header = omega arith;
       fields = rw (kind, long) f.least;
       lines = λ two.
-        let two' : number_at w16 rest 0 ≡ 2 = sym kind ∙ two in
-        let wide : 16 + 4 * number_at w32 rest 8 ≤ len = f.lines two' in
-        let count : number_at w32 (take len rest) 8 ≡ number_at w32 rest 8 = number_at-take w32 len rest 8 (omega arith) in
-        omega arith;
+          let two' : number_at w16 rest 0 ≡ 2 = sym kind ∙ two in
+          let wide : 16 + 4 * number_at w32 rest 8 ≤ len = f.lines two' in
+          let count : number_at w32 (take len rest) 8 ≡ number_at w32 rest 8 = number_at-take w32 len rest 8 (omega arith) in
+          omega arith;
     }
 
 pub whole_range : (span : List ℕ) → IsWhole span → number_at w16 span 0 ≡ 0 → 56 ≤ length span
@@ -125,12 +133,12 @@ fuel (suc m) zero at (b ∷ rest) h k = absurd (omega arith)
 fuel (suc m) (suc n) at (b ∷ rest) h k =
     let len = number_at w16 (b ∷ rest) 2 in
     elim (cases_Bool (is_structure (b ∷ rest))) [
-      inl good ↦
-        let four : 4 ≤ len = takes_four (b ∷ rest) good in
-        let short : length (drop len (b ∷ rest)) ≤ length rest = rw length-drop (omega arith) in
-        let same : spans_from m (at + len) (drop len (b ∷ rest)) ≡ spans_from n (at + len) (drop len (b ∷ rest)) = fuel m n (at + len) (drop len (b ∷ rest)) (omega arith) (omega arith) in
-        rw (good, same) refl
-    | inr bad ↦ rw bad refl
+      | inl good ↦
+          let four : 4 ≤ len = takes_four (b ∷ rest) good in
+          let short : length (drop len (b ∷ rest)) ≤ length rest = rw length-drop (omega arith) in
+          let same : spans_from m (at + len) (drop len (b ∷ rest)) ≡ spans_from n (at + len) (drop len (b ∷ rest)) = fuel m n (at + len) (drop len (b ∷ rest)) (omega arith) (omega arith) in
+          rw (good, same) refl
+      | inr bad ↦ rw bad refl
     ]
 
 -- what the structures from a place on are
@@ -207,10 +215,10 @@ read_more table rest at len structures s r h is good long read =
     let more : length (structures ++ s ∷ []) ≡ length structures + 1 = length_push structures s in
     let few = r.few in
     let step : rest_at table at ≡ with_first s (rest_at table (at + len)) =
-        rest_at-good table at h (subst (λ xs. is_structure xs ≡ true) is good)
-        ∙ sym (ap (λ xs. with_first (structure_of (take (number_at w16 xs 2) xs)) (rest_at table (at + number_at w16 xs 2))) is)
-        ∙ sym (ap (λ n. with_first (structure_of (take n rest)) (rest_at table (at + n))) long)
-        ∙ sym (ap (λ x. with_first x (rest_at table (at + len))) read) in
+    rest_at-good table at h (subst (λ xs. is_structure xs ≡ true) is good)
+    ∙ sym (ap (λ xs. with_first (structure_of (take (number_at w16 xs 2) xs)) (rest_at table (at + number_at w16 xs 2))) is)
+    ∙ sym (ap (λ n. with_first (structure_of (take n rest)) (rest_at table (at + n))) long)
+    ∙ sym (ap (λ x. with_first x (rest_at table (at + len))) read) in
     record {
       inside = omega arith;
       few = rw more (omega arith);

@@ -1,7 +1,7 @@
 -- Names that stand again.
-use Rattle.std.proofs.Common.{◌≡◌, ℕ, Bool, true, false, cond, eqb, ◌==◌, ◌&&◌, ◌||◌, List, [], ◌∷◌, Option, Some, None, refl, sym, ap, ◌∙◌, inl, inr}
-use Rattle.std.specs.Option.{is_some, option_or, option_map}
-use Rattle.std.specs.List.{list_any, filter_map, find}
+use Rattle.std.proofs.Common.{◌≡◌, ℕ, Bool, cond, eqb, ◌==◌, ◌&&◌, List, [], ◌∷◌, Option, Some, None, refl, sym, inl, inr}
+use Rattle.std.specs.Option.{is_some, option_or}
+use Rattle.std.specs.List.{list_any, filter_map}
 use Rattle.std.proofs.lemmas.Bool.{cases_Bool}
 use Rattle.nfit_reader.specs.declared.table.NfitFault.{NfitFault}
 use Rattle.nfit_reader.specs.declared.table.NfitFault.TheVariants as fault
@@ -11,7 +11,7 @@ use Rattle.nfit_reader.specs.declared.structures.Range.{Range}
 use Rattle.nfit_reader.specs.declared.structures.Interleave.{Interleave}
 use Rattle.nfit_reader.specs.declared.structures.Control.{Control}
 use Rattle.nfit_reader.specs.Table.{range_named, lines_named, identity_named, name_of, twice_in}
-use Rattle.nfit_reader.specs.Names.{again_of, again_in}
+use Rattle.nfit_reader.specs.Names.{again_in}
 
 -- a name stands in a list of structures
 abbrev pub has_name : ℕ → ℕ → List Structure → Bool

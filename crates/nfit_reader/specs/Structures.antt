@@ -12,8 +12,6 @@ use Rattle.nfit_reader.specs.declared.structures.Structure.{Structure}
 use Rattle.nfit_reader.specs.declared.structures.Structure.TheVariants as structure
 use Rattle.nfit_reader.specs.declared.structures.Range.{Range}
 use Rattle.nfit_reader.specs.declared.structures.Link.{Link}
-use Rattle.nfit_reader.specs.declared.structures.Interleave.{Interleave}
-use Rattle.nfit_reader.specs.declared.structures.Control.{Control}
 
 -- ---- the list of spans
 

@@ -59,7 +59,7 @@ fn nfit_of(
     requires few_links { length links.now < 2 ^ 32 }
     ensures { (structures : List Structure) → IsNamed names.now structures → ranges.now ≡ ranges_of structures →
         links.now ≡ links_of structures → Answers NfitFault.OutOfMemory result
-            (value_unless (nfit_of structures) (first_fault (too_large structures ∷ aliasing structures ∷ []))) }
+        (value_unless (nfit_of structures) (first_fault (too_large structures ∷ aliasing structures ∷ []))) }
 {
     let modules = modules_of(alloc, links)?;
     if MODULES < modules.len() {

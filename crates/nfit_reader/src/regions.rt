@@ -17,10 +17,7 @@ use std::alloc::{AllocError, Global};
 use std::collections::BTreeMap;
 
 /// The ranges among structures.
-pub(crate) fn ranges_of(
-    alloc: Global,
-    structures: &[Structure],
-) -> Result<Vec<Range>, AllocError>
+pub(crate) fn ranges_of(alloc: Global, structures: &[Structure]) -> Result<Vec<Range>, AllocError>
     ensures { IfOk result (λ ranges. ranges.items ≡ filter_map as_range structures.now) }
 {
     structures
@@ -102,10 +99,7 @@ fn taken(alloc: Global, groups: &mut BTreeMap<u16, Vec<Link>>, index: u16) -> Ve
 }
 
 /// The mappings by the index of their range, each group in the order of the table.
-pub(crate) fn grouped(
-    alloc: Global,
-    links: &[Link],
-) -> Result<BTreeMap<u16, Vec<Link>>, AllocError>
+pub(crate) fn grouped(alloc: Global, links: &[Link]) -> Result<BTreeMap<u16, Vec<Link>>, AllocError>
     ensures { IfOk result (λ groups. IsGrouped groups links.now) }
 {
     let mut groups = BTreeMap::new(alloc);

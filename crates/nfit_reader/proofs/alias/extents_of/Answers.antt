@@ -14,7 +14,7 @@ pub loop-link-preserved : goal.loop-link-preserved
 loop-link-preserved c = λ structures numbered regions.
     let link = get_or c.args.links.now c.loop-link.link-index blank in
     let placed : IsPlaced c.in_ok-places.places structures =
-        record { regions = λ index. c.in_ok-places.ensures index ∙ ap (λ rs. position_from (λ r. eqb r.index index) 0 rs) regions } in
+    record { regions = λ index. c.in_ok-places.ensures index ∙ ap (λ rs. position_from (λ r. eqb r.index index) 0 rs) regions } in
     let extent : c.extent_of.result ≡ extent_of structures link = c.extent_of.ensures structures numbered placed in
     c.in_ok-push_some.ensures
     ∙ ap (λ xs. xs ++ option_to_list c.extent_of.result) (c.loop-link.invariant structures numbered regions)

@@ -1,6 +1,4 @@
-use Rattle.std.proofs.Common.{◌≡◌, ℕ, map, nat_cmp, ap, ◌∙◌}
-use Rattle.std.specs.BTreeMap as tree
-use Rattle.std.specs.List.{position_from}
+use Rattle.std.proofs.Common.{ℕ, map, ap, ◌∙◌}
 use Rattle.std.proofs.lemmas.List.{take_all}
 use Rattle.std.proofs.lemmas.Result.{IfOk-weaker}
 use Rattle.nfit_reader.specs.declared.table.Region.{Region}

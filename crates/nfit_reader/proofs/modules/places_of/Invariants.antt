@@ -1,4 +1,4 @@
-use Rattle.std.proofs.Common.{◌≡◌, ℕ, take, nat_cmp, length}
+use Rattle.std.proofs.Common.{◌≡◌, ℕ, take, nat_cmp}
 use Rattle.std.specs.BTreeMap as tree
 use Rattle.nfit_reader.specs.Table.{place_of}
 use Rattle.nfit_reader.proofs.modules.places_of.Given as goal

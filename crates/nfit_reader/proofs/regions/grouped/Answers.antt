@@ -1,4 +1,4 @@
-use Rattle.std.proofs.Common.{◌≡◌, ◌∙◌, ap, ◌++◌, ◌∷◌, [], get_or, nat_cmp, arith}
+use Rattle.std.proofs.Common.{◌≡◌, ◌∙◌, ap, ◌++◌, ◌∷◌, [], get_or, nat_cmp}
 use Rattle.std.specs.BTreeMap as tree
 use Rattle.nfit_reader.specs.declared.structures.Link.{Link}
 use Rattle.nfit_reader.proofs.Groups.{group_more}

@@ -1,8 +1,6 @@
-use Rattle.std.proofs.Common.{◌≡◌, ◌<◌, ◌≤◌, ◌+◌, ◌-◌, ◌++◌, ◌∷◌, [], true, length, take, drop, sym, ◌∙◌, ap, subst, arith, length-drop}
+use Rattle.std.proofs.Common.{◌≡◌, ◌≤◌, ◌+◌, ◌++◌, ◌∷◌, [], true, length, take, sym, ◌∙◌, subst, arith}
 use Rattle.std.proofs.lemmas.List.{length-take-le}
-use Rattle.nvd_words.specs.Bytes.{number_at}
-use Rattle.std.specs.Int.{w16}
-use Rattle.nfit_reader.specs.Structures.{is_structure, structure_of, IsWhole}
+use Rattle.nfit_reader.specs.Structures.{is_structure, IsWhole}
 use Rattle.nfit_reader.proofs.Spans.{read_more, read_bad, read_all, takes_four, takes_inside, span_is_whole, IsReadTo}
 use Rattle.nfit_reader.proofs.structures.structures_in.Goals as goal
 
@@ -24,15 +22,15 @@ slice_bounds-structure_of-end c =
 pub structure_of-requires : goal.structure_of-requires
 structure_of-requires c =
     subst (λ n. IsWhole (take n c.rest_of-rest.result.now)) (sym c.two_at-len.ensures)
-        (span_is_whole c.rest_of-rest.result.now (sym c.is_structure.ensures ∙ c.if-not-is_structure.false))
+    (span_is_whole c.rest_of-rest.result.now (sym c.is_structure.ensures ∙ c.if-not-is_structure.false))
 
 pub loop-at-preserved : goal.loop-at-preserved
 loop-at-preserved c =
     let good : is_structure c.rest_of-rest.result.now ≡ true = sym c.is_structure.ensures ∙ c.if-not-is_structure.false in
     let pushed : c.push.new.self ≡ c.loop-at.structures ++ c.in_ok-structure_of.field-0 ∷ [] = c.in_ok-push.ensures.ok in
     subst (λ xs. IsReadTo c.args.table.now (c.loop-at.at + c.two_at-len.result) xs) (sym pushed)
-        (read_more c.args.table.now c.rest_of-rest.result.now c.loop-at.at c.two_at-len.result c.loop-at.structures c.in_ok-structure_of.field-0
-            c.loop-at.invariant c.loop-at-test.true c.rest_of-rest.ensures good c.two_at-len.ensures c.in_ok-structure_of.ensures)
+    (read_more c.args.table.now c.rest_of-rest.result.now c.loop-at.at c.two_at-len.result c.loop-at.structures c.in_ok-structure_of.field-0
+    c.loop-at.invariant c.loop-at-test.true c.rest_of-rest.ensures good c.two_at-len.ensures c.in_ok-structure_of.ensures)
 
 pub loop-at-smaller : goal.loop-at-smaller
 loop-at-smaller c =
