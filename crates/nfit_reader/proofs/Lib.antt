@@ -5,6 +5,7 @@ pub mod Twice
 pub mod Numbers
 pub mod Groups
 pub mod Extents
+pub mod Apart
 pub mod Lengths
 pub mod Readings
 pub mod Missing

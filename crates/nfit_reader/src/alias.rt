@@ -1,12 +1,13 @@
 //! Mappings into two regions that share bytes of a module.
 
-ghost use Rattle.std.specs.Prelude.{◌≡◌, ◌==◌, ◌<◌, ◌^◌, ◌+◌, ℕ, List, map, length, drop, find, IfOk, option_copied};
+ghost use Rattle.std.specs.Prelude.{◌≡◌, ◌==◌, ◌<◌, ◌^◌, ◌+◌, ℕ, List, map, length, drop, find, IfOk, IsTrue, None, option_copied};
 ghost use Rattle.std.specs.List.{filter_map, position_from};
 ghost use Rattle.std.specs.Ordering.{nat_cmp};
 ghost use Rattle.std.specs.BTreeMap as tree;
 ghost use Rattle.nfit_reader.specs.declared.structures.Structure.{Structure};
 ghost use Rattle.nfit_reader.specs.Table.{is_alias, alias_in, place_of, extent_of, regions_of};
 ghost use Rattle.nfit_reader.specs.Names.{IsNumbered, IsPlaced};
+ghost use Rattle.nfit_reader.specs.Apart.{is_before, StandApart};
 
 use crate::modules::places_of;
 use crate::regions::push_some;
@@ -17,12 +18,13 @@ use std::alloc::{AllocError, Global};
 use std::collections::BTreeMap;
 
 /// The bytes of its module that a mapping into a region takes.
-#[derive(Clone, Copy)]
+/// In order, extents stand by module and then by start.
+#[derive(Clone, Copy, PartialEq, Eq, PartialOrd, Ord)]
 pub(crate) struct Extent {
     pub module: u32,
-    pub region: u32,
     pub start: u64,
     pub size: u64,
+    pub region: u32,
 }
 
 /// Whether two extents are of one module, in two regions, and have a byte in common.
@@ -52,7 +54,7 @@ fn others_after(extents: &[Extent], place: usize) -> &[Extent]
 }
 
 /// The first extent that one further on is an alias of, and the first of those.
-pub(crate) fn alias_in(extents: &[Extent]) -> Option<NfitFault>
+fn alias_in(extents: &[Extent]) -> Option<NfitFault>
     ensures { result ≡ alias_in extents.now }
 {
     for (place, a) in extents.iter().enumerate() {
@@ -65,6 +67,49 @@ pub(crate) fn alias_in(extents: &[Extent]) -> Option<NfitFault>
         }
     }
     None
+}
+
+/// Whether an extent is of a module before another's, or ends before the other of its module starts.
+#[tactic(auto, unfolding(crate::specs::Apart::is_before))]
+fn is_before(a: Extent, b: Extent) -> bool
+    ensures { result ≡ is_before a b }
+{
+    a.module < b.module
+        || (a.module == b.module && u128::from(a.start) + u128::from(a.size) <= u128::from(b.start))
+}
+
+fn stand_apart(sorted: &[Extent]) -> bool
+    ensures { IsTrue result → StandApart sorted.now }
+{
+    for place in 1..sorted.len() {
+        if !is_before(sorted[place - 1], sorted[place]) {
+            return false;
+        }
+    }
+    true
+}
+
+/// Whether no two extents of one module meet, seen in the order of n log n steps. Where it isn't so, each
+/// pair must be looked at.
+fn is_apart(alloc: Global, extents: &[Extent]) -> Result<bool, AllocError>
+    ensures { IfOk result (λ apart. IsTrue apart → alias_in extents.now ≡ None) }
+{
+    let mut sorted = Vec::from_slice(alloc, extents)?;
+    sorted.sort()?;
+    Ok(stand_apart(&sorted))
+}
+
+/// The fault of the first alias, where there is one.
+pub(crate) fn alias_fault(
+    alloc: Global,
+    extents: &[Extent],
+) -> Result<Option<NfitFault>, AllocError>
+    ensures { IfOk result (λ fault. fault ≡ alias_in extents.now) }
+{
+    if is_apart(alloc, extents)? {
+        return Ok(None);
+    }
+    Ok(alias_in(extents))
 }
 
 /// The number of the first region with an index.

@@ -4,7 +4,7 @@ ghost use Rattle.nfit_reader.specs.declared.structures.Structure.{Structure};
 ghost use Rattle.nfit_reader.specs.Table.{nfit_reading, table_reading, nfit_of, too_large, aliasing, ranges_of, links_of};
 ghost use Rattle.nfit_reader.specs.Names.{IsNamed};
 
-use crate::alias::{alias_in, extents_of};
+use crate::alias::{alias_fault, extents_of};
 use crate::header::{header_fault, said};
 use crate::modules::{modules_of, places_of};
 use crate::names::{Names, first_missing, named};
@@ -70,7 +70,7 @@ fn nfit_of(
     let numbers = places_of(alloc, modules.as_slice())?;
     let regions = regions_of(alloc, names, &numbers, ranges, links)?;
     let extents = extents_of(alloc, &numbers, regions.as_slice(), links)?;
-    match alias_in(extents.as_slice()) {
+    match alias_fault(alloc, extents.as_slice())? {
         Some(fault) => Err(fault),
         None => Ok(Nfit { modules, regions }),
     }

@@ -6,7 +6,7 @@ use Rattle.nfit_reader.proofs.Extents.{alias_here, alias_more, alias_end}
 use Rattle.nfit_reader.proofs.alias.alias_in.Goals as goal
 
 abbrev blank : Extent
-blank = record { «module» = 0; region = 0; start = 0; size = 0 }
+blank = record { «module» = 0; start = 0; size = 0; region = 0 }
 
 pub returns-in-Some : goal.returns-in-Some
 returns-in-Some c =
