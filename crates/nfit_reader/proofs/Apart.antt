@@ -18,9 +18,9 @@ Before a b = (a.«module» < b.«module») ⊎ ((a.«module» ≡ b.«module») 
 told : (a b : Extent) → is_before a b ≡ true → Before a b
 unfolding is_before Before
 told a b e = elim (or_cases (ltb a.«module» b.«module») (eqb a.«module» b.«module» && leb (a.start + a.size) b.start) e) [
-    inl low ↦ inl (ltb-true _ _ low)
+  | inl low ↦ inl (ltb-true _ _ low)
   | inr same ↦ let parts = and_parts (eqb a.«module» b.«module») (leb (a.start + a.size) b.start) same in inr (eqb-true _ _ parts.0, leb-true _ _ parts.1)
-  ]
+]
 
 further : (a b d : Extent) → Before a b → Before b d → Before a d
 unfolding Before
@@ -37,7 +37,7 @@ later xs x apart i zero h =
 later xs x apart i (suc n) h =
     let e : (i + n + 1) + 1 ≡ i + suc n + 1 = omega arith in
     subst (λ k. Before (get_or xs i x) (get_or xs k x)) e
-        (further (get_or xs i x) (get_or xs (i + n + 1) x) (get_or xs ((i + n + 1) + 1) x) (later xs x apart i n (omega arith)) (told (get_or xs (i + n + 1) x) (get_or xs ((i + n + 1) + 1) x) (apart (i + n + 1) x (omega arith))))
+    (further (get_or xs i x) (get_or xs (i + n + 1) x) (get_or xs ((i + n + 1) + 1) x) (later xs x apart i n (omega arith)) (told (get_or xs (i + n + 1) x) (get_or xs ((i + n + 1) + 1) x) (apart (i + n + 1) x (omega arith))))
 
 -- one before another is no alias of it, in either order
 no_alias : (a b : Extent) → Before a b → (is_alias a b ≡ false) × (is_alias b a ≡ false)
@@ -47,9 +47,10 @@ no_alias a b (inl low) =
     let f : eqb b.«module» a.«module» ≡ false = ne_eqb b.«module» a.«module» (λ s. omega arith) in
     (and_left _ _ (and_left _ _ e), and_left _ _ (and_left _ _ f))
 no_alias a b (inr same) =
-    let ends : a.start + a.size ≤ b.start = same.1 in
-    (and_right _ _ (le-ltb (max a.start b.start) (min (a.start + a.size) (b.start + b.size)) (omega arith)),
-     and_right _ _ (le-ltb (max b.start a.start) (min (b.start + b.size) (a.start + a.size)) (omega arith)))
+    let ends : a.start + a.size ≤ b.start = same.1 in (
+      and_right _ _ (le-ltb (max a.start b.start) (min (a.start + a.size) (b.start + b.size)) (omega arith)),
+      and_right _ _ (le-ltb (max b.start a.start) (min (b.start + b.size) (a.start + a.size)) (omega arith)),
+    )
 
 no_alias_itself : (a : Extent) → is_alias a a ≡ false
 unfolding is_alias
@@ -59,15 +60,15 @@ pub none_of_them : (xs : List Extent) → StandApart xs → (p q : Extent) → C
 none_of_them xs apart p q (i, i-in, i-is) (j, j-in, j-is) =
     let j-is' : get_or xs j p ≡ q = get_or_default xs j p q j-in ∙ j-is in
     elim (cases_order i j) [
-      inl same ↦ subst (λ x. is_alias p x ≡ false) (sym i-is ∙ ap (λ k. get_or xs k p) same ∙ j-is') (no_alias_itself p)
-    | inr (inl low) ↦
-        let e : i + (j - i - 1) + 1 ≡ j = omega arith in
-        let before : Before (get_or xs i p) (get_or xs j p) = subst (λ k. Before (get_or xs i p) (get_or xs k p)) e (later xs p apart i (j - i - 1) (omega arith)) in
-        (no_alias p q (subst (λ x. Before x q) i-is (subst (λ y. Before (get_or xs i p) y) j-is' before))).0
-    | inr (inr high) ↦
-        let e : j + (i - j - 1) + 1 ≡ i = omega arith in
-        let before : Before (get_or xs j p) (get_or xs i p) = subst (λ k. Before (get_or xs j p) (get_or xs k p)) e (later xs p apart j (i - j - 1) (omega arith)) in
-        (no_alias q p (subst (λ x. Before x p) j-is' (subst (λ y. Before (get_or xs j p) y) i-is before))).1
+      | inl same ↦ subst (λ x. is_alias p x ≡ false) (sym i-is ∙ ap (λ k. get_or xs k p) same ∙ j-is') (no_alias_itself p)
+      | inr (inl low) ↦
+          let e : i + (j - i - 1) + 1 ≡ j = omega arith in
+          let before : Before (get_or xs i p) (get_or xs j p) = subst (λ k. Before (get_or xs i p) (get_or xs k p)) e (later xs p apart i (j - i - 1) (omega arith)) in
+          (no_alias p q (subst (λ x. Before x q) i-is (subst (λ y. Before (get_or xs i p) y) j-is' before))).0
+      | inr (inr high) ↦
+          let e : j + (i - j - 1) + 1 ≡ i = omega arith in
+          let before : Before (get_or xs j p) (get_or xs i p) = subst (λ k. Before (get_or xs j p) (get_or xs k p)) e (later xs p apart j (i - j - 1) (omega arith)) in
+          (no_alias q p (subst (λ x. Before x p) j-is' (subst (λ y. Before (get_or xs j p) y) i-is before))).1
     ]
 
 first_in : (x : Extent) (xs : List Extent) → Contains (x ∷ xs) x

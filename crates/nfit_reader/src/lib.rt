@@ -10,6 +10,8 @@ mod read;
 mod regions;
 mod structures;
 mod table;
+#[cfg(test)]
+mod tests;
 
 pub use read::read_nfit;
 pub use table::{Identity, Lines, Mapping, Nfit, NfitFault, Region};
