@@ -45,38 +45,110 @@ impl Structure {
 /// A system physical address range structure, type 0.
 #[derive(Clone, Copy)]
 pub(crate) struct Range {
+    /// SPA Range Structure Index, u16 at 4.
     pub index: u16,
+    /// Whether Address Range Type GUID, 16 bytes at 16, is that of persistent memory.
     pub persistent: bool,
+    /// System Physical Address Range Base, u64 at 32.
     pub base: u64,
+    /// System Physical Address Range Length, u64 at 40.
     pub length: u64,
 }
 
 /// A region mapping structure, type 1, which links a module with a range.
 #[derive(Clone, Copy)]
 pub(crate) struct Link {
+    /// NFIT Device Handle, u32 at 4.
     pub handle: u32,
+    /// SPA Range Structure Index, u16 at 12.
     pub range: u16,
+    /// NVDIMM Control Region Structure Index, u16 at 14.
     pub control: u16,
+    /// NVDIMM Region Size, u64 at 16.
     pub size: u64,
+    /// Region Offset, u64 at 24.
     pub offset: u64,
+    /// NVDIMM Physical Address Region Base, u64 at 32.
     pub start: u64,
+    /// Interleave Structure Index, u16 at 40.
     pub interleave: u16,
+    /// Interleave Ways, u16 at 42.
     pub ways: u16,
 }
 
 /// An interleave structure, type 2.
 #[derive(Drop)]
 pub(crate) struct Interleave {
+    /// Interleave Structure Index, u16 at 4.
     pub index: u16,
+    /// Number of Lines Described, u32 at 8; Line Size, u32 at 12; from 16 on a Line Offset, u32, for each.
     pub lines: Lines,
 }
 
 /// A control region structure, type 4.
 #[derive(Clone, Copy)]
 pub(crate) struct Control {
+    /// NVDIMM Control Region Structure Index, u16 at 4.
     pub index: u16,
+    /// Vendor ID, u16 at 6; Manufacturing Location, u8 at 19; Manufacturing Date, u16 at 20; Serial Number,
+    /// u32 at 24.
     pub identity: Identity,
 }
+
+// Every structure: Type u16, Length u16; types 0, 2 and 4 an index u16.
+const TYPE_AT: usize = 0;
+
+const LENGTH_AT: usize = 2;
+
+const INDEX_AT: usize = 4;
+
+// SPA range.
+const RANGE_GUID_AT: usize = 16;
+
+const RANGE_BASE_AT: usize = 32;
+
+const RANGE_LENGTH_AT: usize = 40;
+
+const RANGE_BYTES: u16 = 56;
+
+// Region mapping.
+const HANDLE_AT: usize = 4;
+
+const RANGE_INDEX_AT: usize = 12;
+
+const CONTROL_INDEX_AT: usize = 14;
+
+const REGION_SIZE_AT: usize = 16;
+
+const REGION_OFFSET_AT: usize = 24;
+
+const REGION_START_AT: usize = 32;
+
+const INTERLEAVE_INDEX_AT: usize = 40;
+
+const WAYS_AT: usize = 42;
+
+const MAPPING_BYTES: u16 = 48;
+
+// Interleave.
+const LINE_COUNT_AT: usize = 8;
+
+const LINE_SIZE_AT: usize = 12;
+
+const LINES_AT: usize = 16;
+
+const INTERLEAVE_BYTES: u16 = 16;
+
+// Control region.
+const VENDOR_AT: usize = 6;
+
+const LOCATION_AT: usize = 19;
+
+const DATE_AT: usize = 20;
+
+const SERIAL_AT: usize = 24;
+
+const CONTROL_BYTES: u16 = 32;
 
 /// The GUID of persistent memory, 66f0d379-b4f3-4074-ac43-0d3318b78cdb, with the low bytes of its
 /// first three fields first.
@@ -90,10 +162,10 @@ fn least_length(kind: u16) -> u16
     ensures { result ≡ least_length kind }
 {
     match kind {
-        0 => 56,
-        1 => 48,
-        2 => 16,
-        4 => 32,
+        0 => RANGE_BYTES,
+        1 => MAPPING_BYTES,
+        2 => INTERLEAVE_BYTES,
+        4 => CONTROL_BYTES,
         _ => 4,
     }
 }
@@ -104,8 +176,8 @@ fn has_lines(rest: &[u8]) -> bool
     requires { 16 ≤ length rest.now }
     ensures { result ≡ has_lines rest.now }
 {
-    let lines = u64::from(four_at(rest, 8));
-    1 <= lines && 16 + 4 * lines <= u64::from(two_at(rest, 2))
+    let lines = u64::from(four_at(rest, LINE_COUNT_AT));
+    1 <= lines && 16 + 4 * lines <= u64::from(two_at(rest, LENGTH_AT))
 }
 
 /// Whether bytes begin with a whole structure.
@@ -116,8 +188,8 @@ fn is_structure(rest: &[u8]) -> bool
     if rest.len() < 4 {
         return false;
     }
-    let kind = two_at(rest, 0);
-    let len = two_at(rest, 2);
+    let kind = two_at(rest, TYPE_AT);
+    let len = two_at(rest, LENGTH_AT);
     if len < least_length(kind) || rest.len() < len as usize {
         return false;
     }
@@ -130,10 +202,10 @@ fn range_of(span: &[u8]) -> Range
     ensures { result ≡ range_of span.now }
 {
     Range {
-        index: two_at(span, 4),
-        persistent: &span[16..32] == PERSISTENT_MEMORY.as_slice(),
-        base: eight_at(span, 32),
-        length: eight_at(span, 40),
+        index: two_at(span, INDEX_AT),
+        persistent: &span[RANGE_GUID_AT..RANGE_GUID_AT + 16] == PERSISTENT_MEMORY.as_slice(),
+        base: eight_at(span, RANGE_BASE_AT),
+        length: eight_at(span, RANGE_LENGTH_AT),
     }
 }
 
@@ -143,14 +215,14 @@ fn link_of(span: &[u8]) -> Link
     ensures { result ≡ link_of span.now }
 {
     Link {
-        handle: four_at(span, 4),
-        range: two_at(span, 12),
-        control: two_at(span, 14),
-        size: eight_at(span, 16),
-        offset: eight_at(span, 24),
-        start: eight_at(span, 32),
-        interleave: two_at(span, 40),
-        ways: two_at(span, 42),
+        handle: four_at(span, HANDLE_AT),
+        range: two_at(span, RANGE_INDEX_AT),
+        control: two_at(span, CONTROL_INDEX_AT),
+        size: eight_at(span, REGION_SIZE_AT),
+        offset: eight_at(span, REGION_OFFSET_AT),
+        start: eight_at(span, REGION_START_AT),
+        interleave: two_at(span, INTERLEAVE_INDEX_AT),
+        ways: two_at(span, WAYS_AT),
     }
 }
 
@@ -160,13 +232,13 @@ fn lines_of(alloc: Global, span: &[u8]) -> Result<Lines, AllocError>
     requires header { 16 ≤ length span.now }
     ensures { IfOk result (λ lines. lines ≡ lines_of span.now) }
 {
-    let count = four_at(span, 8) as usize;
+    let count = four_at(span, LINE_COUNT_AT) as usize;
     let mut offsets = Items::new(alloc);
     for line in 0..count {
-        offsets.push(four_at(span, 16 + 4 * line))?;
+        offsets.push(four_at(span, LINES_AT + 4 * line))?;
     }
     Ok(Lines {
-        size: four_at(span, 12),
+        size: four_at(span, LINE_SIZE_AT),
         offsets,
     })
 }
@@ -177,10 +249,10 @@ fn identity_of(span: &[u8]) -> Identity
     ensures { result ≡ identity_of span.now }
 {
     Identity {
-        vendor: two_at(span, 6),
-        date: two_at(span, 20),
-        location: span[19],
-        serial: four_at(span, 24),
+        vendor: two_at(span, VENDOR_AT),
+        date: two_at(span, DATE_AT),
+        location: span[LOCATION_AT],
+        serial: four_at(span, SERIAL_AT),
     }
 }
 
@@ -190,7 +262,7 @@ fn range_structure(span: &[u8]) -> Structure
     ensures { result ≡ range_structure span.now }
 {
     let range = range_of(span);
-    if two_at(span, 4) == 0 {
+    if two_at(span, INDEX_AT) == 0 {
         Structure::PassedOver
     } else {
         Structure::Range(range)
@@ -203,7 +275,7 @@ fn interleave_structure(alloc: Global, span: &[u8]) -> Result<Structure, AllocEr
     requires header { 16 ≤ length span.now }
     ensures { IfOk result (λ s. s ≡ interleave_structure span.now) }
 {
-    let index = two_at(span, 4);
+    let index = two_at(span, INDEX_AT);
     if index == 0 {
         return Ok(Structure::PassedOver);
     }
@@ -216,7 +288,7 @@ fn control_structure(span: &[u8]) -> Structure
     requires { 32 ≤ length span.now }
     ensures { result ≡ control_structure span.now }
 {
-    let index = two_at(span, 4);
+    let index = two_at(span, INDEX_AT);
     if index == 0 {
         Structure::PassedOver
     } else {
@@ -233,7 +305,7 @@ fn structure_of(alloc: Global, span: &[u8]) -> Result<Structure, AllocError>
     requires { IsWhole span.now }
     ensures { IfOk result (λ s. s ≡ structure_of span.now) }
 {
-    match two_at(span, 0) {
+    match two_at(span, TYPE_AT) {
         0 => Ok(range_structure(span)),
         1 => Ok(Structure::Mapping(link_of(span))),
         2 => interleave_structure(alloc, span),
@@ -263,7 +335,7 @@ pub(crate) fn structures_in(alloc: Global, table: &[u8]) -> Result<Items<Structu
         if !is_structure(rest) {
             return Err(NfitFault::Structure { at: at as u64 });
         }
-        let len = two_at(rest, 2) as usize;
+        let len = two_at(rest, LENGTH_AT) as usize;
         structures.push(structure_of(alloc, &rest[..len])?)?;
         at += len;
     }
