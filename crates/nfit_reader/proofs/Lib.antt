@@ -1,0 +1,12 @@
+pub mod Little
+pub mod Spans
+pub mod Firsts
+pub mod Twice
+pub mod Numbers
+pub mod Groups
+pub mod Extents
+pub mod Apart
+pub mod Lengths
+pub mod Readings
+pub mod Missing
+pub mod Rows

@@ -1,0 +1,10 @@
+use Rattle.std.proofs.Common.{◌∙◌, ap, drop}
+use Rattle.std.proofs.lemmas.List.{take_rest}
+use Rattle.byteorder.specs.Endian.{little_number}
+use Rattle.nvd_words.specs.Bytes.{number_at}
+use Rattle.nfit_reader.proofs.Little.{little_two}
+use Rattle.nfit_reader.proofs.fields.two_at.Goals as goal
+
+pub returns : goal.returns
+unfolding number_at
+returns c = c.read_u16.ensures ∙ ap (little_number 2) (take_rest c.args.bytes.now c.args.at) ∙ little_two (drop c.args.at c.args.bytes.now)

@@ -1,0 +1,163 @@
+//! Mappings into two regions that share bytes of a module.
+
+ghost use Rattle.std.specs.Prelude.{◌≡◌, ◌==◌, ◌<◌, ◌^◌, ◌+◌, ℕ, List, map, length, drop, find, IfOk, IsTrue, None, option_copied};
+ghost use Rattle.std.specs.List.{filter_map, position_from};
+ghost use Rattle.std.specs.Ordering.{nat_cmp};
+ghost use Rattle.std.specs.BTreeMap as tree;
+ghost use Rattle.nfit_reader.specs.declared.structures.Structure.{Structure};
+ghost use Rattle.nfit_reader.specs.Table.{is_alias, alias_in, place_of, extent_of, regions_of};
+ghost use Rattle.nfit_reader.specs.Names.{IsNumbered, IsPlaced};
+ghost use Rattle.nfit_reader.specs.Apart.{is_before, StandApart};
+
+use crate::modules::places_of;
+use crate::regions::push_some;
+use crate::structures::Link;
+use crate::table::{NfitFault, Region};
+use nvd_words::Items;
+use std::alloc::{AllocError, Global};
+use std::collections::BTreeMap;
+
+/// The bytes of its module that a mapping into a region takes.
+/// In order, extents stand by module and then by start.
+#[derive(Clone, Copy, PartialEq, Eq, PartialOrd, Ord)]
+pub(crate) struct Extent {
+    pub module: u32,
+    pub start: u64,
+    pub size: u64,
+    pub region: u32,
+}
+
+/// Whether two extents are of one module, in two regions, and have a byte in common.
+#[tactic(auto, unfolding(crate::specs::Table::is_alias))]
+fn is_alias(a: Extent, b: Extent) -> bool
+    ensures { result ≡ is_alias a b }
+{
+    let end_of_a = u128::from(a.start) + u128::from(a.size);
+    let end_of_b = u128::from(b.start) + u128::from(b.size);
+    a.module == b.module
+        && a.region != b.region
+        && u128::from(a.start.max(b.start)) < end_of_a.min(end_of_b)
+}
+
+/// The first of the extents that is an alias of another.
+fn first_alias(a: Extent, others: &[Extent]) -> Option<Extent>
+    ensures { result ≡ find (is_alias a) others.now }
+{
+    others.iter().copied().find(|b| is_alias(a, *b))
+}
+
+fn others_after(extents: &[Extent], place: usize) -> &[Extent]
+    requires { place < length extents.now }
+    ensures { result.now ≡ drop (place + 1) extents.now }
+{
+    &extents[place + 1..]
+}
+
+/// The first extent that one further on is an alias of, and the first of those.
+fn alias_in(extents: &[Extent]) -> Option<NfitFault>
+    ensures { result ≡ alias_in extents.now }
+{
+    for (place, a) in extents.iter().enumerate() {
+        if let Some(b) = first_alias(*a, others_after(extents, place)) {
+            return Some(NfitFault::Alias {
+                module: a.module,
+                a: a.region,
+                b: b.region,
+            });
+        }
+    }
+    None
+}
+
+/// Whether an extent is of a module before another's, or ends before the other of its module starts.
+#[tactic(auto, unfolding(crate::specs::Apart::is_before))]
+fn is_before(a: Extent, b: Extent) -> bool
+    ensures { result ≡ is_before a b }
+{
+    a.module < b.module
+        || (a.module == b.module && u128::from(a.start) + u128::from(a.size) <= u128::from(b.start))
+}
+
+fn stand_apart(sorted: &[Extent]) -> bool
+    ensures { IsTrue result → StandApart sorted.now }
+{
+    for place in 1..sorted.len() {
+        if !is_before(sorted[place - 1], sorted[place]) {
+            return false;
+        }
+    }
+    true
+}
+
+/// Whether no two extents of one module meet, seen in the order of n log n steps. Where it isn't so, each
+/// pair must be looked at.
+fn is_apart(alloc: Global, extents: &[Extent]) -> Result<bool, AllocError>
+    ensures { IfOk result (λ apart. IsTrue apart → alias_in extents.now ≡ None) }
+{
+    let mut sorted = Vec::from_slice(alloc, extents)?;
+    sorted.sort()?;
+    Ok(stand_apart(&sorted))
+}
+
+/// The fault of the first alias, where there is one.
+pub(crate) fn alias_fault(
+    alloc: Global,
+    extents: &[Extent],
+) -> Result<Option<NfitFault>, AllocError>
+    ensures { IfOk result (λ fault. fault ≡ alias_in extents.now) }
+{
+    if is_apart(alloc, extents)? {
+        return Ok(None);
+    }
+    Ok(alias_in(extents))
+}
+
+/// The number of the first region with an index.
+fn region_numbers(alloc: Global, regions: &[Region]) -> Result<BTreeMap<u32, u32>, AllocError>
+    requires { length regions.now < 2 ^ 32 }
+    ensures { IfOk result (λ places. (index : ℕ) → tree.get nat_cmp places index
+        ≡ position_from (λ r. r.index == index) 0 regions.now) }
+{
+    let mut indices = Vec::new(alloc);
+    for region in regions {
+        indices.push(u32::from(region.index))?;
+    }
+    places_of(alloc, &indices)
+}
+
+#[tactic(auto, unfolding(crate::specs::Table::extent_of))]
+fn extent_of(
+    numbers: &BTreeMap<u32, u32>,
+    places: &BTreeMap<u32, u32>,
+    link: Link,
+) -> Option<Extent>
+    ensures { (structures : List Structure) → IsNumbered numbers.now structures → IsPlaced places.now structures →
+        result ≡ extent_of structures link }
+{
+    let region = places.get(&u32::from(link.range)).copied()?;
+    Some(Extent {
+        module: numbers.get(&link.handle).copied().unwrap_or(0),
+        region,
+        start: link.start,
+        size: link.size,
+    })
+}
+
+/// The extents of the mappings into regions, in the order of the table.
+pub(crate) fn extents_of(
+    alloc: Global,
+    numbers: &BTreeMap<u32, u32>,
+    regions: &[Region],
+    links: &[Link],
+) -> Result<Items<Extent>, AllocError>
+    requires { length regions.now < 2 ^ 32 }
+    ensures { (structures : List Structure) → IsNumbered numbers.now structures → regions.now ≡ regions_of structures →
+        IfOk result (λ extents. extents ≡ filter_map (extent_of structures) links.now) }
+{
+    let places = region_numbers(alloc, regions)?;
+    let mut extents = Items::new(alloc);
+    for link in links {
+        push_some(&mut extents, extent_of(numbers, &places, *link))?;
+    }
+    Ok(extents)
+}

@@ -1,0 +1,31 @@
+//! Numbers in the bytes of a structure, each with its low byte first.
+
+ghost use Rattle.std.specs.Prelude.{◌≡◌, ◌+◌, ◌≤◌, length};
+ghost use Rattle.std.specs.Int.{w16, w32, w64};
+ghost use Rattle.nvd_words.specs.Bytes.{number_at};
+
+use byteorder::{ByteOrder, LittleEndian};
+
+/// The number of the two bytes at a place.
+pub(crate) fn two_at(bytes: &[u8], at: usize) -> u16
+    requires { at + 2 ≤ length bytes.now }
+    ensures { result ≡ number_at w16 bytes.now at }
+{
+    LittleEndian::read_u16(&bytes[at..])
+}
+
+/// The number of the four bytes at a place.
+pub(crate) fn four_at(bytes: &[u8], at: usize) -> u32
+    requires { at + 4 ≤ length bytes.now }
+    ensures { result ≡ number_at w32 bytes.now at }
+{
+    LittleEndian::read_u32(&bytes[at..])
+}
+
+/// The number of the eight bytes at a place.
+pub(crate) fn eight_at(bytes: &[u8], at: usize) -> u64
+    requires { at + 8 ≤ length bytes.now }
+    ensures { result ≡ number_at w64 bytes.now at }
+{
+    LittleEndian::read_u64(&bytes[at..])
+}

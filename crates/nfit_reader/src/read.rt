@@ -1,0 +1,91 @@
+ghost use Rattle.std.specs.Prelude.{◌≡◌, ◌<◌, ◌*◌, ◌^◌, ◌∷◌, [], List, length};
+ghost use Rattle.nvd_words.specs.Checks.{Answers, first_fault, value_unless};
+ghost use Rattle.nfit_reader.specs.declared.structures.Structure.{Structure};
+ghost use Rattle.nfit_reader.specs.Table.{nfit_reading, table_reading, nfit_of, too_large, aliasing, ranges_of, links_of};
+ghost use Rattle.nfit_reader.specs.Names.{IsNamed};
+
+use crate::alias::{alias_fault, extents_of};
+use crate::header::{header_fault, said};
+use crate::modules::{modules_of, places_of};
+use crate::names::{Names, first_missing, named};
+use crate::regions::{links_of, ranges_of, regions_of};
+use crate::structures::{Link, Range, Structure, structures_in};
+use crate::table::{Nfit, NfitFault};
+use nvd_words::Items;
+use std::alloc::Global;
+
+/// The most modules that a table may have: this project's rule.
+const MODULES: usize = 64;
+
+/// Reads a table: its modules and regions, or the first fault that holds, in the order of `NfitFault`.
+///
+/// `bytes` may go on past the table's Length; what stands there is ignored. `OutOfMemory` can come in the
+/// place of any answer, and of no other fault. Nothing is kept from one call to the next.
+///
+/// - `Signature`, `Length`, `Checksum`: of the header (ACPI 6.5, section 5.2.25). A byte of the Length field
+///   that isn't there counts as zero.
+/// - `Structure`: the first place, in bytes from the table's start, where no whole structure stands.
+/// - `TwiceIndex`: the first structure whose type and index stand again further on.
+/// - `MissingIndex`: the first mapping that names what isn't there; in one mapping first its range (unless the
+///   index is 0), then, if that is persistent memory, its control region and its interleave structure (unless
+///   the index is 0).
+/// - `TooLarge`: more than 64 device handles, which is this project's rule.
+/// - `Alias`: of the pairs of mappings of one module into two regions that share bytes of the module the
+///   least by place in the table; `a` is the region of the earlier mapping. This project's rule.
+#[tactic(auto, using(crate::proofs::Readings::readings))]
+pub fn read_nfit(alloc: Global, bytes: &[u8]) -> Result<Nfit, NfitFault>
+    ensures { Answers NfitFault.OutOfMemory result (nfit_reading bytes.now) }
+{
+    if let Some(fault) = header_fault(bytes) {
+        return Err(fault);
+    }
+    let table = &bytes[..said(bytes) as usize];
+    table_of(alloc, structures_in(alloc, table)?)
+}
+
+/// What sound structures say of the modules and regions.
+#[tactic(auto, using(nvd_words::proofs::Checks::faults), unfolding(crate::specs::Table::table_reading))]
+fn table_of(alloc: Global, structures: Items<Structure>) -> Result<Nfit, NfitFault>
+    requires { 4 * length structures < 2 ^ 32 }
+    ensures { Answers NfitFault.OutOfMemory result (table_reading structures) }
+{
+    let ranges = ranges_of(alloc, structures.as_slice())?;
+    let links = links_of(alloc, structures.as_slice())?;
+    let (names, twice) = named(alloc, structures)?;
+    if let Some(fault) = twice {
+        return Err(fault);
+    }
+    if let Some(fault) = first_missing(&names, &links) {
+        return Err(fault);
+    }
+    nfit_of(alloc, &names, &ranges, &links)
+}
+
+/// The modules and regions of a table in which each index names one structure.
+#[tactic(auto, using(nvd_words::proofs::Checks::faults))]
+fn nfit_of(
+    alloc: Global,
+    names: &Names,
+    ranges: &[Range],
+    links: &[Link],
+) -> Result<Nfit, NfitFault>
+    requires few_ranges { length ranges.now < 2 ^ 32 }
+    requires few_links { length links.now < 2 ^ 32 }
+    ensures { (structures : List Structure) → IsNamed names.now structures → ranges.now ≡ ranges_of structures →
+        links.now ≡ links_of structures → Answers NfitFault.OutOfMemory result
+        (value_unless (nfit_of structures) (first_fault (too_large structures ∷ aliasing structures ∷ []))) }
+{
+    let modules = modules_of(alloc, links)?;
+    if MODULES < modules.len() {
+        return Err(NfitFault::TooLarge {
+            modules: modules.len() as u32,
+        });
+    }
+    let numbers = places_of(alloc, modules.as_slice())?;
+    let regions = regions_of(alloc, names, &numbers, ranges, links)?;
+    let extents = extents_of(alloc, &numbers, regions.as_slice(), links)?;
+    match alias_fault(alloc, extents.as_slice())? {
+        Some(fault) => Err(fault),
+        None => Ok(Nfit { modules, regions }),
+    }
+}

@@ -1,0 +1,203 @@
+//! Regions: the ranges of persistent memory with the parts of modules that are mapped into them.
+
+ghost use Rattle.std.specs.Prelude.{◌≡◌, ◌≤◌, ◌==◌, ◌++◌, OnOk, length, ℕ, List, [], map, filter, IfOk, unwrap_or, Some, None, if◌then◌else◌};
+ghost use Rattle.std.specs.Option.{option_to_list};
+ghost use Rattle.std.specs.List.{filter_map};
+ghost use Rattle.std.specs.Ordering.{nat_cmp};
+ghost use Rattle.std.specs.BTreeMap as tree;
+ghost use Rattle.nfit_reader.specs.declared.structures.Structure.{Structure};
+ghost use Rattle.nfit_reader.specs.Table.{mapping_of, region_of, regions_of, is_region, as_range, as_link, links_of, links_into, ranges_of};
+ghost use Rattle.nfit_reader.specs.Names.{IsNamed, IsNumbered, IsGrouped, items_of, region_where};
+
+use crate::names::Names;
+use crate::structures::{Link, Range, Structure};
+use crate::table::{Identity, Lines, Mapping, Region};
+use nvd_words::Items;
+use std::alloc::{AllocError, Global};
+use std::collections::BTreeMap;
+
+/// The ranges among structures.
+pub(crate) fn ranges_of(alloc: Global, structures: &[Structure]) -> Result<Vec<Range>, AllocError>
+    ensures { IfOk result (λ ranges. ranges.items ≡ filter_map as_range structures.now) }
+{
+    structures
+        .iter()
+        .filter_map(|structure| structure.as_range())
+        .collect(alloc)
+}
+
+/// The mappings among structures.
+pub(crate) fn links_of(alloc: Global, structures: &[Structure]) -> Result<Vec<Link>, AllocError>
+    ensures { IfOk result (λ links. links.items ≡ filter_map as_link structures.now) }
+{
+    structures
+        .iter()
+        .filter_map(|structure| structure.as_link())
+        .collect(alloc)
+}
+
+fn copy_of(alloc: Global, lines: &Lines) -> Result<Lines, AllocError>
+    ensures { IfOk result (λ copy. copy ≡ lines.now) }
+{
+    Ok(Lines {
+        size: lines.size,
+        offsets: Items::from_vec(Vec::from_slice(alloc, lines.offsets.as_slice())?),
+    })
+}
+
+fn lines_of(alloc: Global, names: &Names, index: u16) -> Result<Option<Lines>, AllocError>
+    ensures { IfOk result (λ lines. lines ≡ tree.get nat_cmp names.now.lines index) }
+{
+    match names.lines(index) {
+        Some(lines) => Ok(Some(copy_of(alloc, lines)?)),
+        None => Ok(None),
+    }
+}
+
+/// What stands for a control region that isn't there.
+const NO_IDENTITY: Identity = Identity {
+    vendor: 0,
+    date: 0,
+    location: 0,
+    serial: 0,
+};
+
+/// A mapping with what it names.
+#[tactic(auto, unfolding(crate::specs::Table::mapping_of))]
+fn mapping_of(
+    alloc: Global,
+    names: &Names,
+    numbers: &BTreeMap<u32, u32>,
+    link: Link,
+) -> Result<Mapping, AllocError>
+    ensures { (structures : List Structure) → IsNamed names.now structures → IsNumbered numbers.now structures →
+        IfOk result (λ mapping. mapping ≡ mapping_of structures link) }
+{
+    let lines = lines_of(alloc, names, link.interleave)?;
+    Ok(Mapping {
+        module: numbers.get(&link.handle).copied().unwrap_or(0),
+        size: link.size,
+        offset: link.offset,
+        start: link.start,
+        ways: link.ways,
+        lines,
+        identity: names.identity(link.control).unwrap_or(NO_IDENTITY),
+    })
+}
+
+/// Takes the group with an index out.
+#[tactic(auto, using(crate::proofs::Groups::orders))]
+fn taken(alloc: Global, groups: &mut BTreeMap<u16, Vec<Link>>, index: u16) -> Vec<Link>
+    ensures group { result.items ≡ items_of (tree.get nat_cmp groups.old index) }
+    ensures others { (other : ℕ) → tree.get nat_cmp groups.new other
+        ≡ (if index == other then None else tree.get nat_cmp groups.old other) }
+{
+    match groups.remove(&index) {
+        Some(group) => group,
+        None => Vec::new(alloc),
+    }
+}
+
+/// The mappings by the index of their range, each group in the order of the table.
+pub(crate) fn grouped(alloc: Global, links: &[Link]) -> Result<BTreeMap<u16, Vec<Link>>, AllocError>
+    ensures { IfOk result (λ groups. IsGrouped groups links.now) }
+{
+    let mut groups = BTreeMap::new(alloc);
+    for link in links {
+        let mut group = taken(alloc, &mut groups, link.range);
+        group.push(*link)?;
+        groups.insert(link.range, group)?;
+    }
+    Ok(groups)
+}
+
+fn is_region(range: Range, group: &[Link]) -> bool
+    ensures { (structures : List Structure) → group.now ≡ links_into structures range.index →
+        result ≡ is_region structures range }
+{
+    range.persistent && !group.is_empty()
+}
+
+/// The region of a range, where it is persistent memory and something is mapped into it.
+#[tactic(auto, unfolding(crate::specs::Names::region_where, crate::specs::Table::region_of))]
+fn region_where(
+    alloc: Global,
+    names: &Names,
+    numbers: &BTreeMap<u32, u32>,
+    group: &[Link],
+    range: Range,
+) -> Result<Option<Region>, AllocError>
+    ensures { (structures : List Structure) → IsNamed names.now structures → IsNumbered numbers.now structures →
+        group.now ≡ links_into structures range.index →
+        IfOk result (λ region. region ≡ region_where structures range) }
+{
+    if !is_region(range, group) {
+        return Ok(None);
+    }
+    let mappings = mappings_of(alloc, names, numbers, group)?;
+    Ok(Some(Region {
+        index: range.index,
+        base: range.base,
+        length: range.length,
+        mappings,
+    }))
+}
+
+fn mappings_of(
+    alloc: Global,
+    names: &Names,
+    numbers: &BTreeMap<u32, u32>,
+    group: &[Link],
+) -> Result<Items<Mapping>, AllocError>
+    ensures { (structures : List Structure) → IsNamed names.now structures → IsNumbered numbers.now structures →
+        IfOk result (λ mappings. mappings ≡ map (mapping_of structures) group.now) }
+{
+    let mut mappings = Items::new(alloc);
+    for link in group {
+        mappings.push(mapping_of(alloc, names, numbers, *link)?)?;
+    }
+    Ok(mappings)
+}
+
+/// The mappings of the group with an index.
+fn group_of(groups: &BTreeMap<u16, Vec<Link>>, index: u16) -> &[Link]
+    ensures { result.now ≡ items_of (tree.get nat_cmp groups.now index) }
+{
+    match groups.get(&index) {
+        Some(group) => group,
+        None => &[],
+    }
+}
+
+/// Adds a value at the end, where there is one.
+pub(crate) fn push_some<T: Drop>(items: &mut Items<T>, item: Option<T>) -> Result<(), AllocError>
+    ensures { OnOk result (items.new ≡ items.old ++ option_to_list item) }
+{
+    if let Some(item) = item {
+        items.push(item)?;
+    }
+    Ok(())
+}
+
+/// The regions, in the order of their ranges.
+pub(crate) fn regions_of(
+    alloc: Global,
+    names: &Names,
+    numbers: &BTreeMap<u32, u32>,
+    ranges: &[Range],
+    links: &[Link],
+) -> Result<Items<Region>, AllocError>
+    ensures regions { (structures : List Structure) → IsNamed names.now structures →
+        IsNumbered numbers.now structures → ranges.now ≡ ranges_of structures → links.now ≡ links_of structures →
+        IfOk result (λ regions. regions ≡ regions_of structures) }
+    ensures few { IfOk result (λ regions. length regions ≤ length ranges.now) }
+{
+    let groups = grouped(alloc, links)?;
+    let mut regions = Items::new(alloc);
+    for range in ranges {
+        let group = group_of(&groups, range.index);
+        let region = region_where(alloc, names, numbers, group, *range)?;
+        push_some(&mut regions, region)?;
+    }
+    Ok(regions)
+}

@@ -1,0 +1,103 @@
+ghost use Rattle.std.specs.Prelude.{◌≡◌};
+
+use nvd_words::Items;
+use std::alloc::AllocError;
+
+/// What the firmware says of its NVDIMMs: the modules and the regions that they make up.
+#[derive(Debug, Drop)]
+pub struct Nfit {
+    /// The device handle of each module. A module's number is the place of its handle here, which
+    /// is the order of first appearance in the region mapping structures.
+    pub modules: Items<u32>,
+    /// The persistent-memory ranges into which something is mapped, in the order of the table.
+    /// A region's number is its place here.
+    pub regions: Items<Region>,
+}
+
+/// A persistent-memory range with at least one mapping.
+#[derive(Debug, Drop)]
+pub struct Region {
+    /// SPA Range Structure Index of the range.
+    pub index: u16,
+    /// System Physical Address Range Base, in bytes.
+    pub base: u64,
+    /// System Physical Address Range Length, in bytes.
+    pub length: u64,
+    /// The parts of modules that lie in the region, in the order of the table.
+    pub mappings: Items<Mapping>,
+}
+
+/// The part of a module that lies in a region.
+#[derive(Debug, Drop)]
+pub struct Mapping {
+    /// The module's number.
+    pub module: u32,
+    /// NVDIMM Region Size: the bytes of the module that lie in the region.
+    pub size: u64,
+    /// Region Offset, in bytes from the region's base.
+    pub offset: u64,
+    /// NVDIMM Physical Address Region Base: the first of these bytes, as the module counts.
+    pub start: u64,
+    /// Interleave Ways: how many modules share the region.
+    pub ways: u16,
+    /// The lines of the interleave structure that the mapping names; none for index 0.
+    pub lines: Option<Lines>,
+    /// What the mapping's control region says of the module.
+    pub identity: Identity,
+}
+
+/// The lines of an interleave structure.
+#[derive(Debug, Drop)]
+pub struct Lines {
+    /// Line Size, in bytes.
+    pub size: u32,
+    /// Line Offset of each line described, in units of the line size.
+    pub offsets: Items<u32>,
+}
+
+/// What a control region says of its module, each number as it stands in the table.
+#[derive(Clone, Copy, Debug, PartialEq, Eq)]
+pub struct Identity {
+    /// Vendor ID.
+    pub vendor: u16,
+    /// Manufacturing Date.
+    pub date: u16,
+    /// Manufacturing Location.
+    pub location: u8,
+    /// Serial Number.
+    pub serial: u32,
+}
+
+/// The first thing that is wrong with a table, in the order in which they are checked.
+#[derive(Clone, Copy, Debug, PartialEq, Eq)]
+pub enum NfitFault {
+    /// The first four bytes aren't `NFIT`.
+    Signature,
+    /// There are fewer bytes than the Length field says, or it says fewer than the 40 of the header.
+    Length { said: u32, had: u64 },
+    /// The bytes up to Length add up to this modulo 256, and not to 0.
+    Checksum { sum: u8 },
+    /// At this byte no whole structure stands: fewer than four bytes are left, or its Length is less
+    /// than its type needs or passes the table's end, or it is an interleave structure with no lines.
+    Structure { at: u64 },
+    /// Two structures of one type (0 range, 2 interleave, 4 control region) have this index.
+    TwiceIndex { kind: u16, index: u16 },
+    /// A mapping names a structure of this type and index, and none is there.
+    MissingIndex { kind: u16, index: u16 },
+    /// There are more modules than the 64 that are read.
+    TooLarge { modules: u32 },
+    /// Mappings of one module into the regions `a` and `b` share bytes of the module.
+    Alias { module: u32, a: u32, b: u32 },
+    /// Memory ran out.
+    OutOfMemory,
+}
+
+impl From<AllocError> for NfitFault {
+    ghost use Rattle.nfit_reader.specs.declared.table.NfitFault.TheVariants.{OutOfMemory};
+
+    ghost from_gives = { λ _ fault. fault ≡ OutOfMemory };
+
+    fn from(_error: AllocError) -> NfitFault {
+        NfitFault::OutOfMemory
+    }
+}
