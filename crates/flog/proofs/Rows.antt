@@ -1,0 +1,2 @@
+-- Worked rows, computed.
+use Rattle.std.proofs.Common.{◌≡◌, refl}
