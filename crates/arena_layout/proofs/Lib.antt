@@ -4,3 +4,6 @@ pub mod Planned
 pub mod Reading
 pub mod Writing
 pub mod Spelled
+pub mod Tests
+pub mod ReadBack
+pub mod OneSpelling

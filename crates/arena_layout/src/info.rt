@@ -1,7 +1,8 @@
 ghost use Rattle.std.specs.Prelude.{◌≡◌, ◌+◌, ◌^◌, ◌<◌, ◌≤◌, IfOk};
 ghost use Rattle.std.specs.Int.{w16, w32, w64};
 ghost use Rattle.nvd_words.specs.Bytes.{number_at};
-ghost use Rattle.arena_layout.specs.Info.{bytes_at, layout_of, info_of, info_reading};
+ghost use Rattle.arena_layout.specs.Info.{bytes_at, layout_of, info_of, info_reading, IsArenaOf};
+ghost use Rattle.arena_layout.specs.Spelling.{spelling_of, HasZeros};
 
 use crate::checks::{has_checksum, has_error, has_parent, has_signature, is_version, layout_fault};
 use crate::layout::{Layout, LayoutField};
@@ -101,7 +102,9 @@ fn read_checked(bytes: &[u8; 4096], parent: &Uuid, rest: u64) -> Result<Info, In
 }
 
 pub fn read_info(bytes: &[u8; 4096], parent: &Uuid, rest: u64) -> Result<Info, InfoFault>
-    ensures { result ≡ info_reading bytes.now parent.now rest }
+    ensures info { result ≡ info_reading bytes.now parent.now rest }
+    ensures sound { IfOk result (IsArenaOf parent.now rest) }
+    ensures one_spelling { IfOk result (λ info. HasZeros bytes.now → bytes.now ≡ spelling_of info) }
 {
     read_checked(bytes, parent, rest)
 }
