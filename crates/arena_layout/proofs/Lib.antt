@@ -7,3 +7,5 @@ pub mod Spelled
 pub mod Tests
 pub mod ReadBack
 pub mod OneSpelling
+pub mod Stands
+pub mod Rows

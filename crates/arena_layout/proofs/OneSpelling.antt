@@ -101,7 +101,7 @@ sum_is bytes body len e ok =
     let front : take 4088 bytes ≡ body = ap (take 4088) e ∙ take_at body (drop 4088 bytes) 4088 body_len in
     eqb-true (number_at w64 bytes 4088) (fletcher64_of (without_eight bytes 4088)) ok
     ∙ ap fletcher64_of (ap (λ (b : List ℕ). b ++ replicate 8 0 ++ drop 4096 bytes) front
-        ∙ ap (λ (b : List ℕ). body ++ replicate 8 0 ++ b) (drop_all 4096 bytes (omega (arith, len))) ∙ append-nil (body ++ replicate 8 0))
+    ∙ ap (λ (b : List ℕ). body ++ replicate 8 0 ++ b) (drop_all 4096 bytes (omega (arith, len))) ∙ append-nil (body ++ replicate 8 0))
 
 one_by : (bytes parent : List ℕ) (rest : ℕ) (info : Info) → length bytes ≡ 4096 → Small bytes → HasZeros bytes → PassesAll bytes parent rest info
     → bytes ≡ spelling_of (info_of bytes)
@@ -110,9 +110,9 @@ one_by bytes parent rest info len small zeros ok =
     let size = (parts_of_areas bytes ok.layout_is.areas).0 in
     let body = body_part bytes len small zeros size ok.signature_is in
     let last : drop 4088 bytes ≡ to_le_bytes w64 (number_at w64 bytes 4088) =
-        sym (take_all 8 (drop 4088 bytes) (omega (arith, length-drop 4088 bytes, len))) ∙ sym (num8 bytes 4088 small (omega (arith, len))) in
+    sym (take_all 8 (drop 4088 bytes) (omega (arith, length-drop 4088 bytes, len))) ∙ sym (num8 bytes 4088 small (omega (arith, len))) in
     body ∙ ap (λ (r : List ℕ). body_of (info_of bytes) ++ r)
-        (last ∙ ap (to_le_bytes w64) (sum_is bytes (body_of (info_of bytes)) len body ok.checksum_is))
+    (last ∙ ap (to_le_bytes w64) (sum_is bytes (body_of (info_of bytes)) len body ok.checksum_is))
 
 pub one_spelling : (bytes parent : List ℕ) (rest : ℕ) (r : Result Info InfoFault) → length bytes ≡ 4096 → Small bytes → r ≡ info_reading bytes parent rest
     → IfOk r (λ info. HasZeros bytes → bytes ≡ spelling_of info)

@@ -25,14 +25,15 @@ record Sizes (size lanes : ℕ) : Type 0 where
 sizes : (size lanes : ℕ) → lanes ≤ 256 → least_size ≤ size → size ≤ greatest_size → Sizes size lanes
 unfolding available_of log_size whole_size
 sizes size lanes few low high = record {
-    available_whole = omega arith;
-    available_low = omega arith;
-    available_high = omega arith;
-    log_whole = omega arith;
-    log_enough = omega arith;
-    all = omega arith;
-    whole_low = omega arith;
-    whole_high = omega arith }
+  available_whole = omega arith;
+  available_low = omega arith;
+  available_high = omega arith;
+  log_whole = omega arith;
+  log_enough = omega arith;
+  all = omega arith;
+  whole_low = omega arith;
+  whole_high = omega arith;
+}
 
 record MapSize (external : ℕ) : Type 0 where
   whole : map_size external % 4096 ≡ 0
@@ -61,21 +62,26 @@ plan_is size sector lanes is some few low high =
     let all : available + log_size lanes + 8192 ≡ whole_size size = s.all in
     let inside : map_size external ≤ 4096 + available = omega (arith, fits, tight) in
     record {
-        sector = is; inner_whole = b.inner_whole; inner_enough = b.inner_enough; lanes_some = some; lanes_few = few;
-        external_some = omega (arith, b-some, few);
-        internal_is = omega (arith, b-some, few);
-        internal_few = b-few;
-        data_whole = refl;
-        map_whole = omega (arith, whole, s.available_whole, inside);
-        flog_whole = omega (arith, whole, s.available_whole, inside);
-        info_whole = omega (arith, whole, s.available_whole, s.log_whole, inside);
-        after_info = omega arith;
-        after_data = omega (arith, fits, tight, inside);
-        after_map = omega (arith, enough);
-        after_flog = omega (arith, s.log_enough);
-        size_is = refl;
-        size_low = omega (arith, all, inside, s.whole_low);
-        size_high = omega (arith, all, inside, s.whole_high) }
+      sector = is;
+      inner_whole = b.inner_whole;
+      inner_enough = b.inner_enough;
+      lanes_some = some;
+      lanes_few = few;
+      external_some = omega (arith, b-some, few);
+      internal_is = omega (arith, b-some, few);
+      internal_few = b-few;
+      data_whole = refl;
+      map_whole = omega (arith, whole, s.available_whole, inside);
+      flog_whole = omega (arith, whole, s.available_whole, inside);
+      info_whole = omega (arith, whole, s.available_whole, s.log_whole, inside);
+      after_info = omega arith;
+      after_data = omega (arith, fits, tight, inside);
+      after_map = omega (arith, enough);
+      after_flog = omega (arith, s.log_enough);
+      size_is = refl;
+      size_low = omega (arith, all, inside, s.whole_low);
+      size_high = omega (arith, all, inside, s.whole_high);
+    }
 
 -- ---- what was planned
 
@@ -99,7 +105,7 @@ lanes_are lanes e = let p = and_parts (leb 1 lanes) (leb lanes 256) e in (leb-tr
 pub planned_is : (size sector lanes : ℕ) (r : Result Layout LayoutFault) → r ≡ planned size sector lanes → IfOk r IsLayout
 planned_is size sector lanes (Ok l) e =
     let t = four (plan_of size sector lanes) l (Sector sector) (Free lanes) (TooSmall size) (TooLarge size)
-        (not (is_sector sector)) (not (is_lane_count lanes)) (ltb size least_size) (ltb greatest_size size) (sym e) in
+    (not (is_sector sector)) (not (is_lane_count lanes)) (ltb size least_size) (ltb greatest_size size) (sym e) in
     let lanes' = lanes_are lanes (not_false (is_lane_count lanes) t.1) in
     subst IsLayout t.4 (plan_is size sector lanes (not_false (is_sector sector) t.0) lanes'.0 lanes'.1 (ltb-false size least_size t.2) (ltb-false greatest_size size t.3))
 planned_is size sector lanes (Err f) e = tt

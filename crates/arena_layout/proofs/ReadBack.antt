@@ -174,8 +174,8 @@ take_at_append x y z n len = ap (take n) (append_assoc x y z) ∙ take_at x (y +
 
 next_small : (info : Info) → IsInfo info → info.next < 2 ^ 64
 next_small info ok = elim (or_cases (eqb info.next 0) (eqb info.next info.layout.size) ok.next) [
-    inl z ↦ omega (arith, eqb-true info.next 0 z)
-    | inr s ↦ omega (arith, eqb-true info.next info.layout.size s, ok.layout.size_high)
+  | inl z ↦ omega (arith, eqb-true info.next 0 z)
+  | inr s ↦ omega (arith, eqb-true info.next info.layout.size s, ok.layout.size_high)
 ]
 
 sector_high : (s : ℕ) → is_sector s ≡ true → s ≤ 4224
@@ -186,18 +186,19 @@ widths info ok =
     let v = version_are info.major info.minor ok.version in
     let l = ok.layout in
     record {
-        flags = omega (arith, ok.flags);
-        major = omega (arith, v.0);
-        minor = omega (arith, v.1);
-        sector = omega (arith, sector_high info.layout.sector l.sector);
-        external = omega (arith, l.internal_is, l.internal_few);
-        internal = omega (arith, l.internal_few);
-        lanes = omega (arith, l.lanes_few);
-        next = next_small info ok;
-        data_off = omega (arith, l.after_data, l.after_map, l.after_flog, l.size_is, l.size_high);
-        map_off = omega (arith, l.after_map, l.after_flog, l.size_is, l.size_high);
-        flog_off = omega (arith, l.after_flog, l.size_is, l.size_high);
-        last_off = omega (arith, l.size_is, l.size_high) }
+      flags = omega (arith, ok.flags);
+      major = omega (arith, v.0);
+      minor = omega (arith, v.1);
+      sector = omega (arith, sector_high info.layout.sector l.sector);
+      external = omega (arith, l.internal_is, l.internal_few);
+      internal = omega (arith, l.internal_few);
+      lanes = omega (arith, l.lanes_few);
+      next = next_small info ok;
+      data_off = omega (arith, l.after_data, l.after_map, l.after_flog, l.size_is, l.size_high);
+      map_off = omega (arith, l.after_map, l.after_flog, l.size_is, l.size_high);
+      flog_off = omega (arith, l.after_flog, l.size_is, l.size_high);
+      last_off = omega (arith, l.size_is, l.size_high);
+    }
 
 -- ---- the checks
 
@@ -266,8 +267,17 @@ layout_is info ok fit =
     let flog = flog_at info fit w.flog_off in
     let last' = info_at info fit w.last_off in
     λ i. record {
-        size = size i; sector = sector i; inner = inner i; external = external i; internal = internal i; lanes = lanes i;
-        data_off = data' i; map_off = map' i; flog_off = flog i; info_off = last' i }
+      size = size i;
+      sector = sector i;
+      inner = inner i;
+      external = external i;
+      internal = internal i;
+      lanes = lanes i;
+      data_off = data' i;
+      map_off = map' i;
+      flog_off = flog i;
+      info_off = last' i;
+    }
 
 info_is : (info : Info) → IsInfo info → HasWidths info → info_of (spelling_of info) ≡ info
 unfolding info_of
@@ -293,15 +303,32 @@ unfolding layout_fault_of first_fault
 no_layout_fault info rest ok fit inside next =
     let p = tests info.layout ok.layout in
     let w = widths info ok in
-    rw (areas_pass info ok fit, layout_is info ok fit, next_at info fit w.next, p.sector, p.inner, p.lanes, p.blocks,
-        size_passes info.layout rest ok.layout inside, next_passes info.layout info.next rest ok.next next) refl
+    rw (
+      areas_pass info ok fit,
+      layout_is info ok fit,
+      next_at info fit w.next,
+      p.sector,
+      p.inner,
+      p.lanes,
+      p.blocks,
+      size_passes info.layout rest ok.layout inside,
+      next_passes info.layout info.next rest ok.next next,
+    ) refl
 
 pub reads_back : (info : Info) → IsInfo info → HasWidths info → ReadsBack (spelling_of info) info
 unfolding first_fault
 reads_back info ok fit rest inside next =
     let w = widths info ok in
-    rw (signed info, summed info fit, major_at info fit w.major, minor_at info fit w.minor, ok.version, parented info fit, sound_state info fit ok.flags,
-        no_layout_fault info rest ok fit inside next) (ap Ok (info_is info ok fit))
+    rw (
+      signed info,
+      summed info fit,
+      major_at info fit w.major,
+      minor_at info fit w.minor,
+      ok.version,
+      parented info fit,
+      sound_state info fit ok.flags,
+      no_layout_fault info rest ok fit inside next,
+    ) (ap Ok (info_is info ok fit))
 
 pub reads_back_at : (bytes : List ℕ) (info : Info) → IsInfo info → HasWidths info → bytes ≡ spelling_of info → ReadsBack bytes info
 reads_back_at bytes info ok fit e rest inside next = ap (λ (b : List ℕ). info_reading b info.parent rest) e ∙ reads_back info ok fit rest inside next

@@ -74,17 +74,18 @@ layout_passed : (bytes : List ℕ) (rest : ℕ) → layout_fault_of bytes rest �
 unfolding layout_fault_of
 layout_passed bytes rest none =
     let t = seven (fault_if (not (has_sector (layout_of bytes))) field.Sector) (fault_if (not (has_inner (layout_of bytes))) field.Inner)
-        (fault_if (not (has_lanes (layout_of bytes))) field.Free) (fault_if (not (has_blocks (layout_of bytes))) field.Blocks)
-        (fault_if (not (has_areas bytes)) field.Areas) (fault_if (not (has_size (layout_of bytes) rest)) field.Size)
-        (fault_if (not (has_next (layout_of bytes) (number_at w64 bytes 80) rest)) field.Next) none in
+    (fault_if (not (has_lanes (layout_of bytes))) field.Free) (fault_if (not (has_blocks (layout_of bytes))) field.Blocks)
+    (fault_if (not (has_areas bytes)) field.Areas) (fault_if (not (has_size (layout_of bytes) rest)) field.Size)
+    (fault_if (not (has_next (layout_of bytes) (number_at w64 bytes 80) rest)) field.Next) none in
     record {
-        sector = not_none (has_sector (layout_of bytes)) field.Sector t.0;
-        inner = not_none (has_inner (layout_of bytes)) field.Inner t.1;
-        lanes = not_none (has_lanes (layout_of bytes)) field.Free t.2;
-        blocks = not_none (has_blocks (layout_of bytes)) field.Blocks t.3;
-        areas = not_none (has_areas bytes) field.Areas t.4;
-        size = not_none (has_size (layout_of bytes) rest) field.Size t.5;
-        next = not_none (has_next (layout_of bytes) (number_at w64 bytes 80) rest) field.Next t.6 }
+      sector = not_none (has_sector (layout_of bytes)) field.Sector t.0;
+      inner = not_none (has_inner (layout_of bytes)) field.Inner t.1;
+      lanes = not_none (has_lanes (layout_of bytes)) field.Free t.2;
+      blocks = not_none (has_blocks (layout_of bytes)) field.Blocks t.3;
+      areas = not_none (has_areas bytes) field.Areas t.4;
+      size = not_none (has_size (layout_of bytes) rest) field.Size t.5;
+      next = not_none (has_next (layout_of bytes) (number_at w64 bytes 80) rest) field.Next t.6;
+    }
 
 pub record PassesAll (bytes parent : List ℕ) (rest : ℕ) (info : Info) : Type 0 where
   pub signature_is : has_signature bytes ≡ true
@@ -100,16 +101,17 @@ all_passed bytes parent rest info e =
     let major : ℕ = number_at w16 bytes 52 in
     let minor : ℕ = number_at w16 bytes 54 in
     let t = six (info_of bytes) info (fault_if (not (has_signature bytes)) fault.Signature) (fault_if (not (has_checksum bytes)) fault.Checksum)
-        (fault_if (not (is_version major minor)) (fault.Version major minor)) (fault_if (not (has_parent bytes parent)) fault.Parent)
-        (fault_if (has_error bytes) fault.ErrorState) (option_map fault.Layout (layout_fault_of bytes rest)) e in
+    (fault_if (not (is_version major minor)) (fault.Version major minor)) (fault_if (not (has_parent bytes parent)) fault.Parent)
+    (fault_if (has_error bytes) fault.ErrorState) (option_map fault.Layout (layout_fault_of bytes rest)) e in
     record {
-        signature_is = not_none (has_signature bytes) fault.Signature t.0;
-        checksum_is = not_none (has_checksum bytes) fault.Checksum t.1;
-        version_is = not_none (is_version major minor) (fault.Version major minor) t.2;
-        parent_is = not_none (has_parent bytes parent) fault.Parent t.3;
-        no_error = is_none (has_error bytes) fault.ErrorState t.4;
-        layout_is = layout_passed bytes rest (unmapped fault.Layout (layout_fault_of bytes rest) t.5);
-        info_is = t.6 }
+      signature_is = not_none (has_signature bytes) fault.Signature t.0;
+      checksum_is = not_none (has_checksum bytes) fault.Checksum t.1;
+      version_is = not_none (is_version major minor) (fault.Version major minor) t.2;
+      parent_is = not_none (has_parent bytes parent) fault.Parent t.3;
+      no_error = is_none (has_error bytes) fault.ErrorState t.4;
+      layout_is = layout_passed bytes rest (unmapped fault.Layout (layout_fault_of bytes rest) t.5);
+      info_is = t.6;
+    }
 
 -- ---- what was read is sound
 
@@ -152,17 +154,18 @@ pub flags_even : (bytes : List ℕ) → has_error bytes ≡ false → number_at 
 unfolding has_error
 flags_even bytes e = let odd = eqb-false (number_at w32 bytes 48 % 2) 1 e in even_of (number_at w32 bytes 48) odd
 
-sound_info : (bytes parent : List ℕ) (rest : ℕ) (info : Info) → PassesAll bytes parent rest info → IsArenaOf parent rest (info_of bytes)
+pub sound_info : (bytes parent : List ℕ) (rest : ℕ) (info : Info) → PassesAll bytes parent rest info → IsArenaOf parent rest (info_of bytes)
 unfolding info_of
 sound_info bytes parent rest info ok =
     let layout = layout_sound bytes rest ok.layout_is in
     let inside = size_inside (layout_of bytes) rest ok.layout_is.size in
     let next = next_sound (layout_of bytes) (number_at w64 bytes 80) rest inside layout.size_low ok.layout_is.next in
     record {
-        sound = record { layout = layout; flags = flags_even bytes ok.no_error; version = ok.version_is; next = next.0 };
-        parent_is = parent_same bytes parent ok.parent_is;
-        size_inside = inside;
-        next_inside = next.1 }
+      sound = record { layout = layout; flags = flags_even bytes ok.no_error; version = ok.version_is; next = next.0 };
+      parent_is = parent_same bytes parent ok.parent_is;
+      size_inside = inside;
+      next_inside = next.1;
+    }
 
 pub sound_at : (bytes parent : List ℕ) (rest : ℕ) (r : Result Info InfoFault) → r ≡ info_reading bytes parent rest → IfOk r (IsArenaOf parent rest)
 sound_at bytes parent rest (Ok info) e =

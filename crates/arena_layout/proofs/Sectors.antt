@@ -9,23 +9,23 @@ pub sector_elim : (P : ℕ → Type 0) → P 512 → P 520 → P 528 → P 4096 
 unfolding is_sector
 sector_elim P a b c d e f g s is =
     elim (or_cases ((eqb s 512) || (eqb s 520) || (eqb s 528) || (eqb s 4096) || (eqb s 4104) || (eqb s 4160)) (eqb s 4224) is) [
-        inr h ↦ subst P (sym (eqb-true s 4224 h)) g
-        | inl is ↦ elim (or_cases ((eqb s 512) || (eqb s 520) || (eqb s 528) || (eqb s 4096) || (eqb s 4104)) (eqb s 4160) is) [
-            inr h ↦ subst P (sym (eqb-true s 4160 h)) f
-            | inl is ↦ elim (or_cases ((eqb s 512) || (eqb s 520) || (eqb s 528) || (eqb s 4096)) (eqb s 4104) is) [
-                inr h ↦ subst P (sym (eqb-true s 4104 h)) e
-                | inl is ↦ elim (or_cases ((eqb s 512) || (eqb s 520) || (eqb s 528)) (eqb s 4096) is) [
-                    inr h ↦ subst P (sym (eqb-true s 4096 h)) d
-                    | inl is ↦ elim (or_cases ((eqb s 512) || (eqb s 520)) (eqb s 528) is) [
-                        inr h ↦ subst P (sym (eqb-true s 528 h)) c
-                        | inl is ↦ elim (or_cases (eqb s 512) (eqb s 520) is) [
-                            inr h ↦ subst P (sym (eqb-true s 520 h)) b
-                            | inl h ↦ subst P (sym (eqb-true s 512 h)) a
-                        ]
-                    ]
-                ]
+      | inr h ↦ subst P (sym (eqb-true s 4224 h)) g
+      | inl is ↦ elim (or_cases ((eqb s 512) || (eqb s 520) || (eqb s 528) || (eqb s 4096) || (eqb s 4104)) (eqb s 4160) is) [
+        | inr h ↦ subst P (sym (eqb-true s 4160 h)) f
+        | inl is ↦ elim (or_cases ((eqb s 512) || (eqb s 520) || (eqb s 528) || (eqb s 4096)) (eqb s 4104) is) [
+          | inr h ↦ subst P (sym (eqb-true s 4104 h)) e
+          | inl is ↦ elim (or_cases ((eqb s 512) || (eqb s 520) || (eqb s 528)) (eqb s 4096) is) [
+            | inr h ↦ subst P (sym (eqb-true s 4096 h)) d
+            | inl is ↦ elim (or_cases ((eqb s 512) || (eqb s 520)) (eqb s 528) is) [
+              | inr h ↦ subst P (sym (eqb-true s 528 h)) c
+              | inl is ↦ elim (or_cases (eqb s 512) (eqb s 520) is) [
+                | inr h ↦ subst P (sym (eqb-true s 520 h)) b
+                | inl h ↦ subst P (sym (eqb-true s 512 h)) a
+              ]
             ]
+          ]
         ]
+      ]
     ]
 
 -- the blocks of a sector size

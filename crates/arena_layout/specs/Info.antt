@@ -1,5 +1,5 @@
 -- The info block: UEFI 2.10, section 6.2, BTT Info Block.
-use Rattle.std.specs.Prelude.{◌≡◌, ℕ, ◌+◌, ◌%◌, ◌<◌, ◌≤◌, ◌==◌, Bool, not, ◌&&◌, ◌||◌, IsTrue, List, [], ◌∷◌, ◌++◌, take, drop, replicate, codes, Option, Result, Ok}
+use Rattle.std.specs.Prelude.{◌≡◌, ℕ, ◌+◌, ◌%◌, ◌<◌, ◌≤◌, ◌==◌, ◌↔◌, Bool, not, ◌&&◌, ◌||◌, IsTrue, List, [], ◌∷◌, ◌++◌, take, drop, replicate, codes, Option, Result, Ok}
 use Rattle.std.specs.Str.{bytes_eq}
 use Rattle.std.specs.Option.{option_map}
 use Rattle.std.specs.Int.{w16, w32, w64}
@@ -45,27 +45,29 @@ has_error bytes = number_at w32 bytes 48 % 2 == 1
 -- the layout that the fields say; its size ends with the backup of the info block
 unfoldable pub layout_of : List ℕ → Layout
 layout_of bytes = record {
-    size = number_at w64 bytes 112 + 4096;
-    sector = number_at w32 bytes 56;
-    inner = number_at w32 bytes 64;
-    external = number_at w32 bytes 60;
-    internal = number_at w32 bytes 68;
-    lanes = number_at w32 bytes 72;
-    data_off = number_at w64 bytes 88;
-    map_off = number_at w64 bytes 96;
-    flog_off = number_at w64 bytes 104;
-    info_off = number_at w64 bytes 112 }
+  size = number_at w64 bytes 112 + 4096;
+  sector = number_at w32 bytes 56;
+  inner = number_at w32 bytes 64;
+  external = number_at w32 bytes 60;
+  internal = number_at w32 bytes 68;
+  lanes = number_at w32 bytes 72;
+  data_off = number_at w64 bytes 88;
+  map_off = number_at w64 bytes 96;
+  flog_off = number_at w64 bytes 104;
+  info_off = number_at w64 bytes 112;
+}
 
 -- what the fields say; of Flags only bit 0 is read
 unfoldable pub info_of : List ℕ → Info
 info_of bytes = record {
-    uuid = bytes_at bytes 16 16;
-    parent = bytes_at bytes 32 16;
-    flags = number_at w32 bytes 48 % 2;
-    major = number_at w16 bytes 52;
-    minor = number_at w16 bytes 54;
-    next = number_at w64 bytes 80;
-    layout = layout_of bytes }
+  uuid = bytes_at bytes 16 16;
+  parent = bytes_at bytes 32 16;
+  flags = number_at w32 bytes 48 % 2;
+  major = number_at w16 bytes 52;
+  minor = number_at w16 bytes 54;
+  next = number_at w64 bytes 80;
+  layout = layout_of bytes;
+}
 
 -- InfoSize, and where the areas stand
 unfoldable pub has_areas : List ℕ → Bool
@@ -113,6 +115,18 @@ pub record IsArenaOf (parent : List ℕ) (rest : ℕ) (info : Info) : Type 0 whe
   pub parent_is : info.parent ≡ parent
   pub size_inside : info.layout.size ≤ rest
   pub next_inside : info.next < rest
+
+-- 4,096 bytes stand for an info: their fields are the info's, the checksum is right, and the arena is sound
+pub record StandsFor (bytes parent : List ℕ) (rest : ℕ) (info : Info) : Type 0 where
+  pub signature_is : take 16 bytes ≡ signature
+  pub checksum_is : number_at w64 bytes 4088 ≡ fletcher64_of (without_eight bytes 4088)
+  pub info_size : number_at w32 bytes 76 ≡ 4096
+  pub fields : info_of bytes ≡ info
+  pub sound : IsArenaOf parent rest info
+
+-- Ok is answered exactly where the bytes stand for the info
+abbrev pub IsReading : List ℕ → List ℕ → ℕ → Result Info InfoFault → Type 0
+IsReading bytes parent rest result = (info : Info) → (result ≡ Ok info) ↔ StandsFor bytes parent rest info
 
 -- bytes are read as an info, wherever its arena lies inside the namespace
 abbrev pub ReadsBack : List ℕ → Info → Type 0

@@ -42,8 +42,17 @@ plan_of size sector lanes =
     let map_off = 4096 + available - map_size external in
     let flog_off = map_off + map_size external in
     record {
-        size = flog_off + log_size lanes + 4096; sector = sector; inner = inner_of sector; external = external; internal = internal; lanes = lanes;
-        data_off = 4096; map_off = map_off; flog_off = flog_off; info_off = flog_off + log_size lanes }
+      size = flog_off + log_size lanes + 4096;
+      sector = sector;
+      inner = inner_of sector;
+      external = external;
+      internal = internal;
+      lanes = lanes;
+      data_off = 4096;
+      map_off = map_off;
+      flog_off = flog_off;
+      info_off = flog_off + log_size lanes;
+    }
 
 unfoldable pub is_lane_count : ℕ → Bool
 is_lane_count lanes = nat_le 1 lanes && nat_le lanes 256

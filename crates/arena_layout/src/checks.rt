@@ -110,7 +110,11 @@ fn has_order(bytes: &[u8; 4096]) -> bool
     let (data_off, map_off) = (word_at(bytes, 88), word_at(bytes, 96));
     let (flog_off, info_off) = (word_at(bytes, 104), word_at(bytes, 112));
     4096 <= data_off
-        && is_before(data_off, data_size(u32_at(bytes, 68), u32_at(bytes, 64)), map_off)
+        && is_before(
+            data_off,
+            data_size(u32_at(bytes, 68), u32_at(bytes, 64)),
+            map_off,
+        )
         && is_before(map_off, 4 * u64::from(u32_at(bytes, 60)), flog_off)
         && is_before(flog_off, 64 * u64::from(u32_at(bytes, 72)), info_off)
 }

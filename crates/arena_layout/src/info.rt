@@ -1,7 +1,7 @@
 ghost use Rattle.std.specs.Prelude.{◌≡◌, ◌+◌, ◌^◌, ◌<◌, ◌≤◌, IfOk};
 ghost use Rattle.std.specs.Int.{w16, w32, w64};
 ghost use Rattle.nvd_words.specs.Bytes.{number_at};
-ghost use Rattle.arena_layout.specs.Info.{bytes_at, layout_of, info_of, info_reading, IsArenaOf};
+ghost use Rattle.arena_layout.specs.Info.{bytes_at, layout_of, info_of, info_reading, IsReading, IsArenaOf};
 ghost use Rattle.arena_layout.specs.Spelling.{spelling_of, HasZeros};
 
 use crate::checks::{has_checksum, has_error, has_parent, has_signature, is_version, layout_fault};
@@ -9,24 +9,46 @@ use crate::layout::{Layout, LayoutField};
 use nvd_words::{u16_at, u32_at, word_at};
 use uuid::Uuid;
 
+/// What an info block says. Its 4,096 bytes, the fields of the layout at [`Layout`]:
+///
+/// | offset | field |
+/// |---|---|
+/// | 0 | Sig: `BTT_ARENA_INFO` and two zero bytes |
+/// | 16 | the fields below and those of the layout |
+/// | 76 | InfoSize u32: 4,096 |
+/// | 120 | 3,968 unused bytes, ignored when read and written as zero |
+/// | 4088 | Checksum u64: Fletcher64 over the block with this field as zero |
 #[derive(Clone, Copy, Debug, PartialEq, Eq)]
 pub struct Info {
+    /// Uuid, 16 bytes at byte 16 in RFC 9562 order: the arena's own.
     pub uuid: Uuid,
+    /// ParentUuid, 16 bytes at 32 in RFC 9562 order: the namespace's.
     pub parent: Uuid,
+    /// Flags, u32 at 48. Bit 0 is the error state, which is refused; the others are ignored, so this is 0.
     pub flags: u32,
+    /// Major, u16 at 52.
     pub major: u16,
+    /// Minor, u16 at 54.
     pub minor: u16,
+    /// NextOff, u64 at 80: where the next arena stands, 0 where there is none.
     pub next: u64,
     pub layout: Layout,
 }
 
+/// Why 4,096 bytes are no info block of a namespace.
 #[derive(Clone, Copy, Debug, PartialEq, Eq)]
 pub enum InfoFault {
+    /// The first 16 bytes aren't the signature.
     Signature,
+    /// The checksum isn't that of the bytes.
     Checksum,
+    /// The version isn't one that is read.
     Version { major: u16, minor: u16 },
+    /// ParentUuid isn't the namespace's.
     Parent,
+    /// Bit 0 of Flags is set: the arena is in the error state.
     ErrorState,
+    /// The layout relation fails, first at this field.
     Layout { field: LayoutField },
 }
 
@@ -101,8 +123,14 @@ fn read_checked(bytes: &[u8; 4096], parent: &Uuid, rest: u64) -> Result<Info, In
     Ok(info_in(bytes))
 }
 
+/// Reads an arena's info block, of a namespace with this UUID.
+///
+/// `rest` is the count of bytes from the arena's first byte to the namespace's end. Refusals, the first that holds:
+/// Signature, Checksum, Version, Parent, ErrorState, Layout with the first field that fails. Sums are whole numbers, so
+/// no offset near 2^64 wraps.
 pub fn read_info(bytes: &[u8; 4096], parent: &Uuid, rest: u64) -> Result<Info, InfoFault>
     ensures info { result ≡ info_reading bytes.now parent.now rest }
+    ensures stands { IsReading bytes.now parent.now rest result }
     ensures sound { IfOk result (IsArenaOf parent.now rest) }
     ensures one_spelling { IfOk result (λ info. HasZeros bytes.now → bytes.now ≡ spelling_of info) }
 {

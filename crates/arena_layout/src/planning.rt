@@ -4,10 +4,14 @@ ghost use Rattle.arena_layout.specs.Plan.{whole_size, log_size, available_of, in
 
 use crate::layout::{Layout, LayoutFault};
 
+/// The areas are whole pages, and so is an info block.
 const PAGE: u64 = 4096;
+/// 16 MiB.
 const LEAST_SIZE: u64 = 16 << 20;
+/// 512 GiB.
 const GREATEST_SIZE: u64 = 512 << 30;
 
+/// Whether a sector may have so many bytes.
 #[tactic(auto, unfolding(crate::specs::Layout::is_sector))]
 pub(crate) fn is_sector(bytes: u32) -> bool
     ensures { result ≡ is_sector bytes }
@@ -23,6 +27,7 @@ fn is_lane_count(lanes: u32) -> bool
     1 <= lanes && lanes <= 256
 }
 
+/// The bytes of the log.
 #[tactic(auto, unfolding(crate::specs::Plan::log_size))]
 fn log_size(lanes: u32) -> u64
     requires { lanes ≤ 256 }
@@ -32,6 +37,7 @@ fn log_size(lanes: u32) -> u64
     (64 * u64::from(lanes)).div_ceil(PAGE) * PAGE
 }
 
+/// The bytes of the map.
 #[tactic(auto, unfolding(crate::specs::Plan::map_size))]
 fn map_size(external: u32) -> u64
     requires { external ≤ 2 ^ 30 }
@@ -41,6 +47,7 @@ fn map_size(external: u32) -> u64
     (4 * u64::from(external)).div_ceil(PAGE) * PAGE
 }
 
+/// What the info blocks and the log leave to the blocks and the map.
 #[tactic(auto, unfolding(crate::specs::Plan::available_of, crate::specs::Plan::whole_size))]
 fn available(size: u64, lanes: u32) -> u64
     requires low { least_size ≤ size }
@@ -53,6 +60,7 @@ fn available(size: u64, lanes: u32) -> u64
     size / PAGE * PAGE - 2 * PAGE - log_size(lanes)
 }
 
+/// The bytes of a block.
 #[tactic(auto, unfolding(crate::specs::Plan::inner_of))]
 fn inner_size(sector: u32) -> u32
     requires { IsTrue (is_sector sector) }
@@ -121,6 +129,9 @@ fn plan_checked(size: u64, sector: u32, lanes: u32) -> Result<Layout, LayoutFaul
     Ok(laid_out(size, sector, lanes))
 }
 
+/// The layout of a new arena of `size` bytes, rounded down to 4,096, with sectors of `sector` bytes and so many lanes.
+///
+/// Refusals, the first that holds: Sector, Free, TooSmall, TooLarge.
 pub fn plan(size: u64, sector: u32, lanes: u32) -> Result<Layout, LayoutFault>
     ensures plan { result ≡ planned size sector lanes }
     ensures layout { IfOk result IsLayout }

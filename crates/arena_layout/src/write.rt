@@ -106,6 +106,10 @@ fn spell(into: &mut [u8; 4096], info: &Info)
     put_u64(into, 4088, sum);
 }
 
+/// Writes the one spelling of an info block: unused bytes are zero, and the checksum is right.
+///
+/// Conditions: the layout relation holds, `flags` is 0, the version is one that [`read_info`](crate::read_info)
+/// accepts, and `next` is 0 or the arena's size.
 pub fn write_info(into: &mut [u8; 4096], info: &Info)
     requires { IsInfo info.now }
     ensures spelling { into.new ≡ spelling_of info.now }

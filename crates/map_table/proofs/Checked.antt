@@ -45,8 +45,8 @@ zeros (suc n) (suc i) = zeros n i
 
 above_by : (n c : ℕ) → min 255 n ≡ min 255 c → ltb 1 n ≡ ltb 1 c
 above_by n c e = elim (cases_lt 1 n) [
-    inl lt ↦ lt-ltb 1 n lt ∙ sym (lt-ltb 1 c (omega (arith, lt, e)))
-    | inr ge ↦ le-ltb 1 n ge ∙ sym (le-ltb 1 c (omega (arith, ge, e)))
+  | inl lt ↦ lt-ltb 1 n lt ∙ sym (lt-ltb 1 c (omega (arith, lt, e)))
+  | inr ge ↦ le-ltb 1 n ge ∙ sym (le-ltb 1 c (omega (arith, ge, e)))
 ]
 
 same_from : (p q : ℕ → Bool) (k : ℕ) (xs : List ℕ) → ((i : ℕ) → i < length xs → p (get_or xs i 0) ≡ q (k + i))
@@ -62,9 +62,9 @@ unfolding least_twice
 twice_is n counts blocks len counted =
     position_from-zero (ltb 1) counts
     ∙ same_from (ltb 1) (λ b. ltb 1 (count_of b blocks)) 0 counts
-        (λ i lt. above_by (get_or counts i 0) (count_of i blocks)
-            (counted i (omega (arith, lt, len)) ∙ ap (λ (k : ℕ). min 255 (k + count_of i blocks)) (zeros n i) ∙ ap (λ (k : ℕ). min 255 k) (omega arith))
-            ∙ ap (λ (k : ℕ). ltb 1 (count_of k blocks)) (omega arith))
+    (λ i lt. above_by (get_or counts i 0) (count_of i blocks)
+    (counted i (omega (arith, lt, len)) ∙ ap (λ (k : ℕ). min 255 (k + count_of i blocks)) (zeros n i) ∙ ap (λ (k : ℕ). min 255 k) (omega arith))
+    ∙ ap (λ (k : ℕ). ltb 1 (count_of k blocks)) (omega arith))
     ∙ ap (λ (m : ℕ). find (λ b. ltb 1 (count_of b blocks)) (range_with_len 0 m)) len
 
 -- ---- the answers

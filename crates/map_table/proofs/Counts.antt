@@ -38,14 +38,14 @@ counted_by : (same : Bool) (n : ℕ) (now next before all rest : List ℕ) (x bl
 counted_by true n now next before all rest x block test lt e was =
     let is : x ≡ block = eqb-true x block test in
     let here : get_or next block 0 ≡ min 255 (get_or now x 0 + 1) =
-        ap (λ (k : ℕ). get_or next k 0) (sym is) ∙ ap (λ (l : List ℕ). get_or l x 0) e ∙ get_or-set_same now x (min 255 (get_or now x 0 + 1)) 0 lt in
+    ap (λ (k : ℕ). get_or next k 0) (sym is) ∙ ap (λ (l : List ℕ). get_or l x 0) e ∙ get_or-set_same now x (min 255 (get_or now x 0 + 1)) 0 lt in
     let more : count_of block (x ∷ rest) ≡ 1 + count_of block rest = count_of-cons block x rest ∙ ap (λ (b : Bool). cond b 1 0 + count_of block rest) test in
     let same : get_or now block 0 ≡ get_or now x 0 = ap (λ (k : ℕ). get_or now k 0) (sym is) in
     omega (arith, here, more, same, was)
 counted_by false n now next before all rest x block test lt e was =
     let apart : x ≢ block = eqb-false x block test in
     let here : get_or next block 0 ≡ get_or now block 0 =
-        ap (λ (l : List ℕ). get_or l block 0) e ∙ get_or-set_other now x block (min 255 (get_or now x 0 + 1)) 0 (λ k. apart (sym k)) in
+    ap (λ (l : List ℕ). get_or l block 0) e ∙ get_or-set_other now x block (min 255 (get_or now x 0 + 1)) 0 (λ k. apart (sym k)) in
     let more : count_of block (x ∷ rest) ≡ count_of block rest = count_of-cons block x rest ∙ ap (λ (b : Bool). cond b 1 0 + count_of block rest) test ∙ omega arith in
     omega (arith, here, more, was)
 
@@ -62,8 +62,9 @@ pub going_on : (n : ℕ) (now next before all more rest : List ℕ) (x : ℕ) �
 going_on n now next before all more rest x e len lt is was =
     let old : Going n now (x ∷ more) before all = subst (λ (r : List ℕ). Going n now r before all) e was in
     record {
-        outside = old.outside ∙ outside_on n x more lt;
-        counted = λ block below. counted_by (eqb x block) n now next before all more x block refl (omega arith) is (old.counted block below) }
+      outside = old.outside ∙ outside_on n x more lt;
+      counted = λ block below. counted_by (eqb x block) n now next before all more x block refl (omega arith) is (old.counted block below);
+    }
 
 pub going_out : (n : ℕ) (now before all more rest : List ℕ) (x : ℕ) → rest ≡ x ∷ more → n ≤ x → Going n now rest before all → Some x ≡ first_outside n all
 going_out n now before all more rest x e le was = sym (was.outside ∙ ap (first_outside n) e ∙ outside_here n x more le)

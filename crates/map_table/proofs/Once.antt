@@ -24,9 +24,9 @@ total-nil (suc n) = omega (arith, total-nil n)
 -- a number below n + 1 is n or below n
 one_split : (x n : ℕ) → cond (eqb x n) 1 0 + cond (ltb x n) 1 0 ≡ cond (ltb x (suc n)) 1 0
 one_split x n = elim (cases_order x n) [
-    inl e ↦ rw (eq-eqb x n e, le-ltb x n (omega (arith, e)), lt-ltb x (suc n) (omega (arith, e))) refl
-    | inr (inl lt) ↦ rw (ne_eqb x n (λ e. omega (arith, e, lt)), lt-ltb x n lt, lt-ltb x (suc n) (omega (arith, lt))) refl
-    | inr (inr gt) ↦ rw (ne_eqb x n (λ e. omega (arith, e, gt)), le-ltb x n (omega (arith, gt)), le-ltb x (suc n) (omega (arith, gt))) refl
+  | inl e ↦ rw (eq-eqb x n e, le-ltb x n (omega (arith, e)), lt-ltb x (suc n) (omega (arith, e))) refl
+  | inr (inl lt) ↦ rw (ne_eqb x n (λ e. omega (arith, e, lt)), lt-ltb x n lt, lt-ltb x (suc n) (omega (arith, lt))) refl
+  | inr (inr gt) ↦ rw (ne_eqb x n (λ e. omega (arith, e, gt)), le-ltb x n (omega (arith, gt)), le-ltb x (suc n) (omega (arith, gt))) refl
 ]
 
 total-cons : (n x : ℕ) (xs : List ℕ) → total n (x ∷ xs) ≡ cond (ltb x n) 1 0 + total n xs
@@ -61,8 +61,8 @@ each_once (suc n) blocks low enough b lt =
     let sum : total n blocks ≤ n = total_low n blocks less in
     let here : count_of n blocks ≤ 1 = low n (omega arith) in
     elim (cases_lt b n) [
-        inl below ↦ each_once n blocks less (omega (arith, enough, here)) b below
-        | inr above ↦ ap (λ (k : ℕ). count_of k blocks) (let e : b ≡ n = omega (arith, above, lt) in e) ∙ omega (arith, enough, here, sum)
+      | inl below ↦ each_once n blocks less (omega (arith, enough, here)) b below
+      | inr above ↦ ap (λ (k : ℕ). count_of k blocks) (let e : b ≡ n = omega (arith, above, lt) in e) ∙ omega (arith, enough, here, sum)
     ]
 
 total_ones : (n : ℕ) (blocks : List ℕ) → ((b : ℕ) → b < n → count_of b blocks ≡ 1) → total n blocks ≡ n
@@ -94,8 +94,8 @@ none_between p k zero none b low high = absurd (omega arith)
 none_between p k (suc m) none b low high =
     let q = find_by (p k) p k (range_with_len (k + 1) m) refl none in
     elim (cases_lt k b) [
-        inl lt ↦ none_between p (k + 1) m q.1 b (omega (arith, lt)) (omega (arith, high))
-        | inr ge ↦ ap p (let e : b ≡ k = omega (arith, ge, low) in e) ∙ q.0
+      | inl lt ↦ none_between p (k + 1) m q.1 b (omega (arith, lt)) (omega (arith, high))
+      | inr ge ↦ ap p (let e : b ≡ k = omega (arith, ge, low) in e) ∙ q.0
     ]
 
 find_none : (p : ℕ → Bool) (k m : ℕ) → ((b : ℕ) → k ≤ b → b < k + m → p b ≡ false) → find p (range_with_len k m) ≡ None
@@ -135,7 +135,7 @@ unfolding first_outside least_twice
 once_named n blocks names =
     let none : first_outside n blocks ≡ None = all_below n blocks names.below in
     let least : least_twice n blocks ≡ None =
-        find_none (λ k. ltb 1 (count_of k blocks)) 0 n (λ b low high. le-ltb 1 (count_of b blocks) (omega (arith, names.once b (omega (arith, high))))) in
+    find_none (λ k. ltb 1 (count_of k blocks)) 0 n (λ b low high. le-ltb 1 (count_of b blocks) (omega (arith, names.once b (omega (arith, high))))) in
     sym (fine_answer n blocks none least (omega (arith, total_all n blocks names.below, total_ones n blocks names.once)))
 
 -- what was answered Ok

@@ -5,11 +5,16 @@ ghost use Rattle.map_table.specs.Blocks.{blocks_from, blocks_of, block_check, fi
 use crate::words::entry;
 use std::alloc::Global;
 
+/// Why a map and its free blocks don't name each block once.
 #[derive(Clone, Copy, Debug, PartialEq, Eq)]
 pub enum BlockFault {
+    /// A block isn't below the number of blocks: the first such in the map, and then among the free ones.
     Range { block: u32 },
+    /// A block is named more than once: the least such.
     Twice { block: u32 },
+    /// There are fewer entries and free blocks together (`had`) than blocks (`said`).
     Count { said: u32, had: u64 },
+    /// There was no memory for a byte a block.
     OutOfMemory,
 }
 
@@ -74,7 +79,12 @@ fn least_above_one(counts: &[u8]) -> Option<usize>
 }
 
 /// The check over counts that are all zero.
-fn check_counted(counts: &mut [u8], map: &[u32], free: &[u32], internal: u32) -> Result<(), BlockFault>
+fn check_counted(
+    counts: &mut [u8],
+    map: &[u32],
+    free: &[u32],
+    internal: u32,
+) -> Result<(), BlockFault>
     requires map_len { length map.now ≤ 2 ^ 32 }
     requires zeros { counts.old ≡ replicate internal 0 }
     ensures { result ≡ block_check internal (blocks_of map.now free.now) }
@@ -83,11 +93,16 @@ fn check_counted(counts: &mut [u8], map: &[u32], free: &[u32], internal: u32) ->
         return Err(BlockFault::Range { block });
     }
     if let Some(block) = least_above_one(counts) {
-        return Err(BlockFault::Twice { block: block as u32 });
+        return Err(BlockFault::Twice {
+            block: block as u32,
+        });
     }
     let had = map.len() as u64 + free.len() as u64;
     if had < u64::from(internal) {
-        return Err(BlockFault::Count { said: internal, had });
+        return Err(BlockFault::Count {
+            said: internal,
+            had,
+        });
     }
     Ok(())
 }
@@ -103,7 +118,18 @@ fn check_in(alloc: Global, map: &[u32], free: &[u32], internal: u32) -> Result<(
     }
 }
 
-pub fn check_blocks(alloc: Global, map: &[u32], free: &[u32], internal: u32) -> Result<(), BlockFault>
+/// Whether the entries of a map and the lanes' free blocks name each block below `internal` exactly once.
+///
+/// `map` has the entry of sector i at i. Refusals, the first that holds: Range, Twice, Count; want of memory may come
+/// in place of any answer. Takes a byte for each block and one pass over each list.
+///
+/// Condition: the map's sectors are numbered by `u32`.
+pub fn check_blocks(
+    alloc: Global,
+    map: &[u32],
+    free: &[u32],
+    internal: u32,
+) -> Result<(), BlockFault>
     requires { length map.now ≤ 2 ^ 32 }
     ensures answer { Answers BlockFault.OutOfMemory result (block_check internal (blocks_of map.now free.now)) }
     ensures sound { OnOk result (NamesEachOnce internal (blocks_of map.now free.now)) }

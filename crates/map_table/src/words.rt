@@ -3,11 +3,16 @@ ghost use Rattle.map_table.specs.Entry.{entry_of, normal_of, zero_of, entry_in, 
 
 use crate::kinds::{Entry, Kind};
 
+/// Bits 0 to 29 number a block.
 const BLOCK: u32 = (1 << 30) - 1;
+/// Bit 30, Error.
 const ERROR: u32 = 1 << 30;
+/// Bit 31, Zero.
 const ZERO: u32 = 1 << 31;
+/// A normal entry has both flags.
 const NORMAL: u32 = ZERO | ERROR;
 
+/// What the entry of a sector means. The low bits of an initial entry are ignored.
 #[inline]
 #[tactic(auto, unfolding(crate::specs::Entry::entry_of))]
 pub fn entry(word: u32, sector: u32) -> Entry
@@ -15,13 +20,26 @@ pub fn entry(word: u32, sector: u32) -> Entry
 {
     let block = word & BLOCK;
     match word >> 30 {
-        0 => Entry { kind: Kind::Initial, block: sector },
-        1 => Entry { kind: Kind::Bad, block },
-        2 => Entry { kind: Kind::Zero, block },
-        _ => Entry { kind: Kind::Normal, block },
+        0 => Entry {
+            kind: Kind::Initial,
+            block: sector,
+        },
+        1 => Entry {
+            kind: Kind::Bad,
+            block,
+        },
+        2 => Entry {
+            kind: Kind::Zero,
+            block,
+        },
+        _ => Entry {
+            kind: Kind::Normal,
+            block,
+        },
     }
 }
 
+/// The normal entry of a block. Condition: the block is below 2^30.
 #[inline]
 pub fn normal(block: u32) -> u32
     requires { block < 2 ^ 30 }
@@ -31,6 +49,7 @@ pub fn normal(block: u32) -> u32
     NORMAL + block
 }
 
+/// The entry of a block that reads as zeros, as a new arena has it. Condition: the block is below 2^30.
 #[inline]
 pub fn zero(block: u32) -> u32
     requires { block < 2 ^ 30 }
@@ -40,6 +59,7 @@ pub fn zero(block: u32) -> u32
     ZERO + block
 }
 
+/// Takes a sector's entry out of its map word (that of number sector / 2).
 #[inline]
 #[tactic(auto, unfolding(crate::specs::Entry::entry_in))]
 pub fn entry_in(word: u64, sector: u32) -> u32
@@ -64,6 +84,7 @@ fn replaced(word: u64, sector: u32, entry: u32) -> u64
     }
 }
 
+/// Puts a sector's entry into its map word; the other sector's entry stays.
 #[inline]
 pub fn with_entry(word: u64, sector: u32, entry: u32) -> u64
     ensures word { result ≡ with_entry word sector entry }
