@@ -4,7 +4,7 @@ pub mod Planned
 pub mod Reading
 pub mod Writing
 pub mod Spelled
-pub mod Tests
+pub mod Passing
 pub mod ReadBack
 pub mod OneSpelling
 pub mod Stands

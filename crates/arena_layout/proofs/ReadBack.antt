@@ -17,7 +17,7 @@ use Rattle.arena_layout.specs.Info.{signature, bytes_at, has_signature, has_chec
 use Rattle.arena_layout.specs.Spelling.{fields_of, unused, body_of, spelling_of, HasWidths}
 use Rattle.arena_layout.proofs.Spelled.{body_is, head_of, length_body_by}
 use Rattle.arena_layout.proofs.Sectors.{blocks}
-use Rattle.arena_layout.proofs.Tests.{tests, Passes, size_passes, next_passes}
+use Rattle.arena_layout.proofs.Passing.{tests, Passes, size_passes, next_passes}
 
 abbrev sum_of : Info → ℕ
 sum_of info = fletcher64_of (body_of info ++ replicate 8 0)

@@ -11,7 +11,7 @@ use Rattle.arena_layout.specs.declared.info.Info.{Info}
 use Rattle.arena_layout.specs.declared.info.InfoFault.{InfoFault}
 use Rattle.arena_layout.specs.Info.{signature, bytes_at, has_signature, has_checksum, has_parent, has_error, has_areas, is_version, layout_of, info_of, layout_fault_of, info_reading, IsArenaOf, StandsFor, IsReading}
 use Rattle.arena_layout.specs.Layout.{has_size, has_next}
-use Rattle.arena_layout.proofs.Tests.{tests, Passes, size_passes, next_passes}
+use Rattle.arena_layout.proofs.Passing.{tests, Passes, size_passes, next_passes}
 use Rattle.arena_layout.proofs.Reading.{PassesAll, all_passed, parts_of_areas, sound_info}
 
 signature_is : (bytes : List ℕ) → has_signature bytes ≡ true → take 16 bytes ≡ signature

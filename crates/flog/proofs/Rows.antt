@@ -1,11 +1,10 @@
 -- Worked rows, computed.
-use Rattle.std.proofs.Common.{◌≡◌, ℕ, ◌+◌, ◌*◌, ◌^◌, List, [], ◌∷◌, Result, Ok, Err, refl}
+use Rattle.std.proofs.Common.{◌≡◌, ℕ, ◌^◌, List, [], ◌∷◌, Result, Ok, Err, refl}
 use Rattle.nvd_words.specs.Checks.{first_fault}
-use Rattle.flog.specs.declared.half.Half.{Half}
 use Rattle.flog.specs.declared.group.Group.{Group}
 use Rattle.flog.specs.declared.group.FlogFault.{FlogFault}
 use Rattle.flog.specs.declared.group.FlogFault.TheVariants.{Sequences, Range, Padding}
-use Rattle.flog.specs.Group.{group_reading, place_of, is_padded, are_ordered, out_of_range, current_side, with_half}
+use Rattle.flog.specs.Group.{group_reading, place_of, is_padded, are_ordered, out_of_range, current_side}
 
 abbrev group : ℕ → ℕ → ℕ → ℕ → List ℕ
 group a b c d = a ∷ b ∷ c ∷ d ∷ 0 ∷ 0 ∷ 0 ∷ 0 ∷ []
