@@ -54,12 +54,11 @@ fn block_of(head: &[u8; 120], sum: u64) -> [u8; 4096] {
     block
 }
 
-/// A block with the checksum that its other bytes have.
-fn resealed(mut block: [u8; 4096]) -> [u8; 4096] {
+/// Puts in the checksum that the other bytes have.
+fn reseal(block: &mut [u8; 4096]) {
     block[4088..].copy_from_slice(&[0; 8]);
-    let sum = fletcher64(&block);
+    let sum = fletcher64(block);
     block[4088..].copy_from_slice(&sum.to_le_bytes());
-    block
 }
 
 /// What an info block with other bytes at a place is refused by, with so many bytes up to the namespace's end.
@@ -68,7 +67,8 @@ fn fault_with(at: usize, bytes: &[u8], rest: u64) -> Option<InfoFault> {
     if bytes.len() <= 8 && at <= 4000 {
         block[at..at + bytes.len()].copy_from_slice(bytes);
     }
-    read_info(&resealed(block), &Uuid::from_u128(PARENT), rest).err()
+    reseal(&mut block);
+    read_info(&block, &Uuid::from_u128(PARENT), rest).err()
 }
 
 const REST: u64 = 33_554_432;

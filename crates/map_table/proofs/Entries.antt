@@ -1,7 +1,6 @@
 -- Entries and their words.
-use Rattle.std.proofs.Common.{◌≡◌, ◌≢◌, ℕ, ◌+◌, ◌*◌, ◌/◌, ◌%◌, ◌^◌, ◌<◌, Bool, true, false, eqb, refl, sym, ap, ◌∙◌, arith}
+use Rattle.std.proofs.Common.{◌≡◌, ◌≢◌, ℕ, ◌/◌, ◌%◌, ◌^◌, ◌<◌, Bool, true, false, eqb, refl, sym, ◌∙◌, arith}
 use Rattle.std.proofs.lemmas.Bool.{eq-eqb, ne_eqb, eqb-true, eqb-false}
-use Rattle.map_table.specs.declared.kinds.Entry.{Entry}
 use Rattle.map_table.specs.declared.kinds.Kind.TheVariants as kind
 use Rattle.map_table.specs.Entry.{entry_of, normal_of, zero_of, entry_in, with_entry}
 

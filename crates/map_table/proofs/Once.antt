@@ -1,9 +1,9 @@
 -- Each block is named once exactly where none is outside, none is named twice and there are enough (the pigeonhole principle).
-use Rattle.std.proofs.Common.{◌≡◌, ◌≢◌, ◌⊎◌, ℕ, zero, suc, ◌+◌, ◌<◌, ◌≤◌, Bool, true, false, cond, eqb, leb, ltb, List, [], ◌∷◌, length, get_or, Option, Some, None, Result, Ok, Err, refl, sym, ap, ◌∙◌, subst, inl, inr, arith}
+use Rattle.std.proofs.Common.{◌≡◌, ℕ, zero, suc, ◌+◌, ◌<◌, ◌≤◌, Bool, true, false, cond, eqb, leb, ltb, List, [], ◌∷◌, length, get_or, Option, Some, None, Result, Ok, Err, refl, sym, ap, ◌∙◌, inl, inr, arith}
 use Rattle.std.specs.Prelude.{find, All, OnOk}
 use Rattle.std.specs.List.{range_with_len}
 use Rattle.std.specs.Option.{option_map}
-use Rattle.std.proofs.lemmas.Bool.{leb-true, leb-false, le-leb, lt-leb, ltb-true, ltb-false, lt-ltb, le-ltb, eq-eqb, ne_eqb, cases_lt, cases_order}
+use Rattle.std.proofs.lemmas.Bool.{leb-false, lt-leb, ltb-false, lt-ltb, le-ltb, eq-eqb, ne_eqb, cases_lt, cases_order}
 use Rattle.nvd_words.specs.Checks.{first_fault, fault_if, value_unless, Answers}
 use Rattle.map_table.specs.declared.check.BlockFault.{BlockFault}
 use Rattle.map_table.specs.declared.check.BlockFault.TheVariants.{Range, Twice, Count, OutOfMemory}

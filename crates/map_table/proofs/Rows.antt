@@ -1,12 +1,12 @@
 -- Worked rows, computed.
-use Rattle.std.proofs.Common.{◌≡◌, ℕ, List, [], ◌∷◌, Result, Ok, Err, refl}
+use Rattle.std.proofs.Common.{◌≡◌, ℕ, [], ◌∷◌, Result, Ok, Err, refl}
 use Rattle.nvd_words.specs.Checks.{first_fault}
 use Rattle.map_table.specs.declared.kinds.Entry.{Entry}
 use Rattle.map_table.specs.declared.kinds.Kind.{Kind}
 use Rattle.map_table.specs.declared.kinds.Kind.TheVariants as kind
 use Rattle.map_table.specs.declared.check.BlockFault.{BlockFault}
 use Rattle.map_table.specs.declared.check.BlockFault.TheVariants.{Range, Twice, Count}
-use Rattle.map_table.specs.Entry.{entry_of, normal_of, zero_of, entry_in, with_entry}
+use Rattle.map_table.specs.Entry.{entry_of, entry_in, with_entry}
 use Rattle.map_table.specs.Blocks.{blocks_of, block_check, first_outside, least_twice}
 
 abbrev means : Kind → ℕ → Entry

@@ -1,6 +1,6 @@
 -- Whether the entries of a map and the lanes' free blocks name each block of an arena once: UEFI 2.10, section 6.3,
 -- where each internal block is either some sector's or a lane's free one.
-use Rattle.std.specs.Prelude.{◌≡◌, ℕ, ◌+◌, ◌<◌, ◌==◌, nat_lt, nat_le, Bool, List, [], ◌∷◌, ◌++◌, length, find, count_by, All, min, slice_index, Option, Result}
+use Rattle.std.specs.Prelude.{◌≡◌, ℕ, ◌+◌, ◌<◌, ◌==◌, nat_lt, nat_le, List, [], ◌∷◌, ◌++◌, length, find, count_by, All, min, slice_index, Option, Result}
 use Rattle.std.specs.List.{range_with_len}
 use Rattle.std.specs.Option.{option_map}
 use Rattle.nvd_words.specs.Checks.{first_fault, fault_if, value_unless}

@@ -1,5 +1,5 @@
 -- A map entry: UEFI 2.10, section 6.2, BTT Map Entry.
-use Rattle.std.specs.Prelude.{◌≡◌, ◌≢◌, ℕ, ◌+◌, ◌*◌, ◌/◌, ◌%◌, ◌^◌, ◌<◌, ◌==◌, Bool, true, false, if◌then◌else◌}
+use Rattle.std.specs.Prelude.{ℕ, ◌+◌, ◌*◌, ◌/◌, ◌%◌, ◌^◌, ◌==◌, Bool, true, false, if◌then◌else◌}
 use Rattle.map_table.specs.declared.kinds.Entry.{Entry}
 use Rattle.map_table.specs.declared.kinds.Kind.{Kind}
 use Rattle.map_table.specs.declared.kinds.Kind.TheVariants as kind

@@ -1,4 +1,4 @@
-use Rattle.std.proofs.Common.{sym, ap, ◌∙◌, arith}
+use Rattle.std.proofs.Common.{sym, arith}
 use Rattle.map_table.specs.Blocks.{blocks_of}
 use Rattle.map_table.proofs.Checked.{range_is, twice_answer, count_answer, fine_answer, least_is, outside_is, length_blocks}
 use Rattle.map_table.proofs.check.check_counted.Goals as goal

@@ -1,6 +1,6 @@
 use Rattle.std.proofs.Common.{ℕ, ap, ◌∙◌}
 use Rattle.map_table.specs.Blocks.{first_outside}
-use Rattle.map_table.proofs.Checked.{outside_first, outside_second, counted_both}
+use Rattle.map_table.proofs.Checked.{outside_first, outside_second}
 use Rattle.map_table.proofs.check.count_all.Goals as goal
 
 pub returns-in-Some-clause-outside : goal.returns-in-Some-clause-outside

@@ -1,4 +1,4 @@
-use Rattle.std.proofs.Common.{arith, drop, get_or, length, ◌+◌}
+use Rattle.std.proofs.Common.{arith}
 use Rattle.std.proofs.lemmas.List.{drop_all}
 use Rattle.map_table.proofs.Counts.{rest_of, going_on, going_out, going_none}
 use Rattle.map_table.proofs.check.count_free.Goals as goal
