@@ -1,7 +1,7 @@
 -- Bytes that are read as an info, and have zeros where a reader looks at nothing, are that info's spelling.
-use Rattle.std.proofs.Common.{◌≡◌, ℕ, zero, suc, ◌+◌, ◌%◌, ◌^◌, ◌<◌, ◌≤◌, Bool, true, false, eqb, List, [], ◌∷◌, ◌++◌, length, take, drop, get_or, replicate, Result, Ok, Err, refl, sym, ap, ◌∙◌, subst, arith, append_assoc}
+use Rattle.std.proofs.Common.{◌≡◌, ℕ, zero, suc, ◌+◌, ◌%◌, ◌<◌, ◌≤◌, true, List, [], ◌∷◌, ◌++◌, length, take, drop, get_or, replicate, Result, Ok, Err, refl, sym, ap, ◌∙◌, arith, append_assoc}
 use Rattle.std.specs.Prelude.{IfOk}
-use Rattle.std.specs.Int.{Width, byte_len, w16, w32, w64, to_le_bytes, from_le_bytes}
+use Rattle.std.specs.Int.{w16, w32, w64, to_le_bytes, from_le_bytes}
 use Rattle.std.proofs.lemmas.Bool.{eqb-true}
 use Rattle.std.proofs.lemmas.Nat.{le_bytes_2, le_bytes_4, le_bytes_8}
 use Rattle.std.proofs.lemmas.List.{length-append, length-take, length-drop, take_all, take_at, drop-drop, drop_all, append-nil, take-append-drop, get_or-drop}
@@ -10,10 +10,9 @@ use Rattle.nvd_words.specs.Bytes.{number_at}
 use Rattle.nvd_words.specs.Fletcher.{fletcher64_of, without_eight}
 use Rattle.arena_layout.specs.declared.info.Info.{Info}
 use Rattle.arena_layout.specs.declared.info.InfoFault.{InfoFault}
-use Rattle.arena_layout.specs.declared.layout.Layout.{Layout}
 use Rattle.arena_layout.specs.Info.{signature, bytes_at, has_signature, has_checksum, layout_of, info_of, info_reading}
-use Rattle.arena_layout.specs.Spelling.{fields_of, unused, body_of, spelling_of, HasZeros}
-use Rattle.arena_layout.proofs.Reading.{PassesAll, all_passed, parts_of_areas, flags_even}
+use Rattle.arena_layout.specs.Spelling.{unused, body_of, spelling_of, HasZeros}
+use Rattle.arena_layout.proofs.Reading.{PassesAll, all_passed, parts_of_areas}
 
 -- ---- parts of a list of bytes
 

@@ -1,9 +1,9 @@
 -- A layout passes each test, and what passes each test is a layout.
-use Rattle.std.proofs.Common.{◌≡◌, ℕ, ◌+◌, ◌*◌, ◌%◌, ◌^◌, ◌<◌, ◌≤◌, Bool, true, false, eqb, leb, ltb, refl, sym, ap, ◌∙◌, arith}
+use Rattle.std.proofs.Common.{◌≡◌, ℕ, ◌+◌, ◌*◌, ◌%◌, ◌^◌, ◌<◌, ◌≤◌, Bool, true, false, eqb, leb, ltb, refl}
 use Rattle.std.specs.Prelude.{◌&&◌, ◌||◌}
 use Rattle.std.proofs.lemmas.Bool.{eq-eqb, le-leb, lt-ltb, and_from, and_parts, leb-true, eqb-true}
 use Rattle.arena_layout.specs.declared.layout.Layout.{Layout}
-use Rattle.arena_layout.specs.Layout.{is_sector, least_size, greatest_size, IsLayout, has_sector, has_inner, has_lanes, has_blocks, has_pages, has_order, has_size, has_next}
+use Rattle.arena_layout.specs.Layout.{least_size, greatest_size, IsLayout, has_sector, has_inner, has_lanes, has_blocks, has_pages, has_order, has_size, has_next}
 
 pub record Passes (l : Layout) : Type 0 where
   pub sector : has_sector l ≡ true

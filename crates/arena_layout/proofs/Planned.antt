@@ -1,5 +1,5 @@
 -- A plan is a layout.
-use Rattle.std.proofs.Common.{◌≡◌, ℕ, ◌+◌, ◌-◌, ◌*◌, ◌/◌, ◌%◌, ◌^◌, ◌<◌, ◌≤◌, Bool, true, false, not, leb, ltb, List, [], ◌∷◌, Result, Ok, Err, refl, sym, ap, ◌∙◌, subst, arith}
+use Rattle.std.proofs.Common.{◌≡◌, ℕ, ◌+◌, ◌-◌, ◌*◌, ◌%◌, ◌^◌, ◌≤◌, Bool, true, false, not, leb, ltb, [], ◌∷◌, Result, Ok, Err, refl, sym, subst, arith}
 use Rattle.std.specs.Prelude.{IfOk}
 use Rattle.std.proofs.lemmas.Bool.{and_parts, leb-true, ltb-false}
 use Rattle.nvd_words.specs.Checks.{checked}
@@ -8,7 +8,7 @@ use Rattle.arena_layout.specs.declared.layout.LayoutFault.{LayoutFault}
 use Rattle.arena_layout.specs.declared.layout.LayoutFault.TheVariants.{Sector, Free, TooSmall, TooLarge}
 use Rattle.arena_layout.specs.Layout.{is_sector, least_size, greatest_size, IsLayout}
 use Rattle.arena_layout.specs.Plan.{whole_size, log_size, available_of, inner_of, internal_of, map_size, plan_of, is_lane_count, planned}
-use Rattle.arena_layout.proofs.Sectors.{Blocks, blocks}
+use Rattle.arena_layout.proofs.Sectors.{blocks}
 
 -- ---- the sizes
 

@@ -1,23 +1,20 @@
 -- The spelling of an info block is read as that info.
-use Rattle.std.proofs.Common.{◌≡◌, ℕ, zero, suc, ◌+◌, ◌-◌, ◌*◌, ◌%◌, ◌^◌, ◌<◌, ◌≤◌, Bool, true, false, not, eqb, leb, ltb, List, [], ◌∷◌, ◌++◌, length, take, drop, get_or, replicate, Option, Some, None, Ok, refl, sym, ap, ◌∙◌, inl, inr, arith, append_assoc}
-use Rattle.std.specs.Prelude.{◌&&◌, ◌||◌}
+use Rattle.std.proofs.Common.{◌≡◌, ℕ, ◌+◌, ◌%◌, ◌^◌, ◌<◌, ◌≤◌, true, false, eqb, List, ◌++◌, length, take, drop, replicate, None, Ok, refl, sym, ap, ◌∙◌, inl, inr, arith, append_assoc}
 use Rattle.std.specs.Int.{Width, byte_len, w16, w32, w64, to_le_bytes, from_le_bytes}
-use Rattle.std.specs.Str.{bytes_eq}
-use Rattle.std.proofs.lemmas.Bool.{eq-eqb, ne_eqb, le-leb, lt-ltb, and_from, and_parts, or_cases, eqb-true}
+use Rattle.std.proofs.lemmas.Bool.{eq-eqb, ne_eqb, and_parts, or_cases, eqb-true}
 use Rattle.std.proofs.lemmas.Nat.{from_le_bytes-to_le_bytes_2, from_le_bytes-to_le_bytes_4, from_le_bytes-to_le_bytes_8}
-use Rattle.std.proofs.lemmas.List.{length-append, length-replicate, take_at, drop_at, drop-drop, drop_all, append-nil}
+use Rattle.std.proofs.lemmas.List.{length-append, take_at, drop_at, drop-drop, drop_all, append-nil}
 use Rattle.std.proofs.lemmas.Slice.Eq.{bytes_eq-Decides}
 use Rattle.nvd_words.specs.Bytes.{number_at}
 use Rattle.nvd_words.specs.Checks.{first_fault}
 use Rattle.nvd_words.specs.Fletcher.{fletcher64_of, without_eight}
 use Rattle.arena_layout.specs.declared.info.Info.{Info}
-use Rattle.arena_layout.specs.declared.layout.Layout.{Layout}
-use Rattle.arena_layout.specs.Layout.{is_sector, IsLayout, has_sector, has_inner, has_lanes, has_blocks, has_pages, has_order, has_size, has_next}
+use Rattle.arena_layout.specs.Layout.{is_sector}
 use Rattle.arena_layout.specs.Info.{signature, bytes_at, has_signature, has_checksum, is_version, has_parent, has_error, has_areas, layout_of, info_of, layout_fault_of, info_reading, IsInfo, ReadsBack}
 use Rattle.arena_layout.specs.Spelling.{fields_of, unused, body_of, spelling_of, HasWidths}
-use Rattle.arena_layout.proofs.Spelled.{body_is, head_of, length_body_by}
+use Rattle.arena_layout.proofs.Spelled.{head_of, length_body_by}
 use Rattle.arena_layout.proofs.Sectors.{blocks}
-use Rattle.arena_layout.proofs.Passing.{tests, Passes, size_passes, next_passes}
+use Rattle.arena_layout.proofs.Passing.{tests, size_passes, next_passes}
 
 abbrev sum_of : Info → ℕ
 sum_of info = fletcher64_of (body_of info ++ replicate 8 0)

@@ -1,5 +1,5 @@
 -- What was read, from its checks.
-use Rattle.std.proofs.Common.{◌≡◌, ℕ, ◌+◌, ◌*◌, ◌%◌, ◌^◌, ◌<◌, ◌≤◌, Bool, true, false, not, eqb, leb, ltb, List, [], ◌∷◌, Option, Some, None, Result, Ok, Err, refl, sym, subst, inl, inr, arith, ◌⊎◌}
+use Rattle.std.proofs.Common.{◌≡◌, ℕ, ◌+◌, ◌%◌, ◌<◌, ◌≤◌, Bool, true, false, not, eqb, ltb, List, [], ◌∷◌, Option, Some, None, Result, Ok, Err, refl, sym, subst, inl, inr, arith, ◌⊎◌}
 use Rattle.std.specs.Prelude.{◌&&◌, ◌||◌, IfOk}
 use Rattle.std.specs.Option.{option_map}
 use Rattle.std.specs.Int.{w16, w32, w64}
@@ -13,9 +13,9 @@ use Rattle.arena_layout.specs.declared.layout.LayoutField.TheVariants as field
 use Rattle.arena_layout.specs.declared.info.Info.{Info}
 use Rattle.arena_layout.specs.declared.info.InfoFault.{InfoFault}
 use Rattle.arena_layout.specs.declared.info.InfoFault.TheVariants as fault
-use Rattle.arena_layout.specs.Layout.{is_sector, least_size, greatest_size, IsLayout, has_sector, has_inner, has_lanes, has_blocks, has_pages, has_order, has_size, has_next}
-use Rattle.arena_layout.specs.Info.{bytes_at, has_signature, has_checksum, is_version, has_parent, has_error, has_areas, layout_of, info_of, layout_fault_of, info_reading, IsInfo, IsArenaOf}
-use Rattle.arena_layout.proofs.Passing.{Passes, passed_is, size_inside}
+use Rattle.arena_layout.specs.Layout.{least_size, IsLayout, has_sector, has_inner, has_lanes, has_blocks, has_pages, has_order, has_size, has_next}
+use Rattle.arena_layout.specs.Info.{bytes_at, has_signature, has_checksum, is_version, has_parent, has_error, has_areas, layout_of, info_of, layout_fault_of, info_reading, IsArenaOf}
+use Rattle.arena_layout.proofs.Passing.{passed_is, size_inside}
 
 -- the layout is the first that fails
 pub layout_first : (bytes parent : List ℕ) (rest : ℕ) (field : LayoutField) → true ≡ has_signature bytes → true ≡ has_checksum bytes

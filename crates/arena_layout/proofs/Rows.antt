@@ -1,10 +1,10 @@
 -- Worked rows, computed.
-use Rattle.std.proofs.Common.{◌≡◌, ℕ, Result, Ok, Err, true, false, refl}
+use Rattle.std.proofs.Common.{◌≡◌, Result, Ok, Err, true, false, refl}
 use Rattle.nvd_words.specs.Checks.{checked}
 use Rattle.arena_layout.specs.declared.layout.Layout.{Layout}
 use Rattle.arena_layout.specs.declared.layout.LayoutFault.{LayoutFault}
-use Rattle.arena_layout.specs.declared.layout.LayoutFault.TheVariants.{Sector, Free, TooSmall, TooLarge}
-use Rattle.arena_layout.specs.Layout.{is_sector, has_sector, has_inner, has_lanes, has_blocks, has_pages, has_order, has_size, has_next}
+use Rattle.arena_layout.specs.declared.layout.LayoutFault.TheVariants.{Sector, Free, TooSmall}
+use Rattle.arena_layout.specs.Layout.{is_sector, has_order, has_size, has_next}
 use Rattle.arena_layout.specs.Plan.{whole_size, log_size, available_of, inner_of, internal_of, map_size, plan_of, is_lane_count, planned}
 
 -- what Linux lays out in 32 MiB with sectors of 512 bytes

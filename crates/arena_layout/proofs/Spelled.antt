@@ -1,10 +1,9 @@
 -- The spelling of an info block.
-use Rattle.std.proofs.Common.{◌≡◌, ℕ, zero, suc, ◌+◌, ◌-◌, ◌*◌, ◌%◌, ◌^◌, ◌<◌, ◌≤◌, Bool, true, false, not, eqb, leb, ltb, List, [], ◌∷◌, ◌++◌, length, take, drop, get_or, replicate, Option, Some, None, Ok, refl, sym, ap, ◌∙◌, subst, arith, append_assoc}
-use Rattle.std.specs.Int.{Width, byte_len, w16, w32, w64, to_le_bytes, from_le_bytes}
-use Rattle.std.proofs.lemmas.List.{take_all, length-append, length-replicate, length-take, length-drop, take_at, drop_at, drop_all, append-nil, take-append-drop, drop-replicate}
-use Rattle.nvd_words.specs.Fletcher.{fletcher64_of, without_eight}
+use Rattle.std.proofs.Common.{◌≡◌, ℕ, zero, suc, ◌+◌, List, ◌∷◌, ◌++◌, length, take, drop, replicate, sym, ap, ◌∙◌, arith, append_assoc}
+use Rattle.std.specs.Int.{w16, w32, w64, to_le_bytes}
+use Rattle.std.proofs.lemmas.List.{take_all, length-append, length-replicate, length-take, take_at, take-append-drop}
+use Rattle.nvd_words.specs.Fletcher.{fletcher64_of}
 use Rattle.arena_layout.specs.declared.info.Info.{Info}
-use Rattle.arena_layout.specs.declared.layout.Layout.{Layout}
 use Rattle.arena_layout.specs.Info.{signature}
 use Rattle.arena_layout.specs.Spelling.{counts_of, places_of, fields_of, unused, body_of, spelling_of}
 

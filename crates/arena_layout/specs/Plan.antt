@@ -1,5 +1,5 @@
 -- The layout of a new arena: this project's rule, which is Linux's (alloc_arena in drivers/nvdimm/btt.c).
-use Rattle.std.specs.Prelude.{ℕ, ◌+◌, ◌-◌, ◌*◌, ◌/◌, ◌%◌, ◌==◌, nat_lt, nat_le, Bool, not, ◌&&◌, List, [], ◌∷◌, Result}
+use Rattle.std.specs.Prelude.{ℕ, ◌+◌, ◌-◌, ◌*◌, ◌/◌, nat_lt, nat_le, Bool, not, ◌&&◌, List, [], ◌∷◌, Result}
 use Rattle.nvd_words.specs.Checks.{checked}
 use Rattle.arena_layout.specs.declared.layout.Layout.{Layout}
 use Rattle.arena_layout.specs.declared.layout.LayoutFault.{LayoutFault}

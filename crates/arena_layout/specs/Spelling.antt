@@ -1,5 +1,5 @@
 -- The one spelling of an info block: UEFI 2.10, section 6.2; the unused bytes are zero.
-use Rattle.std.specs.Prelude.{◌≡◌, ℕ, ◌+◌, ◌^◌, ◌<◌, length, List, [], ◌∷◌, ◌++◌, replicate, slice_index}
+use Rattle.std.specs.Prelude.{◌≡◌, ℕ, ◌^◌, ◌<◌, length, List, ◌++◌, replicate}
 use Rattle.std.specs.Int.{w16, w32, w64, to_le_bytes}
 use Rattle.nvd_words.specs.Bytes.{number_at}
 use Rattle.nvd_words.specs.Fletcher.{fletcher64_of}

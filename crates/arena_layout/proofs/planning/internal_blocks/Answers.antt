@@ -1,4 +1,4 @@
-use Rattle.std.proofs.Common.{◌≡◌, ℕ, ◌+◌, ◌-◌, ◌*◌, ◌/◌, ◌^◌, ◌≤◌, ap, ◌∙◌, arith}
+use Rattle.std.proofs.Common.{◌≡◌, ℕ, ◌+◌, ◌-◌, ◌/◌, ap, ◌∙◌, arith}
 use Rattle.arena_layout.specs.Plan.{inner_of, internal_of}
 use Rattle.arena_layout.proofs.Sectors.{blocks}
 use Rattle.arena_layout.proofs.planning.internal_blocks.Goals as goal

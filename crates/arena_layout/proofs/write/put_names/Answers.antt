@@ -1,4 +1,4 @@
-use Rattle.std.proofs.Common.{take, List, ℕ, []}
+use Rattle.std.proofs.Common.{take}
 use Rattle.std.specs.Int.{w16, w32, to_le_bytes}
 use Rattle.arena_layout.specs.Info.{signature}
 use Rattle.arena_layout.proofs.Writing.{six}
