@@ -1,0 +1,11 @@
+pub mod First
+pub mod Sectors
+pub mod Planned
+pub mod Reading
+pub mod Writing
+pub mod Spelled
+pub mod Passing
+pub mod ReadBack
+pub mod OneSpelling
+pub mod Stands
+pub mod Rows

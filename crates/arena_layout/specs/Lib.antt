@@ -1,0 +1,4 @@
+pub mod Layout
+pub mod Plan
+pub mod Info
+pub mod Spelling

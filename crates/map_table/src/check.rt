@@ -1,0 +1,139 @@
+ghost use Rattle.std.specs.Prelude.{◌≡◌, ◌≢◌, ◌+◌, ◌^◌, ◌<◌, ◌≤◌, length, replicate, nat_lt, position, slice_set, slice_index, min, None, Ok, OnOk, IfSome};
+ghost use Rattle.nvd_words.specs.Checks.{Answers};
+ghost use Rattle.map_table.specs.Blocks.{blocks_from, blocks_of, block_check, first_outside, least_twice, IsCounted, NamesEachOnce};
+
+use crate::words::entry;
+use std::alloc::Global;
+
+/// Why a map and its free blocks don't name each block once.
+#[derive(Clone, Copy, Debug, PartialEq, Eq)]
+pub enum BlockFault {
+    /// A block isn't below the number of blocks: the first such in the map, and then among the free ones.
+    Range { block: u32 },
+    /// A block is named more than once: the least such.
+    Twice { block: u32 },
+    /// There are fewer entries and free blocks together (`had`) than blocks (`said`).
+    Count { said: u32, had: u64 },
+    /// There was no memory for a byte a block.
+    OutOfMemory,
+}
+
+/// Counts a block once more. A count that has reached 255 stays there.
+#[inline]
+fn count_block(counts: &mut [u8], block: u32)
+    requires { block < length counts.old }
+    ensures { counts.new ≡ slice_set counts.old block (min 255 (slice_index counts.old block + 1)) }
+{
+    let count = counts[block as usize];
+    counts[block as usize] = count.saturating_add(1);
+}
+
+/// Counts the blocks of a map's entries; the first that has no count is handed back.
+fn count_entries(counts: &mut [u8], map: &[u32]) -> Option<u32>
+    requires { length map.now ≤ 2 ^ 32 }
+    ensures outside { result ≡ first_outside (length counts.old) (blocks_from 0 map.now) }
+    ensures counted { result ≡ None → IsCounted (length counts.old) counts.old counts.new (blocks_from 0 map.now) }
+{
+    for (sector, word) in map.iter().enumerate() {
+        let block = entry(*word, sector as u32).block;
+        if block as usize >= counts.len() {
+            return Some(block);
+        }
+        count_block(counts, block);
+    }
+    None
+}
+
+/// Counts free blocks; the first that has no count is handed back.
+fn count_free(counts: &mut [u8], free: &[u32]) -> Option<u32>
+    ensures outside { result ≡ first_outside (length counts.old) free.now }
+    ensures counted { result ≡ None → IsCounted (length counts.old) counts.old counts.new free.now }
+{
+    for block in free {
+        if *block as usize >= counts.len() {
+            return Some(*block);
+        }
+        count_block(counts, *block);
+    }
+    None
+}
+
+/// Counts the blocks of a map's entries and then free ones; the first that has no count is handed back.
+fn count_all(counts: &mut [u8], map: &[u32], free: &[u32]) -> Option<u32>
+    requires { length map.now ≤ 2 ^ 32 }
+    ensures outside { result ≡ first_outside (length counts.old) (blocks_of map.now free.now) }
+    ensures counted { result ≡ None → IsCounted (length counts.old) counts.old counts.new (blocks_of map.now free.now) }
+{
+    match count_entries(counts, map) {
+        Some(block) => Some(block),
+        None => count_free(counts, free),
+    }
+}
+
+/// The least block with a count above 1.
+fn least_above_one(counts: &[u8]) -> Option<usize>
+    ensures block { result ≡ position (nat_lt 1) counts.now }
+    ensures inside { IfSome result (λ block. block < length counts.now) }
+{
+    counts.iter().position(|count| *count > 1)
+}
+
+/// The check over counts that are all zero.
+fn check_counted(
+    counts: &mut [u8],
+    map: &[u32],
+    free: &[u32],
+    internal: u32,
+) -> Result<(), BlockFault>
+    requires map_len { length map.now ≤ 2 ^ 32 }
+    requires zeros { counts.old ≡ replicate internal 0 }
+    ensures { result ≡ block_check internal (blocks_of map.now free.now) }
+{
+    if let Some(block) = count_all(counts, map, free) {
+        return Err(BlockFault::Range { block });
+    }
+    if let Some(block) = least_above_one(counts) {
+        return Err(BlockFault::Twice {
+            block: block as u32,
+        });
+    }
+    let had = map.len() as u64 + free.len() as u64;
+    if had < u64::from(internal) {
+        return Err(BlockFault::Count {
+            said: internal,
+            had,
+        });
+    }
+    Ok(())
+}
+
+/// Memory for the counts, and the check.
+fn check_in(alloc: Global, map: &[u32], free: &[u32], internal: u32) -> Result<(), BlockFault>
+    requires { length map.now ≤ 2 ^ 32 }
+    ensures { Answers BlockFault.OutOfMemory result (block_check internal (blocks_of map.now free.now)) }
+{
+    match vec![in alloc; 0u8; internal as usize] {
+        Ok(mut counts) => check_counted(&mut counts, map, free, internal),
+        Err(_) => Err(BlockFault::OutOfMemory),
+    }
+}
+
+/// Whether the entries of a map and the lanes' free blocks name each block below `internal` exactly once.
+///
+/// `map` has the entry of sector i at i. Refusals, the first that holds: Range, Twice, Count; want of memory may come
+/// in place of any answer. Takes a byte for each block and one pass over each list.
+///
+/// Condition: the map's sectors are numbered by `u32`.
+pub fn check_blocks(
+    alloc: Global,
+    map: &[u32],
+    free: &[u32],
+    internal: u32,
+) -> Result<(), BlockFault>
+    requires { length map.now ≤ 2 ^ 32 }
+    ensures answer { Answers BlockFault.OutOfMemory result (block_check internal (blocks_of map.now free.now)) }
+    ensures sound { OnOk result (NamesEachOnce internal (blocks_of map.now free.now)) }
+    ensures complete { NamesEachOnce internal (blocks_of map.now free.now) → result ≢ Err BlockFault.OutOfMemory → result ≡ Ok tt }
+{
+    check_in(alloc, map, free, internal)
+}

@@ -1,0 +1,95 @@
+ghost use Rattle.std.specs.Prelude.{◌≡◌, ◌≢◌, ℕ, ◌%◌, ◌^◌, ◌<◌};
+ghost use Rattle.map_table.specs.Entry.{entry_of, normal_of, zero_of, entry_in, with_entry};
+
+use crate::kinds::{Entry, Kind};
+
+/// Bits 0 to 29 number a block.
+const BLOCK: u32 = (1 << 30) - 1;
+/// Bit 30, Error.
+const ERROR: u32 = 1 << 30;
+/// Bit 31, Zero.
+const ZERO: u32 = 1 << 31;
+/// A normal entry has both flags.
+const NORMAL: u32 = ZERO | ERROR;
+
+/// What the entry of a sector means. The low bits of an initial entry are ignored.
+#[inline]
+#[tactic(auto, unfolding(crate::specs::Entry::entry_of))]
+pub fn entry(word: u32, sector: u32) -> Entry
+    ensures { result ≡ entry_of word sector }
+{
+    let block = word & BLOCK;
+    match word >> 30 {
+        0 => Entry {
+            kind: Kind::Initial,
+            block: sector,
+        },
+        1 => Entry {
+            kind: Kind::Bad,
+            block,
+        },
+        2 => Entry {
+            kind: Kind::Zero,
+            block,
+        },
+        _ => Entry {
+            kind: Kind::Normal,
+            block,
+        },
+    }
+}
+
+/// The normal entry of a block. Condition: the block is below 2^30.
+#[inline]
+pub fn normal(block: u32) -> u32
+    requires { block < 2 ^ 30 }
+    ensures word { result ≡ normal_of block }
+    ensures reads_back { (sector : ℕ) → entry_of result sector ≡ record { kind = Kind.Normal; block = block } }
+{
+    NORMAL + block
+}
+
+/// The entry of a block that reads as zeros, as a new arena has it. Condition: the block is below 2^30.
+#[inline]
+pub fn zero(block: u32) -> u32
+    requires { block < 2 ^ 30 }
+    ensures word { result ≡ zero_of block }
+    ensures reads_back { (sector : ℕ) → entry_of result sector ≡ record { kind = Kind.Zero; block = block } }
+{
+    ZERO + block
+}
+
+/// Takes a sector's entry out of its map word (that of number sector / 2).
+#[inline]
+#[tactic(auto, unfolding(crate::specs::Entry::entry_in))]
+pub fn entry_in(word: u64, sector: u32) -> u32
+    ensures { result ≡ entry_in word sector }
+{
+    if sector % 2 == 0 {
+        (word & 0xffff_ffff) as u32
+    } else {
+        (word >> 32) as u32
+    }
+}
+
+#[inline]
+#[tactic(auto, unfolding(crate::specs::Entry::with_entry))]
+fn replaced(word: u64, sector: u32, entry: u32) -> u64
+    ensures { result ≡ with_entry word sector entry }
+{
+    if sector % 2 == 0 {
+        (word >> 32) << 32 | u64::from(entry)
+    } else {
+        u64::from(entry) << 32 | word & 0xffff_ffff
+    }
+}
+
+/// Puts a sector's entry into its map word; the other sector's entry stays.
+#[inline]
+pub fn with_entry(word: u64, sector: u32, entry: u32) -> u64
+    ensures word { result ≡ with_entry word sector entry }
+    ensures put { entry_in result sector ≡ entry }
+    ensures other { (other : ℕ) → other % 2 ≢ sector % 2 → entry_in result other ≡ entry_in word other }
+{
+    replaced(word, sector, entry)
+}
