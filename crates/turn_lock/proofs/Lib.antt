@@ -1,0 +1,5 @@
+pub mod Callers
+pub mod Closing
+pub mod Fresh
+pub mod Entries
+pub mod Keeps
