@@ -11,12 +11,6 @@ use Rattle.turn_lock.specs.declared.pass.TurnPass.{TurnPass}
 use Rattle.turn_lock.specs.Turns.{is_caller, number_in, part_in, entry_of}
 use Rattle.turn_lock.specs.Passes.{number_of, part_of, entries_of}
 
--- what holds of each element holds of the one behind ys
-pub all_at_seam : {A : Type 0} (P : A → Type 0) (xs ys zs : List A) (x : A) → ys ++ x ∷ zs ≡ xs → All P xs → P x
-all_at_seam {A} P xs ys zs x is all =
-    let longer : length ys < length xs = omega (arith, ap length is, length-append ys (x ∷ zs)) in
-    subst P (ap (λ l. get_or l (length ys) x) (sym is) ∙ get_or-append_seam ys x zs x) (all (length ys) x longer)
-
 module _ {T D : Type 0} where
   entry_is : (r : Role T D) (rest : List (ℕ × D)) → is_caller r ≡ true → (d : D) × (entry_of r ++ rest ≡ (number_in r, d) ∷ rest) × (part_in r ≡ Some d)
   entry_is Spent rest is = cc

@@ -3,7 +3,8 @@ use Rattle.turn_lock.specs.declared.table.Role.TheVariants.{Keeper}
 use Rattle.turn_lock.specs.Turns.{gathered}
 use Rattle.turn_lock.specs.Passes.{lock_of, out_of}
 use Rattle.turn_lock.proofs.Callers.{seat_is}
-use Rattle.turn_lock.proofs.Entries.{all_at_seam, entries_of-push}
+use Rattle.turn_lock.proofs.Entries.{entries_of-push}
+use Rattle.turn_lock.proofs.Places.{all_at_seam}
 use Rattle.turn_lock.proofs.Keeps.{comes_alone, joins_as}
 use Rattle.turn_lock.proofs.gathering.gather.Goals as goal
 
