@@ -43,3 +43,15 @@ fn two_callers_at_two_registers(rt: HostRuntime) -> Result<(), Fail> {
     assert!(rt; ran.journals.len() == 2 && ran.replies.len() == 2);
     Ok(())
 }
+
+// Caller 0 hears that power is on, caller 1 stops it, and caller 0 waits until it hears so.
+#[test]
+fn one_stops_and_another_hears(rt: HostRuntime) -> Result<(), Fail> {
+    let desk = Desk::new(rt.alloc(), 2)?;
+    let (turn, mut passes) = Turn::of(rt.alloc(), desk, 2)?;
+    assert!(rt; ask_in_turn(&rt, &turn, &mut passes[0]) == Some(false));
+    assert!(rt; stop_in_turn(&rt, &turn, &mut passes[1]));
+    assert!(rt; wait_for_off(&rt, &turn, &mut passes[0]));
+    finish(turn, passes);
+    Ok(())
+}

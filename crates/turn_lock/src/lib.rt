@@ -37,8 +37,8 @@
 //! | KeeperComes | unchanged | `close`: a seat that collects what the passes know |
 //! | JoinSeat | unchanged | `close`: one pass is handed in |
 //!
-//! A caller that finds the turn taken looks for a while, and then sleeps on the word. A release wakes one of those that sleep. How
-//! many sleep is counted beside the table, so that a release without them costs no call of the system. No proof rests on the count.
+//! A caller that finds the turn taken looks for a while, and then sleeps. A release wakes one of those that sleep, and without them
+//! it costs no call of the system. How many sleep is counted in a `Bell` beside the table, on which no proof rests.
 //!
 //! # The promises
 //!
@@ -52,6 +52,7 @@
 //! - `close`: every pass `Knows` the value that comes out (`callers`), and a number that is no caller's has its first part (`strangers`).
 #![tactic(auto)]
 
+mod bell;
 mod dealing;
 mod gathering;
 mod kinds;

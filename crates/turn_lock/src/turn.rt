@@ -2,16 +2,16 @@
 ghost use Rattle.std.specs.Prelude.{◌≡◌};
 ghost use Rattle.turn_lock.specs.Turns.{IsTurnTable};
 
+use crate::bell::Bell;
 use crate::dealing::{deal, lay};
 use crate::gathering::gather;
 use crate::parted::Parted;
 use crate::pass::TurnPass;
 use crate::steps::turn_free;
 use crate::table::TurnTable;
-use crate::waiting::{wait, wake};
+use crate::waiting::wait;
 use std::alloc::{AllocError, Global};
 use std::sync::Wait;
-use std::sync::atomic::AtomicU64;
 
 /// A lock round a value with a part for each caller. It may be shared by reference between threads.
 ///
@@ -19,8 +19,8 @@ use std::sync::atomic::AtomicU64;
 #[derive(Drop)]
 pub struct Turn<T: Parted> {
     table: TurnTable<T>,
-    // How many threads sleep, or are about to.
-    sleepers: AtomicU64,
+    // On which the waiters sleep.
+    bell: Bell,
     ghost one_of_each: { IsTurnTable table.shared.table_id },
 }
 
@@ -47,7 +47,7 @@ impl<T: Parted> Turn<T> {
         Ok((
             Turn {
                 table,
-                sleepers: AtomicU64::new(0),
+                bell: Bell::new(),
             },
             passes,
         ))
@@ -68,7 +68,7 @@ impl<T: Parted> Turn<T> {
         wait(
             rt,
             &self.table.shared,
-            &self.sleepers,
+            &self.bell,
             &mut pass.seat,
             pass.number,
         )
@@ -86,7 +86,7 @@ impl<T: Parted> Turn<T> {
         ensures outside { out_of pass.new ≡ None }
     {
         turn_free(&self.table.shared, &mut pass.seat, pass.number, value);
-        wake(&self.table.shared, &self.sleepers);
+        self.bell.ring();
     }
 
     /// The value. Its part for each caller is what this caller's pass knows, and for a number that is no caller's it is that of the
@@ -99,7 +99,7 @@ impl<T: Parted> Turn<T> {
         ensures callers { All (λ p. Knows result p) passes.items }
         ensures strangers { (q : ℕ) → callers_of self ≤ q → T.part result q ≡ T.part (first_of self) q }
     {
-        let Turn { table, sleepers: _ } = self;
+        let Turn { table, bell: _ } = self;
         let keeper = gather(&table.shared, passes);
         let mut closed = table.close_with(keeper);
         let value = closed.take(0);
