@@ -1,8 +1,6 @@
 -- Sessions that get a pass more, and that give one back.
-use Rattle.std.proofs.Common.{◌≡◌, ℕ, zero, suc, ◌<◌, ◌≤◌, List, [], ◌∷◌, ◌++◌, length, length-append, get_or, map, Option, Some, None, refl, sym, ap, ◌∙◌, subst, arith, le_refl}
+use Rattle.std.proofs.Common.{◌≡◌, ℕ, ◌<◌, ◌≤◌, List, [], ◌∷◌, ◌++◌, length, length-append, get_or, map, Option, Some, None, refl, sym, ap, ◌∙◌, subst, arith, le_refl}
 use Rattle.std.specs.Prelude.{Vec, vec_len, vec_capacity, All, Any}
-use Rattle.std.proofs.Math.ListN.{get_or-append}
-use Rattle.std.proofs.Math.Seq.{get_or-append_seam}
 use Rattle.atomic_table.specs.Seated.{TableId}
 use Rattle.turn_callers.specs.contracts.register.RegisterParted.TheImpl.{ghosts}
 use Rattle.turn_lock.specs.declared.pass.TurnPass.{TurnPass}

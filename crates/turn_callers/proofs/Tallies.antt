@@ -1,14 +1,14 @@
 -- A tally, once each caller has taken its turns.
-use Rattle.std.proofs.Common.{◌≡◌, ℕ, zero, suc, ◌+◌, ◌<◌, ◌≤◌, List, [], ◌∷◌, length, get_or, Option, Some, None, refl, sym, ap, ◌∙◌, subst, arith, lt_of_not-le}
+use Rattle.std.proofs.Common.{◌≡◌, ℕ, suc, ◌+◌, ◌<◌, ◌≤◌, List, [], ◌∷◌, length, get_or, Some, refl, ap, ◌∙◌, subst, arith, lt_of_not-le}
 use Rattle.std.specs.Prelude.{All, IsSomeAnd, sum, replicate}
-use Rattle.std.proofs.lemmas.List.{get_or_past, get_or-replicate, length-replicate}
+use Rattle.std.proofs.lemmas.List.{get_or_past, length-replicate}
 use Rattle.std.proofs.lemmas.List.Sums.{sum_by-cons}
 use mathlib.Core.Logic.{dite}
 use native.Mathlib.Decide.{dec_le}
 use Rattle.atomic_table.specs.Seated.{TableId}
 use Rattle.turn_callers.specs.contracts.tally.TallyParted.TheImpl.{ghosts}
 use Rattle.turn_lock.specs.declared.pass.TurnPass.{TurnPass}
-use Rattle.turn_lock.specs.Passes.{part_of, number_of, AreFresh}
+use Rattle.turn_lock.specs.Passes.{part_of, number_of}
 use Rattle.turn_lock.proofs.Places.{there}
 use Rattle.turn_callers.specs.declared.tally.Quota.{Quota}
 use Rattle.turn_callers.specs.declared.tally.Tally.{Tally}

@@ -70,7 +70,8 @@ fn count_each<R: Threads + Wait + Sync>(
     passes
 }
 
-/// Callers that take so many turns each, in at most as many threads as there are workers: every turn is counted, once.
+/// Callers that take so many turns each, in at most as many threads as there are workers: every
+/// turn is counted, once.
 pub fn count_turns<R: Threads + Wait + Sync>(
     rt: &R,
     alloc: Global,

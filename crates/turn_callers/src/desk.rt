@@ -5,16 +5,18 @@ ghost use Rattle.turn_callers.specs.Power.{any_of, told_only};
 use std::alloc::{AllocError, Global};
 use turn_lock::Parted;
 
-/// A caller's part of the desk: whether it stopped the power, and whether it was told that power is off. No value of it is made.
+/// A caller's part of the desk: whether it stopped the power, and whether it was told that power is
+/// off. No value of it is made.
 pub struct Mine {
     pub stopped: bool,
     pub told: bool,
 }
 
-/// A power switch, with what each caller did and was told. Power is off exactly where a caller stopped it, and a caller was told so
-/// only where it is.
+/// A power switch, with what each caller did and was told. Power is off exactly where a caller
+/// stopped it, and a caller was told so only where it is.
 ///
-/// The fact is one of several callers, so it can't stand in a part. It is a test over the lists of all, which the type keeps.
+/// The fact is one of several callers, so it can't stand in a part. It is a test over the lists of
+/// all, which the type keeps.
 #[derive(Drop)]
 pub struct Desk {
     off: bool,
@@ -61,7 +63,8 @@ impl Desk {
         true
     }
 
-    /// Says whether power is off, and notes that caller `q` was told so. `None`, and nothing changes, if there is no place for it.
+    /// Says whether power is off, and notes that caller `q` was told so. `None`, and nothing
+    /// changes, if there is no place for it.
     pub fn ask(&mut self, q: usize) -> Option<bool>
         ensures stopped { self.new.stopped.items ≡ self.old.stopped.items }
         ensures yes { result ≡ Some true → (q < length self.old.told.items) × (self.new.told.items ≡ slice_set self.old.told.items q true) }

@@ -1,12 +1,8 @@
 //! What a session does: its orders, one after another.
-ghost use Rattle.std.specs.Prelude.{◌≡◌, ℕ, ◌+◌, ◌-◌, ◌<◌, List, [], ◌∷◌, ◌++◌, length, map, All, Some, None, IsSomeAnd};
+ghost use Rattle.std.specs.Prelude.{◌≡◌, ◌<◌, length, map};
 ghost use Rattle.turn_lock.specs.Passes.{lock_id};
-ghost use Rattle.turn_callers.specs.declared.register.Share.{Share};
-ghost use Rattle.turn_callers.specs.Replay.{entry};
-ghost use Rattle.turn_callers.specs.Shares.{share};
-ghost use Rattle.turn_callers.specs.declared.register.Entry.{Entry};
-ghost use Rattle.turn_callers.specs.Orders.{entry_at};
-ghost use Rattle.turn_callers.specs.Seats.{Seats};
+ghost use Rattle.turn_callers.specs.Orders.{AreWithin};
+ghost use Rattle.turn_callers.specs.Seats.{HasSeats, Ordered};
 ghost use Rattle.turn_callers.specs.Sessions.{IsReady, IsDone};
 
 use crate::order::Order;
@@ -24,8 +20,8 @@ fn make_order<R: Wait>(
     order: Order,
 ) -> u64
     requires place { order.place < length turns.now }
-    requires seats { (q : ℕ) × (es : ℕ → List Entry) × (n : ℕ) × Seats (map lock_id turns.now) q es (n + 1) passes.old.items }
-    ensures { (q : ℕ) (es : ℕ → List Entry) (n : ℕ) → Seats (map lock_id turns.now) q es (n + 1) passes.old.items → Seats (map lock_id turns.now) q (λ j. es j ++ entry_at q j order result) n passes.new.items }
+    requires seats { HasSeats (map lock_id turns.now) passes.old.items }
+    ensures { Ordered (map lock_id turns.now) order result passes.old.items passes.new.items }
 {
     let at = order.place as usize;
     let turn = &turns[at];
@@ -40,7 +36,7 @@ pub(crate) fn run_session<R: Wait>(
     orders: &[Order],
     session: &mut Session,
 )
-    requires places { All (λ o. o.place < length turns.now) orders.now }
+    requires places { AreWithin (length turns.now) orders.now }
     requires ready { IsReady (map lock_id turns.now) orders.now session.old }
     ensures number { session.new.number ≡ session.old.number }
     ensures done { IsDone (map lock_id turns.now) orders.now session.new }

@@ -22,7 +22,8 @@ pub struct Entry {
     pub reply: u64,
 }
 
-/// A caller's part of a register: its own entries, and the room that was kept for more of them. No value of it is made.
+/// A caller's part of a register: its own entries, and the room that was kept for more of them. No
+/// value of it is made.
 pub struct Share {
     pub entries: LinkedList<Entry>,
     pub room: u64,
@@ -30,7 +31,8 @@ pub struct Share {
 
 /// A register with the journal of its calls, which is one that a single thread could have made.
 ///
-/// Room for all calls of all callers is kept from the start, so no call meets want of memory while its caller has the turn.
+/// Room for all calls of all callers is kept from the start, so no call meets want of memory while
+/// its caller has the turn.
 #[derive(Drop)]
 pub struct Register {
     value: u64,

@@ -2,8 +2,8 @@
 ghost use Rattle.std.specs.Prelude.{◌≡◌, ℕ, ◌^◌, ◌<◌, ◌≤◌, [], map, length, true, IfOk, sum_by, vec_len};
 ghost use Rattle.turn_lock.specs.Passes.{lock_id, first_of, number_of, AreFresh};
 ghost use Rattle.turn_lock.specs.Rows.{items_at};
-ghost use Rattle.turn_callers.specs.Replay.{is_legal, entries_by, made};
-ghost use Rattle.turn_callers.specs.Scripts.{IsReady, IsDone, AreReady, AreDone};
+ghost use Rattle.turn_callers.specs.Replay.{is_legal, HasNoOther, AreOwnEntries, AreAnswered};
+ghost use Rattle.turn_callers.specs.Scripts.{IsNewFor, IsReady, IsDone, AreReady, AreDone};
 
 use crate::register::{Call, Entry, Register};
 use crate::turns::make_in_turn;
@@ -27,10 +27,11 @@ pub struct Ran {
     pub replies: Vec<Vec<u64>>,
 }
 
-/// Runs all scripts at once, script `q` as caller `q` of one register, in at most as many threads as there are workers.
+/// Runs all scripts at once, script `q` as caller `q` of one register, in at most as many threads
+/// as there are workers.
 ///
-/// The journal is one that a single thread could have made (`legal`), and what each caller did in it are its calls, in order, with
-/// its replies (`replies`). Nothing else is in it (`no_other`).
+/// The journal is one that a single thread could have made (`legal`), and what each caller did in
+/// it are its calls, in order, with its replies (`replies`). Nothing else is in it (`no_other`).
 pub fn run_scripts<R: Threads + Wait + Sync>(
     rt: &R,
     alloc: Global,
@@ -41,9 +42,9 @@ pub fn run_scripts<R: Threads + Wait + Sync>(
     requires few { length scripts.now < 2 ^ 32 }
     requires small { sum_by vec_len scripts.now < 2 ^ 32 }
     ensures legal { IfOk result (λ r. is_legal 0 r.journal.items ≡ true) }
-    ensures replies { IfOk result (λ r. (q : ℕ) → q < length scripts.now → entries_by q r.journal.items ≡ made q (items_at scripts.now q) (items_at r.replies.items q)) }
-    ensures each_answered { IfOk result (λ r. (q : ℕ) → q < length scripts.now → length (items_at r.replies.items q) ≡ length (items_at scripts.now q)) }
-    ensures no_other { IfOk result (λ r. (q : ℕ) → length scripts.now ≤ q → entries_by q r.journal.items ≡ []) }
+    ensures replies { IfOk result (λ r. AreOwnEntries scripts.now r.journal.items r.replies.items) }
+    ensures each_answered { IfOk result (λ r. AreAnswered scripts.now r.replies.items) }
+    ensures no_other { IfOk result (λ r. HasNoOther (length scripts.now) r.journal.items) }
 {
     let register = Register::new(alloc, scripts)?;
     let (turn, passes) = Turn::of(alloc, register, scripts.len() as u32)?;
@@ -62,7 +63,7 @@ fn sit(
     passes: Vec<TurnPass<Register>>,
 ) -> Result<Vec<Session>, AllocError>
     requires count { length passes.items ≡ length scripts.now }
-    requires first { ((first_of turn.now).journal.items ≡ []) × ((first_of turn.now).rooms.items ≡ map vec_len scripts.now) }
+    requires first { IsNewFor scripts.now (first_of turn.now) }
     requires fresh { AreFresh (lock_id turn.now) (first_of turn.now) passes.items }
     ensures count { IfOk result (λ v. length v.items ≡ length scripts.now) }
     ensures ready { IfOk result (λ v. AreReady (lock_id turn.now) scripts.now v.items) }

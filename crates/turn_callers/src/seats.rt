@@ -1,8 +1,6 @@
 //! How sessions get their passes, and give them back.
-ghost use Rattle.std.specs.Prelude.{◌≡◌, ℕ, ◌^◌, ◌<◌, ◌≤◌, [], ◌∷◌, ◌++◌, length, map, OnOk, IfOk, IsSomeAnd, slice_index_or};
-ghost use Rattle.turn_lock.specs.declared.pass.TurnPass.{TurnPass};
-ghost use Rattle.turn_callers.specs.declared.session.Session.{Session};
-ghost use Rattle.turn_callers.specs.Sessions.{AreReady};
+ghost use Rattle.std.specs.Prelude.{◌≡◌, ◌^◌, ◌<◌, [], ◌∷◌, ◌++◌, length, OnOk, IfOk};
+ghost use Rattle.turn_callers.specs.Sessions.{AreReady, KeepRest, HaveOneMore, HadOneMore, HavePasses};
 
 use crate::order::Order;
 use crate::register::Register;
@@ -31,7 +29,8 @@ pub(crate) fn stools(alloc: Global, scripts: &[Vec<Order>]) -> Result<Vec<Sessio
 // Gives the session a pass more.
 fn add(session: &mut Session, pass: TurnPass<Register>) -> Result<(), AllocError>
     ensures passes { OnOk result (session.new.passes.items ≡ session.old.passes.items ++ pass ∷ []) }
-    ensures others { (session.new.number ≡ session.old.number) × (session.new.replies ≡ session.old.replies) }
+    ensures number { session.new.number ≡ session.old.number }
+    ensures replies { session.new.replies ≡ session.old.replies }
 {
     session.passes.push(pass)?;
     Ok(())
@@ -43,8 +42,8 @@ pub(crate) fn hand_out(
     mut passes: Vec<TurnPass<Register>>,
 ) -> Result<(), AllocError>
     requires { length passes.items ≡ length sessions.old }
-    ensures passes { OnOk result ((q : ℕ) (d : _) (e : _) → q < length sessions.old → (slice_index_or sessions.new q d).passes.items ≡ (slice_index_or sessions.old q d).passes.items ++ slice_index_or passes.items q e ∷ []) }
-    ensures others { OnOk result ((q : ℕ) (d : _) → q < length sessions.old → ((slice_index_or sessions.new q d).number ≡ (slice_index_or sessions.old q d).number) × ((slice_index_or sessions.new q d).replies ≡ (slice_index_or sessions.old q d).replies)) }
+    ensures passes { OnOk result (HaveOneMore sessions.old passes.items sessions.new) }
+    ensures others { OnOk result (KeepRest sessions.old sessions.new) }
 {
     while let Some(pass) = passes.pop() {
         let at = passes.len();
@@ -57,7 +56,8 @@ pub(crate) fn hand_out(
 fn take_last(session: &mut Session) -> TurnPass<Register>
     requires { 0 < length session.old.passes.items }
     ensures passes { session.old.passes.items ≡ session.new.passes.items ++ result ∷ [] }
-    ensures others { (session.new.number ≡ session.old.number) × (session.new.replies ≡ session.old.replies) }
+    ensures number { session.new.number ≡ session.old.number }
+    ensures replies { session.new.replies ≡ session.old.replies }
 {
     match session.passes.pop() {
         Some(pass) => pass,
@@ -70,10 +70,10 @@ pub(crate) fn take_back(
     alloc: Global,
     sessions: &mut [Session],
 ) -> Result<Vec<TurnPass<Register>>, AllocError>
-    requires { (q : ℕ) (d : _) → q < length sessions.old → 0 < length (slice_index_or sessions.old q d).passes.items }
+    requires { HavePasses sessions.old }
     ensures count { IfOk result (λ v. length v.items ≡ length sessions.old) }
-    ensures passes { IfOk result (λ v. (q : ℕ) (d : _) (e : _) → q < length sessions.old → (slice_index_or sessions.old q d).passes.items ≡ (slice_index_or sessions.new q d).passes.items ++ slice_index_or v.items q e ∷ []) }
-    ensures others { OnOk result ((q : ℕ) (d : _) → q < length sessions.old → ((slice_index_or sessions.new q d).number ≡ (slice_index_or sessions.old q d).number) × ((slice_index_or sessions.new q d).replies ≡ (slice_index_or sessions.old q d).replies)) }
+    ensures passes { IfOk result (λ v. HadOneMore sessions.old v.items sessions.new) }
+    ensures others { OnOk result (KeepRest sessions.old sessions.new) }
 {
     let mut passes = Vec::with_capacity(alloc, sessions.len())?;
     for session in sessions {

@@ -1,13 +1,15 @@
-//! All registers, and all callers at once.
-ghost use Rattle.std.specs.Prelude.{◌≡◌, ℕ, ◌^◌, ◌<◌, ◌≤◌, [], length, map, true, All, OnOk, IfOk, sum_by, vec_len, slice_index_or};
+//! Registers behind a lock each, and all callers at once.
+ghost use Rattle.std.specs.Prelude.{◌≡◌, ℕ, ◌^◌, ◌<◌, [], length, map, true};
+ghost use Rattle.std.specs.Prelude.{All, OnOk, IfOk, sum_by, vec_len};
 ghost use Rattle.turn_lock.specs.Passes.{lock_id};
 ghost use Rattle.turn_lock.specs.Rows.{items_at};
-ghost use Rattle.turn_callers.specs.Replay.{is_legal, entries_by};
-ghost use Rattle.turn_callers.specs.Orders.{made_at};
-ghost use Rattle.turn_callers.specs.Sessions.{IsReady, IsDone, AreReady, AreDone, IsNew, IsJournal};
+ghost use Rattle.turn_callers.specs.Replay.{is_legal, HasNoOther, AreAnswered};
+ghost use Rattle.turn_callers.specs.Orders.{AreWithin, AreOwnEntriesAt};
+ghost use Rattle.turn_callers.specs.Sessions.{IsReady, IsDone, AreReady, AreDone};
+ghost use Rattle.turn_callers.specs.Sessions.{IsNew, AreJournals, KeepReplies};
 
-use crate::orders::run_session;
 use crate::order::Order;
+use crate::orders::run_session;
 use crate::register::{Entry, Register};
 use crate::seats::{hand_out, stools, take_back};
 use crate::session::Session;
@@ -51,7 +53,7 @@ fn run_at<R: Wait>(
     session: &mut Session,
 )
     requires inside { i < length scripts.now }
-    requires places { All (λ s. All (λ o. o.place < length turns.now) s.items) scripts.now }
+    requires places { All (λ s. AreWithin (length turns.now) s.items) scripts.now }
     requires ready { (session.old.number ≡ i) × IsReady (map lock_id turns.now) (items_at scripts.now i) session.old }
     ensures { (session.new.number ≡ i) × IsDone (map lock_id turns.now) (items_at scripts.now i) session.new }
 {
@@ -67,7 +69,7 @@ fn run_all<R: Threads + Wait + Sync>(
     sessions: &mut [Session],
 )
     requires workers { 0 < workers }
-    requires places { All (λ s. All (λ o. o.place < length turns.now) s.items) scripts.now }
+    requires places { All (λ s. AreWithin (length turns.now) s.items) scripts.now }
     requires count { length sessions.old ≡ length scripts.now }
     requires ready { AreReady (map lock_id turns.now) scripts.now sessions.old }
     ensures { AreDone (map lock_id turns.now) scripts.now sessions.new }
@@ -90,8 +92,8 @@ fn close_all(
     requires new { All (IsNew (length sessions.old)) turns.items }
     requires done { AreDone (map lock_id turns.items) scripts.now sessions.old }
     ensures count { IfOk result (λ v. length v.items ≡ length turns.items) }
-    ensures journals { IfOk result (λ v. (j : ℕ) → j < length turns.items → IsJournal scripts.now sessions.old j (items_at v.items j)) }
-    ensures same { OnOk result ((q : ℕ) (d : _) → q < length sessions.old → (slice_index_or sessions.new q d).replies ≡ (slice_index_or sessions.old q d).replies) }
+    ensures journals { IfOk result (λ v. AreJournals scripts.now sessions.old (length turns.items) v.items) }
+    ensures same { OnOk result (KeepReplies sessions.old sessions.new) }
 {
     let Some(turn) = turns.pop() else {
         return Ok(Vec::new(alloc));
@@ -103,9 +105,9 @@ fn close_all(
     Ok(journals)
 }
 
-/// The journal of each register, and the replies of each caller.
+/// The journal of each register, and the replies of each caller, in the order of its script.
 #[derive(Drop)]
-pub struct Ran {
+pub struct ShelfRan {
     pub journals: Vec<Vec<Entry>>,
     pub replies: Vec<Vec<u64>>,
 }
@@ -148,7 +150,7 @@ fn run_each<R: Threads + Wait + Sync>(
     mut sessions: Vec<Session>,
 ) -> Vec<Session>
     requires workers { 0 < workers }
-    requires places { All (λ s. All (λ o. o.place < length turns.now) s.items) scripts.now }
+    requires places { All (λ s. AreWithin (length turns.now) s.items) scripts.now }
     requires count { length sessions.items ≡ length scripts.now }
     requires ready { AreReady (map lock_id turns.now) scripts.now sessions.items }
     ensures count { length result.items ≡ length scripts.now }
@@ -168,36 +170,40 @@ fn closed(
     requires new { All (IsNew (length sessions.items)) turns.items }
     requires done { AreDone (map lock_id turns.items) scripts.now sessions.items }
     ensures count { IfOk result (λ r. length r.0.items ≡ length turns.items) }
-    ensures journals { IfOk result (λ r. (j : ℕ) → j < length turns.items → IsJournal scripts.now sessions.items j (items_at r.0.items j)) }
+    ensures journals { IfOk result (λ r. AreJournals scripts.now sessions.items (length turns.items) r.0.items) }
     ensures kept { IfOk result (λ r. length r.1.items ≡ length sessions.items) }
-    ensures same { IfOk result (λ r. (q : ℕ) (d : _) → q < length sessions.items → (slice_index_or r.1.items q d).replies ≡ (slice_index_or sessions.items q d).replies) }
+    ensures same { IfOk result (λ r. KeepReplies sessions.items r.1.items) }
 {
     let journals = close_all(alloc, turns, scripts, sessions.as_mut_slice())?;
     Ok((journals, sessions))
 }
 
-/// Runs all scripts at once, each as a caller of registers that lie behind a lock each, in as many threads as there are workers.
-/// Each register's journal is one that a single thread could have made, and what each caller did there are its orders for this register, in order, with its replies.
+/// Runs all scripts at once, script `q` as caller `q` of registers that lie behind a lock each, in
+/// at most as many threads as there are workers.
+///
+/// Each register's journal is one that a single thread could have made (`legal`), and what each
+/// caller did there are its orders for this register, in order, with its replies (`replies`). No
+/// fact ties the order of one journal to that of another.
 pub fn run_shelf<R: Threads + Wait + Sync>(
     rt: &R,
     alloc: Global,
     scripts: &[Vec<Order>],
     places: usize,
     workers: usize,
-) -> Result<Ran, AllocError>
+) -> Result<ShelfRan, AllocError>
     requires workers { 0 < workers }
     requires few { length scripts.now < 2 ^ 32 }
     requires small { sum_by vec_len scripts.now < 2 ^ 32 }
-    requires places { All (λ s. All (λ o. o.place < places) s.items) scripts.now }
+    requires places { All (λ s. AreWithin places s.items) scripts.now }
     ensures count { IfOk result (λ r. length r.journals.items ≡ places) }
     ensures legal { IfOk result (λ r. (j : ℕ) → j < places → is_legal 0 (items_at r.journals.items j) ≡ true) }
-    ensures replies { IfOk result (λ r. (j q : ℕ) → j < places → q < length scripts.now → entries_by q (items_at r.journals.items j) ≡ made_at q j (items_at scripts.now q) (items_at r.replies.items q)) }
-    ensures each_answered { IfOk result (λ r. (q : ℕ) → q < length scripts.now → length (items_at r.replies.items q) ≡ length (items_at scripts.now q)) }
-    ensures no_other { IfOk result (λ r. (j q : ℕ) → j < places → length scripts.now ≤ q → entries_by q (items_at r.journals.items j) ≡ []) }
+    ensures replies { IfOk result (λ r. (j : ℕ) → j < places → AreOwnEntriesAt j scripts.now (items_at r.journals.items j) r.replies.items) }
+    ensures each_answered { IfOk result (λ r. AreAnswered scripts.now r.replies.items) }
+    ensures no_other { IfOk result (λ r. (j : ℕ) → j < places → HasNoOther (length scripts.now) (items_at r.journals.items j)) }
 {
     let (turns, ready) = shelved(alloc, scripts, places)?;
     let done = run_each(rt, turns.as_slice(), scripts, workers, ready);
     let (journals, sessions) = closed(alloc, turns, scripts, done)?;
     let replies = replies_of(alloc, sessions)?;
-    Ok(Ran { journals, replies })
+    Ok(ShelfRan { journals, replies })
 }

@@ -4,7 +4,8 @@ ghost use Rattle.std.specs.Prelude.{◌≡◌, ◌+◌, sum};
 use std::alloc::{AllocError, Global};
 use turn_lock::Parted;
 
-/// A caller's part of a tally: how many turns it has left, and how many there are in all. No value of it is made.
+/// A caller's part of a tally: how many turns it has left, and how many there are in all. No value
+/// of it is made.
 ///
 /// What all callers share may stand in a part where it never changes.
 pub struct Quota {

@@ -1,6 +1,9 @@
-//! What no clause says: that threads run at the same time, that each wait ends, and each public function once.
-use crate::{Call, Desk, Order, count_turns, finish, run_scripts, run_shelf};
-use crate::{ask_in_turn, stop_in_turn, wait_for_off};
+//! What no clause says: that threads run at the same time, that each wait ends, and each public
+//! function once.
+use crate::{
+    Call, Desk, Order, ask_in_turn, count_turns, finish, run_scripts, run_shelf, stop_in_turn,
+    wait_for_off,
+};
 use std::test::Fail;
 use turn_lock::Turn;
 

@@ -1,15 +1,16 @@
 //! One turn at a register.
-ghost use Rattle.std.specs.Prelude.{◌≡◌, ◌-◌, ◌<◌, [], ◌∷◌, ◌++◌, Some, None, IsSomeAnd};
-ghost use Rattle.turn_lock.specs.Passes.{lock_id, number_of, part_of, out_of, IsSamePass, IsOutside};
-ghost use Rattle.turn_callers.specs.declared.register.Share.{Share};
+ghost use Rattle.std.specs.Prelude.{◌≡◌, ◌<◌, None, IsSomeAnd};
+ghost use Rattle.turn_lock.specs.Passes.{lock_id, number_of, part_of, out_of};
+ghost use Rattle.turn_lock.specs.Passes.{IsSamePass, IsOutside, PartBecomes};
 ghost use Rattle.turn_callers.specs.Replay.{entry};
-ghost use Rattle.turn_callers.specs.Shares.{share};
+ghost use Rattle.turn_callers.specs.Shares.{with_entry};
 
 use crate::register::{Call, Register};
 use std::sync::Wait;
 use turn_lock::{Turn, TurnPass};
 
-/// Makes a call in the caller's turn. Its reply is that of one entry more, and the room is one less, whatever others did.
+/// Makes a call in the caller's turn. Its reply is that of one entry more, and the room is one
+/// less, whatever others did.
 pub fn make_in_turn<R: Wait>(
     rt: &R,
     turn: &Turn<Register>,
@@ -20,7 +21,7 @@ pub fn make_in_turn<R: Wait>(
     requires room { IsSomeAnd (part_of pass.old) (λ p. 0 < p.room) }
     ensures pass { IsSamePass pass.old pass.new }
     ensures outside { out_of pass.new ≡ None }
-    ensures part { (p : Share) → part_of pass.old ≡ Some p → part_of pass.new ≡ Some (share (p.entries ++ entry (number_of pass.old) call result ∷ []) (p.room - 1)) }
+    ensures part { PartBecomes (λ s. with_entry s (entry (number_of pass.old) call result)) pass.old pass.new }
 {
     let by = pass.number();
     let mut register = turn.enter(rt, pass);

@@ -1,5 +1,5 @@
 -- A journal that is one entry longer, and the entries of one caller in it. `by` says whose an entry is.
-use Rattle.std.proofs.Common.{◌≡◌, ◌≢◌, ℕ, List, [], ◌∷◌, ◌++◌, Bool, cond, sym, ap, ◌∙◌, eq-eqb, ne_eqb, append-nil}
+use Rattle.std.proofs.Common.{◌≡◌, ◌≢◌, ℕ, List, [], ◌∷◌, ◌++◌, Bool, cond, ap, ◌∙◌, eq-eqb, ne_eqb, append-nil}
 use Rattle.std.specs.Prelude.{◌==◌, filter}
 use Rattle.std.proofs.lemmas.List.Elements.{filter-append}
 

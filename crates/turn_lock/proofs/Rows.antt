@@ -1,5 +1,5 @@
 -- Passes in the order of their callers, and a caller's passes in the order of their locks.
-use Rattle.std.proofs.Common.{◌≡◌, ◌≢◌, ℕ, ◌+◌, ◌<◌, List, [], ◌∷◌, ◌++◌, length, length-append, length-set, get_or, set, map, refl, sym, ap, ◌∙◌, subst, arith, get_or-set_other, get_or-set_same}
+use Rattle.std.proofs.Common.{◌≡◌, ◌≢◌, ℕ, ◌<◌, List, [], ◌∷◌, ◌++◌, length, length-append, length-set, get_or, set, map, sym, ap, ◌∙◌, subst, arith, get_or-set_other, get_or-set_same}
 use Rattle.std.proofs.lemmas.List.{get_or-map}
 use Rattle.std.proofs.Math.ListN.{get_or-append}
 use Rattle.std.proofs.Math.Seq.{get_or-append_seam}
@@ -9,7 +9,7 @@ use Rattle.atomic_table.specs.Seated.{TableId}
 use Rattle.turn_lock.specs.declared.parted.Parted.{Ghosts}
 use Rattle.turn_lock.specs.declared.turn.Turn.{Turn}
 use Rattle.turn_lock.specs.declared.pass.TurnPass.{TurnPass}
-use Rattle.turn_lock.specs.Passes.{lock_id, number_of, HasEach}
+use Rattle.turn_lock.specs.Passes.{lock_id, number_of, AreInOrder, HasEach}
 use Rattle.turn_lock.specs.Rows.{IsPassOf, ArePassesOf}
 use Rattle.turn_lock.proofs.Places.{there}
 
@@ -19,7 +19,7 @@ lock_at turns j t e h is = get_or-map lock_id turns j t e h ∙ ap lock_id (sym 
 
 module _ {T D : Type 0} {g : Ghosts T D} where
   -- passes that stand by their numbers are those of each caller
-  pub has_each : (ps : List (TurnPass T D g)) → ((q : ℕ) (p : TurnPass T D g) → q < length ps → number_of (get_or ps q p) ≡ q) → HasEach (length ps) ps
+  pub has_each : (ps : List (TurnPass T D g)) → AreInOrder ps → HasEach (length ps) ps
   has_each ps order q h = let p = there ps q h in (q, p.0, h, p.1, ap (λ x. number_of x) (sym p.1) ∙ order q p.0 h)
 
   pub row_at : (locks : List TableId) (q : ℕ) (K : ℕ → D → Type 0) (ps : List (TurnPass T D g)) (j : ℕ) (p : TurnPass T D g) (lock : TableId)

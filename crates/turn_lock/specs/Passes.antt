@@ -51,6 +51,10 @@ module _ {T D : Type 0} {g : Ghosts T D} where
   abbrev pub Knows : T → TurnPass T D g → Type 0
   Knows x p = part_of p ≡ Some (g.part x (number_of p))
 
+  -- what it knows becomes f of what it knew
+  abbrev pub PartBecomes : (D → D) → TurnPass T D g → TurnPass T D g → Type 0
+  PartBecomes f p p' = (d : D) → part_of p ≡ Some d → part_of p' ≡ Some (f d)
+
   -- ---- all passes of a lock
 
   -- the pass of the caller q, as it begins: outside, and it knows this caller's part of x
@@ -60,6 +64,10 @@ module _ {T D : Type 0} {g : Ghosts T D} where
   -- each caller's pass stands at its number
   abbrev pub AreFresh : TableId → T → List (TurnPass T D g) → Type 0
   AreFresh lock x ps = (q : ℕ) (d : TurnPass T D g) → q < length ps → IsFresh lock x q (slice_index_or ps q d)
+
+  -- the passes stand by their numbers
+  abbrev pub AreInOrder : List (TurnPass T D g) → Type 0
+  AreInOrder ps = (q : ℕ) (p : TurnPass T D g) → q < length ps → number_of (slice_index_or ps q p) ≡ q
 
   -- for each number below n, its pass is among them
   abbrev pub HasEach : ℕ → List (TurnPass T D g) → Type 0

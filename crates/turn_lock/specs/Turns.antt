@@ -102,9 +102,17 @@ module _ {T D : Type 0} where
   abbrev pub inside : ℕ → D → T → Sat T D
   inside q d x = (Caller q d (Some x), (0, None) ∷ [])
 
+  -- this seat comes inside with x, its part of which is the one that it had
+  abbrev pub ComesInside : (T → ℕ → D) → ℕ → Sat T D → Sat T D → T → Type 0
+  ComesInside part q m m' x = (d : D) → m ≡ outside q d → (m' ≡ inside q d x) × (d ≡ part x q)
+
 -- y has the part of x for every caller but q
 abbrev pub KeepsOthers : {T D : Type 0} → (T → ℕ → D) → ℕ → T → T → Type 0
 KeepsOthers part q x y = (p : ℕ) → p ≢ q → part y p ≡ part x p
+
+-- this seat is inside, and y has the part of the value that it has in hand for every caller but q
+abbrev pub HasKept : {T D : Type 0} → (T → ℕ → D) → ℕ → Sat T D → T → Type 0
+HasKept {T} {D} part q m y = (d : D) × (x : T) × (m ≡ inside q d x) × KeepsOthers part q x y
 
 -- ---- the kinds of step
 

@@ -1,11 +1,14 @@
-//! How waiters sleep, and how a release wakes one of them. The bell stands beside the table, and no proof rests on it.
+//! How waiters sleep, and how a release wakes one of them. The bell stands beside the table, and no
+//! proof rests on it.
 use std::sync::Wait;
 use std::sync::atomic::AtomicU64;
 use std::sync::atomic::Ordering::SeqCst;
 
-// No wake is lost. Who is going to sleep reads the bell, counts itself, and only then looks at the lock's word. A release stores 0
-// there, and only then looks at the count. So where a release finds no one counted, the sleeper finds the turn free, or a later
-// holder, whose release finds it counted. Where the bell is rung before the sleeper sleeps, the sleeper finds another number there.
+// No wake is lost. Who is going to sleep reads the bell, counts itself, and only then looks at the
+// lock's word. A release stores 0 there, and only then looks at the count. So where a release finds
+// no one counted, the sleeper finds the turn free, or a later holder, whose release finds it
+// counted. Where the bell is rung before the sleeper sleeps, the sleeper finds another number
+// there.
 #[derive(Drop)]
 pub(crate) struct Bell {
     // How many wakes are owed: no fewer than threads sleep.
@@ -34,7 +37,8 @@ impl Bell {
         self.rings.park(rt, low_half(rings));
     }
 
-    // Wakes one thread, if any is counted. Where the count is changed meanwhile a wake too many stays owed, which harms no one.
+    // Wakes one thread, if any is counted. Where the count is changed meanwhile a wake too many
+    // stays owed, which harms no one.
     pub(crate) fn ring(&self) {
         let owed = self.owed.load(SeqCst);
         if owed == 0 {

@@ -8,8 +8,8 @@ use atomic_table::Seat;
 
 /// The right of one caller to take turns at one lock. It knows the caller's part of the value.
 ///
-/// In contracts: `lock_of` says which lock it is of, `number_of` which caller's it is, `part_of` what it knows, and `out_of` the value
-/// that was handed out, while the caller has the turn.
+/// In contracts: `lock_of` says which lock it is of, `number_of` which caller's it is, `part_of`
+/// what it knows, and `out_of` the value that was handed out, while the caller has the turn.
 #[derive(Drop)]
 pub struct TurnPass<T: Parted> {
     pub(crate) seat: Seat<Option<T>, Role<T, T::Part>>,
@@ -22,11 +22,12 @@ pub struct TurnPass<T: Parted> {
 impl<T: Parted> TurnPass<T> {
     ghost use Rattle.std.specs.Prelude.{Some, None};
     ghost use Rattle.turn_lock.specs.Turns.{outside};
-    ghost use Rattle.turn_lock.specs.Passes.{number_of, part_of, lock_of, out_of};
+    ghost use Rattle.turn_lock.specs.Passes.{number_of, part_of, lock_of, out_of, IsOutside};
 
     pub(crate) fn new(seat: Seated<T>, number: u32) -> TurnPass<T>
         requires { (d : T.Part) × (seat.me ≡ outside number d) }
-        ensures pass { (lock_of result ≡ seat.table_id) × (number_of result ≡ number) × (out_of result ≡ None) }
+        ensures pass { IsOutside seat.table_id result }
+        ensures number { number_of result ≡ number }
         ensures part { (d : T.Part) → seat.me ≡ outside number d → part_of result ≡ Some d }
     {
         TurnPass { seat, number }

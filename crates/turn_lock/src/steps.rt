@@ -1,6 +1,6 @@
 //! The two steps that change the word, each by a caller's seat.
 ghost use Rattle.std.specs.Prelude.{◌≡◌, ◌≢◌, ℕ, [], ◌∷◌, Some, None, IfOk, OnErr};
-ghost use Rattle.turn_lock.specs.Turns.{IsTurnTable, outside, inside, KeepsOthers};
+ghost use Rattle.turn_lock.specs.Turns.{IsTurnTable, outside, inside, ComesInside, HasKept};
 
 use crate::kinds::{TurnFree, TurnTake};
 use crate::parted::Parted;
@@ -15,7 +15,7 @@ pub(crate) fn turn_take<T: Parted>(
     requires table { (seat.old.table_id ≡ shared.now.table_id) × IsTurnTable shared.now.table_id }
     requires outside { (d : T.Part) × (seat.old.me ≡ outside number d) }
     ensures table { seat.new.table_id ≡ seat.old.table_id }
-    ensures took { IfOk result (λ x. (d : T.Part) → seat.old.me ≡ outside number d → (seat.new.me ≡ inside number d x) × (d ≡ T.part x number)) }
+    ensures took { IfOk result (λ x. ComesInside T.part number seat.old.me seat.new.me x) }
     ensures missed { OnErr result (seat.new.me ≡ seat.old.me) }
 {
     let found = shared.compare_exchange::<TurnTake>(seat, 0, 0, u64::from(number) + 1);
@@ -29,14 +29,9 @@ pub(crate) fn turn_take<T: Parted>(
 }
 
 // TurnFree: puts a value into the slot, and lets the turn go.
-pub(crate) fn turn_free<T: Parted>(
-    shared: &Shares<T>,
-    seat: &mut Seated<T>,
-    number: u32,
-    value: T,
-)
+pub(crate) fn turn_free<T: Parted>(shared: &Shares<T>, seat: &mut Seated<T>, number: u32, value: T)
     requires table { (seat.old.table_id ≡ shared.now.table_id) × IsTurnTable shared.now.table_id }
-    requires inside { (d : T.Part) × (x : T) × (seat.old.me ≡ inside number d x) × KeepsOthers T.part number x value }
+    requires inside { HasKept T.part number seat.old.me value }
     ensures table { seat.new.table_id ≡ seat.old.table_id }
     ensures outside { seat.new.me ≡ outside number (T.part value number) }
 {

@@ -1,6 +1,6 @@
 //! How a caller waits for its turn.
 ghost use Rattle.std.specs.Prelude.{◌≡◌, ◌<◌};
-ghost use Rattle.turn_lock.specs.Turns.{IsTurnTable, outside, inside};
+ghost use Rattle.turn_lock.specs.Turns.{IsTurnTable, outside, ComesInside};
 
 use crate::bell::Bell;
 use crate::parted::Parted;
@@ -23,7 +23,7 @@ pub(crate) fn wait<T: Parted, R: Wait>(
     requires table { (seat.old.table_id ≡ shared.now.table_id) × IsTurnTable shared.now.table_id }
     requires outside { (d : T.Part) × (seat.old.me ≡ outside number d) }
     ensures table { seat.new.table_id ≡ seat.old.table_id }
-    ensures inside { (d : T.Part) → seat.old.me ≡ outside number d → (seat.new.me ≡ inside number d result) × (d ≡ T.part result number) }
+    ensures inside { ComesInside T.part number seat.old.me seat.new.me result }
 {
     for _ in rt.forever() {
         if let Ok(value) = turn_take(shared, seat, number) {

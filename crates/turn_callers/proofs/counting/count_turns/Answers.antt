@@ -1,5 +1,5 @@
 use Rattle.std.proofs.Common.{◌≡◌, ◌<◌, length, ap, ◌∙◌, arith}
-use Rattle.turn_lock.specs.Passes.{lock_id, callers_of, first_of}
+use Rattle.turn_lock.specs.Passes.{lock_id, first_of}
 use Rattle.turn_lock.proofs.Rows.{has_each}
 use Rattle.turn_callers.proofs.Tallies.{all_counted}
 use Rattle.turn_callers.proofs.counting.count_turns.Goals as goal

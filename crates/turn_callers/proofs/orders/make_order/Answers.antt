@@ -1,10 +1,9 @@
-use Rattle.std.proofs.Common.{◌<◌, ℕ, ◌+◌, ◌-◌, ◌∷◌, [], ◌++◌, Some, length, map, ap, ◌∙◌, arith}
+use Rattle.std.proofs.Common.{◌<◌, ℕ, ◌+◌, ◌∷◌, [], ◌++◌, length, map, ap, ◌∙◌, arith}
 use Rattle.std.proofs.lemmas.List.{length-map}
 use Rattle.atomic_table.specs.Seated.{TableId}
 use Rattle.turn_lock.specs.Passes.{lock_id}
 use Rattle.turn_lock.proofs.Rows.{lock_at, row_at}
 use Rattle.turn_callers.specs.Replay.{entry}
-use Rattle.turn_callers.specs.Shares.{share}
 use Rattle.turn_callers.specs.Seats.{Has}
 use Rattle.turn_callers.proofs.Shelves.{has_room, seats_after}
 use Rattle.turn_callers.proofs.orders.make_order.Goals as goal

@@ -6,7 +6,7 @@ use Rattle.turn_callers.proofs.Closing.{all_answered, all_tied}
 use Rattle.turn_callers.proofs.shelf.run_shelf.Goals as goal
 
 pub returns-clause-replies : goal.returns-clause-replies
-returns-clause-replies g c = λ j q h i.
+returns-clause-replies g c = λ j h q i.
     let done = c.run_each-done.result.items in
     let near : q < length done = omega (arith, i, c.run_each-done.ensures.count) in
     all_tied c.args.scripts.now done c.in_ok-journals.sessions.items j q _ (c.in_ok-journals.ensures.journals j (omega (arith, h, c.in_ok-turns.ensures.places))) near c.in_ok-journals.ensures.kept c.in_ok-journals.ensures.same

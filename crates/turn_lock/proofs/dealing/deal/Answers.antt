@@ -25,5 +25,5 @@ loop-number-preserved g c =
       count = omega (arith, ap length items, length-append c.loop-number.passes.items (c.new.result ∷ []), i.count);
       fresh = subst (λ v. AreFresh {g = g.T.Parted} c.args.shared.now.table_id c.args.shared.now.key.value.value v) (sym items)
           (fresh_push c.args.shared.now.table_id c.args.shared.now.key.value.value c.loop-number.passes.items c.new.result i.fresh
-          (n.pass.0 ∙ s.3 ∙ i.table ∙ c.requires.table.0, n.pass.1 ∙ sym i.count, n.part (part c.args.shared.now.key.value.value c.loop-number.number) pass ∙ ap (λ (q : ℕ). Some (part c.args.shared.now.key.value.value q)) (sym i.count), n.pass.2));
+          (n.pass.0 ∙ s.3 ∙ i.table ∙ c.requires.table.0, n.number ∙ sym i.count, n.part (part c.args.shared.now.key.value.value c.loop-number.number) pass ∙ ap (λ (q : ℕ). Some (part c.args.shared.now.key.value.value q)) (sym i.count), n.pass.1));
     }
