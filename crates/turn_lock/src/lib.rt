@@ -46,10 +46,10 @@
 //!
 //! # The promises
 //!
-//! Words of specs/Passes.antt. `Knows x p`: the pass p knows its part of x. `AreFresh lock x ps`:
-//! pass q of ps is that of caller q, outside, and knows its part of x. `KeepsOthers part q x y`: y
-//! has the part of x for every caller but q. `HasEach n ps`: for each number below n, the pass of
-//! this number is among ps.
+//! Words of specs/Passes.antt and specs/Turns.antt. `Knows x p`: the pass p knows its part of x.
+//! `AreFresh lock x ps`: pass q of ps is that of caller q, outside, and knows its part of x.
+//! `KeepsOthers part q x y`: y has the part of x for every caller but q. `HasEach n ps`: for each
+//! number below n, the pass of this number is among ps.
 //!
 //! - `Turn::of`: the passes `AreFresh`, for the value given.
 //! - `enter`: the pass `Knows` the value that comes out (clause `part`).
