@@ -1,0 +1,10 @@
+pub mod Any
+pub mod Closing
+pub mod Ends
+pub mod Journal
+pub mod Passing
+pub mod Ready
+pub mod Scripts
+pub mod Shelves
+pub mod Tallies
+pub mod Told

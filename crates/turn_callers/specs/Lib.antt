@@ -1,0 +1,10 @@
+pub mod Counters
+pub mod Counts
+pub mod Orders
+pub mod Power
+pub mod Replay
+pub mod Scripts
+pub mod Seats
+pub mod Sessions
+pub mod Shares
+pub mod Stops

@@ -1,0 +1,19 @@
+-- Whether power is off, and what each caller did and was told.
+use Rattle.std.specs.Prelude.{ℕ, List, [], ◌∷◌, Bool, false, ◌||◌, not, slice_index_or}
+use Rattle.turn_callers.specs.declared.desk.Mine.{Mine}
+
+-- one of them is true
+abbrev pub any_of : List Bool → Bool
+any_of [] = false
+any_of (b ∷ bs) = b || any_of bs
+
+-- a caller was told that power is off only where it is
+abbrev pub told_only : Bool → List Bool → Bool
+told_only off told = off || not (any_of told)
+
+abbrev pub mine : Bool → Bool → Mine
+mine s t = record { stopped = s; told = t }
+
+-- what the caller q did, and what it was told
+abbrev pub mine_at : List Bool → List Bool → ℕ → Mine
+mine_at stopped told q = mine (slice_index_or stopped q false) (slice_index_or told q false)

@@ -1,0 +1,50 @@
+-- The register of one thread, and a journal of its calls.
+use Rattle.std.specs.Prelude.{◌≡◌, ℕ, ◌<◌, ◌≤◌, List, [], ◌∷◌, length, Bool, true, ◌&&◌, ◌==◌, filter, Vec}
+use Rattle.turn_lock.specs.Rows.{items_at}
+use Rattle.turn_callers.specs.declared.register.Call.{Call}
+use Rattle.turn_callers.specs.declared.register.Call.TheVariants.{Read, Write}
+use Rattle.turn_callers.specs.declared.register.Entry.{Entry}
+
+-- the value after a call
+abbrev pub value_after : ℕ → Call → ℕ
+value_after v Read = v
+value_after v (Write w) = w
+
+-- a call replies the value before it
+abbrev pub reply_of : ℕ → Call → ℕ
+reply_of v c = v
+
+-- the value after these entries, from v on
+abbrev pub value_of : ℕ → List Entry → ℕ
+value_of v [] = v
+value_of v (e ∷ es) = value_of (value_after v e.call) es
+
+-- each call replied what the register of one thread replies there, from the value v on
+abbrev pub is_legal : ℕ → List Entry → Bool
+is_legal v [] = true
+is_legal v (e ∷ es) = (e.reply == reply_of v e.call) && is_legal (value_after v e.call) es
+
+abbrev pub entry : ℕ → Call → ℕ → Entry
+entry q c r = record { by = q; call = c; reply = r }
+
+-- the entries of one caller, in their order
+abbrev pub entries_by : ℕ → List Entry → List Entry
+entries_by q es = filter (λ (e : Entry). e.by == q) es
+
+-- the entries of the caller q, where it made these calls and got these replies
+abbrev pub made : ℕ → List Call → List ℕ → List Entry
+made q [] rs = []
+made q (c ∷ cs) [] = []
+made q (c ∷ cs) (r ∷ rs) = entry q c r ∷ made q cs rs
+
+-- the journal has no entry of a number that is no caller's, where there are n
+abbrev pub HasNoOther : ℕ → List Entry → Type 0
+HasNoOther n es = (q : ℕ) → n ≤ q → entries_by q es ≡ []
+
+-- the entries of each caller are the calls of its script, in their order, with its replies
+abbrev pub AreOwnEntries : {Y Z : Type 0} → List (Vec Call Y) → List Entry → List (Vec ℕ Z) → Type 0
+AreOwnEntries scripts es replies = (q : ℕ) → q < length scripts → entries_by q es ≡ made q (items_at scripts q) (items_at replies q)
+
+-- each caller has as many replies as its script has calls
+abbrev pub AreAnswered : {X Y Z : Type 0} → List (Vec X Y) → List (Vec ℕ Z) → Type 0
+AreAnswered scripts replies = (q : ℕ) → q < length scripts → length (items_at replies q) ≡ length (items_at scripts q)

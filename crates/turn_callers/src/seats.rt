@@ -1,0 +1,83 @@
+//! How sessions get their passes, and give them back.
+ghost use Rattle.std.specs.Prelude.{◌≡◌, ◌^◌, ◌<◌, [], ◌∷◌, ◌++◌, length, OnOk, IfOk};
+ghost use Rattle.turn_callers.specs.Sessions.{AreReady, KeepRest, HaveOneMore, HadOneMore, HavePasses};
+
+use crate::order::Order;
+use crate::register::Register;
+use crate::session::Session;
+use std::alloc::{AllocError, Global};
+use turn_lock::TurnPass;
+
+// A session for each script, which has no pass yet.
+pub(crate) fn stools(alloc: Global, scripts: &[Vec<Order>]) -> Result<Vec<Session>, AllocError>
+    requires { length scripts.now < 2 ^ 32 }
+    ensures count { IfOk result (λ v. length v.items ≡ length scripts.now) }
+    ensures ready { IfOk result (λ v. AreReady [] scripts.now v.items) }
+{
+    let mut sessions = Vec::new(alloc);
+    for i in 0..scripts.len() {
+        let replies = Vec::with_capacity(alloc, scripts[i].len())?;
+        sessions.push(Session {
+            number: i as u32,
+            passes: Vec::new(alloc),
+            replies,
+        })?;
+    }
+    Ok(sessions)
+}
+
+// Gives the session a pass more.
+fn add(session: &mut Session, pass: TurnPass<Register>) -> Result<(), AllocError>
+    ensures passes { OnOk result (session.new.passes.items ≡ session.old.passes.items ++ pass ∷ []) }
+    ensures number { session.new.number ≡ session.old.number }
+    ensures replies { session.new.replies ≡ session.old.replies }
+{
+    session.passes.push(pass)?;
+    Ok(())
+}
+
+// Gives each session the pass of its number.
+pub(crate) fn hand_out(
+    sessions: &mut [Session],
+    mut passes: Vec<TurnPass<Register>>,
+) -> Result<(), AllocError>
+    requires { length passes.items ≡ length sessions.old }
+    ensures passes { OnOk result (HaveOneMore sessions.old passes.items sessions.new) }
+    ensures others { OnOk result (KeepRest sessions.old sessions.new) }
+{
+    while let Some(pass) = passes.pop() {
+        let at = passes.len();
+        add(&mut sessions[at], pass)?;
+    }
+    Ok(())
+}
+
+// Takes the last pass of the session.
+fn take_last(session: &mut Session) -> TurnPass<Register>
+    requires { 0 < length session.old.passes.items }
+    ensures passes { session.old.passes.items ≡ session.new.passes.items ++ result ∷ [] }
+    ensures number { session.new.number ≡ session.old.number }
+    ensures replies { session.new.replies ≡ session.old.replies }
+{
+    match session.passes.pop() {
+        Some(pass) => pass,
+        None => unreachable!(),
+    }
+}
+
+// Takes the last pass of each session.
+pub(crate) fn take_back(
+    alloc: Global,
+    sessions: &mut [Session],
+) -> Result<Vec<TurnPass<Register>>, AllocError>
+    requires { HavePasses sessions.old }
+    ensures count { IfOk result (λ v. length v.items ≡ length sessions.old) }
+    ensures passes { IfOk result (λ v. HadOneMore sessions.old v.items sessions.new) }
+    ensures others { OnOk result (KeepRest sessions.old sessions.new) }
+{
+    let mut passes = Vec::with_capacity(alloc, sessions.len())?;
+    for session in sessions {
+        passes.push(take_last(session))?;
+    }
+    Ok(passes)
+}

@@ -1,0 +1,76 @@
+//! The power switch behind a lock: turns at it, a wait for a condition, and a fact over several
+//! callers.
+ghost use Rattle.std.specs.Prelude.{◌≡◌, true, false, length, Some, None, IsTrue, All};
+ghost use Rattle.turn_lock.specs.Passes.{lock_id, callers_of, first_of, part_of, out_of};
+ghost use Rattle.turn_lock.specs.Passes.{IsSamePass, IsOutside, PartBecomes, AreInOrder};
+ghost use Rattle.turn_callers.specs.Power.{mine};
+ghost use Rattle.turn_callers.specs.Stops.{OneTold, OneStopped, NoOtherStopped};
+
+use crate::desk::Desk;
+use std::sync::Wait;
+use std::thread;
+use turn_lock::{Turn, TurnPass};
+
+/// Switches power off. False if the desk has no place for the caller.
+pub fn stop_in_turn<R: Wait>(rt: &R, turn: &Turn<Desk>, pass: &mut TurnPass<Desk>) -> bool
+    requires outside { IsOutside (lock_id turn.now) pass.old }
+    ensures pass { IsSamePass pass.old pass.new }
+    ensures outside { out_of pass.new ≡ None }
+    ensures stopped { IsTrue result → PartBecomes (λ m. mine true m.told) pass.old pass.new }
+{
+    let q = pass.number() as usize;
+    let mut desk = turn.enter(rt, pass);
+    let stopped = desk.stop(q);
+    turn.leave(pass, desk);
+    stopped
+}
+
+/// Asks whether power is off. `None` if the desk has no place for the caller.
+pub fn ask_in_turn<R: Wait>(rt: &R, turn: &Turn<Desk>, pass: &mut TurnPass<Desk>) -> Option<bool>
+    requires outside { IsOutside (lock_id turn.now) pass.old }
+    ensures pass { IsSamePass pass.old pass.new }
+    ensures outside { out_of pass.new ≡ None }
+    ensures told { result ≡ Some true → PartBecomes (λ m. mine m.stopped true) pass.old pass.new }
+    ensures not_told { result ≡ Some false → part_of pass.new ≡ part_of pass.old }
+{
+    let q = pass.number() as usize;
+    let mut desk = turn.enter(rt, pass);
+    let answer = desk.ask(q);
+    turn.leave(pass, desk);
+    answer
+}
+
+/// Asks until power is off. False if the desk has no place for the caller.
+///
+/// A turn is no condition variable, so a wait for a condition is one turn after another, and others
+/// have theirs in between.
+pub fn wait_for_off<R: Wait>(rt: &R, turn: &Turn<Desk>, pass: &mut TurnPass<Desk>) -> bool
+    requires outside { IsOutside (lock_id turn.now) pass.old }
+    ensures pass { IsSamePass pass.old pass.new }
+    ensures outside { out_of pass.new ≡ None }
+    ensures told { IsTrue result → PartBecomes (λ m. mine m.stopped true) pass.old pass.new }
+{
+    for _ in rt.forever() {
+        match ask_in_turn(rt, turn, pass) {
+            Some(true) => return true,
+            Some(false) => thread::yield_now(),
+            None => return false,
+        }
+    }
+    unreachable!()
+}
+
+/// Closes the lock. Where a pass says that its caller was told that power is off, some pass says
+/// that its caller stopped it.
+///
+/// The passes stand in the order of their callers, and when the lock was made no one but its
+/// callers had stopped the power.
+pub fn finish(turn: Turn<Desk>, passes: Vec<TurnPass<Desk>>) -> Desk
+    requires passes { All (λ p. IsOutside (lock_id turn) p) passes.items }
+    requires count { length passes.items ≡ callers_of turn }
+    requires order { AreInOrder passes.items }
+    requires first { NoOtherStopped (callers_of turn) (first_of turn) }
+    ensures { OneTold passes.items → OneStopped passes.items }
+{
+    turn.close(passes)
+}

@@ -1,0 +1,84 @@
+//! Turns that are counted: the least that callers can share.
+ghost use Rattle.std.specs.Prelude.{◌≡◌, ◌+◌, sum};
+
+use std::alloc::{AllocError, Global};
+use turn_lock::Parted;
+
+/// A caller's part of a tally: how many turns it has left, and how many there are in all. No value
+/// of it is made.
+///
+/// What all callers share may stand in a part where it never changes.
+pub struct Quota {
+    pub left: u64,
+    pub all: u64,
+}
+
+/// How many turns were taken.
+#[derive(Drop)]
+pub struct Tally {
+    turns: u64,
+    // How often the turn went from one caller to another.
+    changes: u64,
+    last: usize,
+    // The turns that each caller has left, and the turns of all when none was taken.
+    left: Vec<u64>,
+    all: u64,
+    ghost counted: { turns + sum left.items ≡ all },
+}
+
+impl Parted for Tally {
+    ghost use Rattle.turn_callers.specs.Counts.{quota_at};
+
+    type Part = Quota;
+
+    ghost part = { λ t q. quota_at t.left.items t.all q };
+}
+
+impl Tally {
+    ghost use Rattle.std.specs.Prelude.{◌≡◌, ◌*◌, ◌-◌, ◌^◌, ◌<◌, IfOk, replicate, slice_index, slice_set};
+
+    /// A tally of no turns yet, with so many left to each caller.
+    pub fn new(alloc: Global, callers: u32, each: u64) -> Result<Tally, AllocError>
+        requires { callers * each < 2 ^ 64 }
+        ensures left { IfOk result (λ t. t.left.items ≡ replicate callers each) }
+        ensures all { IfOk result (λ t. t.all ≡ callers * each) }
+    {
+        let all = u64::from(callers) * each;
+        Ok(Tally {
+            turns: 0,
+            changes: 0,
+            last: 0,
+            left: vec![in alloc; each; callers as usize]?,
+            all,
+        })
+    }
+
+    /// Counts a turn of a caller that has one left.
+    pub fn count(&mut self, by: usize)
+        requires { 0 < slice_index self.old.left.items by }
+        ensures left { self.new.left.items ≡ slice_set self.old.left.items by (slice_index self.old.left.items by - 1) }
+        ensures all { self.new.all ≡ self.old.all }
+    {
+        let left = self.left[by] - 1;
+        self.left[by] = left;
+        self.turns += 1;
+        if self.last != by {
+            self.last = by;
+            self.changes = self.changes.saturating_add(1);
+        }
+    }
+
+    /// How many turns were taken.
+    pub fn turns(&self) -> u64
+        ensures { result ≡ self.now.turns }
+    {
+        self.turns
+    }
+
+    /// How often the turn went from one caller to another.
+    pub fn changes(&self) -> u64
+        ensures { result ≡ self.now.changes }
+    {
+        self.changes
+    }
+}

@@ -1,0 +1,51 @@
+//! The table that the lock is: one word, one slot, and a seat for each pass.
+ghost use Rattle.std.specs.Prelude.{ℕ};
+
+use crate::parted::Parted;
+use atomic_table::{Seat, Shared, Table, TableRule};
+use std::alloc::Global;
+use std::collections::LinkedList;
+use std::snapshot::Snapshot;
+
+/// What a seat at the table knows. No value of it is ever made.
+pub enum Role<T, D> {
+    /// Nothing: its pass was handed in.
+    Spent,
+    /// How many passes were made, and the value that the lock began with.
+    Dealer(u64, T),
+    /// A caller's number, its part, and the value while the caller has it.
+    Caller(u64, D, Option<T>),
+    /// The numbers of the passes that were handed in, each with its part.
+    Keeper(LinkedList<(u64, D)>),
+}
+
+/// What the table is told when it is made: the first value, and how many callers there are.
+#[derive(Drop)]
+pub struct Start<T> {
+    pub value: Snapshot<T>,
+    pub callers: u32,
+}
+
+/// The rule that every step keeps: `Turning` of specs/Turns.antt.
+pub struct Law;
+
+impl<T: Parted> TableRule<Option<T>, Role<T, T::Part>, Start<T>> for Law {
+    ghost use Rattle.turn_lock.specs.Turns.{Turning};
+    ghost use Rattle.turn_lock.specs.declared.table.Role.TheVariants.{Dealer};
+
+    ghost holds = { λ k. Turning T.part k.callers k.value.value };
+
+    ghost first = { λ k. Dealer 0 k.value.value };
+}
+
+pub(crate) type Seated<T> = Seat<Option<T>, Role<T, <T as Parted>::Part>>;
+
+pub(crate) type Shares<T> = Shared<Option<T>, Role<T, <T as Parted>::Part>, Start<T>, Law>;
+
+pub(crate) type TurnTable<T> = Table<
+    Option<T>,
+    Role<T, <T as Parted>::Part>,
+    Start<T>,
+    Law,
+    Global,
+>;
