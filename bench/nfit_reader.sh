@@ -1,6 +1,7 @@
 #!/bin/sh
-# Times read_nfit on tables of 64 KiB to 1 MiB. "apart": the mappings of one module share no bytes. "meeting": each
-# mapping of a module shares its bytes with all others of it, so the first pair is named.
+# Times read_nfit on tables of 64 KiB to 1 MiB. "apart": the mappings of one module share no bytes. "piled":
+# all mappings are into one region, and those of one module share all their bytes, so that each pair is looked at.
+# Each figure is the best of seven.
 set -e
 top=$(cd "$(dirname "$0")/.." && pwd)
 copy=$(mktemp -d)

@@ -69,7 +69,8 @@ fn alias_in(extents: &[Extent]) -> Option<NfitFault>
     None
 }
 
-/// Whether an extent is of a module before another's, or ends before the other of its module starts.
+/// Whether an extent is of a module before another's, or ends before the other of its module
+/// starts.
 #[tactic(auto, unfolding(crate::specs::Apart::is_before))]
 fn is_before(a: Extent, b: Extent) -> bool
     ensures { result ≡ is_before a b }
@@ -89,8 +90,8 @@ fn stand_apart(sorted: &[Extent]) -> bool
     true
 }
 
-/// Whether no two extents of one module meet, seen in the order of n log n steps. Where it isn't so, each
-/// pair must be looked at.
+/// Whether no two extents of one module meet, seen in the order of n log n steps. Where it isn't
+/// so, each pair must be looked at.
 fn is_apart(alloc: Global, extents: &[Extent]) -> Result<bool, AllocError>
     ensures { IfOk result (λ apart. IsTrue apart → alias_in extents.now ≡ None) }
 {
@@ -131,8 +132,8 @@ fn extent_of(
     places: &BTreeMap<u32, u32>,
     link: Link,
 ) -> Option<Extent>
-    ensures { (structures : List Structure) → IsNumbered numbers.now structures → IsPlaced places.now structures →
-        result ≡ extent_of structures link }
+    ensures { (structures : List Structure) → IsNumbered numbers.now structures →
+        IsPlaced places.now structures → result ≡ extent_of structures link }
 {
     let region = places.get(&u32::from(link.range)).copied()?;
     Some(Extent {
@@ -151,7 +152,8 @@ pub(crate) fn extents_of(
     links: &[Link],
 ) -> Result<Items<Extent>, AllocError>
     requires { length regions.now < 2 ^ 32 }
-    ensures { (structures : List Structure) → IsNumbered numbers.now structures → regions.now ≡ regions_of structures →
+    ensures { (structures : List Structure) → IsNumbered numbers.now structures →
+        regions.now ≡ regions_of structures →
         IfOk result (λ extents. extents ≡ filter_map (extent_of structures) links.now) }
 {
     let places = region_numbers(alloc, regions)?;

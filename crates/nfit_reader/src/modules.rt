@@ -29,7 +29,8 @@ pub(crate) fn modules_of(alloc: Global, links: &[Link]) -> Result<Items<u32>, Al
 /// The first place of each key in a list.
 pub(crate) fn places_of(alloc: Global, keys: &[u32]) -> Result<BTreeMap<u32, u32>, AllocError>
     requires { length keys.now < 2 ^ 32 }
-    ensures { IfOk result (λ places. (key : ℕ) → tree.get nat_cmp places key ≡ place_of key keys.now) }
+    ensures { IfOk result (λ places. (key : ℕ) →
+        tree.get nat_cmp places key ≡ place_of key keys.now) }
 {
     let mut places = BTreeMap::new(alloc);
     for (place, key) in keys.iter().enumerate() {

@@ -45,7 +45,8 @@ impl Names {
         }
     }
 
-    /// Adds a structure that stands before all others. The fault is there if its name is one of theirs.
+    /// Adds a structure that stands before all others. The fault is there if its name is one of
+    /// theirs.
     fn add(&mut self, structure: Structure) -> Result<Option<NfitFault>, AllocError>
         ensures named { (rest : List Structure) → IsNamed self.old rest →
             OnOk result (IsNamed self.new (structure ∷ rest)) }
@@ -160,8 +161,8 @@ fn is_persistent(range: Option<Range>) -> bool
     }
 }
 
-/// The structures by index, and the first of them whose type and index stand again further on. It goes
-/// over the structures from the last to the first.
+/// The structures by index, and the first of them whose type and index stand again further on. It
+/// goes over the structures from the last to the first.
 pub(crate) fn named(
     alloc: Global,
     structures: Items<Structure>,

@@ -17,21 +17,24 @@ use std::alloc::Global;
 /// The most modules that a table may have: this project's rule.
 const MODULES: usize = 64;
 
-/// Reads a table: its modules and regions, or the first fault that holds, in the order of `NfitFault`.
+/// Reads a table: its modules and regions, or the first fault that holds, in the order of
+/// `NfitFault`.
 ///
-/// `bytes` may go on past the table's Length; what stands there is ignored. `OutOfMemory` can come in the
-/// place of any answer, and of no other fault. Nothing is kept from one call to the next.
+/// `bytes` may go on past the table's Length; what stands there is ignored. `OutOfMemory` may
+/// come in place of any other answer, where memory was refused. Nothing is kept between calls.
 ///
-/// - `Signature`, `Length`, `Checksum`: of the header (ACPI 6.5, section 5.2.25). A byte of the Length field
-///   that isn't there counts as zero.
-/// - `Structure`: the first place, in bytes from the table's start, where no whole structure stands.
+/// - `Signature`, `Length`, `Checksum`: of the header (ACPI 6.5, section 5.2.25). A byte of the
+///   Length field that isn't there counts as zero.
+/// - `Structure`: the first place, in bytes from the table's start, where no whole structure
+///   stands.
 /// - `TwiceIndex`: the first structure whose type and index stand again further on.
-/// - `MissingIndex`: the first mapping that names what isn't there; in one mapping first its range (unless the
-///   index is 0), then, if that is persistent memory, its control region and its interleave structure (unless
-///   the index is 0).
+/// - `MissingIndex`: the first mapping that names what isn't there; in one mapping first its range
+///   (unless the index is 0), then, if that is persistent memory, its control region and its
+///   interleave structure (unless the index is 0).
 /// - `TooLarge`: more than 64 device handles, which is this project's rule.
-/// - `Alias`: of the pairs of mappings of one module into two regions that share bytes of the module the
-///   least by place in the table; `a` is the region of the earlier mapping. This project's rule.
+/// - `Alias`: of the pairs of mappings of one module into two regions that share bytes of the
+///   module the least by place in the table; `a` is the region of the earlier mapping. This
+///   project's rule.
 #[tactic(auto, using(crate::proofs::Readings::readings))]
 pub fn read_nfit(alloc: Global, bytes: &[u8]) -> Result<Nfit, NfitFault>
     ensures { Answers NfitFault.OutOfMemory result (nfit_reading bytes.now) }
@@ -71,9 +74,10 @@ fn nfit_of(
 ) -> Result<Nfit, NfitFault>
     requires few_ranges { length ranges.now < 2 ^ 32 }
     requires few_links { length links.now < 2 ^ 32 }
-    ensures { (structures : List Structure) → IsNamed names.now structures → ranges.now ≡ ranges_of structures →
-        links.now ≡ links_of structures → Answers NfitFault.OutOfMemory result
-        (value_unless (nfit_of structures) (first_fault (too_large structures ∷ aliasing structures ∷ []))) }
+    ensures { (structures : List Structure) → IsNamed names.now structures →
+        ranges.now ≡ ranges_of structures → links.now ≡ links_of structures →
+        Answers NfitFault.OutOfMemory result (value_unless (nfit_of structures)
+        (first_fault (too_large structures ∷ aliasing structures ∷ []))) }
 {
     let modules = modules_of(alloc, links)?;
     if MODULES < modules.len() {

@@ -70,7 +70,8 @@ fn mapping_of(
     numbers: &BTreeMap<u32, u32>,
     link: Link,
 ) -> Result<Mapping, AllocError>
-    ensures { (structures : List Structure) → IsNamed names.now structures → IsNumbered numbers.now structures →
+    ensures { (structures : List Structure) → IsNamed names.now structures →
+        IsNumbered numbers.now structures →
         IfOk result (λ mapping. mapping ≡ mapping_of structures link) }
 {
     let lines = lines_of(alloc, names, link.interleave)?;
@@ -127,7 +128,8 @@ fn region_where(
     group: &[Link],
     range: Range,
 ) -> Result<Option<Region>, AllocError>
-    ensures { (structures : List Structure) → IsNamed names.now structures → IsNumbered numbers.now structures →
+    ensures { (structures : List Structure) → IsNamed names.now structures →
+        IsNumbered numbers.now structures →
         group.now ≡ links_into structures range.index →
         IfOk result (λ region. region ≡ region_where structures range) }
 {
@@ -149,7 +151,8 @@ fn mappings_of(
     numbers: &BTreeMap<u32, u32>,
     group: &[Link],
 ) -> Result<Items<Mapping>, AllocError>
-    ensures { (structures : List Structure) → IsNamed names.now structures → IsNumbered numbers.now structures →
+    ensures { (structures : List Structure) → IsNamed names.now structures →
+        IsNumbered numbers.now structures →
         IfOk result (λ mappings. mappings ≡ map (mapping_of structures) group.now) }
 {
     let mut mappings = Items::new(alloc);
@@ -188,7 +191,8 @@ pub(crate) fn regions_of(
     links: &[Link],
 ) -> Result<Items<Region>, AllocError>
     ensures regions { (structures : List Structure) → IsNamed names.now structures →
-        IsNumbered numbers.now structures → ranges.now ≡ ranges_of structures → links.now ≡ links_of structures →
+        IsNumbered numbers.now structures → ranges.now ≡ ranges_of structures →
+        links.now ≡ links_of structures →
         IfOk result (λ regions. regions ≡ regions_of structures) }
     ensures few { IfOk result (λ regions. length regions ≤ length ranges.now) }
 {

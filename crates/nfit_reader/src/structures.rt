@@ -1,4 +1,5 @@
-//! The structures of the table, each read as its type says (ACPI 6.5, sections 5.2.25.2 to 5.2.25.6).
+//! The structures of the table, each read as its type says (ACPI 6.5, sections 5.2.25.2 to
+//! 5.2.25.6).
 
 ghost use Rattle.std.specs.Prelude.{◌≡◌, ◌+◌, ◌*◌, ◌≤◌, length, IfOk, drop, IsTrue};
 ghost use Rattle.std.specs.Int.{w16, w32};
@@ -81,7 +82,8 @@ pub(crate) struct Link {
 pub(crate) struct Interleave {
     /// Interleave Structure Index, u16 at 4.
     pub index: u16,
-    /// Number of Lines Described, u32 at 8; Line Size, u32 at 12; from 16 on a Line Offset, u32, for each.
+    /// Number of Lines Described, u32 at 8; Line Size, u32 at 12; from 16 on a Line Offset, u32,
+    /// for each.
     pub lines: Lines,
 }
 
@@ -90,8 +92,8 @@ pub(crate) struct Interleave {
 pub(crate) struct Control {
     /// NVDIMM Control Region Structure Index, u16 at 4.
     pub index: u16,
-    /// Vendor ID, u16 at 6; Manufacturing Location, u8 at 19; Manufacturing Date, u16 at 20; Serial Number,
-    /// u32 at 24.
+    /// Vendor ID, u16 at 6; Manufacturing Location, u8 at 19; Manufacturing Date, u16 at 20; Serial
+    /// Number, u32 at 24.
     pub identity: Identity,
 }
 

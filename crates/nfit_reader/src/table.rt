@@ -73,12 +73,14 @@ pub struct Identity {
 pub enum NfitFault {
     /// The first four bytes aren't `NFIT`.
     Signature,
-    /// There are fewer bytes than the Length field says, or it says fewer than the 40 of the header.
+    /// There are fewer bytes than the Length field says, or it says fewer than the 40 of the
+    /// header.
     Length { said: u32, had: u64 },
     /// The bytes up to Length add up to this modulo 256, and not to 0.
     Checksum { sum: u8 },
-    /// At this byte no whole structure stands: fewer than four bytes are left, or its Length is less
-    /// than its type needs or passes the table's end, or it is an interleave structure with no lines.
+    /// At this byte no whole structure stands: fewer than four bytes are left, or its Length is
+    /// less than its type needs or passes the table's end, or it is an interleave structure with no
+    /// lines.
     Structure { at: u64 },
     /// Two structures of one type (0 range, 2 interleave, 4 control region) have this index.
     TwiceIndex { kind: u16, index: u16 },

@@ -48,8 +48,8 @@ fn one(alloc: Global, kind: u64, len: u64, zeros: u8) -> Result<Table, AllocErro
     Ok(table)
 }
 
-/// A Length below 4, below the type's least, past the end; an interleave structure with no lines, or
-/// without room for them, also where its index is 0.
+/// A Length below 4, below the type's least, past the end; an interleave structure with no lines,
+/// or without room for them, also where its index is 0.
 #[test]
 fn broken_structures(rt: HostRuntime) -> Result<(), AllocError> {
     let alloc = rt.alloc();
@@ -105,8 +105,8 @@ fn doubled_indices(rt: HostRuntime) -> Result<(), AllocError> {
     Ok(())
 }
 
-/// The first mapping counts, and in it range, control region, interleave structure. A mapping with range
-/// index 0, or into other memory, needs none of them.
+/// The first mapping counts, and in it range, control region, interleave structure. A mapping with
+/// range index 0, or into other memory, needs none of them.
 #[test]
 fn missing_indices(rt: HostRuntime) -> Result<(), AllocError> {
     let alloc = rt.alloc();

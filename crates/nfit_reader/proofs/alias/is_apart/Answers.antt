@@ -1,4 +1,4 @@
-use Rattle.std.proofs.Common.{sym, ap, subst, ◌∙◌}
+use Rattle.std.proofs.Common.{subst}
 use Rattle.std.specs.List.Sorted.{IsPermutation}
 use Rattle.nfit_reader.specs.Apart.{StandApart}
 use Rattle.nfit_reader.proofs.Apart.{apart_none}
