@@ -8,6 +8,8 @@ use turn_lock::Parted;
 /// A caller's part of the desk: whether it stopped the power, and whether it was told that power is
 /// off. No value of it is made.
 pub struct Mine {
+    /// Whether the desk has a place for the caller.
+    pub placed: bool,
     pub stopped: bool,
     pub told: bool,
 }
