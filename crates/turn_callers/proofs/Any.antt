@@ -1,8 +1,6 @@
 -- Lists of tests.
 use Rattle.std.proofs.Common.{◌≡◌, ℕ, zero, suc, ◌<◌, List, [], ◌∷◌, length, set, get_or, Bool, true, false, refl, arith}
-use Rattle.std.specs.Prelude.{not, replicate, ◌&&◌}
-use Rattle.std.proofs.lemmas.Bool.{ltb-true}
-use Rattle.std.proofs.Math.Dec.{ltb}
+use Rattle.std.specs.Prelude.{not, replicate}
 use Rattle.turn_callers.specs.Power.{any_of, told_only}
 
 pub any_set : (xs : List Bool) (i : ℕ) → i < length xs → any_of (set xs i true) ≡ true
@@ -34,15 +32,3 @@ off_if_told false told q rule e = no_told (any_of told) rule (any_at told q e)
 pub none_of : (n : ℕ) → any_of (replicate n false) ≡ false
 none_of zero = refl
 none_of (suc n) = none_of n
-
-both : (a b : Bool) → (a && b) ≡ true → (a ≡ true) × (b ≡ true)
-both true b h = (refl, h)
-both false b h = cc
-
--- the places that a part tells of
-pub placed_in : (q m n : ℕ) → (ltb q m && ltb q n) ≡ true → (q < m) × (q < n)
-placed_in q m n h = let t = both (ltb q m) (ltb q n) h in (ltb-true q m t.0, ltb-true q n t.1)
-
-pub not_false : (b : Bool) → (b ≡ false → ⊥) → b ≡ true
-not_false true h = refl
-not_false false h = absurd (h refl)

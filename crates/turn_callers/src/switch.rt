@@ -26,13 +26,16 @@ pub fn stop_in_turn<R: Wait>(rt: &R, turn: &Turn<Desk>, pass: &mut TurnPass<Desk
     stopped
 }
 
-/// Asks whether power is off. `None` if the desk has no place for the caller.
+/// Asks whether power is off. `None` if the desk has no place for the caller. One that stopped the
+/// power itself doesn't hear that it is on.
+#[tactic(auto, using(crate::proofs::Any::any_at))]
 pub fn ask_in_turn<R: Wait>(rt: &R, turn: &Turn<Desk>, pass: &mut TurnPass<Desk>) -> Option<bool>
     requires outside { IsOutside (lock_id turn.now) pass.old }
     ensures pass { IsSamePass pass.old pass.new }
     ensures outside { out_of pass.new ≡ None }
     ensures told { result ≡ Some true → PartBecomes (λ m. mine m.placed m.stopped true) pass.old pass.new }
     ensures placed { IsSomeAnd (part_of pass.old) (λ m. m.placed ≡ true) → result ≢ None }
+    ensures own { IsSomeAnd (part_of pass.old) (λ m. m.stopped ≡ true) → result ≢ Some false }
     ensures not_told { result ≡ Some false → part_of pass.new ≡ part_of pass.old }
 {
     let q = pass.number() as usize;
