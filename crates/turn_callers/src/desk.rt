@@ -8,6 +8,8 @@ use turn_lock::Parted;
 /// A caller's part of the desk: whether it stopped the power, and whether it was told that power is
 /// off. No value of it is made.
 pub struct Mine {
+    /// Whether the desk has a place for the caller.
+    pub placed: bool,
     pub stopped: bool,
     pub told: bool,
 }
@@ -36,7 +38,7 @@ impl Parted for Desk {
 }
 
 impl Desk {
-    ghost use Rattle.std.specs.Prelude.{◌≡◌, ◌≢◌, ◌<◌, true, false, length, Some, IfOk, IsTrue, slice_set, replicate};
+    ghost use Rattle.std.specs.Prelude.{◌≡◌, ◌≢◌, ◌<◌, ◌≤◌, true, false, length, Some, None, IfOk, IfSome, IsTrue, slice_set, replicate};
 
     /// A desk with a place for each caller. Power is on.
     pub fn new(alloc: Global, callers: u32) -> Result<Desk, AllocError>
@@ -54,6 +56,7 @@ impl Desk {
         ensures yes { IsTrue result → (q < length self.old.stopped.items) × (self.new.stopped.items ≡ slice_set self.old.stopped.items q true) }
         ensures no { result ≡ false → self.new.stopped.items ≡ self.old.stopped.items }
         ensures told { self.new.told.items ≡ self.old.told.items }
+        ensures refused { result ≡ false → length self.old.stopped.items ≤ q }
     {
         if q >= self.stopped.len() {
             return false;
@@ -69,6 +72,8 @@ impl Desk {
         ensures stopped { self.new.stopped.items ≡ self.old.stopped.items }
         ensures yes { result ≡ Some true → (q < length self.old.told.items) × (self.new.told.items ≡ slice_set self.old.told.items q true) }
         ensures no { result ≢ Some true → self.new.told.items ≡ self.old.told.items }
+        ensures answer { IfSome result (λ off. off ≡ any_of self.old.stopped.items) }
+        ensures refused { result ≡ None → length self.old.told.items ≤ q }
     {
         if q >= self.told.len() {
             return None;

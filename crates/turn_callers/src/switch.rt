@@ -1,6 +1,6 @@
 //! The power switch behind a lock: turns at it, a wait for a condition, and a fact over several
 //! callers.
-ghost use Rattle.std.specs.Prelude.{◌≡◌, true, false, length, Some, None, IsTrue, All};
+ghost use Rattle.std.specs.Prelude.{◌≡◌, ◌≢◌, true, false, length, Some, None, IsTrue, IsSomeAnd, All};
 ghost use Rattle.turn_lock.specs.Passes.{lock_id, callers_of, first_of, part_of, out_of};
 ghost use Rattle.turn_lock.specs.Passes.{IsSamePass, IsOutside, PartBecomes, AreInOrder};
 ghost use Rattle.turn_callers.specs.Power.{mine};
@@ -16,7 +16,8 @@ pub fn stop_in_turn<R: Wait>(rt: &R, turn: &Turn<Desk>, pass: &mut TurnPass<Desk
     requires outside { IsOutside (lock_id turn.now) pass.old }
     ensures pass { IsSamePass pass.old pass.new }
     ensures outside { out_of pass.new ≡ None }
-    ensures stopped { IsTrue result → PartBecomes (λ m. mine true m.told) pass.old pass.new }
+    ensures stopped { IsTrue result → PartBecomes (λ m. mine m.placed true m.told) pass.old pass.new }
+    ensures placed { IsSomeAnd (part_of pass.old) (λ m. m.placed ≡ true) → IsTrue result }
 {
     let q = pass.number() as usize;
     let mut desk = turn.enter(rt, pass);
@@ -25,12 +26,16 @@ pub fn stop_in_turn<R: Wait>(rt: &R, turn: &Turn<Desk>, pass: &mut TurnPass<Desk
     stopped
 }
 
-/// Asks whether power is off. `None` if the desk has no place for the caller.
+/// Asks whether power is off. `None` if the desk has no place for the caller. One that stopped the
+/// power itself doesn't hear that it is on.
+#[tactic(auto, using(crate::proofs::Any::any_at))]
 pub fn ask_in_turn<R: Wait>(rt: &R, turn: &Turn<Desk>, pass: &mut TurnPass<Desk>) -> Option<bool>
     requires outside { IsOutside (lock_id turn.now) pass.old }
     ensures pass { IsSamePass pass.old pass.new }
     ensures outside { out_of pass.new ≡ None }
-    ensures told { result ≡ Some true → PartBecomes (λ m. mine m.stopped true) pass.old pass.new }
+    ensures told { result ≡ Some true → PartBecomes (λ m. mine m.placed m.stopped true) pass.old pass.new }
+    ensures placed { IsSomeAnd (part_of pass.old) (λ m. m.placed ≡ true) → result ≢ None }
+    ensures own { IsSomeAnd (part_of pass.old) (λ m. m.stopped ≡ true) → result ≢ Some false }
     ensures not_told { result ≡ Some false → part_of pass.new ≡ part_of pass.old }
 {
     let q = pass.number() as usize;
@@ -48,7 +53,8 @@ pub fn wait_for_off<R: Wait>(rt: &R, turn: &Turn<Desk>, pass: &mut TurnPass<Desk
     requires outside { IsOutside (lock_id turn.now) pass.old }
     ensures pass { IsSamePass pass.old pass.new }
     ensures outside { out_of pass.new ≡ None }
-    ensures told { IsTrue result → PartBecomes (λ m. mine m.stopped true) pass.old pass.new }
+    ensures told { IsTrue result → PartBecomes (λ m. mine m.placed m.stopped true) pass.old pass.new }
+    ensures placed { IsSomeAnd (part_of pass.old) (λ m. m.placed ≡ true) → IsTrue result }
 {
     for _ in rt.forever() {
         match ask_in_turn(rt, turn, pass) {
