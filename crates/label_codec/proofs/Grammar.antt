@@ -49,13 +49,13 @@ or_parts false y e = (refl, e)
 -- ---- the sizes
 
 -- the sizes that a label may have
-record AreSizes (dpa raw : ℕ) : Type 0 where
-  dpa_whole : dpa % 4096 ≡ 0
-  raw_whole : raw % 4096 ≡ 0
-  raw_some : 1 ≤ raw
-  raw_ends : dpa + raw ≤ 2 ^ 63
+pub record AreSizes (dpa raw : ℕ) : Type 0 where
+  pub dpa_whole : dpa % 4096 ≡ 0
+  pub raw_whole : raw % 4096 ≡ 0
+  pub raw_some : 1 ≤ raw
+  pub raw_ends : dpa + raw ≤ 2 ^ 63
 
-sizes_by : (dpa raw : ℕ) → size_fault_of dpa raw ≡ None → AreSizes dpa raw
+pub sizes_by : (dpa raw : ℕ) → size_fault_of dpa raw ≡ None → AreSizes dpa raw
 unfolding size_fault_of
 sizes_by dpa raw e =
     elim (cases_Bool (not (eqb (dpa % 4096) 0))) [
@@ -75,7 +75,7 @@ sizes_by dpa raw e =
           ]
     ]
 
-sizes_test : (dpa raw : ℕ) → AreSizes dpa raw → size_fault_of dpa raw ≡ None
+pub sizes_test : (dpa raw : ℕ) → AreSizes dpa raw → size_fault_of dpa raw ≡ None
 unfolding size_fault_of
 sizes_test dpa raw ok =
     rw (eq-eqb (dpa % 4096) 0 ok.dpa_whole, eq-eqb (raw % 4096) 0 ok.raw_whole, ne_eqb raw 0 (λ e. omega (arith, ok.raw_some)), le-ltb (2 ^ 63) (dpa + raw) ok.raw_ends) refl
@@ -92,7 +92,7 @@ summed_test bytes e = eq-eqb (number_at w64 bytes 248) (fletcher64_of (without_e
 
 -- ---- both directions
 
-reads_grammar : (bytes : List ℕ) (number : ℕ) (l : Label) → label_reading bytes number ≡ Ok l → StandsFor bytes number l
+pub reads_grammar : (bytes : List ℕ) (number : ℕ) (l : Label) → label_reading bytes number ≡ Ok l → StandsFor bytes number l
 unfolding label_of
 reads_grammar bytes number l e =
     let value : Label = label_of bytes in
@@ -129,7 +129,7 @@ reads_grammar bytes number l e =
       spa_cookie = ap (λ (x : Label). x.spa_cookie) same;
     }
 
-label_is : (bytes : List ℕ) (number : ℕ) (l : Label) → StandsFor bytes number l → label_of bytes ≡ l
+pub label_is : (bytes : List ℕ) (number : ℕ) (l : Label) → StandsFor bytes number l → label_of bytes ≡ l
 unfolding label_of
 label_is bytes number l ok =
     let p0 = sym ok.uuid in let p1 = sym ok.name in let p2 = sym ok.flags in let p3 = sym ok.count in let p4 = sym ok.position in let p5 = sym ok.cookie in

@@ -1,2 +1,6 @@
 pub mod Grammar
-pub mod Rows
+pub mod Spelled
+pub mod OneSpelling
+pub mod Laws
+mod Written
+mod Rows

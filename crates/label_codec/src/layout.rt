@@ -43,8 +43,11 @@ pub(crate) const KIND_AT: usize = 128;
 /// AddressAbstractionGuid, 16 bytes in GUID order.
 pub(crate) const ABSTRACTION_AT: usize = 144;
 
-/// SPALocationCookie, 8 bytes. Eighty reserved bytes follow: any when read, zero when written.
+/// SPALocationCookie, 8 bytes.
 pub(crate) const SPA_COOKIE_AT: usize = 160;
+
+/// Eighty reserved bytes: any when read, zero when written.
+pub(crate) const RESERVED_AT: usize = 168;
 
 /// Checksum, 8 bytes: Fletcher64 of the 256 bytes with this field as zero.
 pub(crate) const CHECKSUM_AT: usize = 248;

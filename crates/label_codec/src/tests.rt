@@ -71,3 +71,41 @@ fn damage_is_named(rt: HostRuntime) {
         );
     }
 }
+
+/// The label that Linux wrote, written again over bytes that are all ones.
+#[test]
+fn a_label_is_written_as_linux_did(rt: HostRuntime) {
+    let linux = label_with(0, 0x10, SUM);
+    let Ok(label) = read_label(&linux, 1) else {
+        assert!(rt; false, "the label isn't read");
+        return;
+    };
+    let mut written = [0xff; 256];
+    write_label(&mut written, &label);
+    assert_eq!(rt; written, linux);
+}
+
+/// Texts, and whether they make a name: up to 63 bytes, none of them zero.
+#[test]
+fn names_are_made(rt: HostRuntime) {
+    let cases = [
+        ("", true),
+        ("Größe \"q\" \\ x", true),
+        (
+            "123456789012345678901234567890123456789012345678901234567890123",
+            true,
+        ),
+        (
+            "1234567890123456789012345678901234567890123456789012345678901234",
+            false,
+        ),
+        ("a\0b", false),
+    ];
+    for (text, made) in cases {
+        let name = name_of(text);
+        assert_eq!(rt; name.is_some(), made, "{text}");
+        if let Some(name) = name {
+            assert_eq!(rt; name.bytes(), text.as_bytes());
+        }
+    }
+}

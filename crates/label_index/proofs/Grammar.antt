@@ -157,7 +157,7 @@ summed_test : (block : List ℕ) → number_at w64 block 64 ≡ fletcher64_of (w
 unfolding has_checksum
 summed_test block e = eq-eqb (number_at w64 block 64) (fletcher64_of (without_eight block 64)) e
 
-record_is : (area size : ℕ) (s : Side) (block : List ℕ) (b : IndexBlock) → IsBlockOf area size s block b → index_of s block ≡ b
+pub record_is : (area size : ℕ) (s : Side) (block : List ℕ) (b : IndexBlock) → IsBlockOf area size s block b → index_of s block ≡ b
 unfolding index_of sequence_of
 record_is area size s block b ok =
     let free : free_of block (number_at w32 block 56) ≡ b.free = sym (free_is block b.free (number_at w32 block 56) ok.listed ok.free) in

@@ -1,4 +1,10 @@
+ghost use Rattle.std.specs.Prelude.{◌≡◌, ◌≤◌, IfOk};
+ghost use Rattle.label_index.specs.Area.{IsAreaSize};
+ghost use Rattle.label_index.specs.Valid.{IsValid};
+
 use super::*;
+use std::alloc::{AllocError, Global};
+use std::test::Fail;
 
 /// The bytes of a freshly initialised block up to its free slots: side Zero with sequence number 3.
 const ZERO: [u8; 73] = [
@@ -86,4 +92,50 @@ fn damage_is_named(rt: HostRuntime) {
             assert_eq!(rt; found, Some(fault), "byte {at}");
         }
     }
+}
+
+/// The block of a freshly initialised area of so many bytes, all of whose slots are free.
+fn fresh_block(alloc: Global, area: u64, side: Side, seq: u32) -> Result<IndexBlock, AllocError>
+    requires sized { IsAreaSize area }
+    requires few { area ≤ 131072 }
+    requires low { 1 ≤ seq }
+    requires high { seq ≤ 3 }
+    ensures valid { IfOk result (IsValid area) }
+    ensures size { IfOk result (λ block. block.size ≡ 256) }
+{
+    let slots = slots_for(area);
+    let free = FreeList::from_vec(vec![in alloc; true; slots as usize]?);
+    Ok(IndexBlock {
+        side,
+        seq,
+        size: area_index_size(area),
+        slots,
+        free,
+    })
+}
+
+/// What `init` writes, over bytes that are all ones.
+#[test]
+fn a_fresh_area_is_written(rt: HostRuntime) -> Result<(), Fail> {
+    let mut area = [0; 1024];
+    area[..512].fill(0xff);
+    let one = fresh_block(rt.alloc(), 1024, Side::One, 2)?;
+    let zero = fresh_block(rt.alloc(), 1024, Side::Zero, 3)?;
+    write_index(&mut area[256..512], &one);
+    write_index(&mut area[..256], &zero);
+    assert_eq!(rt; area, fresh_area());
+    Ok(())
+}
+
+/// 510 slots in 131,072 bytes: MySize, LabelOff, NSlot and the last byte of Free.
+#[test]
+fn a_large_area_is_written(rt: HostRuntime) -> Result<(), Fail> {
+    let mut block = [0xff; 256];
+    let zero = fresh_block(rt.alloc(), 131072, Side::Zero, 3)?;
+    write_index(&mut block, &zero);
+    assert_eq!(rt; &block[32..34], [0x00, 0x01].as_slice());
+    assert_eq!(rt; &block[48..50], [0x00, 0x02].as_slice());
+    assert_eq!(rt; &block[56..60], [0xfe, 0x01, 0x00, 0x00].as_slice());
+    assert_eq!(rt; &block[134..137], [0xff, 0x3f, 0x00].as_slice());
+    Ok(())
 }
