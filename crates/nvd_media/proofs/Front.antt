@@ -11,9 +11,8 @@ pub read_front : (xs filled : List ℕ) (at count n : ℕ) → at ≤ length xs 
 read_front xs filled at count n inside all same is =
     let rest : take (n - at) (drop at xs) ≡ drop at xs = take_all (n - at) (drop at xs) (omega (arith, length-drop at xs)) in
     let front : take count filled ≡ take count (drop at xs) = rw rest at same in
-    let number : count ≡ min (length filled) (length (drop at xs)) = rw rest at is in
-    (
+    let number : count ≡ min (length filled) (length (drop at xs)) = rw rest at is in (
       sym (take-append-drop count (drop at xs)) ∙ ap (λ (t : List ℕ). t ++ drop count (drop at xs)) (sym front)
-      ∙ ap (λ (t : List ℕ). take count filled ++ t) (drop-drop count at xs),
+          ∙ ap (λ (t : List ℕ). take count filled ++ t) (drop-drop count at xs),
       λ none room. drop_of_length-le xs (omega (arith, length-drop at xs)),
     )

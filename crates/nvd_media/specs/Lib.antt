@@ -1,4 +1,5 @@
 pub mod Causes
+pub mod Choosers
 pub mod Files
 pub mod Images
 pub mod Memory

@@ -5,7 +5,8 @@ ghost use Rattle.nvd_media.specs.Files.{file_name_of};
 use crate::object::Object;
 use crate::traits::{Failed, ImageSink, ImageSource};
 use std::alloc::{AllocError, Global};
-use std::io::{Read, Seek, SeekFrom};
+use std::fs::{OpenFile, OpenOptions};
+use std::io::{Read, Seek, SeekFrom, Write};
 use std::rt::Files;
 use std::{fs, io};
 
@@ -22,23 +23,40 @@ pub fn file_name(alloc: Global, object: Object) -> Result<String, AllocError>
     }
 }
 
+/// How far a directory was written as an image set.
+#[derive(Clone, Copy, Debug, PartialEq, Eq)]
+enum Progress {
+    /// Nothing was written: the directory isn't there yet.
+    Untouched,
+    /// The directory was made, and every write so far was done.
+    Made,
+    /// A call failed, so the set is never finished.
+    Broken,
+}
+
 /// An image set in a directory, a file for each object.
 ///
-/// It tells nothing of their bytes. A file that isn't there is an absent object. What else the system
-/// refuses, a file that is no regular one, and a file that ends too early are counted failures.
+/// It tells nothing of their bytes. As a source: a file that isn't there is an absent object; what else
+/// the system refuses, a file that is no regular one, and a file that ends too early are counted
+/// failures. As a sink: the first write makes the directory, and one that is there already is a counted
+/// failure, as is the directory `-`, which stands for none; once a call failed, all later ones do, so a
+/// half-written directory never gets its mark. Each write is on the disk when it is done, as far as the
+/// system's sync calls say so, and `finish` makes the mark last.
 #[derive(Drop)]
 pub struct DirImages<'a, R: Files + AllocGlobal> {
     rt: &'a R,
     directory: &'a str,
+    progress: Progress,
     faults: u64,
 }
 
 impl<'a, R: Files + AllocGlobal> DirImages<'a, R> {
-    /// The image set of a directory. Nothing is opened before it is asked for.
+    /// The image set of a directory. Nothing is opened or made before it is asked for.
     pub fn new(rt: &'a R, directory: &'a str) -> DirImages<'a, R> {
         DirImages {
             rt,
             directory,
+            progress: Progress::Untouched,
             faults: 0,
         }
     }
@@ -92,17 +110,71 @@ impl<R: Files + AllocGlobal> ImageSource for DirImages<'_, R> {
     }
 }
 
-/// No command writes an image set yet, so each call is a counted failure.
+impl<R: Files + AllocGlobal> DirImages<'_, R> {
+    /// Makes the directory before the first file in it.
+    fn begin(&mut self) -> io::Result<()>
+        ensures { self.new.faults ≡ self.old.faults }
+    {
+        match self.progress {
+            Progress::Made => Ok(()),
+            Progress::Broken => Err(io::Error::from(io::ErrorKind::Other)),
+            Progress::Untouched if self.directory == "-" => {
+                Err(io::Error::from(io::ErrorKind::InvalidInput))
+            }
+            Progress::Untouched => {
+                fs::create_dir(self.rt, self.directory)?;
+                self.progress = Progress::Made;
+                Ok(())
+            }
+        }
+    }
+
+    fn append(&self, object: Object, bytes: &[u8]) -> io::Result<()> {
+        let mut file = OpenOptions::new()
+            .append(true)
+            .create(true)
+            .open(self.rt, &self.path(object)?)?;
+        file.write_all(bytes)?;
+        file.sync_all()
+    }
+
+    fn sync_directory(&self) -> io::Result<()> {
+        fs::open(self.rt, self.directory)?.sync_all()
+    }
+
+    /// The files are known to the directory before the mark is made.
+    fn mark(&self) -> io::Result<()> {
+        self.sync_directory()?;
+        self.append(Object::Mark, &[])?;
+        self.sync_directory()
+    }
+
+    /// Counts a failure after which the set is never finished.
+    fn break_off(&mut self) -> Failed
+        ensures later { self.old.faults ≤ self.new.faults }
+        ensures rose { Rose self.old.faults self.new.faults }
+    {
+        self.progress = Progress::Broken;
+        self.fail()
+    }
+}
+
 impl<R: Files + AllocGlobal> ImageSink for DirImages<'_, R> {
     ghost made = { λ _. None };
 
     ghost faults = { λ images. images.faults };
 
-    fn write(&mut self, _object: Object, _at: u64, _bytes: &[u8]) -> Result<(), Failed> {
-        Err(self.fail())
+    fn write(&mut self, object: Object, _at: u64, bytes: &[u8]) -> Result<(), Failed> {
+        if self.begin().is_err() || self.append(object, bytes).is_err() {
+            return Err(self.break_off());
+        }
+        Ok(())
     }
 
     fn finish(&mut self) -> Result<(), Failed> {
-        Err(self.fail())
+        if self.begin().is_err() || self.mark().is_err() {
+            return Err(self.break_off());
+        }
+        Ok(())
     }
 }

@@ -32,8 +32,9 @@ mod mem_text;
 mod object;
 mod std_text;
 mod traits;
+mod whole_text;
 
-pub use chooser::ListChooser;
+pub use chooser::{ListChooser, SeedChooser};
 pub use dir_images::{DirImages, file_name};
 pub use gate::NoGate;
 pub use mem_images::{MemImages, Stored};
@@ -41,3 +42,4 @@ pub use mem_text::MemText;
 pub use object::Object;
 pub use std_text::StdText;
 pub use traits::{Chooser, Failed, Gate, ImageSink, ImageSource, TextSink, TextSource};
+pub use whole_text::{TextFault, read_all};

@@ -1,4 +1,4 @@
-ghost use Rattle.std.specs.Prelude.{◌≡◌, ◌≢◌, ◌+◌, ◌≤◌, ◌<◌, ℕ, List, [], Option, Some, None, length, take, drop, IfOk, OnOk, OnErr, MatchResult};
+ghost use Rattle.std.specs.Prelude.{◌≡◌, ◌≢◌, ◌+◌, ◌≤◌, ◌<◌, ℕ, Bool, List, [], Option, Some, None, length, take, drop, IfOk, OnOk, OnErr, MatchResult};
 ghost use Rattle.std.specs.Option.{ForSome, option_map};
 ghost use Rattle.std.specs.Io.{ReadsAtMost};
 ghost use Rattle.std.specs.Io.KnownBytes.{Appends, ReadConsumes};
@@ -94,11 +94,19 @@ pub trait TextSink {
 /// Says for a word of a power cut whether the value stored since its last keep stays (`true`) or the
 /// kept one (`false`). Any answer is lawful.
 pub trait Chooser {
+    /// What beginning anew from a seed may make of it.
+    ghost begins: { Self → ℕ → Self → Type 0 };
+
+    /// What it may answer for a word, and what becomes of it.
+    ghost picks: { Self → ℕ → Bool → Self → Type 0 };
+
     /// Begins anew from a seed.
-    fn begin(&mut self, seed: u64);
+    fn begin(&mut self, seed: u64)
+        ensures { begins self.old seed self.new };
 
     /// Whether the stored value of a word stays.
-    fn pick(&mut self, word: u64) -> bool;
+    fn pick(&mut self, word: u64) -> bool
+        ensures { picks self.old word result self.new };
 }
 
 /// Is told, outside all locks, when a session's call begins, has staged its block, and was answered.

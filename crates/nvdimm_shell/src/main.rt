@@ -55,7 +55,7 @@ fn usage<O: TextSink>(text: &mut O) -> Status {
 }
 
 /// Runs the command of a command line on the directories that it names.
-fn status_of<R: Files + AllocGlobal + Print + Threads + Wait + Sync>(
+fn status_of<R: Files + AllocGlobal + Print + Input + Threads + Wait + Sync>(
     rt: &R,
     words: &[String],
 ) -> Status {

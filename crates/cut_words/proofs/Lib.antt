@@ -1,0 +1,6 @@
+pub mod FlagBits
+pub mod Since
+pub mod OneStep
+pub mod Left
+pub mod ByWord
+mod Rows

@@ -1,0 +1,5 @@
+pub mod Words
+pub mod Fuses
+pub mod Leaving
+pub mod Bits
+pub mod Pending

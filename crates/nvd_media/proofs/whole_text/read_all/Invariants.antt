@@ -1,0 +1,12 @@
+use Rattle.std.proofs.Common.{◌≤◌, ◌+◌, ◌-◌, length, vec_len}
+use Rattle.std.specs.Io.KnownBytes.{Consumes}
+use Rattle.nvd_media.proofs.whole_text.read_all.Given as goal
+
+abbrev pub invariant-loop-buffer : goal.invariant-loop-buffer
+invariant-loop-buffer g l = record {
+  later : g.T.TextSource.faults l.initial.source ≤ g.T.TextSource.faults l.source;
+  so_far : Consumes (g.T.TextSource.left l.initial.source) (g.T.TextSource.left l.source) l.all.items;
+}
+
+abbrev pub decreases-loop-buffer : goal.decreases-loop-buffer
+decreases-loop-buffer g l = l.limit + 1 - vec_len l.all
