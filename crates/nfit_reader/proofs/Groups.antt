@@ -17,7 +17,7 @@ use Rattle.nfit_reader.proofs.Numbers.{is_eq-nat_cmp}
 pub ruleset orders = (is_eq-nat_cmp)
 
 -- a list from which nothing is picked has none of that kind
-list_any-filter : {A : Type 0} (p : A → Bool) (xs : List A) → not (eqb (length (filter p xs)) 0) ≡ list_any p xs
+pub list_any-filter : {A : Type 0} (p : A → Bool) (xs : List A) → not (eqb (length (filter p xs)) 0) ≡ list_any p xs
 list_any-filter p [] = refl
 list_any-filter p (x ∷ xs) = elim (cases_Bool (p x)) [
   | inl here ↦ let some : eqb (length (x ∷ filter p xs)) 0 ≡ false = ne_eqb (length (x ∷ filter p xs)) 0 (λ e. omega arith) in rw here (ap not some)

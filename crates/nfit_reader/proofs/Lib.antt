@@ -10,3 +10,4 @@ pub mod Lengths
 pub mod Readings
 pub mod Missing
 pub mod Rows
+mod Counted

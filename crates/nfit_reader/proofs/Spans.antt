@@ -11,6 +11,9 @@ use Rattle.nfit_reader.specs.declared.table.NfitFault.TheVariants as fault
 use Rattle.nfit_reader.specs.declared.structures.Structure.{Structure}
 use Rattle.nfit_reader.specs.Structures.{least_length, has_lines, is_structure, with_first, spans_from, structure_of, structures_of, IsWhole}
 use Rattle.nfit_reader.specs.Table.{said_of}
+use Rattle.nfit_reader.specs.Counted.{IsShort}
+use Rattle.std.specs.List.{All}
+use Rattle.std.proofs.lemmas.List.Elements.{All-push}
 
 -- ---- numbers
 
@@ -203,12 +206,13 @@ with_front-nil (Err f) = refl
 pub record IsReadTo (table : List ℕ) (at : ℕ) (structures : List Structure) : Type 0 where
   pub inside : at ≤ length table
   pub few : 4 * length structures ≤ at
+  pub short : All IsShort structures
   pub reading : with_front structures (rest_at table at) ≡ rest_at table 40
 
 pub read_more : (table rest : List ℕ) (at len : ℕ) (structures : List Structure) (s : Structure) → IsReadTo table at structures → at < length table
-    → rest ≡ drop at table → is_structure rest ≡ true → len ≡ number_at w16 rest 2 → s ≡ structure_of (take len rest)
+    → rest ≡ drop at table → is_structure rest ≡ true → len ≡ number_at w16 rest 2 → s ≡ structure_of (take len rest) → IsShort s
     → IsReadTo table (at + len) (structures ++ s ∷ [])
-read_more table rest at len structures s r h is good long read =
+read_more table rest at len structures s r h is good long read short =
     let four : 4 ≤ len = rw long (takes_four rest good) in
     let fit : len ≤ length rest = rw long (takes_inside rest good) in
     let left : length rest ≡ length table - at = ap length is ∙ length-drop at table in
@@ -222,6 +226,7 @@ read_more table rest at len structures s r h is good long read =
     record {
       inside = omega arith;
       few = rw more (omega arith);
+      short = All-push IsShort structures s r.short short;
       reading = with_front-with_first structures s (rest_at table (at + len)) ∙ ap (with_front structures) (sym step) ∙ r.reading;
     }
 

@@ -1,8 +1,9 @@
-ghost use Rattle.std.specs.Prelude.{◌≡◌, ◌<◌, ◌*◌, ◌^◌, ◌∷◌, [], List, length};
+ghost use Rattle.std.specs.Prelude.{◌≡◌, ◌<◌, ◌*◌, ◌^◌, ◌∷◌, [], List, length, IfOk};
 ghost use Rattle.nvd_words.specs.Checks.{Answers, first_fault, value_unless};
 ghost use Rattle.nfit_reader.specs.declared.structures.Structure.{Structure};
 ghost use Rattle.nfit_reader.specs.Table.{nfit_reading, table_reading, nfit_of, too_large, aliasing, ranges_of, links_of};
 ghost use Rattle.nfit_reader.specs.Names.{IsNamed};
+ghost use Rattle.nfit_reader.specs.Counted.{AreCounted};
 
 use crate::alias::{alias_fault, extents_of};
 use crate::header::{header_fault, said};
@@ -18,7 +19,7 @@ use std::alloc::Global;
 const MODULES: usize = 64;
 
 /// Reads a table: its modules and regions, or the first fault that holds, in the order of
-/// `NfitFault`.
+/// `NfitFault`. Each region has a mapping, and all counts are below 2^32 (`AreCounted`).
 ///
 /// `bytes` may go on past the table's Length; what stands there is ignored. `OutOfMemory` may
 /// come in place of any other answer, where memory was refused. Nothing is kept between calls.
@@ -37,7 +38,8 @@ const MODULES: usize = 64;
 ///   project's rule.
 #[tactic(auto, using(crate::proofs::Readings::readings))]
 pub fn read_nfit(alloc: Global, bytes: &[u8]) -> Result<Nfit, NfitFault>
-    ensures { Answers NfitFault.OutOfMemory result (nfit_reading bytes.now) }
+    ensures reading { Answers NfitFault.OutOfMemory result (nfit_reading bytes.now) }
+    ensures counted { IfOk result AreCounted }
 {
     if let Some(fault) = header_fault(bytes) {
         return Err(fault);

@@ -1,12 +1,14 @@
 //! The structures of the table, each read as its type says (ACPI 6.5, sections 5.2.25.2 to
 //! 5.2.25.6).
 
-ghost use Rattle.std.specs.Prelude.{◌≡◌, ◌+◌, ◌*◌, ◌≤◌, length, IfOk, drop, IsTrue};
+ghost use Rattle.std.specs.Prelude.{◌≡◌, ◌+◌, ◌*◌, ◌^◌, ◌<◌, ◌≤◌, length, IfOk, drop, IsTrue};
 ghost use Rattle.std.specs.Int.{w16, w32};
 ghost use Rattle.nvd_words.specs.Bytes.{number_at};
 ghost use Rattle.nvd_words.specs.Checks.{Answers};
 ghost use Rattle.nfit_reader.specs.Structures.{least_length, has_lines, is_structure, range_of, link_of, lines_of, identity_of, range_structure, interleave_structure, control_structure, structure_of, structures_of, spans_from, IsWhole};
 ghost use Rattle.nfit_reader.specs.Table.{as_range, as_link};
+ghost use Rattle.nfit_reader.specs.Counted.{IsShort};
+ghost use Rattle.std.specs.List.{All};
 
 use crate::fields::{eight_at, four_at, two_at};
 use crate::table::{Identity, Lines, NfitFault};
@@ -325,10 +327,12 @@ fn rest_of(table: &[u8], at: usize) -> &[u8]
 
 /// The structures that follow one another from byte 40 to the table's end.
 pub(crate) fn structures_in(alloc: Global, table: &[u8]) -> Result<Items<Structure>, NfitFault>
-    requires { 40 ≤ length table.now }
+    requires header { 40 ≤ length table.now }
+    requires small { length table.now < 2 ^ 32 }
     ensures reading { Answers NfitFault.OutOfMemory result
         (structures_of (spans_from (length table.now) 40 (drop 40 table.now))) }
     ensures few { IfOk result (λ structures. 4 * length structures ≤ length table.now) }
+    ensures short { IfOk result (All IsShort) }
 {
     let mut structures = Items::new(alloc);
     let mut at = 40;

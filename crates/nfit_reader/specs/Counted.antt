@@ -1,0 +1,28 @@
+-- How much stands in a table: bounds that follow from its Length, which is a number of 32 bits.
+use Rattle.std.specs.Prelude.{◌≡◌, ◌<◌, ◌^◌, length, Option, Some}
+use Rattle.std.specs.List.{All}
+use Rattle.nfit_reader.specs.declared.table.Nfit.{Nfit}
+use Rattle.nfit_reader.specs.declared.table.Region.{Region}
+use Rattle.nfit_reader.specs.declared.table.Mapping.{Mapping}
+use Rattle.nfit_reader.specs.declared.table.Lines.{Lines}
+use Rattle.nfit_reader.specs.declared.structures.Structure.{Structure}
+use Rattle.nfit_reader.specs.declared.structures.Interleave.{Interleave}
+use Rattle.nfit_reader.specs.Table.{as_interleave}
+
+-- the lines of a mapping, where it has any, are fewer than 2^32
+abbrev pub HasFewLines : Mapping → Type 0
+HasFewLines m = (lines : Lines) → m.lines ≡ Some lines → length lines.offsets < 2 ^ 32
+
+-- a region has mappings, and fewer than 2^32, each with fewer than 2^32 lines
+pub record IsCounted (r : Region) : Type 0 where
+  pub some : 0 < length r.mappings
+  pub few : length r.mappings < 2 ^ 32
+  pub lines : All HasFewLines r.mappings
+
+-- each region is counted
+abbrev pub AreCounted : Nfit → Type 0
+AreCounted nfit = All IsCounted nfit.regions
+
+-- the lines of a structure, where it is an interleave structure, are fewer than 2^32
+abbrev pub IsShort : Structure → Type 0
+IsShort s = (i : Interleave) → as_interleave s ≡ Some i → length i.lines.offsets < 2 ^ 32
