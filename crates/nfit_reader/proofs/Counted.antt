@@ -19,7 +19,7 @@ use Rattle.nfit_reader.specs.declared.structures.Range.{Range}
 use Rattle.nfit_reader.specs.declared.structures.Link.{Link}
 use Rattle.nfit_reader.specs.declared.structures.Interleave.{Interleave}
 use Rattle.nfit_reader.specs.Structures.{structure_of, range_structure, interleave_structure, control_structure, lines_of, IsWhole}
-use Rattle.nfit_reader.specs.Table.{as_link, as_interleave, ranges_of, links_of, links_into, is_region, region_of, regions_of, mapping_of, nfit_of, table_faults, table_reading}
+use Rattle.nfit_reader.specs.Table.{as_range, as_link, as_interleave, ranges_of, links_of, links_into, is_region, region_of, regions_of, mapping_of, nfit_of, table_faults, table_reading}
 use Rattle.nfit_reader.specs.Counted.{HasFewLines, IsCounted, AreCounted, IsShort}
 use Rattle.nfit_reader.proofs.Groups.{list_any-filter}
 use Rattle.nfit_reader.proofs.Lengths.{few_selected}
@@ -171,3 +171,27 @@ pub counted_table : (structures : List Structure) (r : Result Nfit NfitFault) �
     → All IsShort structures → IfOk r AreCounted
 unfolding table_reading
 counted_table structures r a few short = counted_from structures (first_fault (table_faults structures)) r a few short
+
+-- ---- how many regions
+
+few_regions : (structures : List Structure) → 4 * length structures < 4294967296 → length (regions_of structures) < 4294967296
+unfolding regions_of
+few_regions structures few =
+    let ranges : List Range = ranges_of structures in
+    let long : length (map (region_of structures) (filter (is_region structures) ranges)) ≡ length (filter (is_region structures) ranges) = length-map (filter (is_region structures) ranges) (region_of structures) in
+    omega (arith, long, filter_few (is_region structures) ranges, few_selected as_range structures ranges refl few)
+
+few_from : (structures : List Structure) (o : Option NfitFault) (r : Result Nfit NfitFault) → Answers OutOfMemory r (value_unless (nfit_of structures) o) → 4 * length structures < 4294967296
+    → IfOk r (λ nfit. length nfit.regions < 2 ^ 32)
+few_from structures o (Err f) a few = tt
+few_from structures None (Ok n) a few =
+    let e : ◌≡◌ {A = Result Nfit NfitFault} (Ok n) (Ok (nfit_of structures)) = a (λ e. cc) in
+    let same : nfit_of structures ≡ n = cc in
+    subst (λ (nfit : Nfit). length nfit.regions < 2 ^ 32) same (few_regions structures few)
+few_from structures (Some f) (Ok n) a few = absurd (let e : ◌≡◌ {A = Result Nfit NfitFault} (Ok n) (Err f) = a (λ e. cc) in cc)
+
+-- what is read of few structures has few regions
+pub few_table : (structures : List Structure) (r : Result Nfit NfitFault) → Answers OutOfMemory r (table_reading structures) → 4 * length structures < 4294967296
+    → IfOk r (λ nfit. length nfit.regions < 2 ^ 32)
+unfolding table_reading
+few_table structures r a few = few_from structures (first_fault (table_faults structures)) r a few

@@ -40,6 +40,7 @@ const MODULES: usize = 64;
 pub fn read_nfit(alloc: Global, bytes: &[u8]) -> Result<Nfit, NfitFault>
     ensures reading { Answers NfitFault.OutOfMemory result (nfit_reading bytes.now) }
     ensures counted { IfOk result AreCounted }
+    ensures few { IfOk result (λ nfit. length nfit.regions < 2 ^ 32) }
 {
     if let Some(fault) = header_fault(bytes) {
         return Err(fault);

@@ -4,3 +4,4 @@ pub mod Ending
 pub mod Causes
 pub mod Utf8
 pub mod Faults
+pub mod Regions

@@ -4,5 +4,6 @@ pub mod Outcome
 pub mod Texts
 pub mod Found
 pub mod Labels
+pub mod Nfit
 pub mod Run
 pub mod Laws

@@ -22,6 +22,7 @@ mod area;
 mod areas;
 mod labels;
 mod laws;
+mod nfit;
 mod numbers;
 mod outcome;
 mod status;

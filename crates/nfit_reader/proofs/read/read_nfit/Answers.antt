@@ -2,7 +2,7 @@ use Rattle.std.proofs.Common.{◌≡◌, ◌≤◌, Err, length, take, sym, ap, 
 use Rattle.std.proofs.lemmas.List.{length-take-le}
 use Rattle.std.proofs.lemmas.Result.{err_from_is_err_and}
 use Rattle.nfit_reader.proofs.Readings.{sound, same_fault, read_refused, read_on}
-use Rattle.nfit_reader.proofs.Counted.{counted_table}
+use Rattle.nfit_reader.proofs.Counted.{counted_table, few_table}
 use Rattle.nfit_reader.specs.declared.table.NfitFault.TheVariants.{OutOfMemory}
 use Rattle.nfit_reader.proofs.read.read_nfit.Goals as goal
 
@@ -46,3 +46,10 @@ returns-clause-counted c =
     let inside : c.said.result ≤ length c.args.bytes.now = subst (λ n. n ≤ length c.args.bytes.now) (sym c.said.ensures) s.inside in
     let long = length-take-le c.said.result c.args.bytes.now inside in
     counted_table c.in_ok-structures_in.field-0 c.table_of.result c.table_of.ensures (omega (arith, c.in_ok-structures_in.ensures.few, long)) c.in_ok-structures_in.ensures.short
+
+pub returns-clause-few : goal.returns-clause-few
+returns-clause-few c =
+    let s = sound c.args.bytes.now c.in_default.ensures in
+    let inside : c.said.result ≤ length c.args.bytes.now = subst (λ n. n ≤ length c.args.bytes.now) (sym c.said.ensures) s.inside in
+    let long = length-take-le c.said.result c.args.bytes.now inside in
+    few_table c.in_ok-structures_in.field-0 c.table_of.result c.table_of.ensures (omega (arith, c.in_ok-structures_in.ensures.few, long))
