@@ -27,6 +27,8 @@ mod numbers;
 mod outcome;
 mod status;
 #[cfg(test)]
+mod tables;
+#[cfg(test)]
 mod tests;
 mod texts;
 mod top;

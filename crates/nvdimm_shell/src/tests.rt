@@ -1,6 +1,9 @@
 use crate::areas::{AREA, AREA_SIZE, CASES, LINUX, LINUX_SIZE, LINUX_TEXT, Patch};
+use crate::nfit::nfit_lines;
 use crate::status::Status;
+use crate::tables::{TABLES, TWO_WAY};
 use crate::top::run;
+use nfit_reader::NfitFault;
 use nvd_media::{ListChooser, MemImages, MemText, NoGate, Object, Stored};
 use std::alloc::{AllocError, Global};
 use std::sync::Wait;
@@ -207,5 +210,46 @@ fn each_call_outside_fails_in_turn(rt: HostRuntime) -> Result<(), AllocError> {
         assert_eq!(rt; shown.as_str(), want);
         assert_eq!(rt; got, status);
     }
+    Ok(())
+}
+
+/// A table with some bytes changed, and its checksum set right.
+fn table_of(alloc: Global, table: &[u8], changes: &[Patch]) -> Result<Vec<u8>, AllocError> {
+    let mut bytes = Vec::from_slice(alloc, table)?;
+    patch(&mut bytes, changes);
+    let mut sum = 0u8;
+    for byte in &bytes {
+        sum = sum.wrapping_add(*byte);
+    }
+    if let Some(checksum) = bytes.get_mut(9) {
+        *checksum = checksum.wrapping_sub(sum);
+    }
+    Ok(bytes)
+}
+
+#[test]
+fn lines_of_tables(rt: HostRuntime) -> Result<(), NfitFault> {
+    let alloc = rt.alloc();
+    for (table, changes, want) in TABLES {
+        let bytes = table_of(alloc, table, changes)?;
+        let text = nfit_lines(alloc, &bytes)?;
+        assert_eq!(rt; text.as_str(), *want);
+    }
+    Ok(())
+}
+
+/// A table of 272 bytes that says 276, and one in which a mapping names a range that isn't there.
+#[test]
+fn tables_that_are_refused(rt: HostRuntime) -> Result<(), AllocError> {
+    let alloc = rt.alloc();
+    let long = table_of(alloc, &TWO_WAY[..272], &[(4, b"\x14")])?;
+    let said = NfitFault::Length {
+        said: 276,
+        had: 272,
+    };
+    assert!(rt; nfit_lines(alloc, &long).is_err_and(|fault| fault == said));
+    let lost = table_of(alloc, TWO_WAY, &[(44, b"\x03")])?;
+    let missing = NfitFault::MissingIndex { kind: 0, index: 1 };
+    assert!(rt; nfit_lines(alloc, &lost).is_err_and(|fault| fault == missing));
     Ok(())
 }
