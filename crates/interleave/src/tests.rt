@@ -1,3 +1,5 @@
+mod orders;
+
 use crate::{InterleaveSet, SetFault, interleave_set};
 use nfit_reader::read_nfit;
 use std::alloc::{AllocError, Global};
