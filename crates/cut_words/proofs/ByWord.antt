@@ -1,7 +1,7 @@
 -- What a chooser leaves is, for each word by itself, its kept value or the one that a load gives.
-use Rattle.std.proofs.Common.{◌≡◌, ℕ, zero, suc, ◌+◌, Bool, true, false, cond, List, [], ◌∷◌, length, get_or, Option, Some, None, refl, sym, ap, ◌∙◌, subst, arith, inl, inr}
+use Rattle.std.proofs.Common.{◌≡◌, ℕ, zero, suc, ◌+◌, Bool, true, false, cond, List, [], ◌∷◌, length, get_or, Option, Some, None, sym, ap, ◌∙◌, subst, arith, inl, inr}
 use Rattle.std.specs.Prelude.{◌⊎◌, unwrap_or}
-use Rattle.cut_words.specs.Words.{Words, IsLeft, seen_at}
+use Rattle.cut_words.specs.Words.{Words, IsLeft}
 use Rattle.cut_words.specs.Leaving.{LeavesOne, LeavesFrom}
 
 abbrev Either : List ℕ → List (Option ℕ) → List ℕ → Type 0

@@ -1,7 +1,7 @@
 -- Worked examples, computed on the definitions.
-use Rattle.std.proofs.Common.{◌≡◌, ℕ, List, [], ◌∷◌, Some, None, refl}
+use Rattle.std.proofs.Common.{◌≡◌, [], ◌∷◌, Some, None, refl}
 use Rattle.cut_words.specs.Words.{Words, store, keep, settled, after, seen_at}
-use Rattle.cut_words.specs.Fuses.{allowed, burnt, lasts}
+use Rattle.cut_words.specs.Fuses.{allowed}
 
 -- two words, 5 and 6, of which the first is stored and kept, and the second stored
 abbrev changed : Words

@@ -1,5 +1,5 @@
 -- An image set in memory that grows by bytes of one object.
-use Rattle.std.proofs.Common.{◌≡◌, ◌≢◌, ℕ, zero, suc, ◌+◌, ◌<◌, Bool, true, false, cond, List, [], ◌∷◌, ◌++◌, length, get_or, set, Option, Some, None, Result, Ok, Err, refl, sym, ap, ◌∙◌, subst, inl, inr, arith}
+use Rattle.std.proofs.Common.{◌≡◌, ◌≢◌, ℕ, zero, suc, ◌+◌, ◌<◌, Bool, true, false, cond, List, [], ◌∷◌, ◌++◌, length, get_or, set, Some, None, Result, Ok, Err, refl, sym, ap, ◌∙◌, inl, inr, arith}
 use Rattle.std.proofs.lemmas.Bool.{cases_Bool, eqb-true}
 use Rattle.std.specs.Prelude.{OnOk, OnErr, is_ok}
 use Rattle.std.specs.List.{position, position_from}
@@ -8,7 +8,7 @@ use Rattle.std.proofs.lemmas.List.Quantifiers.{position-Some}
 use Rattle.nvd_media.specs.declared.object.Object.{Object}
 use Rattle.nvd_media.specs.declared.object.Object.TheVariants.{Mark, Nfit, Labels, Contents, BadRanges}
 use Rattle.nvd_media.specs.declared.mem_images.Stored.{Stored}
-use Rattle.nvd_media.specs.Images.{Images, IsSameSet, IsUnfinished, with_more, is_object, bytes_of}
+use Rattle.nvd_media.specs.Images.{Images, IsSameSet, IsUnfinished, with_more, is_object}
 use Rattle.nvd_media.specs.Memory.{lookup}
 
 pub same_object : (a b : Object) → is_object a b ≡ true → a ≡ b

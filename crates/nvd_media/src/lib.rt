@@ -20,7 +20,8 @@
 //! before and after a call hang together (`Becomes`).
 //!
 //! [`DirImages`] and [`StdText`] are the trusted edge: a few lines each over std, which tell nothing.
-//! [`MemImages`] and [`MemText`] stand in memory and can be made to fail at any call.
+//! [`MemImages`] and [`MemText`] stand in memory and can be made to fail at any call; no call of
+//! [`SureImages`] and [`SureText`] fails.
 #![tactic(auto)]
 
 mod chooser;
@@ -31,6 +32,8 @@ mod mem_images;
 mod mem_text;
 mod object;
 mod std_text;
+mod sure_images;
+mod sure_text;
 mod traits;
 mod whole_text;
 
@@ -41,5 +44,7 @@ pub use mem_images::{MemImages, Stored};
 pub use mem_text::MemText;
 pub use object::Object;
 pub use std_text::StdText;
+pub use sure_images::SureImages;
+pub use sure_text::SureText;
 pub use traits::{Chooser, Failed, Gate, ImageSink, ImageSource, TextSink, TextSource};
 pub use whole_text::{TextFault, read_all};

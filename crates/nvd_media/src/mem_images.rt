@@ -48,7 +48,7 @@ impl MemImages {
 }
 
 /// The bytes of an object of a list.
-fn find(objects: &[Stored], object: Object) -> Option<&[u8]>
+pub(crate) fn find(objects: &[Stored], object: Object) -> Option<&[u8]>
     ensures { option_map (λ bytes. bytes.now) result ≡ lookup objects.now object }
 {
     for stored in objects {
@@ -60,7 +60,7 @@ fn find(objects: &[Stored], object: Object) -> Option<&[u8]>
 }
 
 /// The bytes of an object of a list, none where it is absent.
-fn bytes_in(objects: &[Stored], object: Object) -> &[u8]
+pub(crate) fn bytes_in(objects: &[Stored], object: Object) -> &[u8]
     ensures { result.now ≡ bytes_of (lookup objects.now) object }
 {
     match find(objects, object) {
@@ -77,7 +77,7 @@ fn place_of(objects: &[Stored], object: Object) -> Option<usize>
 }
 
 /// Fills the buffer with bytes from a place on.
-fn copy_from(bytes: &[u8], at: usize, into: &mut [u8])
+pub(crate) fn copy_from(bytes: &[u8], at: usize, into: &mut [u8])
     requires { at + length into.old ≤ length bytes.now }
     ensures { into.new ≡ take (length into.old) (drop at bytes.now) }
 {
@@ -115,7 +115,7 @@ fn grow(
 }
 
 /// Adds bytes at an object's end, and makes the object where it is absent.
-fn append(
+pub(crate) fn append(
     alloc: Global,
     objects: &mut Vec<Stored>,
     object: Object,

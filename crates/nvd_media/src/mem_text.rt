@@ -16,7 +16,7 @@ pub struct MemText {
 }
 
 /// Copies as many bytes as there are and as fit from the front, and answers how many.
-fn copy_front(bytes: &[u8], into: &mut [u8]) -> usize
+pub(crate) fn copy_front(bytes: &[u8], into: &mut [u8]) -> usize
     ensures count { result ≡ min (length into.new) (length bytes.now) }
     ensures front { take result into.new ≡ take result bytes.now }
 {

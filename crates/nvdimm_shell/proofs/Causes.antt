@@ -1,6 +1,6 @@
 -- Each status has its cause.
-use Rattle.std.proofs.Common.{◌≡◌, ℕ, true, false, List, [], length, Option, Some, None, Result, Ok, Err, refl, sym, ap, ◌∙◌, subst, inl, inr}
-use Rattle.std.specs.Prelude.{◌⊎◌, IsTrue, MatchOption}
+use Rattle.std.proofs.Common.{◌≡◌, ℕ, true, List, [], length, Option, Some, None, Result, Ok, Err, refl, sym, ap, ◌∙◌, subst, inl, inr}
+use Rattle.std.specs.Prelude.{◌⊎◌, MatchOption}
 use Rattle.std.proofs.lemmas.Bool.{cases_Bool}
 use Rattle.nvd_media.specs.declared.object.Object.TheVariants as object
 use Rattle.nvd_media.specs.Images.{Images}
@@ -18,8 +18,8 @@ use Rattle.nvdimm_shell.specs.declared.words.Command.TheVariants.{Labels}
 use Rattle.nvdimm_shell.specs.Words.{command_of}
 use Rattle.nvdimm_shell.specs.Outcome.{Outcome, usage, status_of}
 use Rattle.nvdimm_shell.specs.Labels.{labels_outcome, object_outcome, found_outcome, fault_outcome}
-use Rattle.nvdimm_shell.specs.Run.{ComesTold, IsDue, Ends}
-use Rattle.nvdimm_shell.specs.Laws.{IsRefusedArea, IsAcceptedArea, HasTableCause, EachStatusHasItsCause, IsFromOutside, AcceptedIsOk}
+use Rattle.nvdimm_shell.specs.Run.{ComesTold, IsDue}
+use Rattle.nvdimm_shell.specs.Laws.{IsRefusedArea, IsAcceptedArea, HasTableCause, EachStatusHasItsCause, AcceptedIsOk}
 
 -- the two ways in which an object is answered
 abbrev ObjectCase : Option (List ℕ) → Ending → Type 0

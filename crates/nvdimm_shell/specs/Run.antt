@@ -1,5 +1,5 @@
 -- What a run does, seen from outside.
-use Rattle.std.specs.Prelude.{◌≡◌, ◌⊎◌, ℕ, Bool, true, false, IsTrue, IsSome, List, ◌++◌, Option, Some, None, MatchOption, codes, take}
+use Rattle.std.specs.Prelude.{◌≡◌, ◌⊎◌, ℕ, Bool, false, IsTrue, IsSome, List, ◌++◌, Option, Some, None, MatchOption, codes, take}
 use Rattle.std.specs.Io.KnownBytes.{Keeps, Appends}
 use Rattle.nvd_media.specs.Images.{Images, IsSameSet, Becomes, IsUnfinished}
 use Rattle.nvdimm_shell.specs.declared.status.Status.{Status}

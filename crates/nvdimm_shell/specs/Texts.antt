@@ -7,7 +7,6 @@ use Rattle.hex.specs.Hex.{encode_lower}
 use Rattle.uuid.specs.Text.{hyphenated_text, lower}
 use Rattle.label_codec.specs.declared.label.LabelFault.{LabelFault}
 use Rattle.label_codec.specs.declared.label.LabelFault.TheVariants.{Checksum, Slot, OddSize}
-use Rattle.label_codec.specs.declared.label.SizeField.{SizeField}
 use Rattle.label_codec.specs.declared.label.SizeField.TheVariants.{Dpa, RawSize}
 use Rattle.label_codec.specs.declared.mode.Mode.{Mode}
 use Rattle.label_codec.specs.declared.mode.Mode.TheVariants.{Raw, Sector, Sector1, Other}

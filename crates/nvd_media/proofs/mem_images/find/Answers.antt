@@ -1,4 +1,4 @@
-use Rattle.std.proofs.Common.{sym, ◌∙◌, ap}
+use Rattle.std.proofs.Common.{sym, ◌∙◌}
 use Rattle.nvd_media.proofs.Found.{lookup_here, lookup_on, lookup_end}
 use Rattle.nvd_media.proofs.mem_images.find.Goals as goal
 

@@ -1,4 +1,4 @@
-use Rattle.std.proofs.Common.{rules, ◌≡◌, ◌∙◌, sym, ap, List, ℕ, Option, length, replicate}
+use Rattle.std.proofs.Common.{rules, ◌≡◌, ◌∙◌, ap, List, ℕ, Option, length, replicate}
 use Rattle.cut_words.proofs.Since.{options_fresh, kept_with}
 use Rattle.cut_words.proofs.words.CutWords.new.Goals as goal
 

@@ -1,6 +1,4 @@
-use Rattle.std.proofs.Common.{◌∙◌, ap, refl, length, arith}
-use Rattle.nvd_media.specs.Images.{bytes_of}
-use Rattle.nvd_media.specs.Memory.{lookup}
+use Rattle.std.proofs.Common.{refl}
 use Rattle.nvd_media.proofs.mem_images.MemImagesImageSource.read.Goals as goal
 
 pub copy_from-requires : goal.copy_from-requires

@@ -1,4 +1,4 @@
-use Rattle.std.proofs.Common.{ap, arith, length, length-take, length-drop}
+use Rattle.std.proofs.Common.{ap, length}
 use Rattle.nvd_media.proofs.Front.{read_front}
 use Rattle.nvd_media.proofs.mem_text.MemTextTextSource.read.Goals as goal
 

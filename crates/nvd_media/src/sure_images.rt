@@ -1,0 +1,87 @@
+ghost use Rattle.std.specs.Prelude.{◌≡◌, None, Some, true};
+ghost use Rattle.std.specs.Option.{option_map};
+ghost use Rattle.nvd_media.specs.Memory.{lookup};
+
+use crate::mem_images::{Stored, append, bytes_in, copy_from, find};
+use crate::object::Object;
+use crate::traits::{Failed, ImageSink, ImageSource};
+use std::alloc::Global;
+
+/// An image set in memory of which no call fails: its count of faults is always 0.
+///
+/// As a source it tells what it holds. As a sink it tells nothing, since a write that memory is wanting
+/// for can't be said to have failed; [`SureImages::is_whole`] answers whether all was kept.
+#[derive(Drop)]
+pub struct SureImages {
+    alloc: Global,
+    objects: Vec<Stored>,
+    whole: bool,
+}
+
+impl SureImages {
+    /// An image set of these objects.
+    pub fn new(alloc: Global, objects: Vec<Stored>) -> SureImages
+        ensures objects { result.objects ≡ objects }
+        ensures whole { result.whole ≡ true }
+    {
+        SureImages {
+            alloc,
+            objects,
+            whole: true,
+        }
+    }
+
+    /// The bytes of an object, `None` where it is absent.
+    pub fn bytes(&self, object: Object) -> Option<&[u8]>
+        ensures { option_map (λ bytes. bytes.now) result ≡ lookup self.now.objects.items object }
+    {
+        find(&self.objects, object)
+    }
+
+    /// Whether all that was written was kept.
+    pub fn is_whole(&self) -> bool
+        ensures { result ≡ self.now.whole }
+    {
+        self.whole
+    }
+
+    fn keep(&mut self, object: Object, bytes: &[u8]) {
+        if append(self.alloc, &mut self.objects, object, bytes).is_err() {
+            self.whole = false;
+        }
+    }
+}
+
+impl ImageSource for SureImages {
+    ghost held = { λ images. Some (lookup images.objects.items) };
+
+    ghost faults = { λ _. 0 };
+
+    fn length(&mut self, object: Object) -> Result<Option<u64>, Failed> {
+        Ok(match find(&self.objects, object) {
+            Some(bytes) => Some(bytes.len() as u64),
+            None => None,
+        })
+    }
+
+    fn read(&mut self, object: Object, at: u64, into: &mut [u8]) -> Result<(), Failed> {
+        copy_from(bytes_in(&self.objects, object), at as usize, into);
+        Ok(())
+    }
+}
+
+impl ImageSink for SureImages {
+    ghost made = { λ _. None };
+
+    ghost faults = { λ _. 0 };
+
+    fn write(&mut self, object: Object, _at: u64, bytes: &[u8]) -> Result<(), Failed> {
+        self.keep(object, bytes);
+        Ok(())
+    }
+
+    fn finish(&mut self) -> Result<(), Failed> {
+        self.keep(Object::Mark, &[]);
+        Ok(())
+    }
+}
