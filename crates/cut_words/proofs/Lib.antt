@@ -4,3 +4,5 @@ pub mod OneStep
 pub mod Left
 pub mod ByWord
 mod Rows
+pub mod Stays
+pub mod Guarded

@@ -3,3 +3,5 @@ pub mod Fuses
 pub mod Leaving
 pub mod Bits
 pub mod Pending
+pub mod Groups
+pub mod Guarded

@@ -26,11 +26,13 @@
 
 mod flags;
 mod fuse;
+mod law;
 mod space;
 #[cfg(test)]
 mod tests;
 mod words;
 
 pub use fuse::{Fuse, PowerCut};
+pub use law::{guarded_change_is_whole, guarded_change_settles};
 pub use space::WordSpace;
 pub use words::CutWords;
