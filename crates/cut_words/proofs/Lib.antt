@@ -6,3 +6,5 @@ pub mod ByWord
 mod Rows
 pub mod Stays
 pub mod Guarded
+pub mod Bytes
+pub mod Put

@@ -5,3 +5,4 @@ pub mod Bits
 pub mod Pending
 pub mod Groups
 pub mod Guarded
+pub mod WordBytes

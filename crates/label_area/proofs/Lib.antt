@@ -1,1 +1,8 @@
 pub mod Current
+pub mod Spellings
+pub mod Closed
+pub mod Before
+pub mod Written
+pub mod After
+pub mod Init
+mod Rows

@@ -1,1 +1,4 @@
 pub mod Area
+pub mod Change
+pub mod Whole
+pub mod Init
