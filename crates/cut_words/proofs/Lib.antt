@@ -8,3 +8,4 @@ pub mod Stays
 pub mod Guarded
 pub mod Bytes
 pub mod Put
+pub mod Making

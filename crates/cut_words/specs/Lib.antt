@@ -6,3 +6,4 @@ pub mod Pending
 pub mod Groups
 pub mod Guarded
 pub mod WordBytes
+pub mod Runs

@@ -27,6 +27,7 @@
 mod flags;
 mod fuse;
 mod law;
+mod runs;
 mod space;
 #[cfg(test)]
 mod tests;
@@ -34,5 +35,6 @@ mod words;
 
 pub use fuse::{Fuse, PowerCut};
 pub use law::{guarded_change_is_whole, guarded_change_settles};
+pub use runs::{keep_from, store_from, write_from, write_word};
 pub use space::WordSpace;
 pub use words::CutWords;

@@ -5,4 +5,6 @@ pub mod Before
 pub mod Written
 pub mod After
 pub mod Init
+pub mod Made
+pub mod Pending
 mod Rows

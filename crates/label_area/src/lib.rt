@@ -37,9 +37,11 @@
 #![tactic(auto)]
 
 mod area;
+mod change;
 mod fault;
 mod law;
 
 pub use area::{current_block, read_slot};
+pub use change::{write_block, write_change};
 pub use fault::AreaFault;
 pub use law::{init_is_whole, replace_is_whole};
