@@ -10,11 +10,11 @@ use Rattle.std.proofs.lemmas.List.FromFn.{get_or-enumerate_from, length-enumerat
 use Rattle.nvd_words.specs.Ring.{successor_of, is_newer}
 use Rattle.cut_words.specs.WordBytes.{bytes_of, words_in}
 use Rattle.cut_words.specs.Groups.{NotIn}
-use Rattle.cut_words.specs.Words.{IsLeftAfter}
+use Rattle.cut_words.specs.Words.{after, settled, IsLeftAfter}
 use Rattle.cut_words.specs.Guarded.{IsGuarded, IsOld}
 use Rattle.cut_words.proofs.Bytes.{same_bytes}
 use Rattle.cut_words.proofs.Put.{put_outside, put_bytes, length_put, length_words}
-use Rattle.cut_words.proofs.Guarded.{whole}
+use Rattle.cut_words.proofs.Guarded.{whole, all_settled}
 use Rattle.label_codec.specs.declared.label.Label.{Label}
 use Rattle.label_codec.specs.declared.label.LabelFault.{LabelFault}
 use Rattle.label_codec.specs.Label.{label_reading, spelling_of as label_spelling}
@@ -27,7 +27,7 @@ use Rattle.label_index.specs.Spelling.{spelling_of as block_spelling}
 use Rattle.label_index.specs.Valid.{IsValid}
 use Rattle.label_area.specs.Area.{SlotState, slot_at, slots_by, block_in, slots_with}
 use Rattle.label_area.specs.Change.{guard_of, guarded_by, words_of_slot, closed_word, opposite, slot_of_put, taken, given, next_block, with_label, words_after, replace_steps, count_of_steps, with_put, without}
-use Rattle.label_area.specs.Whole.{IsChange, IsCut, Shows, slots_before, slots_after, ReplaceIsWhole}
+use Rattle.label_area.specs.Whole.{IsChange, IsCut, Shows, slots_before, slots_after, ReplaceIsWhole, ReplaceSettles}
 use Rattle.label_area.proofs.Spellings.{IsSpelled, valid_spelled, writable_spelled}
 use Rattle.label_area.proofs.Before.{IsSeq, IsSized, is_sized, sized_as, reading_is, same_reading, IsCurrent, is_current, other_block, past_blocks, in_blocks, below_slots, other_slot, old_reads}
 use Rattle.label_area.proofs.Written.{block_out, guard_apart, guarded_below, length_change, PutFits, length_labelled, labelled_outside, label_there, slot_below, slot_inside}
@@ -302,5 +302,11 @@ module _ (words : List ℕ) (now : IndexBlock) (out : Option ℕ) (put : Option 
         after = λ le. subst (λ (ws : List ℕ). Shows ws next (slots_after words now out put)) (sym (w.done (omega (arith, count)))) final_shows;
       }
 
+  pub replace_settled : after (settled words) (replace_steps words now out put) ≡ settled final
+  replace_settled = all_settled words final spots (guard_of now.size other) (closed_word (get_or final (guard_of now.size other) 0)) (guarded_by now.size other) lies
+
 pub replace_is_whole : ReplaceIsWhole
 replace_is_whole words now out put n left ok cut = replace_cut words now out put ok n left cut
+
+pub replace_settles : ReplaceSettles
+replace_settles words now out put ok = replace_settled words now out put ok

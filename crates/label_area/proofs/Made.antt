@@ -8,7 +8,8 @@ use Rattle.cut_words.specs.Groups.{stores, keeps, group, written}
 use Rattle.cut_words.specs.WordBytes.{words_in, put_at}
 use Rattle.cut_words.specs.Fuses.{Makes}
 use Rattle.cut_words.specs.Runs.{stores_from, run_steps}
-use Rattle.label_area.specs.Writing.{others_keeps, others_steps, block_steps_from, IsLabelAt, IsWholeAfter}
+use Rattle.label_area.specs.Writing.{others_keeps, others_steps, block_steps_from, IsLabelAt, IsWholeAfter, SettlesAfter}
+use Rattle.cut_words.proofs.Making.{makes_all}
 use Rattle.label_codec.specs.declared.label.Label.{Label}
 use Rattle.label_codec.specs.Label.{spelling_of as label_spelling}
 use Rattle.label_index.specs.declared.index.IndexBlock.{IndexBlock}
@@ -18,7 +19,7 @@ use Rattle.label_area.specs.Change.{guard_of, guarded_by, words_of_slot, closed_
 use Rattle.label_area.specs.Whole.{IsChange, IsCut, Shows, slots_before, slots_after}
 use Rattle.label_area.proofs.Before.{IsSized, past_blocks}
 use Rattle.label_area.proofs.Written.{length_change, words_of_label}
-use Rattle.label_area.proofs.After.{replace_cut, sized, fits, block_words, block_inside, labelled_length, past_block}
+use Rattle.label_area.proofs.After.{replace_cut, replace_settles, sized, fits, block_words, block_inside, labelled_length, past_block}
 
 pub put_inside : (words : List ℕ) (at : ℕ) (others : List ℕ) (i : ℕ) → at + length others ≤ length words → i < length others → get_or (put_at words at others) (at + i) 0 ≡ get_or others i 0
 put_inside words at others i fits lt =
@@ -140,3 +141,11 @@ made_whole old new (Some n) rest at label place block made h words now out put l
       either_way words now out put n left c,
       λ e. c.after (omega (arith, ap length steps, leb-true (length (run_steps at label ++ block_steps_from place block)) n (sym h.all_made ∙ e))),
     )
+
+pub made_settled : (old new : Words) (fuse rest : Option ℕ) (at : ℕ) (label : List ℕ) (place : ℕ) (block : List ℕ) (made : Bool)
+    → Makes old new fuse rest (run_steps at label ++ block_steps_from place block) made → SettlesAfter old new at label place block made
+made_settled old new fuse rest at label place block made h words now out put start ok lab pl bl e =
+    makes_all old new fuse rest (run_steps at label ++ block_steps_from place block)
+    (subst (λ (b : Bool). Makes old new fuse rest (run_steps at label ++ block_steps_from place block) b) e h)
+    ∙ ap (λ (w : Words). after w (run_steps at label ++ block_steps_from place block)) start
+    ∙ ap (after (settled words)) (steps_are words now out put ok at label place block lab pl bl) ∙ replace_settles words now out put ok

@@ -5,9 +5,9 @@ use Rattle.label_codec.specs.Writable.{IsWritable}
 use Rattle.label_index.specs.declared.index.IndexBlock.{IndexBlock}
 use Rattle.label_index.specs.Area.{IsAreaSize}
 use Rattle.cut_words.specs.WordBytes.{bytes_of}
-use Rattle.cut_words.specs.Words.{IsLeftAfter}
+use Rattle.cut_words.specs.Words.{after, settled, IsLeftAfter}
 use Rattle.label_area.specs.Area.{SlotState, block_in, slots_by, slots_in}
-use Rattle.label_area.specs.Change.{next_block, slot_of_put, IsFreeSlot, with_put, without, replace_steps, count_of_steps}
+use Rattle.label_area.specs.Change.{next_block, slot_of_put, IsFreeSlot, with_put, without, words_after, replace_steps, count_of_steps}
 
 -- a change of an area's words, whose current block is `now`: a slot is freed, and a label is put into a free one
 pub record IsChange (words : List ℕ) (now : IndexBlock) (out : Option ℕ) (put : Option Label) : Type 0 where
@@ -38,3 +38,8 @@ pub record IsCut (words : List ℕ) (now : IndexBlock) (out : Option ℕ) (put :
 abbrev pub ReplaceIsWhole : Type 0
 ReplaceIsWhole = (words : List ℕ) (now : IndexBlock) (out : Option ℕ) (put : Option Label) (n : ℕ) (left : List ℕ) → IsChange words now out put
     → IsLeftAfter words (replace_steps words now out put) n left → IsCut words now out put n left
+
+-- a law: after the last step no word is pending, and the words are those after the change, so that the next change may follow
+abbrev pub ReplaceSettles : Type 0
+ReplaceSettles = (words : List ℕ) (now : IndexBlock) (out : Option ℕ) (put : Option Label) → IsChange words now out put
+    → after (settled words) (replace_steps words now out put) ≡ settled (words_after words now out put)

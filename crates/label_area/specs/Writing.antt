@@ -9,7 +9,7 @@ use Rattle.cut_words.specs.Words.{Words, Step, settled, IsLeft}
 use Rattle.cut_words.specs.Groups.{written}
 use Rattle.cut_words.specs.Runs.{stores_from, keeps_from}
 use Rattle.cut_words.specs.WordBytes.{words_in}
-use Rattle.label_area.specs.Change.{opposite, next_block}
+use Rattle.label_area.specs.Change.{opposite, next_block, words_after}
 use Rattle.label_area.specs.Whole.{IsChange, Shows, slots_before, slots_after}
 
 -- ---- steps
@@ -43,3 +43,10 @@ IsWholeAfter old new label_at label block_at block made =
     → IsLabelAt now.size put label_at label → block_at ≡ place_of now.size (opposite now.side) / 8 → block ≡ words_in (block_spelling (next_block now out put)) → IsLeft new left
     → (Shows left now (slots_before words now) ⊎ Shows left (next_block now out put) (slots_after words now out put))
     × (made ≡ true → Shows left (next_block now out put) (slots_after words now out put))
+
+-- where the change was made to its end, no word is pending, and the words are those after it, so that the next change may follow
+abbrev pub SettlesAfter : Words → Words → ℕ → List ℕ → ℕ → List ℕ → Bool → Type 0
+SettlesAfter old new label_at label block_at block made =
+    (words : List ℕ) (now : IndexBlock) (out : Option ℕ) (put : Option Label) → old ≡ settled words → IsChange words now out put
+    → IsLabelAt now.size put label_at label → block_at ≡ place_of now.size (opposite now.side) / 8 → block ≡ words_in (block_spelling (next_block now out put))
+    → made ≡ true → new ≡ settled (words_after words now out put)

@@ -1,7 +1,7 @@
 ghost use Rattle.std.specs.Prelude.{◌≡◌, ◌+◌, ◌^◌, ◌<◌, ◌≤◌, ◌++◌, length, is_ok};
 ghost use Rattle.cut_words.specs.Fuses.{Makes};
 ghost use Rattle.cut_words.specs.Runs.{NonePending, run_steps};
-ghost use Rattle.label_area.specs.Writing.{IsWholeAfter, block_steps_from, others_keeps, others_steps, others_stores};
+ghost use Rattle.label_area.specs.Writing.{IsWholeAfter, SettlesAfter, block_steps_from, others_keeps, others_steps, others_stores};
 
 use cut_words::{Fuse, PowerCut, WordSpace, keep_from, store_from, write_from, write_word};
 
@@ -118,7 +118,8 @@ fn write_steps<W: WordSpace>(
 /// exactly where the fuse has fewer steps left than the change needs. Whatever came, a cut leaves words
 /// that show the area before the change or after it, and after `Ok` only the one after it, where the
 /// block is the next one of the current block with a slot freed and the label's slot, which was free,
-/// taken (`IsWholeAfter`).
+/// taken (`IsWholeAfter`). After `Ok` no word is pending, so that the next change may follow
+/// (`SettlesAfter`).
 pub fn write_change<W: WordSpace>(
     words: &mut W,
     fuse: &mut Fuse,
@@ -135,6 +136,7 @@ pub fn write_change<W: WordSpace>(
     requires block_settled { NonePending (W.words words.old) block_at (length block.now) }
     ensures made { Makes (W.words words.old) (W.words words.new) fuse.old fuse.new (run_steps label_at label.now ++ block_steps_from block_at block.now) (is_ok result) }
     ensures whole { IsWholeAfter (W.words words.old) (W.words words.new) label_at label.now block_at block.now (is_ok result) }
+    ensures settles { SettlesAfter (W.words words.old) (W.words words.new) label_at label.now block_at block.now (is_ok result) }
     ensures count { length (W.words words.new).kept ≡ length (W.words words.old).kept }
 {
     write_steps(words, fuse, label_at, label, block_at, block)

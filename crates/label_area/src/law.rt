@@ -1,6 +1,6 @@
 //! Laws about the definitions of this crate. Each is a function that does nothing; what it ensures is the law.
 ghost use Rattle.label_area.specs.Init.{InitIsWhole};
-ghost use Rattle.label_area.specs.Whole.{ReplaceIsWhole};
+ghost use Rattle.label_area.specs.Whole.{ReplaceIsWhole, ReplaceSettles};
 
 /// A law: one change of an area is whole under every cut.
 ///
@@ -11,8 +11,11 @@ ghost use Rattle.label_area.specs.Whole.{ReplaceIsWhole};
 /// shows a current index block and slots: those from before with more than one step missing, those from
 /// before or those after with one step missing, and those after when no step is missing. Nothing is
 /// asked of the bytes in the free slot or of the other side's block, and checksums play no part.
+///
+/// After the last step no word is pending, so that the next change may follow.
 pub fn replace_is_whole()
-    ensures { ReplaceIsWhole }
+    ensures whole { ReplaceIsWhole }
+    ensures settles { ReplaceSettles }
 {}
 
 /// A law: the first two index blocks are written whole under every cut.

@@ -40,6 +40,8 @@ mod area;
 mod change;
 mod fault;
 mod law;
+#[cfg(test)]
+mod tests;
 
 pub use area::{current_block, read_slot};
 pub use change::{write_block, write_change};
