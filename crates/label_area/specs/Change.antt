@@ -16,6 +16,7 @@ use Rattle.cut_words.specs.Groups.{guarded}
 use Rattle.cut_words.specs.WordBytes.{words_in, put_at}
 use Rattle.label_area.specs.Area.{SlotState}
 
+-- the other side
 abbrev pub opposite : Side → Side
 opposite side.Zero = side.One
 opposite side.One = side.Zero
@@ -53,6 +54,7 @@ block_steps final size s = change_steps final size s None
 abbrev pub slot_of_put : Option Label → Option ℕ
 slot_of_put put = option_map (λ l. l.slot) put
 
+-- Free with a slot taken, and with one given back
 abbrev pub taken : Option ℕ → List Bool → List Bool
 taken None free = free
 taken (Some slot) free = slice_set free slot false
@@ -65,6 +67,7 @@ given (Some out) free = slice_set free out true
 abbrev pub next_block : IndexBlock → Option ℕ → Option Label → IndexBlock
 next_block now out put = record { side = opposite now.side; seq = successor_of now.seq; size = now.size; slots = now.slots; free = given out (taken (slot_of_put put) now.free) }
 
+-- an area's words with a label in its slot, and with a block on its side
 abbrev pub with_label : ℕ → Option Label → List ℕ → List ℕ
 with_label size None words = words
 with_label size (Some label) words = put_at words (2 * size / 8 + 32 * label.slot) (words_in (label_spelling label))
@@ -76,7 +79,7 @@ with_block block words = put_at words (place_of block.size block.side / 8) (word
 abbrev pub words_after : List ℕ → IndexBlock → Option ℕ → Option Label → List ℕ
 words_after words now out put = with_block (next_block now out put) (with_label now.size put words)
 
--- the steps of `replace`
+-- the steps of one change
 abbrev pub replace_steps : List ℕ → IndexBlock → Option ℕ → Option Label → List Step
 replace_steps words now out put = change_steps (words_after words now out put) now.size (opposite now.side) (slot_of_put put)
 
@@ -86,6 +89,7 @@ count_of_steps size put = (if is_some put then 64 else 0) + (2 * (size / 8) + 2)
 
 -- ---- the slots after
 
+-- slots with a label in its own, and with one freed
 abbrev pub with_put : Option Label → List SlotState → List SlotState
 with_put None slots = slots
 with_put (Some label) slots = slice_set slots label.slot (Some (Some label))
