@@ -1,4 +1,4 @@
-use crate::{CutWords, Fuse, PowerCut, WordSpace};
+use crate::{CutWords, Fuse, PowerCut, WordSpace, write_from};
 use nvd_media::{Chooser, ListChooser, SeedChooser};
 use std::alloc::{AllocError, Global};
 
@@ -61,4 +61,29 @@ fn a_seed_decides(rt: HostRuntime) {
             assert_eq!(rt; choose.pick(0), answer);
         }
     }
+}
+
+/// A run of two words is written into the last two of three.
+fn written_run(alloc: Global, fuse: &mut Fuse) -> Result<(CutWords, bool), AllocError> {
+    let mut words = CutWords::new(alloc, vec![in alloc; 5, 6, 9]?)?;
+    let made = write_from(&mut words, fuse, 1, &[7, 8]).is_ok();
+    Ok((words, made))
+}
+
+#[test]
+fn what_a_cut_leaves_of_a_run(rt: HostRuntime) -> Result<(), AllocError> {
+    let alloc = rt.alloc();
+    for (steps, answers, made, want) in [
+        (0, [true, true], false, [5, 6, 9]),
+        (2, [false, true], false, [5, 6, 8]),
+        (3, [false, true], false, [5, 7, 9]),
+        (4, [false, false], true, [5, 7, 8]),
+    ] {
+        let mut fuse = Fuse::after(steps);
+        let (words, done) = written_run(alloc, &mut fuse)?;
+        assert_eq!(rt; done, made);
+        let left = words.leave(&mut ListChooser::new(Vec::from_array(alloc, answers)?));
+        assert_eq!(rt; left.as_slice(), want.as_slice());
+    }
+    Ok(())
 }

@@ -1,1 +1,10 @@
 pub mod Current
+pub mod Spellings
+pub mod Closed
+pub mod Before
+pub mod Written
+pub mod After
+pub mod Init
+pub mod Made
+pub mod Pending
+mod Rows

@@ -1,1 +1,5 @@
 pub mod Area
+pub mod Change
+pub mod Whole
+pub mod Init
+pub mod Writing

@@ -1,0 +1,51 @@
+-- Worked examples: the laws' conditions are met by an area of 1,024 zero bytes, and by that area after its two blocks are written.
+use Rattle.std.proofs.Common.{◌≡◌, ℕ, List, [], ◌∷◌, length, get_or, replicate, Some, None, true, false, refl, ap, subst, arith}
+use Rattle.label_codec.specs.declared.label.Label.{Label}
+use Rattle.label_codec.specs.Writable.{IsWritable}
+use Rattle.nvd_words.specs.Checks.{checked}
+use Rattle.nvd_words.specs.Bytes.{number_at}
+use Rattle.label_index.specs.declared.index.Side.TheVariants as side
+use Rattle.label_index.specs.Area.{greatest, IsAreaSize}
+use Rattle.label_index.specs.Index.{has_signature, sequence_of, has_version, has_offsets, has_slots, has_checksum, index_of, free_of}
+use Rattle.label_index.specs.Spelling.{spelling_of}
+use Rattle.cut_words.specs.WordBytes.{bytes_of}
+use Rattle.label_area.specs.Change.{count_of_steps}
+use Rattle.label_area.specs.Whole.{IsChange}
+use Rattle.label_area.specs.Init.{IsInit, empty_block, full_words, init_steps}
+
+-- ---- an area without a block
+
+abbrev zeros : List ℕ
+zeros = replicate 128 0
+
+sized : IsAreaSize (length (bytes_of zeros))
+sized = record { multiple = refl; low = omega arith; high = omega arith }
+
+pub can_init : IsInit zeros 256 2
+unfolding greatest checked has_signature sequence_of has_version has_offsets has_slots has_checksum index_of free_of number_at
+can_init = record { area = sized; size_is = refl; slots_is = refl; refused = refl }
+
+pub init_count : length (init_steps zeros 256 2) ≡ 132
+unfolding number_at spelling_of
+init_count = refl
+
+-- ---- changes
+
+pub removal_count : count_of_steps 256 None ≡ 66
+removal_count = refl
+
+pub can_change : IsChange (full_words zeros 256 2) (empty_block 256 2 side.Zero 3) None None
+unfolding greatest checked has_signature sequence_of has_version has_offsets has_slots has_checksum index_of free_of number_at spelling_of
+can_change = record { area = record { multiple = refl; low = omega arith; high = omega arith }; current = refl; free = λ k e. absurd (cc); label = λ l e. absurd (cc) }
+
+pub put_count : (l : Label) → count_of_steps 256 (Some l) ≡ 130
+put_count l = refl
+
+-- any label that can be written and names the first slot can be put there
+pub can_put : (l : Label) → IsWritable l → l.slot ≡ 0 → IsChange (full_words zeros 256 2) (empty_block 256 2 side.Zero 3) None (Some l)
+can_put l ok first = record {
+  area = can_change.area;
+  current = can_change.current;
+  free = λ k e. let is : k ≡ 0 = cc in ap (λ (n : ℕ). get_or (true ∷ true ∷ []) n false) is;
+  label = λ m e. subst IsWritable (let is : l ≡ m = cc in is) ok;
+}

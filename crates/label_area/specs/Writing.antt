@@ -1,0 +1,52 @@
+-- What the code of a change stores and keeps, word for word, and what a cut leaves of it.
+use Rattle.std.specs.Prelude.{◌≡◌, ◌⊎◌, ℕ, ◌+◌, ◌-◌, ◌*◌, ◌/◌, ◌%◌, ◌^◌, Bool, true, List, [], ◌++◌, length, take, drop, slice_index, Option, Some, None}
+use Rattle.label_codec.specs.declared.label.Label.{Label}
+use Rattle.label_codec.specs.Label.{spelling_of as label_spelling}
+use Rattle.label_index.specs.declared.index.IndexBlock.{IndexBlock}
+use Rattle.label_index.specs.Index.{place_of}
+use Rattle.label_index.specs.Spelling.{spelling_of as block_spelling}
+use Rattle.cut_words.specs.Words.{Words, Step, settled, IsLeft}
+use Rattle.cut_words.specs.Groups.{written}
+use Rattle.cut_words.specs.Runs.{stores_from, keeps_from}
+use Rattle.cut_words.specs.WordBytes.{words_in}
+use Rattle.label_area.specs.Change.{opposite, next_block, words_after}
+use Rattle.label_area.specs.Whole.{IsChange, Shows, slots_before, slots_after}
+
+-- ---- steps
+
+-- the words of a block but the third, which has Seq
+abbrev pub others_stores : ℕ → List ℕ → List Step
+others_stores base block = stores_from base (take 2 block) ++ stores_from (base + 3) (drop 3 block)
+
+abbrev pub others_keeps : ℕ → ℕ → List Step
+others_keeps base count = keeps_from base 2 ++ keeps_from (base + 3) (count - 3)
+
+abbrev pub others_steps : ℕ → List ℕ → List Step
+others_steps base block = others_stores base block ++ others_keeps base (length block)
+
+-- the words of a block from a place on: the third closed, the others, and the third opened
+abbrev pub block_steps_from : ℕ → List ℕ → List Step
+block_steps_from base block = written (base + 2) (slice_index block 2 % 2 ^ 32) ++ (others_steps base block ++ written (base + 2) (slice_index block 2))
+
+-- ---- what a cut leaves
+
+-- a label's words and their place, none where no label is put
+abbrev pub IsLabelAt : ℕ → Option Label → ℕ → List ℕ → Type 0
+IsLabelAt size None at label = label ≡ []
+IsLabelAt size (Some l) at label = (at ≡ 2 * size / 8 + 32 * l.slot) × (label ≡ words_in (label_spelling l))
+
+-- What a power cut leaves after a change was begun on words of which none was pending, with the words of that change at their
+-- places: it shows the area before or after it, and where the change was made to its end, the one after it.
+abbrev pub IsWholeAfter : Words → Words → ℕ → List ℕ → ℕ → List ℕ → Bool → Type 0
+IsWholeAfter old new label_at label block_at block made =
+    (words : List ℕ) (now : IndexBlock) (out : Option ℕ) (put : Option Label) (left : List ℕ) → old ≡ settled words → IsChange words now out put
+    → IsLabelAt now.size put label_at label → block_at ≡ place_of now.size (opposite now.side) / 8 → block ≡ words_in (block_spelling (next_block now out put)) → IsLeft new left
+    → (Shows left now (slots_before words now) ⊎ Shows left (next_block now out put) (slots_after words now out put))
+    × (made ≡ true → Shows left (next_block now out put) (slots_after words now out put))
+
+-- where the change was made to its end, no word is pending, and the words are those after it, so that the next change may follow
+abbrev pub SettlesAfter : Words → Words → ℕ → List ℕ → ℕ → List ℕ → Bool → Type 0
+SettlesAfter old new label_at label block_at block made =
+    (words : List ℕ) (now : IndexBlock) (out : Option ℕ) (put : Option Label) → old ≡ settled words → IsChange words now out put
+    → IsLabelAt now.size put label_at label → block_at ≡ place_of now.size (opposite now.side) / 8 → block ≡ words_in (block_spelling (next_block now out put))
+    → made ≡ true → new ≡ settled (words_after words now out put)

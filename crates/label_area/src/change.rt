@@ -1,0 +1,143 @@
+ghost use Rattle.std.specs.Prelude.{◌≡◌, ◌+◌, ◌^◌, ◌<◌, ◌≤◌, ◌++◌, length, is_ok};
+ghost use Rattle.cut_words.specs.Fuses.{Makes};
+ghost use Rattle.cut_words.specs.Runs.{NonePending, run_steps};
+ghost use Rattle.label_area.specs.Writing.{IsWholeAfter, SettlesAfter, block_steps_from, others_keeps, others_steps, others_stores};
+
+use cut_words::{Fuse, PowerCut, WordSpace, keep_from, store_from, write_from, write_word};
+
+/// The word of an index block that has Seq, in its high half: the word at offset 16.
+const SEQ_WORD: usize = 2;
+
+/// The first word behind it.
+const AFTER_SEQ: usize = 3;
+
+/// The values of the low half of a word. A block whose word with Seq has only those is closed.
+const CLOSED: u64 = 1 << 32;
+
+/// Stores the words of a block but the one with Seq, into the words from a place on.
+fn store_others<W: WordSpace>(
+    words: &mut W,
+    fuse: &mut Fuse,
+    base: u64,
+    block: &[u64],
+) -> Result<(), PowerCut>
+    requires inside { base + length block.now ≤ length (W.words words.old).kept }
+    requires small { length (W.words words.old).kept < 2 ^ 60 }
+    requires enough { 3 ≤ length block.now }
+    requires settled { NonePending (W.words words.old) base (length block.now) }
+    ensures made { Makes (W.words words.old) (W.words words.new) fuse.old fuse.new (others_stores base block.now) (is_ok result) }
+    ensures count { length (W.words words.new).kept ≡ length (W.words words.old).kept }
+{
+    store_from(words, fuse, base, &block[..SEQ_WORD])?;
+    store_from(words, fuse, base + 3, &block[AFTER_SEQ..])
+}
+
+/// Keeps them: of a block of so many words all but the one with Seq.
+fn keep_others<W: WordSpace>(
+    words: &mut W,
+    fuse: &mut Fuse,
+    base: u64,
+    count: u64,
+) -> Result<(), PowerCut>
+    requires inside { base + count ≤ length (W.words words.old).kept }
+    requires small { length (W.words words.old).kept < 2 ^ 60 }
+    requires enough { 3 ≤ count }
+    ensures made { Makes (W.words words.old) (W.words words.new) fuse.old fuse.new (others_keeps base count) (is_ok result) }
+    ensures count { length (W.words words.new).kept ≡ length (W.words words.old).kept }
+{
+    keep_from(words, fuse, base, 2)?;
+    keep_from(words, fuse, base + 3, count - 3)
+}
+
+/// Writes the words of a block but the one with Seq.
+fn write_others<W: WordSpace>(
+    words: &mut W,
+    fuse: &mut Fuse,
+    base: u64,
+    block: &[u64],
+) -> Result<(), PowerCut>
+    requires inside { base + length block.now ≤ length (W.words words.old).kept }
+    requires small { length (W.words words.old).kept < 2 ^ 60 }
+    requires enough { 3 ≤ length block.now }
+    requires settled { NonePending (W.words words.old) base (length block.now) }
+    ensures made { Makes (W.words words.old) (W.words words.new) fuse.old fuse.new (others_steps base block.now) (is_ok result) }
+    ensures count { length (W.words words.new).kept ≡ length (W.words words.old).kept }
+{
+    store_others(words, fuse, base, block)?;
+    keep_others(words, fuse, base, block.len() as u64)
+}
+
+/// Writes the words of an index block: the one with Seq closed, the others, and then that one with Seq.
+///
+/// None of the words is pending. `PowerCut` comes exactly where the fuse has fewer steps left than two
+/// for each word and two more, and then as many were made as there were.
+pub fn write_block<W: WordSpace>(
+    words: &mut W,
+    fuse: &mut Fuse,
+    base: u64,
+    block: &[u64],
+) -> Result<(), PowerCut>
+    requires inside { base + length block.now ≤ length (W.words words.old).kept }
+    requires small { length (W.words words.old).kept < 2 ^ 60 }
+    requires enough { 3 ≤ length block.now }
+    requires settled { NonePending (W.words words.old) base (length block.now) }
+    ensures made { Makes (W.words words.old) (W.words words.new) fuse.old fuse.new (block_steps_from base block.now) (is_ok result) }
+    ensures count { length (W.words words.new).kept ≡ length (W.words words.old).kept }
+{
+    write_word(words, fuse, base + 2, block[SEQ_WORD] % CLOSED)?;
+    write_others(words, fuse, base, block)?;
+    write_word(words, fuse, base + 2, block[SEQ_WORD])
+}
+
+/// The label's words, and then those of the block.
+fn write_steps<W: WordSpace>(
+    words: &mut W,
+    fuse: &mut Fuse,
+    label_at: u64,
+    label: &[u64],
+    block_at: u64,
+    block: &[u64],
+) -> Result<(), PowerCut>
+    requires label_inside { label_at + length label.now ≤ length (W.words words.old).kept }
+    requires block_inside { block_at + length block.now ≤ length (W.words words.old).kept }
+    requires small { length (W.words words.old).kept < 2 ^ 60 }
+    requires enough { 3 ≤ length block.now }
+    requires label_settled { NonePending (W.words words.old) label_at (length label.now) }
+    requires block_settled { NonePending (W.words words.old) block_at (length block.now) }
+    ensures made { Makes (W.words words.old) (W.words words.new) fuse.old fuse.new (run_steps label_at label.now ++ block_steps_from block_at block.now) (is_ok result) }
+    ensures count { length (W.words words.new).kept ≡ length (W.words words.old).kept }
+{
+    write_from(words, fuse, label_at, label)?;
+    write_block(words, fuse, block_at, block)
+}
+
+/// Makes one change of a label area: writes a label's words, none where no label is put, and then the
+/// words of the other side's block.
+///
+/// The words are those of the spellings, at their places; none of them is pending. `PowerCut` comes
+/// exactly where the fuse has fewer steps left than the change needs. Whatever came, a cut leaves words
+/// that show the area before the change or after it, and after `Ok` only the one after it, where the
+/// block is the next one of the current block with a slot freed and the label's slot, which was free,
+/// taken (`IsWholeAfter`). After `Ok` no word is pending, so that the next change may follow
+/// (`SettlesAfter`).
+pub fn write_change<W: WordSpace>(
+    words: &mut W,
+    fuse: &mut Fuse,
+    label_at: u64,
+    label: &[u64],
+    block_at: u64,
+    block: &[u64],
+) -> Result<(), PowerCut>
+    requires label_inside { label_at + length label.now ≤ length (W.words words.old).kept }
+    requires block_inside { block_at + length block.now ≤ length (W.words words.old).kept }
+    requires small { length (W.words words.old).kept < 2 ^ 60 }
+    requires enough { 3 ≤ length block.now }
+    requires label_settled { NonePending (W.words words.old) label_at (length label.now) }
+    requires block_settled { NonePending (W.words words.old) block_at (length block.now) }
+    ensures made { Makes (W.words words.old) (W.words words.new) fuse.old fuse.new (run_steps label_at label.now ++ block_steps_from block_at block.now) (is_ok result) }
+    ensures whole { IsWholeAfter (W.words words.old) (W.words words.new) label_at label.now block_at block.now (is_ok result) }
+    ensures settles { SettlesAfter (W.words words.old) (W.words words.new) label_at label.now block_at block.now (is_ok result) }
+    ensures count { length (W.words words.new).kept ≡ length (W.words words.old).kept }
+{
+    write_steps(words, fuse, label_at, label, block_at, block)
+}
