@@ -1,5 +1,5 @@
 -- How much stands in a table: bounds that follow from its Length, which is a number of 32 bits.
-use Rattle.std.specs.Prelude.{◌≡◌, ◌<◌, ◌^◌, length, Option, Some}
+use Rattle.std.specs.Prelude.{◌≡◌, ◌<◌, ◌^◌, length, Some}
 use Rattle.std.specs.List.{All}
 use Rattle.nfit_reader.specs.declared.table.Nfit.{Nfit}
 use Rattle.nfit_reader.specs.declared.table.Region.{Region}

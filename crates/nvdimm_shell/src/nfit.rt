@@ -1,8 +1,7 @@
 //! The lines of the command `nfit`: the modules and regions of a firmware table.
-ghost use Rattle.std.specs.Prelude.{◌≡◌, ◌≢◌, ◌<◌, ◌^◌, ◌++◌, IfOk, OnOk, Result, Ok, Err, List, length, slice_index_or, string_bytes};
+ghost use Rattle.std.specs.Prelude.{◌≡◌, ◌≢◌, ◌<◌, ◌^◌, ◌++◌, IfOk, OnOk, Result, Ok, Err, length, slice_index_or, string_bytes};
 ghost use Rattle.std.specs.Result.{result_map_both};
 ghost use Rattle.nvd_words.specs.Checks.{Answers};
-ghost use Rattle.nfit_reader.specs.declared.table.Mapping.{Mapping};
 ghost use Rattle.nfit_reader.specs.declared.table.Region.{Region};
 ghost use Rattle.nfit_reader.specs.Counted.{AreCounted};
 ghost use Rattle.nvdimm_shell.specs.Nfit.{module_line, module_lines, set_fault_text, members_text, range_text, set_text, reading_text, region_start, region_line, region_lines, nfit_text, nfit_lines_of};
