@@ -35,7 +35,7 @@ impl Parted for Tally {
 }
 
 impl Tally {
-    ghost use Rattle.std.specs.Prelude.{◌≡◌, ◌*◌, ◌-◌, ◌^◌, ◌<◌, IfOk, replicate, slice_index, slice_set};
+    ghost use Rattle.std.specs.Prelude.{◌≡◌, ◌+◌, ◌*◌, ◌-◌, ◌^◌, ◌<◌, ◌==◌, if◌then◌else◌, min, IfOk, replicate, slice_index, slice_set};
 
     /// A tally of no turns yet, with so many left to each caller.
     pub fn new(alloc: Global, callers: u32, each: u64) -> Result<Tally, AllocError>
@@ -58,6 +58,8 @@ impl Tally {
         requires { 0 < slice_index self.old.left.items by }
         ensures left { self.new.left.items ≡ slice_set self.old.left.items by (slice_index self.old.left.items by - 1) }
         ensures all { self.new.all ≡ self.old.all }
+        ensures last { self.new.last ≡ by }
+        ensures changes { self.new.changes ≡ (if self.old.last == by then self.old.changes else min (self.old.changes + 1) (2 ^ 64 - 1)) }
     {
         let left = self.left[by] - 1;
         self.left[by] = left;
