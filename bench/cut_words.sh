@@ -5,11 +5,12 @@ top=$(cd "$(dirname "$0")/.." && pwd)
 copy=$(mktemp -d)
 trap 'rm -rf "$copy"' EXIT
 mkdir -p "$copy/crates"
-for crate in nvd_media cut_words; do
+for crate in nvd_words nvd_media cut_words; do
     mkdir "$copy/crates/$crate"
     (cd "$top/crates/$crate" && cp -r src specs proofs "$copy/crates/$crate/")
 done
-printf 'nvd_media:\ncut_words: nvd_media\ncut_bench: cut_words\n' > "$copy/crates.txt"
+grep -E '^(nvd_words|nvd_media|cut_words):' "$top/crates.txt" > "$copy/crates.txt"
+echo 'cut_bench: cut_words' >> "$copy/crates.txt"
 mkdir -p "$copy/crates/cut_bench/src"
 cp "$top/bench/cut_words.rt.txt" "$copy/crates/cut_bench/src/main.rt"
 cd "$copy/crates/cut_bench"
