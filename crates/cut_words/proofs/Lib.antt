@@ -1,4 +1,3 @@
-pub mod FlagBits
 pub mod Since
 pub mod OneStep
 pub mod Left

@@ -1,7 +1,6 @@
 pub mod Words
 pub mod Fuses
 pub mod Leaving
-pub mod Bits
 pub mod Pending
 pub mod Groups
 pub mod Guarded

@@ -45,7 +45,6 @@
 //! lists of steps, and `specs/WordBytes.antt` the bytes of words.
 #![tactic(auto)]
 
-mod flags;
 mod fuse;
 mod law;
 mod runs;

@@ -2,10 +2,10 @@ ghost use Rattle.std.specs.Prelude.{◌≡◌, ◌<◌, IfOk, if◌then◌else�
 ghost use Rattle.cut_words.specs.Words.{settled, IsLeft};
 ghost use Rattle.cut_words.specs.Leaving.{LeavesOne, LeavesFrom};
 
-use crate::flags::Flags;
 use crate::fuse::{Fuse, PowerCut};
 use crate::space::WordSpace;
 use nvd_media::Chooser;
+use nvd_words::Flags;
 use std::alloc::{AllocError, Global};
 use std::marker::Model;
 

@@ -11,7 +11,7 @@ use Rattle.nvd_words.specs.Checks.{first_fault, fault_if, value_unless}
 use Rattle.map_table.specs.declared.check.BlockFault.{BlockFault}
 use Rattle.map_table.specs.declared.check.BlockFault.TheVariants.{Range, Twice, Count}
 use Rattle.map_table.specs.Blocks.{blocks_from, blocks_of, count_of, first_outside, least_twice, block_check, IsCounted}
-use Rattle.map_table.proofs.Counts.{count_of-append}
+use Rattle.map_table.proofs.Counting.{count_of-append}
 
 -- ---- two lists one after another
 
@@ -25,8 +25,8 @@ outside_second n r xs ys e f = f ∙ sym (find-append (leb n) xs ys ∙ rw (← 
 
 pub counted_both : (n : ℕ) (a b c xs ys : List ℕ) → IsCounted n a b xs → IsCounted n b c ys → IsCounted n a c (xs ++ ys)
 counted_both n a b c xs ys first second block below =
-    let p : min 255 (get_or b block 0) ≡ min 255 (get_or a block 0 + count_of block xs) = first block below in
-    let q : min 255 (get_or c block 0) ≡ min 255 (get_or b block 0 + count_of block ys) = second block below in
+    let p : min 2 (get_or b block 0) ≡ min 2 (get_or a block 0 + count_of block xs) = first block below in
+    let q : min 2 (get_or c block 0) ≡ min 2 (get_or b block 0 + count_of block ys) = second block below in
     omega (arith, p, q, count_of-append block xs ys)
 
 pub length_from : (sector : ℕ) (words : List ℕ) → length (blocks_from sector words) ≡ length words
@@ -43,7 +43,7 @@ zeros zero i = refl
 zeros (suc n) zero = refl
 zeros (suc n) (suc i) = zeros n i
 
-above_by : (n c : ℕ) → min 255 n ≡ min 255 c → ltb 1 n ≡ ltb 1 c
+above_by : (n c : ℕ) → min 2 n ≡ min 2 c → ltb 1 n ≡ ltb 1 c
 above_by n c e = elim (cases_lt 1 n) [
   | inl lt ↦ lt-ltb 1 n lt ∙ sym (lt-ltb 1 c (omega (arith, lt, e)))
   | inr ge ↦ le-ltb 1 n ge ∙ sym (le-ltb 1 c (omega (arith, ge, e)))
@@ -63,7 +63,7 @@ twice_is n counts blocks len counted =
     position_from-zero (ltb 1) counts
     ∙ same_from (ltb 1) (λ b. ltb 1 (count_of b blocks)) 0 counts
     (λ i lt. above_by (get_or counts i 0) (count_of i blocks)
-    (counted i (omega (arith, lt, len)) ∙ ap (λ (k : ℕ). min 255 (k + count_of i blocks)) (zeros n i) ∙ ap (λ (k : ℕ). min 255 k) (omega arith))
+    (counted i (omega (arith, lt, len)) ∙ ap (λ (k : ℕ). min 2 (k + count_of i blocks)) (zeros n i) ∙ ap (λ (k : ℕ). min 2 k) (omega arith))
     ∙ ap (λ (k : ℕ). ltb 1 (count_of k blocks)) (omega arith))
     ∙ ap (λ (m : ℕ). find (λ b. ltb 1 (count_of b blocks)) (range_with_len 0 m)) len
 
@@ -104,7 +104,7 @@ len_zeros n counts e = ap length e ∙ length-replicate {A = ℕ} n 0
 
 pub counted_zeros : (n m : ℕ) (before now all : List ℕ) → m ≡ n → before ≡ replicate n 0 → IsCounted m before now all → IsCounted n (replicate n 0) now all
 counted_zeros n m before now all e f counted block below =
-    counted block (omega (arith, below, e)) ∙ ap (λ (l : List ℕ). min 255 (get_or l block 0 + count_of block all)) f
+    counted block (omega (arith, below, e)) ∙ ap (λ (l : List ℕ). min 2 (get_or l block 0 + count_of block all)) f
 
 -- the first count above 1, where the counts began at zero
 pub least_is : (n : ℕ) (before now all : List ℕ) (r : Option ℕ) → before ≡ replicate n 0 → length now ≡ length before → IsCounted (length before) before now all

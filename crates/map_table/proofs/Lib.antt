@@ -1,5 +1,6 @@
 pub mod Entries
-pub mod Counts
+pub mod Counting
+pub mod Tallies
 pub mod Checked
 pub mod Once
 pub mod Rows

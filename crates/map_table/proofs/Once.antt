@@ -8,7 +8,7 @@ use Rattle.nvd_words.specs.Checks.{first_fault, fault_if, value_unless, Answers}
 use Rattle.map_table.specs.declared.check.BlockFault.{BlockFault}
 use Rattle.map_table.specs.declared.check.BlockFault.TheVariants.{Range, Twice, Count, OutOfMemory}
 use Rattle.map_table.specs.Blocks.{count_of, first_outside, least_twice, block_check, NamesEachOnce}
-use Rattle.map_table.proofs.Counts.{count_of-cons}
+use Rattle.map_table.proofs.Counting.{count_of-cons}
 use Rattle.map_table.proofs.Checked.{fine_answer}
 
 -- ---- all the counts together

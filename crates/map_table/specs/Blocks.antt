@@ -46,7 +46,7 @@ block_faults internal blocks =
 abbrev pub block_check : ℕ → List ℕ → Result Unit BlockFault
 block_check internal blocks = value_unless tt (first_fault (block_faults internal blocks))
 
--- counts of the blocks below a number, taken on by a list; a count stops at 255
+-- counts of the blocks below a number, taken on by a list; a count stops at 2
 abbrev pub IsCounted : ℕ → List ℕ → List ℕ → List ℕ → Type 0
 IsCounted internal before now blocks =
-    (block : ℕ) → block < internal → min 255 (slice_index now block) ≡ min 255 (slice_index before block + count_of block blocks)
+    (block : ℕ) → block < internal → min 2 (slice_index now block) ≡ min 2 (slice_index before block + count_of block blocks)

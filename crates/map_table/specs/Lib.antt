@@ -1,2 +1,3 @@
 pub mod Entry
 pub mod Blocks
+pub mod Times

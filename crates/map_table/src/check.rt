@@ -1,7 +1,8 @@
-ghost use Rattle.std.specs.Prelude.{◌≡◌, ◌≢◌, ◌+◌, ◌^◌, ◌<◌, ◌≤◌, length, replicate, nat_lt, position, slice_set, slice_index, min, None, Ok, OnOk, IfSome};
+ghost use Rattle.std.specs.Prelude.{◌≡◌, ◌≢◌, ◌^◌, ◌≤◌, length, replicate, None, Ok, OnOk};
 ghost use Rattle.nvd_words.specs.Checks.{Answers};
 ghost use Rattle.map_table.specs.Blocks.{blocks_from, blocks_of, block_check, first_outside, least_twice, IsCounted, NamesEachOnce};
 
+use crate::counts::Counts;
 use crate::words::entry;
 use std::alloc::Global;
 
@@ -14,23 +15,14 @@ pub enum BlockFault {
     Twice { block: u32 },
     /// There are fewer entries and free blocks together (`had`) than blocks (`said`).
     Count { said: u32, had: u64 },
-    /// There was no memory for a byte a block.
+    /// There was no memory for two bits a block.
     OutOfMemory,
 }
 
-/// Counts a block once more. A count that has reached 255 stays there.
-#[inline]
-fn count_block(counts: &mut [u8], block: u32)
-    requires { block < length counts.old }
-    ensures { counts.new ≡ slice_set counts.old block (min 255 (slice_index counts.old block + 1)) }
-{
-    let count = counts[block as usize];
-    counts[block as usize] = count.saturating_add(1);
-}
-
 /// Counts the blocks of a map's entries; the first that has no count is handed back.
-fn count_entries(counts: &mut [u8], map: &[u32]) -> Option<u32>
+fn count_entries(counts: &mut Counts, map: &[u32]) -> Option<u32>
     requires { length map.now ≤ 2 ^ 32 }
+    ensures sized { length counts.new ≡ length counts.old }
     ensures outside { result ≡ first_outside (length counts.old) (blocks_from 0 map.now) }
     ensures counted { result ≡ None → IsCounted (length counts.old) counts.old counts.new (blocks_from 0 map.now) }
 {
@@ -39,13 +31,14 @@ fn count_entries(counts: &mut [u8], map: &[u32]) -> Option<u32>
         if block as usize >= counts.len() {
             return Some(block);
         }
-        count_block(counts, block);
+        counts.add(block as usize);
     }
     None
 }
 
 /// Counts free blocks; the first that has no count is handed back.
-fn count_free(counts: &mut [u8], free: &[u32]) -> Option<u32>
+fn count_free(counts: &mut Counts, free: &[u32]) -> Option<u32>
+    ensures sized { length counts.new ≡ length counts.old }
     ensures outside { result ≡ first_outside (length counts.old) free.now }
     ensures counted { result ≡ None → IsCounted (length counts.old) counts.old counts.new free.now }
 {
@@ -53,14 +46,15 @@ fn count_free(counts: &mut [u8], free: &[u32]) -> Option<u32>
         if *block as usize >= counts.len() {
             return Some(*block);
         }
-        count_block(counts, *block);
+        counts.add(*block as usize);
     }
     None
 }
 
 /// Counts the blocks of a map's entries and then free ones; the first that has no count is handed back.
-fn count_all(counts: &mut [u8], map: &[u32], free: &[u32]) -> Option<u32>
+fn count_all(counts: &mut Counts, map: &[u32], free: &[u32]) -> Option<u32>
     requires { length map.now ≤ 2 ^ 32 }
+    ensures sized { length counts.new ≡ length counts.old }
     ensures outside { result ≡ first_outside (length counts.old) (blocks_of map.now free.now) }
     ensures counted { result ≡ None → IsCounted (length counts.old) counts.old counts.new (blocks_of map.now free.now) }
 {
@@ -70,17 +64,9 @@ fn count_all(counts: &mut [u8], map: &[u32], free: &[u32]) -> Option<u32>
     }
 }
 
-/// The least block with a count above 1.
-fn least_above_one(counts: &[u8]) -> Option<usize>
-    ensures block { result ≡ position (nat_lt 1) counts.now }
-    ensures inside { IfSome result (λ block. block < length counts.now) }
-{
-    counts.iter().position(|count| *count > 1)
-}
-
 /// The check over counts that are all zero.
 fn check_counted(
-    counts: &mut [u8],
+    counts: &mut Counts,
     map: &[u32],
     free: &[u32],
     internal: u32,
@@ -92,7 +78,7 @@ fn check_counted(
     if let Some(block) = count_all(counts, map, free) {
         return Err(BlockFault::Range { block });
     }
-    if let Some(block) = least_above_one(counts) {
+    if let Some(block) = counts.least_twice() {
         return Err(BlockFault::Twice {
             block: block as u32,
         });
@@ -112,7 +98,7 @@ fn check_in(alloc: Global, map: &[u32], free: &[u32], internal: u32) -> Result<(
     requires { length map.now ≤ 2 ^ 32 }
     ensures { Answers BlockFault.OutOfMemory result (block_check internal (blocks_of map.now free.now)) }
 {
-    match vec![in alloc; 0u8; internal as usize] {
+    match Counts::new(alloc, internal as usize) {
         Ok(mut counts) => check_counted(&mut counts, map, free, internal),
         Err(_) => Err(BlockFault::OutOfMemory),
     }
@@ -121,7 +107,7 @@ fn check_in(alloc: Global, map: &[u32], free: &[u32], internal: u32) -> Result<(
 /// Whether the entries of a map and the lanes' free blocks name each block below `internal` exactly once.
 ///
 /// `map` has the entry of sector i at i. Refusals, the first that holds: Range, Twice, Count; want of memory may come
-/// in place of any answer. Takes a byte for each block and one pass over each list.
+/// in place of any answer. Takes two bits for each block and one pass over each list.
 ///
 /// Condition: the map's sectors are numbered by `u32`.
 pub fn check_blocks(

@@ -25,6 +25,7 @@
 #![tactic(auto)]
 
 mod check;
+mod counts;
 mod kinds;
 #[cfg(test)]
 mod tests;

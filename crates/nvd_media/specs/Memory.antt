@@ -1,5 +1,5 @@
 -- What an image set in memory holds.
-use Rattle.std.specs.Prelude.{List, [], ◌∷◌, Some, None, if◌then◌else◌}
+use Rattle.std.specs.Prelude.{Bool, List, [], ◌∷◌, Option, Some, None, if◌then◌else◌}
 use Rattle.nvd_media.specs.declared.mem_images.Stored.{Stored}
 use Rattle.nvd_media.specs.Images.{Images, is_object}
 
@@ -7,3 +7,7 @@ use Rattle.nvd_media.specs.Images.{Images, is_object}
 abbrev pub lookup : List Stored → Images
 lookup [] object = None
 lookup (stored ∷ others) object = if is_object stored.object object then Some stored.bytes.items else lookup others object
+
+-- what is held, where all of it was kept
+abbrev pub while_whole : {A : Type 0} → Bool → A → Option A
+while_whole whole held = if whole then Some held else None

@@ -162,6 +162,8 @@ impl<R: Files + AllocGlobal> DirImages<'_, R> {
 impl<R: Files + AllocGlobal> ImageSink for DirImages<'_, R> {
     ghost made = { λ _. None };
 
+    ghost kept = { λ _. None };
+
     ghost faults = { λ images. images.faults };
 
     fn write(&mut self, object: Object, _at: u64, bytes: &[u8]) -> Result<(), Failed> {

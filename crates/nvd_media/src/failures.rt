@@ -12,6 +12,7 @@ pub struct Failures {
 }
 
 impl Failures {
+    /// Calls with these numbers are to fail, and none was made yet.
     pub fn new(failing: Vec<u64>) -> Failures
         ensures { result ≡ record { failing = failing; calls = 0; faults = 0 } }
     {

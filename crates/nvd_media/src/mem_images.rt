@@ -153,6 +153,8 @@ impl ImageSource for MemImages {
 impl ImageSink for MemImages {
     ghost made = { λ images. Some (lookup images.objects.items) };
 
+    ghost kept = { λ images. Some (lookup images.objects.items) };
+
     ghost faults = { λ images. images.failures.faults };
 
     #[tactic(auto, using(crate::proofs::Grown::unfinished))]

@@ -63,6 +63,8 @@ impl TextSource for MemText {
 impl TextSink for MemText {
     ghost written = { λ text. Some text.bytes.items };
 
+    ghost kept = { λ text. Some text.bytes.items };
+
     ghost faults = { λ text. text.failures.faults };
 
     fn write(&mut self, bytes: &[u8]) -> Result<(), Failed> {

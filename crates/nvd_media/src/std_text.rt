@@ -44,6 +44,8 @@ impl<R: Print + Input> TextSource for StdText<'_, R> {
 impl<R: Print + Input> TextSink for StdText<'_, R> {
     ghost written = { λ _. None };
 
+    ghost kept = { λ _. None };
+
     ghost faults = { λ text. text.faults };
 
     fn write(&mut self, bytes: &[u8]) -> Result<(), Failed> {

@@ -1,6 +1,7 @@
 ghost use Rattle.std.specs.Prelude.{◌≡◌, None, Some, true};
 ghost use Rattle.std.specs.Option.{option_map};
-ghost use Rattle.nvd_media.specs.Memory.{lookup};
+ghost use Rattle.nvd_media.specs.Images.{Keeps, IsSameSet, with_more};
+ghost use Rattle.nvd_media.specs.Memory.{lookup, while_whole};
 
 use crate::mem_images::{Stored, append, bytes_in, copy_from, find};
 use crate::object::Object;
@@ -9,8 +10,9 @@ use std::alloc::Global;
 
 /// An image set in memory of which no call fails: its count of faults is always 0.
 ///
-/// As a source it tells what it holds. As a sink it tells nothing, since a write that memory is wanting
-/// for can't be said to have failed; [`SureImages::is_whole`] answers whether all was kept.
+/// As a source it tells what it holds. As a sink it tells nothing in `made`, since a write that memory
+/// is wanting for can't be said to have failed; while [`SureImages::is_whole`] answers that all was kept,
+/// its `kept` tells what that is.
 #[derive(Drop)]
 pub struct SureImages {
     alloc: Global,
@@ -45,7 +47,10 @@ impl SureImages {
         self.whole
     }
 
-    fn keep(&mut self, object: Object, bytes: &[u8]) {
+    /// Adds bytes at an object's end, or isn't whole from then on.
+    fn keep(&mut self, object: Object, bytes: &[u8])
+        ensures kept { Keeps (while_whole self.old.whole (lookup self.old.objects.items)) (while_whole self.new.whole (lookup self.new.objects.items)) (λ set now. IsSameSet now (with_more set object bytes.now)) }
+    {
         if append(self.alloc, &mut self.objects, object, bytes).is_err() {
             self.whole = false;
         }
@@ -72,6 +77,8 @@ impl ImageSource for SureImages {
 
 impl ImageSink for SureImages {
     ghost made = { λ _. None };
+
+    ghost kept = { λ images. while_whole images.whole (lookup images.objects.items) };
 
     ghost faults = { λ _. 0 };
 

@@ -1,12 +1,14 @@
 ghost use Rattle.std.specs.Prelude.{◌≡◌, ◌≤◌, None, Some, true, length, drop};
+ghost use Rattle.nvd_media.specs.Memory.{while_whole};
 
 use crate::mem_text::copy_front;
 use crate::traits::{Failed, TextSink, TextSource};
 
 /// A text in memory of which no call fails: its count of faults is always 0.
 ///
-/// As a source it tells what is left. As a sink it tells nothing, since a write that memory is wanting
-/// for can't be said to have failed; [`SureText::is_whole`] answers whether all was kept.
+/// As a source it tells what is left. As a sink it tells nothing in `written`, since a write that memory
+/// is wanting for can't be said to have failed; while [`SureText::is_whole`] answers that all was kept, its
+/// `kept` tells what that is.
 #[derive(Drop)]
 pub struct SureText {
     bytes: Vec<u8>,
@@ -59,6 +61,8 @@ impl TextSource for SureText {
 
 impl TextSink for SureText {
     ghost written = { λ _. None };
+
+    ghost kept = { λ text. while_whole text.whole text.bytes.items };
 
     ghost faults = { λ _. 0 };
 

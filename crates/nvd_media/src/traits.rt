@@ -1,9 +1,9 @@
-ghost use Rattle.std.specs.Prelude.{◌≡◌, ◌≢◌, ◌+◌, ◌≤◌, ◌<◌, ℕ, Bool, List, [], Option, Some, None, length, take, drop, IfOk, OnOk, OnErr, MatchResult};
+ghost use Rattle.std.specs.Prelude.{◌≡◌, ◌≢◌, ◌+◌, ◌++◌, ◌≤◌, ◌<◌, ℕ, Bool, List, [], Option, Some, None, length, take, drop, IfOk, OnOk, OnErr, MatchResult};
 ghost use Rattle.std.specs.Option.{ForSome, option_map};
 ghost use Rattle.std.specs.Io.{ReadsAtMost};
 ghost use Rattle.std.specs.Io.KnownBytes.{Appends, ReadConsumes};
 ghost use Rattle.nvd_media.specs.Causes.{HasCause};
-ghost use Rattle.nvd_media.specs.Images.{Images, IsSameSet, Becomes, IsUnfinished, bytes_of, with_more};
+ghost use Rattle.nvd_media.specs.Images.{Images, IsSameSet, Becomes, Keeps, IsUnfinished, bytes_of, with_more};
 
 use crate::object::Object;
 
@@ -41,6 +41,9 @@ pub trait ImageSink {
     /// What was written, where it tells. The object `Mark` is there once it is finished.
     ghost made: { Self → Option Images };
 
+    /// What it holds, where it tells that all was kept. It may cease to tell at any call.
+    ghost kept: { Self → Option Images };
+
     /// How often it failed.
     ghost faults: { Self → ℕ };
 
@@ -52,11 +55,13 @@ pub trait ImageSink {
         requires end { ForSome (made self.old) (λ set. at ≡ length (bytes_of set object)) }
         requires not_mark { object ≢ Object.Mark }
         ensures told { Becomes (made self.old) (made self.new) (λ set now. IsUnfinished set now × OnOk result (IsSameSet now (with_more set object bytes.now))) }
+        ensures kept { OnOk result (Keeps (kept self.old) (kept self.new) (λ set now. IsSameSet now (with_more set object bytes.now))) }
         ensures cause { HasCause (faults self.old) (faults self.new) result };
 
     /// Makes the set whole by its mark. After `Failed` the mark isn't there.
     fn finish(&mut self) -> Result<(), Failed>
         ensures told { Becomes (made self.old) (made self.new) (λ set now. MatchResult result (λ _. IsSameSet now (with_more set Object.Mark [])) (λ _. IsUnfinished set now)) }
+        ensures kept { OnOk result (Keeps (kept self.old) (kept self.new) (λ set now. IsSameSet now (with_more set Object.Mark []))) }
         ensures cause { HasCause (faults self.old) (faults self.new) result };
 }
 
@@ -81,12 +86,16 @@ pub trait TextSink {
     /// What was written, where it tells.
     ghost written: { Self → Option (List ℕ) };
 
+    /// The bytes that it holds, where it tells that all were kept. It may cease to tell at any call.
+    ghost kept: { Self → Option (List ℕ) };
+
     /// How often it failed.
     ghost faults: { Self → ℕ };
 
     /// Writes all of the bytes, or fails after some of them.
     fn write(&mut self, bytes: &[u8]) -> Result<(), Failed>
         ensures all { OnOk result (Appends (written self.old) (written self.new) bytes.now) }
+        ensures kept { OnOk result (Keeps (kept self.old) (kept self.new) (λ text now. now ≡ text ++ bytes.now)) }
         ensures part { OnErr result ((n : ℕ) × Appends (written self.old) (written self.new) (take n bytes.now)) }
         ensures cause { HasCause (faults self.old) (faults self.new) result };
 }

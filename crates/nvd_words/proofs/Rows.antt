@@ -1,5 +1,5 @@
 -- Worked examples, computed on the definitions.
-use Rattle.std.proofs.Common.{◌≡◌, true, false, List, [], ◌∷◌, refl}
+use Rattle.std.proofs.Common.{◌≡◌, true, false, [], ◌∷◌, refl}
 use Rattle.std.specs.Int.{w64}
 use Rattle.uuid.specs.Parts.{swap_fields}
 use Rattle.nvd_words.specs.Bytes.{number_at}

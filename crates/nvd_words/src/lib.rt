@@ -20,17 +20,20 @@
 //!   there and back gives the same identifier.
 //! - **Numbers in bytes**: `specs/Bytes.antt`.
 //!
-//! `specs/Checks.antt` has the form in which every reader of a format states its refusals: a list of
+//! [`Items`] is a list whose contracts see its items, and [`Flags`] a row of flags, a bit each
+//! (`specs/Bits.antt`). `specs/Checks.antt` has the form in which every reader of a format states its refusals: a list of
 //! checks in a fixed order, of which the first that fails is the answer.
 #![tactic(auto)]
 
 mod checksum;
+mod flags;
 mod guid;
 mod items;
 mod ring;
 mod word;
 
 pub use checksum::{fletcher64, fletcher64_without};
+pub use flags::Flags;
 pub use guid::{guid_bytes, guid_order_is_its_own_inverse, guid_read};
 pub use items::Items;
 pub use ring::{seq_newer, seq_next};

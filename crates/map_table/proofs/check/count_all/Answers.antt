@@ -8,4 +8,4 @@ returns-in-Some-clause-outside c = outside_first _ _ _ _ c.in-Some.ensures.outsi
 
 pub returns-in-None-clause-outside : goal.returns-in-None-clause-outside
 returns-in-None-clause-outside c =
-    outside_second _ _ _ _ c.in-None.ensures.outside (c.count_free.ensures.outside ∙ ap (λ (n : ℕ). first_outside n c.args.free.now) c.count_entries.auto.counts)
+    outside_second _ _ _ _ c.in-None.ensures.outside (c.count_free.ensures.outside ∙ ap (λ (n : ℕ). first_outside n c.args.free.now) c.count_entries.ensures.sized)

@@ -1,6 +1,6 @@
 use Rattle.std.proofs.Common.{length, drop}
 use Rattle.map_table.specs.Blocks.{blocks_from}
-use Rattle.map_table.proofs.Counts.{Going}
+use Rattle.map_table.proofs.Counting.{Going}
 use Rattle.map_table.proofs.check.count_entries.Given as goal
 
 abbrev pub invariant-loop-sector : goal.invariant-loop-sector

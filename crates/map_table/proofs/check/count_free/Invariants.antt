@@ -1,5 +1,5 @@
 use Rattle.std.proofs.Common.{length, drop}
-use Rattle.map_table.proofs.Counts.{Going}
+use Rattle.map_table.proofs.Counting.{Going}
 use Rattle.map_table.proofs.check.count_free.Given as goal
 
 abbrev pub invariant-loop-block : goal.invariant-loop-block

@@ -1,10 +1,10 @@
 use Rattle.std.proofs.Common.{arith, length}
-use Rattle.cut_words.proofs.FlagBits.{in_words, flag_set}
-use Rattle.cut_words.proofs.flags.Flags.set.Goals as goal
+use Rattle.nvd_words.proofs.FlagBits.{in_words, flag_clear}
+use Rattle.nvd_words.proofs.flags.Flags.clear.Goals as goal
 
 pub index_mut-requires : goal.index_mut-requires
 index_mut-requires c =
     omega (arith, in_words c.self.inside.words.items c.self.inside.count c.args.i (length c.self.inside.words.items) c.args.self.now c.self.view_is c.requires c.self.invariant, c.self.inside.words.ok.0)
 
 pub returns : goal.returns
-returns c = flag_set c.self.inside.words.items c.self.inside.count c.args.i c.index_mut.result.now c.args.self.now c.self.view_is c.requires c.self.invariant c.index_mut.ensures.value
+returns c = flag_clear c.self.inside.words.items c.self.inside.count c.args.i c.index_mut.result.now c.args.self.now c.self.view_is c.requires c.self.invariant c.index_mut.ensures.value

@@ -8,7 +8,7 @@ use Rattle.std.proofs.lemmas.Nat.{and_mask}
 use Rattle.std.proofs.lemmas.Nat.Bits.{bit_at-zero, bit_at_set_same, bit_at_set_other, bit_at_clear_same, bit_at_clear_other}
 use Rattle.std.proofs.lemmas.List.{ext_get_or, get_or-set_same, get_or-set_other, get_or-replicate, get_or_read, length-set, length-replicate}
 use Rattle.std.proofs.lemmas.List.FromFn.{length-map-range_with_len, get_or-map-range_with_len}
-use Rattle.cut_words.specs.Bits.{flag_at, flags_of}
+use Rattle.nvd_words.specs.Bits.{flag_at, flags_of}
 
 pub length_flags : (words : List ℕ) (count : ℕ) → length (flags_of words count) ≡ count
 length_flags words count = length-map-range_with_len (flag_at words) 0 count

@@ -7,6 +7,8 @@ use std::marker::Model;
 const BITS: usize = 64;
 
 /// A row of flags, a bit each. Contracts see it as the list of them.
+///
+/// Flag i is bit i mod 64 of word i / 64, so a row takes an eighth of a byte for each flag.
 #[derive(Debug, Drop)]
 pub struct Flags {
     words: Vec<u64>,
@@ -15,7 +17,7 @@ pub struct Flags {
 
 impl Model for Flags {
     ghost use Rattle.std.specs.Prelude.{◌≤◌, ◌*◌, List, Bool, length};
-    ghost use Rattle.cut_words.specs.Bits.{flags_of};
+    ghost use Rattle.nvd_words.specs.Bits.{flags_of};
 
     ghost Value = { List Bool };
 
@@ -25,7 +27,7 @@ impl Model for Flags {
 }
 
 impl Flags {
-    /// So many flags, none of them set.
+    /// So many flags, none of them set. The one refusal is want of memory.
     pub fn new(alloc: Global, count: usize) -> Result<Flags, AllocError>
         ensures { IfOk result (λ flags. flags ≡ replicate count false) }
     {
@@ -33,7 +35,16 @@ impl Flags {
         Ok(Flags { words, count })
     }
 
-    /// Whether a flag is set.
+    /// The number of flags.
+    #[inline]
+    pub fn len(&self) -> usize
+        ensures { result ≡ length self.now }
+    {
+        self.count
+    }
+
+    /// Whether a flag is set. Condition: it is one of the row.
+    #[inline]
     pub fn get(&self, i: usize) -> bool
         requires { i < length self.now }
         ensures { result ≡ slice_index_or self.now i false }
@@ -41,7 +52,8 @@ impl Flags {
         (self.words[i / BITS] >> (i % BITS)) & 1 == 1
     }
 
-    /// Sets a flag.
+    /// Sets a flag. Condition: it is one of the row.
+    #[inline]
     pub fn set(&mut self, i: usize)
         requires { i < length self.old }
         ensures { self.new ≡ slice_set self.old i true }
@@ -49,7 +61,8 @@ impl Flags {
         self.words[i / BITS] |= 1 << (i % BITS);
     }
 
-    /// Clears a flag.
+    /// Clears a flag. Condition: it is one of the row.
+    #[inline]
     pub fn clear(&mut self, i: usize)
         requires { i < length self.old }
         ensures { self.new ≡ slice_set self.old i false }

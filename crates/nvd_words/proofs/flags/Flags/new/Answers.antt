@@ -1,7 +1,7 @@
 use Rattle.std.proofs.Common.{rules, ◌≡◌, ◌*◌, ◌≤◌, ap, ◌∙◌, List, ℕ, arith, replicate}
-use Rattle.cut_words.specs.Bits.{flags_of}
-use Rattle.cut_words.proofs.FlagBits.{none_set}
-use Rattle.cut_words.proofs.flags.Flags.new.Goals as goal
+use Rattle.nvd_words.specs.Bits.{flags_of}
+use Rattle.nvd_words.proofs.FlagBits.{none_set}
+use Rattle.nvd_words.proofs.flags.Flags.new.Goals as goal
 
 pub returns : goal.returns
 returns c =

@@ -1,6 +1,6 @@
 use Rattle.std.proofs.Common.{arith, length}
-use Rattle.cut_words.proofs.FlagBits.{in_words, flag_read}
-use Rattle.cut_words.proofs.flags.Flags.get.Goals as goal
+use Rattle.nvd_words.proofs.FlagBits.{in_words, flag_read}
+use Rattle.nvd_words.proofs.flags.Flags.get.Goals as goal
 
 pub index-requires : goal.index-requires
 index-requires c =

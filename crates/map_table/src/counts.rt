@@ -1,0 +1,80 @@
+ghost use Rattle.std.specs.Prelude.{◌≡◌, ◌+◌, ◌<◌, IfOk, IfSome, length, replicate, nat_lt, position, slice_set, slice_index, min};
+
+use nvd_words::Flags;
+use std::alloc::{AllocError, Global};
+use std::marker::Model;
+
+/// How often each block was named. Contracts see the list of the counts, in which 2 stands for every
+/// number above 1.
+///
+/// It takes two bits a block, in two rows of which the second is hardly ever touched, so that counting
+/// stays within the processor's cache for maps of millions of blocks in any order.
+#[derive(Drop)]
+pub struct Counts {
+    named: Flags,
+    again: Flags,
+}
+
+/// The first flag of a row that is set.
+fn first_flag(flags: &Flags) -> Option<usize>
+    ensures first { result ≡ position (λ flag. flag) flags.now }
+    ensures inside { IfSome result (λ place. place < length flags.now) }
+{
+    for place in 0..flags.len() {
+        if flags.get(place) {
+            return Some(place);
+        }
+    }
+    None
+}
+
+impl Model for Counts {
+    ghost use Rattle.std.specs.Prelude.{◌≡◌, List, ℕ, length};
+    ghost use Rattle.map_table.specs.Times.{counts_of};
+
+    ghost Value = { List ℕ };
+
+    ghost view = { λ counts. counts_of counts.named counts.again };
+
+    ghost invariant = { λ counts. length counts.again ≡ length counts.named };
+}
+
+impl Counts {
+    /// Counts of so many blocks, all of them 0. The one refusal is want of memory.
+    pub fn new(alloc: Global, blocks: usize) -> Result<Counts, AllocError>
+        ensures { IfOk result (λ counts. counts ≡ replicate blocks 0) }
+    {
+        let named = Flags::new(alloc, blocks)?;
+        let again = Flags::new(alloc, blocks)?;
+        Ok(Counts { named, again })
+    }
+
+    /// The number of blocks.
+    #[inline]
+    pub fn len(&self) -> usize
+        ensures { result ≡ length self.now }
+    {
+        self.named.len()
+    }
+
+    /// Counts a block once more. A count that has reached 2 stays there.
+    #[inline]
+    pub fn add(&mut self, block: usize)
+        requires { block < length self.old }
+        ensures { self.new ≡ slice_set self.old block (min 2 (slice_index self.old block + 1)) }
+    {
+        if self.named.get(block) {
+            self.again.set(block);
+        } else {
+            self.named.set(block);
+        }
+    }
+
+    /// The least block with a count of 2.
+    pub fn least_twice(&self) -> Option<usize>
+        ensures block { result ≡ position (nat_lt 1) self.now }
+        ensures inside { IfSome result (λ block. block < length self.now) }
+    {
+        first_flag(&self.again)
+    }
+}
