@@ -11,3 +11,4 @@ pub mod Readings
 pub mod Missing
 pub mod Rows
 mod Counted
+mod Placed

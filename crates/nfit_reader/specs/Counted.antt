@@ -1,5 +1,5 @@
 -- How much stands in a table: bounds that follow from its Length, which is a number of 32 bits.
-use Rattle.std.specs.Prelude.{◌≡◌, ◌<◌, ◌^◌, length, Some}
+use Rattle.std.specs.Prelude.{◌≡◌, ◌<◌, ◌≤◌, ◌^◌, length, Some}
 use Rattle.std.specs.List.{All}
 use Rattle.nfit_reader.specs.declared.table.Nfit.{Nfit}
 use Rattle.nfit_reader.specs.declared.table.Region.{Region}
@@ -22,6 +22,11 @@ pub record IsCounted (r : Region) : Type 0 where
 -- each region is counted
 abbrev pub AreCounted : Nfit → Type 0
 AreCounted nfit = All IsCounted nfit.regions
+
+-- there are at most 64 modules, and each mapping is of one of them
+pub record NamesItsModules (nfit : Nfit) : Type 0 where
+  pub few : length nfit.modules ≤ 64
+  pub each : All (λ region. All (λ m. m.«module» < length nfit.modules) region.mappings) nfit.regions
 
 -- the lines of a structure, where it is an interleave structure, are fewer than 2^32
 abbrev pub IsShort : Structure → Type 0

@@ -3,7 +3,7 @@ ghost use Rattle.nvd_words.specs.Checks.{Answers, first_fault, value_unless};
 ghost use Rattle.nfit_reader.specs.declared.structures.Structure.{Structure};
 ghost use Rattle.nfit_reader.specs.Table.{nfit_reading, table_reading, nfit_of, too_large, aliasing, ranges_of, links_of};
 ghost use Rattle.nfit_reader.specs.Names.{IsNamed};
-ghost use Rattle.nfit_reader.specs.Counted.{AreCounted};
+ghost use Rattle.nfit_reader.specs.Counted.{AreCounted, NamesItsModules};
 
 use crate::alias::{alias_fault, extents_of};
 use crate::header::{header_fault, said};
@@ -19,7 +19,8 @@ use std::alloc::Global;
 const MODULES: usize = 64;
 
 /// Reads a table: its modules and regions, or the first fault that holds, in the order of
-/// `NfitFault`. Each region has a mapping, and all counts are below 2^32 (`AreCounted`).
+/// `NfitFault`. Each region has a mapping, and all counts are below 2^32 (`AreCounted`); each mapping is
+/// of one of the table's modules, at most 64 (`NamesItsModules`).
 ///
 /// `bytes` may go on past the table's Length; what stands there is ignored. `OutOfMemory` may
 /// come in place of any other answer, where memory was refused. Nothing is kept between calls.
@@ -41,6 +42,7 @@ pub fn read_nfit(alloc: Global, bytes: &[u8]) -> Result<Nfit, NfitFault>
     ensures reading { Answers NfitFault.OutOfMemory result (nfit_reading bytes.now) }
     ensures counted { IfOk result AreCounted }
     ensures few { IfOk result (λ nfit. length nfit.regions < 2 ^ 32) }
+    ensures modules { IfOk result NamesItsModules }
 {
     if let Some(fault) = header_fault(bytes) {
         return Err(fault);

@@ -3,6 +3,7 @@ use Rattle.std.proofs.lemmas.List.{length-take-le}
 use Rattle.std.proofs.lemmas.Result.{err_from_is_err_and}
 use Rattle.nfit_reader.proofs.Readings.{sound, same_fault, read_refused, read_on}
 use Rattle.nfit_reader.proofs.Counted.{counted_table, few_table}
+use Rattle.nfit_reader.proofs.Placed.{modules_table}
 use Rattle.nfit_reader.specs.declared.table.NfitFault.TheVariants.{OutOfMemory}
 use Rattle.nfit_reader.proofs.read.read_nfit.Goals as goal
 
@@ -53,3 +54,6 @@ returns-clause-few c =
     let inside : c.said.result ≤ length c.args.bytes.now = subst (λ n. n ≤ length c.args.bytes.now) (sym c.said.ensures) s.inside in
     let long = length-take-le c.said.result c.args.bytes.now inside in
     few_table c.in_ok-structures_in.field-0 c.table_of.result c.table_of.ensures (omega (arith, c.in_ok-structures_in.ensures.few, long))
+
+pub returns-clause-modules : goal.returns-clause-modules
+returns-clause-modules c = modules_table c.in_ok-structures_in.field-0 c.table_of.result c.table_of.ensures
