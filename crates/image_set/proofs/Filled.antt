@@ -1,0 +1,57 @@
+-- What was read of the objects of a set, one module after another.
+use Rattle.std.proofs.Common.{◌≡◌, ℕ, ◌+◌, ◌%◌, ◌<◌, List, [], ◌∷◌, ◌++◌, length, map, take, get_or, Option, Some, None, sym, ap, ◌∙◌, subst, arith}
+use Rattle.std.specs.Prelude.{unwrap_or}
+use Rattle.std.specs.Option.{option_map}
+use Rattle.std.specs.List.{range_with_len}
+use Rattle.std.proofs.lemmas.List.{map-append, take_more}
+use Rattle.std.proofs.lemmas.List.FromFn.{map-range_with_len_more, get_or-map-range_with_len}
+use Rattle.nvd_media.specs.Images.{Images}
+use Rattle.cut_words.specs.Words.{Words, settled}
+use Rattle.label_index.specs.Area.{IsAreaSize}
+use Rattle.image_set.specs.declared.sizes.Sizes.{Sizes}
+use Rattle.image_set.specs.Sizes.{sizes_of, contents_of, AreSizesOf, IsSized}
+use Rattle.image_set.specs.Sound.{size_of, IsArea, IsContents}
+
+-- an object that is there was read
+pub there_told : (x : Option (List ℕ)) (found : Option ℕ) (n : ℕ) (bytes : List ℕ) → found ≡ option_map length x → found ≡ Some n → bytes ≡ unwrap_or x [] → Some bytes ≡ x
+there_told None found n bytes told is read = absurd (let e = sym told ∙ is in cc)
+there_told (Some all) found n bytes told is read = ap (λ (b : List ℕ). Some b) read
+
+pub area_whole : (n : ℕ) → IsAreaSize n → n % 8 ≡ 0
+area_whole n a = let m = a.multiple in omega arith
+
+pub area_sound : (words : Words) (n : ℕ) → size_of words ≡ n → IsAreaSize n → words ≡ settled words.kept → IsArea (Some words)
+area_sound words n count sized kept = record {
+  sized = λ w is. let same : words ≡ w = cc in subst (λ (v : Words). IsAreaSize (size_of v)) same (subst IsAreaSize (sym count) sized);
+  kept = λ w is. let same : words ≡ w = cc in subst (λ (v : Words). v ≡ settled v.kept) same kept;
+}
+
+-- ---- a list by modules
+
+pub list_on : {B : Type 0} (g : ℕ → B) (xs : List B) (x : B) (m : ℕ) → xs ≡ map g (range_with_len 0 m) → x ≡ g m → xs ++ x ∷ [] ≡ map g (range_with_len 0 (m + 1))
+list_on g xs x m so_far is =
+    ap (λ front. front ++ x ∷ []) so_far ∙ ap (λ last. map g (range_with_len 0 m) ++ last ∷ []) is ∙ sym (map-range_with_len_more g 0 m m (omega arith))
+
+pub map_on : {A B : Type 0} (f : A → B) (g : ℕ → B) (xs : List A) (x : A) (m : ℕ) → map f xs ≡ map g (range_with_len 0 m) → f x ≡ g m
+    → map f (xs ++ x ∷ []) ≡ map g (range_with_len 0 (m + 1))
+map_on f g xs x m so_far is = map-append f xs (x ∷ []) ∙ list_on g (map f xs) (f x) m so_far is
+
+-- the sizes of a module
+pub sizes_at : (set : Images) (sizes : List Sizes) (m : ℕ) (d : Sizes) → AreSizesOf set sizes → m < length sizes → get_or sizes m d ≡ sizes_of set m
+sizes_at set sizes m d are lt =
+    ap (λ (xs : List Sizes). get_or xs m d) are ∙ get_or-map-range_with_len (sizes_of set) 0 (length sizes) m m d lt (omega arith)
+
+-- the contents of one more module
+pub contents_on : (sizes : List Sizes) (contents : List Words) (words : Words) (m : ℕ) (d : Sizes) → map size_of contents ≡ contents_of (take m sizes) → m < length sizes
+    → size_of words ≡ (get_or sizes m d).contents → map size_of (contents ++ words ∷ []) ≡ contents_of (take (m + 1) sizes)
+contents_on sizes contents words m d so_far lt is =
+    map-append size_of contents (words ∷ [])
+    ∙ ap (λ (front : List ℕ). front ++ size_of words ∷ []) so_far ∙ ap (λ (last : ℕ). contents_of (take m sizes) ++ last ∷ []) is
+    ∙ sym (ap contents_of (take_more sizes m d lt) ∙ map-append (λ (s : Sizes). s.contents) (take m sizes) (get_or sizes m d ∷ []))
+
+pub contents_sound : (words : Words) (s : Sizes) → IsSized s → size_of words ≡ s.contents → words ≡ settled words.kept → IsContents words
+contents_sound words s sized count kept = record {
+  some = let a = sized.some in omega arith;
+  multiple = let a = sized.multiple in omega arith;
+  kept = kept;
+}

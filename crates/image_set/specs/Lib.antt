@@ -1,0 +1,4 @@
+pub mod Limits
+pub mod Load
+pub mod Sound
+pub mod Sizes

@@ -1,0 +1,15 @@
+-- How many bytes an object of an image set may have: this project's limits. A label area's are label_index's.
+use Rattle.std.specs.Prelude.{ℕ, ◌+◌, ◌%◌, ◌==◌, nat_le, Bool, ◌&&◌}
+
+-- the firmware's table: at most 1 MiB
+abbrev pub is_nfit_size : ℕ → Bool
+is_nfit_size bytes = nat_le bytes 1048576
+
+-- the contents of one module, after so many bytes of the modules before it: a positive multiple of 4,096, and at most
+-- 512 MiB in all
+abbrev pub is_contents_size : ℕ → ℕ → Bool
+is_contents_size before bytes = nat_le 1 bytes && (bytes % 4096 == 0) && nat_le (before + bytes) 536870912
+
+-- a list of bad ranges: a multiple of 16, at most 64 KiB
+abbrev pub is_bad_size : ℕ → Bool
+is_bad_size bytes = (bytes % 16 == 0) && nat_le bytes 65536

@@ -1,0 +1,50 @@
+//! One label area of a loaded set, as bytes.
+ghost use Rattle.std.specs.Prelude.{◌≡◌, IfOk, IfSome, length};
+ghost use Rattle.std.specs.Option.{option_map};
+ghost use Rattle.cut_words.specs.Words.{settled};
+ghost use Rattle.label_index.specs.Area.{IsAreaSize};
+ghost use Rattle.image_set.specs.Load.{bytes_kept, image_set_in, area_of};
+ghost use Rattle.image_set.specs.Sound.{IsArea, IsSound};
+
+use crate::loading::Loaded;
+use cut_words::{CutWords, WordSpace};
+use std::alloc::{AllocError, Global};
+
+/// The bytes of words of which none is pending, the low byte of each first.
+fn bytes_in(alloc: Global, words: &CutWords) -> Result<Vec<u8>, AllocError>
+    requires { words.now ≡ settled words.now.kept }
+    ensures bytes { IfOk result (λ bytes. bytes.items ≡ bytes_kept words.now) }
+{
+    let mut bytes = Vec::new(alloc);
+    for i in 0..words.count() {
+        bytes.extend_from_slice(&words.load(i).to_le_bytes())?;
+    }
+    Ok(bytes)
+}
+
+/// The bytes of a label area, where there is one.
+fn area_bytes(alloc: Global, area: &Option<CutWords>) -> Result<Option<Vec<u8>>, AllocError>
+    requires { IsArea area.now }
+    ensures area { IfOk result (λ found. option_map (λ bytes. bytes.items) found ≡ option_map bytes_kept area.now) }
+    ensures sized { IfOk result (λ found. IfSome found (λ bytes. IsAreaSize (length bytes.items))) }
+{
+    match area {
+        Some(words) => Ok(Some(bytes_in(alloc, words)?)),
+        None => Ok(None),
+    }
+}
+
+impl Loaded {
+    /// The bytes of a module's label area, `None` where the table doesn't name the module, or it has no
+    /// label area. Their length is a label area's size.
+    pub fn area(&self, alloc: Global, module: u32) -> Result<Option<Vec<u8>>, AllocError>
+        requires { IsSound self.now }
+        ensures area { IfOk result (λ found. option_map (λ bytes. bytes.items) found ≡ area_of (image_set_in self.now) «module») }
+        ensures sized { IfOk result (λ found. IfSome found (λ bytes. IsAreaSize (length bytes.items))) }
+    {
+        match self.labels.as_slice().get(module as usize) {
+            Some(area) => area_bytes(alloc, area),
+            None => Ok(None),
+        }
+    }
+}

@@ -1,0 +1,93 @@
+use nfit_reader::NfitFault;
+use nvd_media::{Failed, Object};
+use std::alloc::AllocError;
+
+/// Why an image set isn't loaded.
+#[derive(Clone, Copy, Debug, PartialEq, Eq)]
+pub enum LoadFault {
+    /// The source failed.
+    ReadFault,
+    /// The mark, the firmware's table or a module's contents aren't there.
+    Missing {
+        /// The object that isn't there.
+        object: Object,
+    },
+    /// An object has a size outside its limits, or contents end before one of their mappings does.
+    Size {
+        /// The object.
+        object: Object,
+        /// Its length in bytes.
+        bytes: u64,
+    },
+    /// The firmware's table isn't read. It is never want of memory that stands here.
+    Nfit(NfitFault),
+    /// Memory ran out.
+    OutOfMemory,
+}
+
+impl From<Failed> for LoadFault {
+    ghost use Rattle.std.specs.Prelude.{◌≡◌};
+    ghost use Rattle.image_set.specs.declared.fault.LoadFault.TheVariants.{ReadFault};
+
+    ghost from_gives = { λ _ fault. fault ≡ ReadFault };
+
+    fn from(_error: Failed) -> LoadFault {
+        LoadFault::ReadFault
+    }
+}
+
+impl From<AllocError> for LoadFault {
+    ghost use Rattle.std.specs.Prelude.{◌≡◌};
+    ghost use Rattle.image_set.specs.declared.fault.LoadFault.TheVariants.{OutOfMemory};
+
+    ghost from_gives = { λ _ fault. fault ≡ OutOfMemory };
+
+    fn from(_error: AllocError) -> LoadFault {
+        LoadFault::OutOfMemory
+    }
+}
+
+/// Why reading stops before all bytes are there.
+#[derive(Clone, Copy, Debug, PartialEq, Eq)]
+pub(crate) enum Stop {
+    /// The source failed.
+    ReadFault,
+    /// Memory ran out.
+    OutOfMemory,
+}
+
+impl From<Failed> for Stop {
+    ghost use Rattle.std.specs.Prelude.{◌≡◌};
+    ghost use Rattle.image_set.specs.declared.fault.Stop.TheVariants.{ReadFault};
+
+    ghost from_gives = { λ _ stop. stop ≡ ReadFault };
+
+    fn from(_error: Failed) -> Stop {
+        Stop::ReadFault
+    }
+}
+
+impl From<AllocError> for Stop {
+    ghost use Rattle.std.specs.Prelude.{◌≡◌};
+    ghost use Rattle.image_set.specs.declared.fault.Stop.TheVariants.{OutOfMemory};
+
+    ghost from_gives = { λ _ stop. stop ≡ OutOfMemory };
+
+    fn from(_error: AllocError) -> Stop {
+        Stop::OutOfMemory
+    }
+}
+
+impl From<Stop> for LoadFault {
+    ghost use Rattle.std.specs.Prelude.{◌≡◌};
+    ghost use Rattle.image_set.specs.Load.{fault_of};
+
+    ghost from_gives = { λ stop fault. fault ≡ fault_of stop };
+
+    fn from(stop: Stop) -> LoadFault {
+        match stop {
+            Stop::ReadFault => LoadFault::ReadFault,
+            Stop::OutOfMemory => LoadFault::OutOfMemory,
+        }
+    }
+}

@@ -1,0 +1,40 @@
+//! How many bytes an object may have (this project's limits).
+ghost use Rattle.std.specs.Prelude.{◌≡◌, ◌≤◌};
+ghost use Rattle.image_set.specs.Limits.{is_nfit_size, is_contents_size, is_bad_size};
+
+/// The most bytes of the firmware's table.
+const NFIT_BYTES: u64 = 1 << 20;
+
+/// What the size of contents is a multiple of.
+const PAGE_BYTES: u64 = 4096;
+
+/// The most bytes of all contents together.
+const CONTENTS_BYTES: u64 = 512 << 20;
+
+/// The bytes of one bad range: its start and its length.
+const RANGE_BYTES: u64 = 16;
+
+/// The most bytes of a list of bad ranges.
+const BAD_BYTES: u64 = 64 << 10;
+
+/// Whether the firmware's table may have so many bytes.
+pub(crate) fn is_nfit_size(bytes: u64) -> bool
+    ensures { result ≡ is_nfit_size bytes }
+{
+    bytes <= NFIT_BYTES
+}
+
+/// Whether the contents of a module may have so many bytes, after those of the modules before it.
+pub(crate) fn is_contents_size(before: u64, bytes: u64) -> bool
+    requires { before ≤ 536870912 }
+    ensures { result ≡ is_contents_size before bytes }
+{
+    1 <= bytes && bytes % PAGE_BYTES == 0 && bytes <= CONTENTS_BYTES - before
+}
+
+/// Whether a list of bad ranges may have so many bytes.
+pub(crate) fn is_bad_size(bytes: u64) -> bool
+    ensures { result ≡ is_bad_size bytes }
+{
+    bytes % RANGE_BYTES == 0 && bytes <= BAD_BYTES
+}

@@ -1,0 +1,131 @@
+//! An image set is loaded: first all its sizes are asked for, and then its bytes are read.
+ghost use Rattle.std.specs.Prelude.{◌≡◌, ◌≢◌, ◌≤◌, ◌<◌, ◌^◌, [], ◌∷◌, length, map, IfOk, Ok, Err};
+ghost use Rattle.std.specs.Option.{ForSome};
+ghost use Rattle.std.specs.Result.{result_map_both};
+ghost use Rattle.std.specs.List.{All, range_with_len};
+ghost use Rattle.nvd_words.specs.Checks.{Answers, first_fault, value_unless};
+ghost use Rattle.nvd_media.specs.Causes.{Rose};
+ghost use Rattle.nvd_media.specs.Images.{bytes_of};
+ghost use Rattle.nfit_reader.specs.Table.{nfit_reading};
+ghost use Rattle.nfit_reader.specs.Counted.{AreCounted, NamesItsModules};
+ghost use Rattle.image_set.specs.Load.{AnswersRead, Loads, image_set_in, image_set_of, modules_fault, mappings_fault};
+ghost use Rattle.image_set.specs.Sizes.{sizes_of, contents_of, AreSizesOf, AreSized};
+ghost use Rattle.image_set.specs.Sound.{AreMapped, IsSound};
+
+use crate::fault::{LoadFault, Stop};
+use crate::mapped::mappings_fault;
+use crate::pieces::{piece_room, read_bytes};
+use crate::reading::{read_areas, read_bad, read_contents};
+use crate::sizes::{Sizes, modules_sizes, table_size};
+use cut_words::CutWords;
+use nfit_reader::{Nfit, NfitFault, read_nfit};
+use nvd_media::{ImageSource, Object};
+use nvd_words::Items;
+use std::alloc::Global;
+
+/// An image set in memory. Modules go by their numbers in the firmware's table.
+#[derive(Debug, Drop)]
+pub struct Loaded {
+    /// What the firmware's table says.
+    pub nfit: Nfit,
+    /// The bytes of the table's object, also those past its Length.
+    pub nfit_bytes: Items<u8>,
+    /// The label area of each module that has one.
+    pub labels: Items<Option<CutWords>>,
+    /// The contents of each module.
+    pub contents: Items<CutWords>,
+    /// The list of bad ranges of each module that has one, not looked into.
+    pub bad: Items<Option<Items<u8>>>,
+}
+
+/// Reads the firmware's table.
+fn table_of(alloc: Global, bytes: &[u8]) -> Result<Nfit, LoadFault>
+    ensures reading { Answers LoadFault.OutOfMemory result (result_map_both (λ nfit. nfit) LoadFault.Nfit (nfit_reading bytes.now)) }
+    ensures apart { result ≢ Err (LoadFault.Nfit NfitFault.OutOfMemory) }
+    ensures no_read { result ≢ Err LoadFault.ReadFault }
+    ensures counted { IfOk result AreCounted }
+    ensures few { IfOk result (λ nfit. length nfit.regions < 2 ^ 32) }
+    ensures modules { IfOk result NamesItsModules }
+{
+    match read_nfit(alloc, bytes) {
+        Ok(nfit) => Ok(nfit),
+        Err(NfitFault::OutOfMemory) => Err(LoadFault::OutOfMemory),
+        Err(fault) => Err(LoadFault::Nfit(fault)),
+    }
+}
+
+/// The sizes of all modules' objects, into which all mappings fit.
+fn checked_sizes<S: ImageSource>(
+    alloc: Global,
+    images: &mut S,
+    nfit: &Nfit,
+) -> Result<Items<Sizes>, LoadFault>
+    requires { NamesItsModules nfit.now }
+    ensures told { ForSome (S.held images.old) (λ set. AnswersRead result (value_unless (map (sizes_of set) (range_with_len 0 (length nfit.now.modules)))
+        (first_fault (modules_fault set (length nfit.now.modules) ∷ mappings_fault set nfit.now.regions ∷ [])))) }
+    ensures sized { IfOk result AreSized }
+    ensures count { IfOk result (λ sizes. length sizes ≡ length nfit.now.modules) }
+    ensures mapped { IfOk result (λ sizes. All (AreMapped (contents_of sizes)) nfit.now.regions) }
+    ensures apart { result ≢ Err (LoadFault.Nfit NfitFault.OutOfMemory) }
+    ensures same { S.held images.new ≡ S.held images.old }
+    ensures later { S.faults images.old ≤ S.faults images.new }
+    ensures failed { result ≡ Err LoadFault.ReadFault → Rose (S.faults images.old) (S.faults images.new) }
+{
+    let sizes = modules_sizes(alloc, images, nfit.modules.len() as u32)?;
+    match mappings_fault(nfit.regions.as_slice(), sizes.as_slice()) {
+        Some(fault) => Err(fault),
+        None => Ok(sizes),
+    }
+}
+
+/// The bytes of all modules, under the table that was read.
+fn read_set<S: ImageSource>(
+    alloc: Global,
+    images: &mut S,
+    nfit: Nfit,
+    nfit_bytes: Vec<u8>,
+    sizes: &[Sizes],
+) -> Result<Loaded, Stop>
+    requires table { nfit_reading nfit_bytes.items ≡ Ok nfit }
+    requires counted { AreCounted nfit }
+    requires few { length nfit.regions < 2 ^ 32 }
+    requires modules { NamesItsModules nfit }
+    requires count { length sizes.now ≡ length nfit.modules }
+    requires sized { AreSized sizes.now }
+    requires mapped { All (AreMapped (contents_of sizes.now)) nfit.regions }
+    requires there { ForSome (S.held images.old) (λ set. AreSizesOf set sizes.now) }
+    requires read { ForSome (S.held images.old) (λ set. nfit_bytes.items ≡ bytes_of set Object.Nfit) }
+    ensures told { ForSome (S.held images.old) (λ set. IfOk result (λ loaded. image_set_in loaded ≡ image_set_of set nfit)) }
+    ensures sound { IfOk result IsSound }
+    ensures same { S.held images.new ≡ S.held images.old }
+    ensures later { S.faults images.old ≤ S.faults images.new }
+    ensures failed { result ≡ Err Stop.ReadFault → Rose (S.faults images.old) (S.faults images.new) }
+{
+    let mut room = piece_room(alloc)?;
+    let labels = read_areas(alloc, images, sizes, &mut room)?;
+    let contents = read_contents(alloc, images, sizes, &mut room)?;
+    let bad = read_bad(alloc, images, sizes)?;
+    Ok(Loaded {
+        nfit,
+        nfit_bytes: Items::from_vec(nfit_bytes),
+        labels,
+        contents,
+        bad,
+    })
+}
+
+/// Loads an image set.
+pub fn load<S: ImageSource>(alloc: Global, images: &mut S) -> Result<Loaded, LoadFault>
+    ensures told { ForSome (S.held images.old) (Loads result) }
+    ensures sound { IfOk result IsSound }
+    ensures apart { result ≢ Err (LoadFault.Nfit NfitFault.OutOfMemory) }
+    ensures failed { result ≡ Err LoadFault.ReadFault → Rose (S.faults images.old) (S.faults images.new) }
+    ensures later { S.faults images.old ≤ S.faults images.new }
+    ensures same { S.held images.new ≡ S.held images.old }
+{
+    let bytes = table_size(images)?;
+    let nfit_bytes = read_bytes(alloc, images, Object::Nfit, bytes)?;
+    let nfit = table_of(alloc, &nfit_bytes)?;
+    let sizes = checked_sizes(alloc, images, &nfit)?;
+    Ok(read_set(alloc, images, nfit, nfit_bytes, sizes.as_slice())?)
+}

@@ -1,0 +1,174 @@
+//! The bytes of a set whose sizes are known.
+ghost use Rattle.std.specs.Prelude.{◌≡◌, ◌*◌, ◌≤◌, ◌<◌, ◌%◌, ℕ, length, map, vec_len, IfOk, Err, Option, Some};
+ghost use Rattle.std.specs.Option.{ForSome, option_map};
+ghost use Rattle.std.specs.List.{All, range_with_len};
+ghost use Rattle.nvd_media.specs.Causes.{Rose};
+ghost use Rattle.nvd_media.specs.Images.{bytes_of};
+ghost use Rattle.cut_words.specs.Words.{settled};
+ghost use Rattle.image_set.specs.Load.{bytes_kept};
+ghost use Rattle.image_set.specs.Sound.{size_of, IsArea, IsContents, IsBadRanges};
+ghost use Rattle.image_set.specs.Sizes.{contents_of, AreSizesOf, IsSized};
+ghost use Rattle.label_index.specs.Area.{IsAreaSize};
+
+use crate::fault::Stop;
+use crate::pieces::{read_bytes, read_words};
+use crate::sizes::Sizes;
+use cut_words::CutWords;
+use nvd_media::{ImageSource, Object};
+use nvd_words::Items;
+use std::alloc::Global;
+
+/// An object of so many bytes, as words of which none is pending.
+fn read_object<S: ImageSource>(
+    alloc: Global,
+    images: &mut S,
+    object: Object,
+    bytes: u64,
+    room: &mut Vec<u8>,
+) -> Result<CutWords, Stop>
+    requires room { vec_len room.old ≡ 262144 }
+    requires whole { bytes % 8 ≡ 0 }
+    requires there { ForSome (S.held images.old) (λ set. length (bytes_of set object) ≡ bytes) }
+    ensures told { ForSome (S.held images.old) (λ set. IfOk result (λ words. bytes_kept words ≡ bytes_of set object)) }
+    ensures count { IfOk result (λ words. size_of words ≡ bytes) }
+    ensures kept { IfOk result (λ words. words ≡ settled words.kept) }
+    ensures room { vec_len room.new ≡ 262144 }
+    ensures same { S.held images.new ≡ S.held images.old }
+    ensures later { S.faults images.old ≤ S.faults images.new }
+    ensures failed { result ≡ Err Stop.ReadFault → Rose (S.faults images.old) (S.faults images.new) }
+{
+    let words = read_words(alloc, images, object, bytes, room)?;
+    Ok(CutWords::new(alloc, words)?)
+}
+
+/// A module's label area, where it has one.
+fn read_area<S: ImageSource>(
+    alloc: Global,
+    images: &mut S,
+    module: u32,
+    bytes: Option<u64>,
+    room: &mut Vec<u8>,
+) -> Result<Option<CutWords>, Stop>
+    requires room { vec_len room.old ≡ 262144 }
+    requires sized { (n : ℕ) → bytes ≡ Some n → IsAreaSize n }
+    requires there { ForSome (S.held images.old) (λ set. bytes ≡ option_map length (set (Object.Labels «module»))) }
+    ensures told { ForSome (S.held images.old) (λ set. IfOk result (λ area. option_map bytes_kept area ≡ set (Object.Labels «module»))) }
+    ensures sound { IfOk result IsArea }
+    ensures room { vec_len room.new ≡ 262144 }
+    ensures same { S.held images.new ≡ S.held images.old }
+    ensures later { S.faults images.old ≤ S.faults images.new }
+    ensures failed { result ≡ Err Stop.ReadFault → Rose (S.faults images.old) (S.faults images.new) }
+{
+    match bytes {
+        None => Ok(None),
+        Some(bytes) => Ok(Some(read_object(alloc, images, Object::Labels(module), bytes, room)?)),
+    }
+}
+
+/// A module's list of bad ranges, where it has one.
+fn read_ranges<S: ImageSource>(
+    alloc: Global,
+    images: &mut S,
+    module: u32,
+    bytes: Option<u64>,
+) -> Result<Option<Items<u8>>, Stop>
+    requires multiple { (n : ℕ) → bytes ≡ Some n → n % 16 ≡ 0 }
+    requires few { (n : ℕ) → bytes ≡ Some n → n ≤ 65536 }
+    requires there { ForSome (S.held images.old) (λ set. bytes ≡ option_map length (set (Object.BadRanges «module»))) }
+    ensures told { ForSome (S.held images.old) (λ set. IfOk result (λ ranges. ranges ≡ set (Object.BadRanges «module»))) }
+    ensures sound { IfOk result IsBadRanges }
+    ensures same { S.held images.new ≡ S.held images.old }
+    ensures later { S.faults images.old ≤ S.faults images.new }
+    ensures failed { result ≡ Err Stop.ReadFault → Rose (S.faults images.old) (S.faults images.new) }
+{
+    match bytes {
+        None => Ok(None),
+        Some(bytes) => Ok(Some(Items::from_vec(read_bytes(
+            alloc,
+            images,
+            Object::BadRanges(module),
+            bytes,
+        )?))),
+    }
+}
+
+/// The label areas of all modules.
+pub(crate) fn read_areas<S: ImageSource>(
+    alloc: Global,
+    images: &mut S,
+    sizes: &[Sizes],
+    room: &mut Vec<u8>,
+) -> Result<Items<Option<CutWords>>, Stop>
+    requires room { vec_len room.old ≡ 262144 }
+    requires few { length sizes.now ≤ 64 }
+    requires sized { All IsSized sizes.now }
+    requires there { ForSome (S.held images.old) (λ set. AreSizesOf set sizes.now) }
+    ensures told { ForSome (S.held images.old) (λ set. IfOk result (λ areas. map (option_map bytes_kept) areas ≡ map (λ m. set (Object.Labels m)) (range_with_len 0 (length sizes.now)))) }
+    ensures sound { IfOk result (All IsArea) }
+    ensures count { IfOk result (λ areas. length areas ≡ length sizes.now) }
+    ensures room { vec_len room.new ≡ 262144 }
+    ensures same { S.held images.new ≡ S.held images.old }
+    ensures later { S.faults images.old ≤ S.faults images.new }
+    ensures failed { result ≡ Err Stop.ReadFault → Rose (S.faults images.old) (S.faults images.new) }
+{
+    let mut areas = Items::new(alloc);
+    for module in 0..sizes.len() as u32 {
+        let bytes = sizes[module as usize].labels;
+        let area = read_area(alloc, images, module, bytes, room)?;
+        areas.push(area)?;
+    }
+    Ok(areas)
+}
+
+/// The contents of all modules.
+pub(crate) fn read_contents<S: ImageSource>(
+    alloc: Global,
+    images: &mut S,
+    sizes: &[Sizes],
+    room: &mut Vec<u8>,
+) -> Result<Items<CutWords>, Stop>
+    requires room { vec_len room.old ≡ 262144 }
+    requires few { length sizes.now ≤ 64 }
+    requires sized { All IsSized sizes.now }
+    requires there { ForSome (S.held images.old) (λ set. AreSizesOf set sizes.now) }
+    ensures told { ForSome (S.held images.old) (λ set. IfOk result (λ contents. map bytes_kept contents ≡ map (λ m. bytes_of set (Object.Contents m)) (range_with_len 0 (length sizes.now)))) }
+    ensures sound { IfOk result (All IsContents) }
+    ensures sizes { IfOk result (λ contents. map size_of contents ≡ contents_of sizes.now) }
+    ensures room { vec_len room.new ≡ 262144 }
+    ensures same { S.held images.new ≡ S.held images.old }
+    ensures later { S.faults images.old ≤ S.faults images.new }
+    ensures failed { result ≡ Err Stop.ReadFault → Rose (S.faults images.old) (S.faults images.new) }
+{
+    let mut contents = Items::new(alloc);
+    for module in 0..sizes.len() as u32 {
+        let bytes = sizes[module as usize].contents;
+        let words = read_object(alloc, images, Object::Contents(module), bytes, room)?;
+        contents.push(words)?;
+    }
+    Ok(contents)
+}
+
+/// The lists of bad ranges of all modules.
+pub(crate) fn read_bad<S: ImageSource>(
+    alloc: Global,
+    images: &mut S,
+    sizes: &[Sizes],
+) -> Result<Items<Option<Items<u8>>>, Stop>
+    requires few { length sizes.now ≤ 64 }
+    requires sized { All IsSized sizes.now }
+    requires there { ForSome (S.held images.old) (λ set. AreSizesOf set sizes.now) }
+    ensures told { ForSome (S.held images.old) (λ set. IfOk result (λ bad. bad ≡ map (λ m. set (Object.BadRanges m)) (range_with_len 0 (length sizes.now)))) }
+    ensures sound { IfOk result (All IsBadRanges) }
+    ensures count { IfOk result (λ bad. length bad ≡ length sizes.now) }
+    ensures same { S.held images.new ≡ S.held images.old }
+    ensures later { S.faults images.old ≤ S.faults images.new }
+    ensures failed { result ≡ Err Stop.ReadFault → Rose (S.faults images.old) (S.faults images.new) }
+{
+    let mut bad = Items::new(alloc);
+    for module in 0..sizes.len() as u32 {
+        let bytes = sizes[module as usize].bad;
+        let ranges = read_ranges(alloc, images, module, bytes)?;
+        bad.push(ranges)?;
+    }
+    Ok(bad)
+}
