@@ -30,6 +30,7 @@ use Rattle.label_area.specs.Change.{guard_of, guarded_by, words_of_slot, closed_
 use Rattle.label_area.specs.Whole.{IsChange, IsCut, Shows, slots_before, slots_after, ReplaceIsWhole, ReplaceSettles}
 use Rattle.label_area.proofs.Spellings.{IsSpelled, valid_spelled, writable_spelled}
 use Rattle.label_area.proofs.Before.{IsSeq, IsSized, is_sized, sized_as, reading_is, same_reading, IsCurrent, is_current, other_block, past_blocks, in_blocks, below_slots, other_slot, old_reads}
+use Rattle.label_area.proofs.Steps.{spelled as spelled_next, block_inside as next_inside, labelled_length as length_with, final_length as length_final, past_block as past_next}
 use Rattle.label_area.proofs.Written.{block_out, guard_apart, guarded_below, length_change, PutFits, length_labelled, labelled_outside, label_there, slot_below, slot_inside}
 
 -- ---- the newer block is current
@@ -147,9 +148,21 @@ after_given final size free slots (Some k) n lt len is =
 
 -- ---- one change
 
-pub block_below : (size : ℕ) (s : Side) → size % 256 ≡ 0 → place_of size s / 8 + size / 8 ≤ 2 * size / 8
-block_below size side.Zero whole = omega arith
-block_below size side.One whole = omega arith
+-- the block of the other side is one of the area
+pub valid_next : (words : List ℕ) (now : IndexBlock) (out : Option ℕ) (put : Option Label) (size : ℕ) → IsCurrent words size now → IsValid (8 * length words) (next_block now out put)
+valid_next words now out put size cur =
+    let v : IsValid (8 * length words) now = cur.valid in
+    let seq = next_seq now.seq cur.seq in
+    record {
+      sized = v.sized;
+      seq_low = seq.low;
+      seq_high = seq.high;
+      whole = v.whole;
+      some = v.some;
+      bits = v.bits;
+      fits = v.fits;
+      listed = length_given out (taken (slot_of_put put) now.free) ∙ length_taken (slot_of_put put) now.free ∙ v.listed;
+    }
 
 module _ (words : List ℕ) (now : IndexBlock) (out : Option ℕ) (put : Option Label) (ok : IsChange words now out put) where
   abbrev other : Side
@@ -179,41 +192,24 @@ module _ (words : List ℕ) (now : IndexBlock) (out : Option ℕ) (put : Option 
   pub fits : PutFits now.size put (length words)
   fits l is = (omega (arith, cur.fits, sized.whole, slot_inside now.free put l ok.free is), writable_spelled l (ok.label l is))
 
-  next_valid : IsValid (8 * length words) next
-  next_valid =
-      let v : IsValid (8 * length words) now = cur.valid in
-      let seq = next_seq now.seq cur.seq in
-      record {
-        sized = v.sized;
-        seq_low = seq.low;
-        seq_high = seq.high;
-        whole = v.whole;
-        some = v.some;
-        bits = v.bits;
-        fits = v.fits;
-        listed = length_given out (taken (slot_of_put put) now.free) ∙ length_taken (slot_of_put put) now.free ∙ v.listed;
-      }
+  pub next_valid : IsValid (8 * length words) next
+  next_valid = valid_next words now out put now.size cur
 
   spelled : IsSpelled (8 * length words) next
-  spelled = valid_spelled (8 * length words) next next_valid
+  spelled = spelled_next words next put next_valid fits
 
   -- where things lie
-  pub block_words : length (words_in (block_spelling next)) ≡ now.size / 8
-  block_words = omega (arith, length_words (block_spelling next) (omega (arith, spelled.len, sized.whole)) spelled.bytes, spelled.len, sized.whole)
+  block_inside : place_of now.size other / 8 + now.size / 8 ≤ length words
+  block_inside = next_inside words next put next_valid fits
 
-  pub block_inside : place_of now.size other / 8 + now.size / 8 ≤ length words
-  block_inside = omega (arith, block_below now.size other sized.whole, sized.inside, sized.whole)
+  labelled_length : length labelled ≡ length words
+  labelled_length = length_with words next put next_valid fits
 
-  pub labelled_length : length labelled ≡ length words
-  labelled_length = length_labelled now.size put words fits
+  pub length_after : length final ≡ length words
+  length_after = length_final words next put next_valid fits
 
-  final_length : length final ≡ length words
-  final_length = length_put labelled (place_of now.size other / 8) (words_in (block_spelling next)) (omega (arith, block_words, block_inside, labelled_length)) ∙ labelled_length
-
-  pub past_block : (i : ℕ) → (i < place_of now.size other / 8) ⊎ (place_of now.size other / 8 + now.size / 8 ≤ i) → get_or final i 0 ≡ get_or labelled i 0
-  past_block i away =
-      put_outside labelled (place_of now.size other / 8) (words_in (block_spelling next)) i (omega (arith, block_words, block_inside, labelled_length))
-      (elim away [ inl below ↦ inl below | inr above ↦ inr (omega (arith, block_words)) ])
+  past_block : (i : ℕ) → (i < place_of now.size other / 8) ⊎ (place_of now.size other / 8 + now.size / 8 ≤ i) → get_or final i 0 ≡ get_or labelled i 0
+  past_block i away = past_next words next put next_valid fits i away
 
   past_all : (i : ℕ) → NotIn spots i → (i < place_of now.size other / 8) ⊎ (place_of now.size other / 8 + now.size / 8 ≤ i) → get_or final i 0 ≡ get_or words i 0
   past_all i out_slot away = past_block i away ∙ labelled_outside now.size put words i fits out_slot
@@ -223,7 +219,7 @@ module _ (words : List ℕ) (now : IndexBlock) (out : Option ℕ) (put : Option 
 
   lies : IsGuarded words final spots (guard_of now.size other) (guarded_by now.size other)
   lies = record {
-    same_length = final_length;
+    same_length = length_after;
     guard_in = omega (arith, guard_low, sized.inside);
     before_in = slot_below now.size put words fits;
     rest_in = guarded_below now.size other (length words) sized.enough block_inside;
@@ -235,26 +231,26 @@ module _ (words : List ℕ) (now : IndexBlock) (out : Option ℕ) (put : Option 
   -- what the finished area reads as
   next_reads : index_reading (bytes_of final) other ≡ Ok next
   next_reads =
-      reading_is final now.size other (sized_as final words now.size final_length sized)
-      ∙ ap (λ (n : ℕ). block_reading (8 * n) now.size other (take (8 * (now.size / 8)) (drop (8 * (place_of now.size other / 8)) (bytes_of final)))) final_length
+      reading_is final now.size other (sized_as final words now.size length_after sized)
+      ∙ ap (λ (n : ℕ). block_reading (8 * n) now.size other (take (8 * (now.size / 8)) (drop (8 * (place_of now.size other / 8)) (bytes_of final)))) length_after
       ∙ ap (block_reading (8 * length words) now.size other)
       (put_bytes labelled (place_of now.size other / 8) (block_spelling next) (now.size / 8) (omega (arith, block_inside, labelled_length)) (omega (arith, spelled.len, sized.whole)) spelled.bytes)
       ∙ spelled.reads
 
   now_reads : index_reading (bytes_of final) now.side ≡ Ok now
   now_reads =
-      same_reading final words now.size now.side final_length sized
+      same_reading final words now.size now.side length_after sized
       (λ i from to. past_all i (below_slots now.size (slot_of_put put) i (in_blocks now.size now.side i sized.whole to)) (other_block now.size now.side i sized.whole from to))
       ∙ cur.here
 
-  final_block : block_in (bytes_of final) ≡ Ok next
+  pub final_block : block_in (bytes_of final) ≡ Ok next
   final_block = block_new (bytes_of final) now next now.side cur.seq refl now_reads next_reads
 
   same_slot : (n : ℕ) → n < length now.free → get_or now.free n true ≡ false
       → take 256 (drop (2 * now.size + 256 * n) (bytes_of final)) ≡ take 256 (drop (2 * now.size + 256 * n) (bytes_of words))
   same_slot n lt used =
       subst (λ (at : ℕ). take 256 (drop at (bytes_of final)) ≡ take 256 (drop at (bytes_of words))) (omega (arith, sized.whole))
-      (same_bytes final words (2 * now.size / 8 + 32 * n) 32 final_length
+      (same_bytes final words (2 * now.size / 8 + 32 * n) 32 length_after
       (λ i from to. past_all i (other_slot now.size now.free (slot_of_put put) n i ok.free lt used from to) (past_blocks now.size other i sized.whole (omega arith))))
 
   new_slot : (l : Label) → put ≡ Some l → label_reading (take 256 (drop (2 * now.size + 256 * l.slot) (bytes_of final))) l.slot ≡ Ok l
@@ -263,12 +259,12 @@ module _ (words : List ℕ) (now : IndexBlock) (out : Option ℕ) (put : Option 
       subst (λ (p : Option Label). take (8 * 32) (drop (8 * (2 * now.size / 8 + 32 * l.slot)) (bytes_of (with_label now.size p words))) ≡ label_spelling l) (sym is)
       (label_there now.size l words (λ m e. fits m (is ∙ e))) in
       let same : take (8 * 32) (drop (8 * (2 * now.size / 8 + 32 * l.slot)) (bytes_of final)) ≡ take (8 * 32) (drop (8 * (2 * now.size / 8 + 32 * l.slot)) (bytes_of (with_label now.size put words))) =
-      same_bytes final labelled (2 * now.size / 8 + 32 * l.slot) 32 (final_length ∙ sym labelled_length)
+      same_bytes final labelled (2 * now.size / 8 + 32 * l.slot) 32 (length_after ∙ sym labelled_length)
       (λ i from to. past_block i (past_blocks now.size other i sized.whole (omega arith))) in
       ap (λ (at : ℕ). label_reading (take 256 (drop at (bytes_of final))) l.slot) (omega (arith, sized.whole))
       ∙ ap (λ (bytes : List ℕ). label_reading bytes l.slot) (same ∙ lies_there) ∙ (writable_spelled l (ok.label l is)).reads
 
-  final_slots : slots_by (bytes_of final) next ≡ slots_after words now out put
+  pub final_slots : slots_by (bytes_of final) next ≡ slots_after words now out put
   final_slots =
       ext_get_or None (slots_by (bytes_of final) next) (slots_after words now out put)
       (length_slots (bytes_of final) next ∙ length_given out (taken (slot_of_put put) now.free) ∙ length_taken (slot_of_put put) now.free

@@ -3,8 +3,12 @@ pub mod Spellings
 pub mod Closed
 pub mod Before
 pub mod Written
+pub mod Steps
 pub mod After
 pub mod Init
 pub mod Made
 pub mod Pending
+pub mod Opened
+pub mod Filled
+pub mod Replaced
 mod Rows

@@ -3,3 +3,7 @@ pub mod Change
 pub mod Whole
 pub mod Init
 pub mod Writing
+pub mod State
+pub mod Opened
+pub mod Shown
+pub mod Replace

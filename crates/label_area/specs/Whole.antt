@@ -1,5 +1,5 @@
 -- One label change is whole under every cut: this project's rule.
-use Rattle.std.specs.Prelude.{◌≡◌, ◌⊎◌, ℕ, ◌+◌, ◌<◌, ◌≤◌, List, length, Option, Some, Ok}
+use Rattle.std.specs.Prelude.{◌≡◌, ◌⊎◌, ℕ, ◌+◌, ◌<◌, ◌≤◌, List, length, Option, Some, None, Ok}
 use Rattle.label_codec.specs.declared.label.Label.{Label}
 use Rattle.label_codec.specs.Writable.{IsWritable}
 use Rattle.label_index.specs.declared.index.IndexBlock.{IndexBlock}
@@ -43,3 +43,8 @@ ReplaceIsWhole = (words : List ℕ) (now : IndexBlock) (out : Option ℕ) (put :
 abbrev pub ReplaceSettles : Type 0
 ReplaceSettles = (words : List ℕ) (now : IndexBlock) (out : Option ℕ) (put : Option Label) → IsChange words now out put
     → after (settled words) (replace_steps words now out put) ≡ settled (words_after words now out put)
+
+-- how many of so many steps are made under a fuse; a fuse may be for more
+abbrev pub steps_under : Option ℕ → ℕ → ℕ
+steps_under None count = count
+steps_under (Some n) count = n

@@ -1,5 +1,5 @@
 -- What the code of a change stores and keeps, word for word, and what a cut leaves of it.
-use Rattle.std.specs.Prelude.{◌≡◌, ◌⊎◌, ℕ, ◌+◌, ◌-◌, ◌*◌, ◌/◌, ◌%◌, ◌^◌, Bool, true, List, [], ◌++◌, length, take, drop, slice_index, Option, Some, None}
+use Rattle.std.specs.Prelude.{◌≡◌, ◌⊎◌, ℕ, ◌+◌, ◌-◌, ◌*◌, ◌/◌, ◌%◌, ◌^◌, ◌≤◌, Bool, true, List, [], ◌++◌, length, take, drop, slice_index, Option, Some, None}
 use Rattle.label_codec.specs.declared.label.Label.{Label}
 use Rattle.label_codec.specs.Label.{spelling_of as label_spelling}
 use Rattle.label_index.specs.declared.index.IndexBlock.{IndexBlock}
@@ -9,7 +9,9 @@ use Rattle.cut_words.specs.Words.{Words, Step, settled, IsLeft}
 use Rattle.cut_words.specs.Groups.{written}
 use Rattle.cut_words.specs.Runs.{stores_from, keeps_from}
 use Rattle.cut_words.specs.WordBytes.{words_in}
-use Rattle.label_area.specs.Change.{opposite, next_block, words_after}
+use Rattle.label_codec.specs.Writable.{IsSound}
+use Rattle.label_index.specs.Valid.{IsValid}
+use Rattle.label_area.specs.Change.{opposite, slot_of_put, next_block, with_label, with_block, words_after, change_steps}
 use Rattle.label_area.specs.Whole.{IsChange, Shows, slots_before, slots_after}
 
 -- ---- steps
@@ -27,6 +29,21 @@ others_steps base block = others_stores base block ++ others_keeps base (length 
 -- the words of a block from a place on: the third closed, the others, and the third opened
 abbrev pub block_steps_from : ℕ → List ℕ → List Step
 block_steps_from base block = written (base + 2) (slice_index block 2 % 2 ^ 32) ++ (others_steps base block ++ written (base + 2) (slice_index block 2))
+
+-- the words with a block on its side, and with a label in its slot, if one is put
+abbrev pub words_with : List ℕ → IndexBlock → Option Label → List ℕ
+words_with words block put = with_block block (with_label block.size put words)
+
+-- the steps that write them: one change of labels has these, and so has a block alone
+abbrev pub writing_steps : List ℕ → IndexBlock → Option Label → List Step
+writing_steps words block put = change_steps (words_with words block put) block.size block.side (slot_of_put put)
+
+-- a block, and a label, if one is put, that can be written into words
+pub record CanWrite (words : Words) (block : IndexBlock) (put : Option Label) : Type 0 where
+  pub none_pending : words ≡ settled words.kept
+  pub valid : IsValid (8 * length words.kept) block
+  pub room : (l : Label) → put ≡ Some l → 2 * block.size + 256 * l.slot + 256 ≤ 8 * length words.kept
+  pub sound : (l : Label) → put ≡ Some l → IsSound l
 
 -- ---- what a cut leaves
 

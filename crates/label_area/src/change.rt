@@ -1,9 +1,17 @@
-ghost use Rattle.std.specs.Prelude.{◌≡◌, ◌+◌, ◌^◌, ◌<◌, ◌≤◌, ◌++◌, length, is_ok};
+ghost use Rattle.std.specs.Prelude.{◌≡◌, ◌+◌, ◌/◌, ◌^◌, ◌<◌, ◌≤◌, ◌++◌, length, is_ok, Some};
 ghost use Rattle.cut_words.specs.Fuses.{Makes};
 ghost use Rattle.cut_words.specs.Runs.{NonePending, run_steps};
-ghost use Rattle.label_area.specs.Writing.{IsWholeAfter, SettlesAfter, block_steps_from, others_keeps, others_steps, others_stores};
+ghost use Rattle.label_codec.specs.declared.label.Label.{Label};
+ghost use Rattle.label_codec.specs.Writable.{IsWritable};
+ghost use Rattle.label_index.specs.Index.{place_of};
+ghost use Rattle.label_area.specs.Writing.{CanWrite, IsWholeAfter, SettlesAfter, block_steps_from, others_keeps, others_steps, others_stores, writing_steps};
 
-use cut_words::{Fuse, PowerCut, WordSpace, keep_from, store_from, write_from, write_word};
+use crate::spell::{block_words, label_words};
+use cut_words::{
+    CutWords, Fuse, PowerCut, WordSpace, keep_from, store_from, write_from, write_word,
+};
+use label_codec::Label;
+use label_index::{IndexBlock, Side};
 
 /// The word of an index block that has Seq, in its high half: the word at offset 16.
 const SEQ_WORD: usize = 2;
@@ -140,4 +148,41 @@ pub fn write_change<W: WordSpace>(
     ensures count { length (W.words words.new).kept ≡ length (W.words words.old).kept }
 {
     write_steps(words, fuse, label_at, label, block_at, block)
+}
+
+/// The first word of a block.
+fn block_at(block: &IndexBlock) -> u64
+    ensures { result ≡ place_of block.now.size block.now.side / 8 }
+{
+    match block.side {
+        Side::Zero => 0,
+        Side::One => block.size / 8,
+    }
+}
+
+/// Writes a block, and before it a label into its slot, if one is put.
+///
+/// No word is pending, the block is one of the area, and the label's slot lies inside the area.
+/// `PowerCut` comes exactly where the fuse has fewer steps left than two for each word of the block and
+/// two more, and 64 for a label; then as many were made as there were.
+pub(crate) fn write_spelled(
+    words: &mut CutWords,
+    fuse: &mut Fuse,
+    block: &IndexBlock,
+    put: &Option<Label>,
+) -> Result<(), PowerCut>
+    requires { CanWrite words.old block.now put.now }
+    ensures made { Makes words.old words.new fuse.old fuse.new (writing_steps words.old.kept block.now put.now) (is_ok result) }
+    ensures writable { (label : Label) → put.now ≡ Some label → IsWritable label }
+{
+    let spelled = block_words(block);
+    let spelled = &spelled[..block.size as usize / 8];
+    let at = block_at(block);
+    match put {
+        None => write_change(words, fuse, 0, &[], at, spelled),
+        Some(label) => {
+            let label_at = block.size / 4 + 32 * u64::from(label.slot);
+            write_change(words, fuse, label_at, &label_words(label), at, spelled)
+        }
+    }
 }

@@ -39,11 +39,17 @@
 mod area;
 mod change;
 mod fault;
+mod labels;
 mod law;
+mod list;
+mod next;
+mod read;
+mod spell;
 #[cfg(test)]
 mod tests;
 
 pub use area::{current_block, read_slot};
 pub use change::{write_block, write_change};
-pub use fault::AreaFault;
+pub use fault::{AreaFault, AreaRefused, ChangeRefused};
+pub use labels::{LabelArea, open_area};
 pub use law::{init_is_whole, replace_is_whole};

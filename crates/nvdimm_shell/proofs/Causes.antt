@@ -7,7 +7,7 @@ use Rattle.nvd_media.specs.Images.{Images}
 use Rattle.label_index.specs.declared.index.IndexBlock.{IndexBlock}
 use Rattle.label_index.specs.Area.{is_area_size}
 use Rattle.label_area.specs.declared.fault.AreaFault.{AreaFault}
-use Rattle.label_area.specs.declared.fault.AreaFault.TheVariants.{Unsupported, NoIndex, OutOfMemory}
+use Rattle.label_area.specs.declared.fault.AreaFault.TheVariants.{Unsupported, NoIndex, OutOfMemory, AlreadyInitialised, PowerCut}
 use Rattle.label_area.specs.Area.{block_in}
 use Rattle.nvdimm_shell.specs.declared.status.Ending.{Ending}
 use Rattle.nvdimm_shell.specs.declared.status.Ending.TheVariants as ending
@@ -29,6 +29,8 @@ fault_ending : (m : ℕ) (fault : AreaFault) → (fault_outcome m fault).ending 
 fault_ending m (Unsupported major minor) = refl
 fault_ending m NoIndex = refl
 fault_ending m OutOfMemory = refl
+fault_ending m (AlreadyInitialised seq) = refl
+fault_ending m PowerCut = refl
 
 area_case : (m : ℕ) (area : List ℕ) (found : Result IndexBlock AreaFault) → block_in area ≡ found → is_area_size (length area) ≡ true
     → ObjectCase (Some area) (found_outcome m area found).ending

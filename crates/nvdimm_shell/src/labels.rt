@@ -150,11 +150,11 @@ fn fault_answer(alloc: Global, module: u32, fault: AreaFault) -> Result<Answer, 
             "image labels {} Unsupported {} {}\n",
             module, major, minor
         )?)),
-        AreaFault::NoIndex => Ok(image_answer(format!(in alloc;
-            "image labels {} NoIndex\n",
-            module
-        )?)),
         AreaFault::OutOfMemory => Err(AllocError),
+        // No area that is only read is refused for one of the last two.
+        AreaFault::NoIndex | AreaFault::AlreadyInitialised { .. } | AreaFault::PowerCut => Ok(
+            image_answer(format!(in alloc; "image labels {} NoIndex\n", module)?),
+        ),
     }
 }
 

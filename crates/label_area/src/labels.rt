@@ -1,0 +1,189 @@
+//! A label area that is held open, and its labels.
+ghost use Rattle.std.specs.Prelude.{◌≡◌, ◌*◌, ℕ, Bool, true, false, not, Some, Err, length, option_copied, count_by, slice_index_or};
+ghost use Rattle.nvd_words.specs.Checks.{Answers};
+ghost use Rattle.label_index.specs.Area.{IsAreaSize};
+ghost use Rattle.cut_words.specs.Words.{settled};
+ghost use Rattle.label_area.specs.Change.{slot_of_put, IsFreeSlot};
+ghost use Rattle.label_area.specs.Opened.{IsReady, opened};
+ghost use Rattle.label_area.specs.Replace.{change_answer, replace_answer, Changes, IsChanged, IsUsedSlot};
+ghost use Rattle.label_codec.specs.Writable.{IsSound};
+ghost use Rattle.label_codec.specs.declared.label.Label.{Label};
+
+use crate::change::write_spelled;
+use crate::fault::{AreaFault, AreaRefused, ChangeRefused};
+use crate::list::LabelList;
+use crate::next::{placed, relabel, slot_of, turn};
+use crate::read::{Shown, shown_by_words};
+use cut_words::{CutWords, Fuse, PowerCut};
+use label_codec::Label;
+use label_index::{IndexBlock, Side};
+use std::alloc::Global;
+use std::marker::Model;
+
+/// One module's label area: its words, its current index block, and its labels by slot.
+///
+/// It is made by [`open_area`] from words that none is pending of. Where power is cut in a change the area
+/// is **stopped**: what its words then show only a cut decides, and no call is left but
+/// [`LabelArea::is_stopped`] and [`LabelArea::into_words`].
+#[derive(Debug, Drop)]
+pub struct LabelArea {
+    words: CutWords,
+    block: IndexBlock,
+    labels: LabelList,
+    stopped: bool,
+}
+
+impl Model for LabelArea {
+    ghost use Rattle.label_area.specs.State.{AreaState};
+
+    ghost Value = { AreaState };
+
+    ghost use Rattle.label_area.specs.Opened.{IsStoppedOrReady};
+
+    ghost view = { λ area. record { words = area.words; block = area.block; labels = area.labels; stopped = area.stopped } };
+
+    ghost invariant = { λ area. IsStoppedOrReady (record { words = area.words; block = area.block; labels = area.labels; stopped = area.stopped }) };
+}
+
+/// Opens a module's label area (UEFI 2.10, section 13.19).
+///
+/// None of the words is pending, and the area has a label area's size: a multiple of 256 from 1,024 to
+/// 1,048,576 bytes. The words are the area's bytes, eight a word, the low byte first. Refusals, which
+/// give the words back as they are:
+///
+/// 1. `Unsupported`: no index block is valid, and one was refused for its version; it is that of the
+///    first such side.
+/// 2. `NoIndex`: no index block is valid, and none was refused for its version.
+/// 3. `OutOfMemory`: no memory for the area's bytes, its list of free slots or its labels.
+pub fn open_area(alloc: Global, words: CutWords) -> Result<LabelArea, AreaRefused>
+    requires settled { words ≡ settled words.kept }
+    requires size { IsAreaSize (8 * length words.kept) }
+    ensures { Answers (record { words = words; fault = AreaFault.OutOfMemory }) result (opened words.kept) }
+{
+    match shown_by_words(alloc, &words) {
+        Ok(Shown { block, labels }) => Ok(LabelArea {
+            words,
+            block,
+            labels,
+            stopped: false,
+        }),
+        Err(fault) => Err(AreaRefused { words, fault }),
+    }
+}
+
+impl LabelArea {
+    /// The label of each slot, by the slot's number: `None` is a free slot, or a used one without a valid
+    /// label. The area isn't stopped.
+    pub fn labels(&self) -> &[Option<Label>]
+        requires { self.now.stopped ≡ false }
+        ensures { result.now ≡ self.now.labels }
+    {
+        self.labels.as_slice()
+    }
+
+    /// How many slots are free. The area isn't stopped.
+    pub fn free_slots(&self) -> u32
+        requires { self.now.stopped ≡ false }
+        ensures { result ≡ count_by (λ free. free) self.now.block.free }
+    {
+        self.block.free.count() as u32
+    }
+
+    /// The sequence number of the current index block, 1 to 3. The area isn't stopped.
+    pub fn seq(&self) -> u32
+        requires { self.now.stopped ≡ false }
+        ensures { result ≡ self.now.block.seq }
+    {
+        self.block.seq
+    }
+
+    /// The side of the current index block. The area isn't stopped.
+    pub fn side(&self) -> Side
+        requires { self.now.stopped ≡ false }
+        ensures { result ≡ self.now.block.side }
+    {
+        self.block.side
+    }
+
+    /// Whether a slot is used; a slot that the area doesn't have is not. The area isn't stopped.
+    pub fn is_used(&self, slot: u32) -> bool
+        requires { self.now.stopped ≡ false }
+        ensures { result ≡ not (slice_index_or self.now.block.free slot true) }
+    {
+        self.block.free.as_slice().get(slot as usize) == Some(&false)
+    }
+
+    /// Changes the labels of at most two slots in one change (UEFI 2.10, section 13.19; the order of its
+    /// steps is this project's rule): frees slot `out`, and puts a label, under the number of its new slot,
+    /// into the least free slot. The answer is that slot, and `None` where no label is put.
+    ///
+    /// Slot `out` is used, the label's name has no zero byte, its sizes aren't odd, and the area isn't
+    /// stopped. With neither of the two the current block is written again under the next sequence number.
+    /// A label that is put takes 64 steps, and the block two for each of its words and two more, so 66 where
+    /// an index block has 256 bytes. Refusals:
+    ///
+    /// 1. `NoSlot`: a label is put, and no slot is free. Nothing has changed.
+    /// 2. `PowerCut`: the fuse has fewer steps left than the change needs. As many were made as there were,
+    ///    and the area is stopped. What a cut then leaves shows the current block and the labels from before
+    ///    the change; where one step alone is missing it may show those after it, as the chooser says
+    ///    (`IsCut`).
+    pub fn replace(
+        &mut self,
+        fuse: &mut Fuse,
+        out: Option<u32>,
+        put: Option<&Label>,
+    ) -> Result<Option<u32>, ChangeRefused>
+        requires running { self.old.stopped ≡ false }
+        requires used { (slot : ℕ) → out ≡ Some slot → IsUsedSlot self.old.block.free slot }
+        requires sound { (label : Label) → option_copied put ≡ Some label → IsSound label }
+        ensures answer { result ≡ replace_answer self.old.block fuse.old (option_copied put.entry) }
+        ensures refused { result ≡ Err ChangeRefused.NoSlot → (self.new ≡ self.old) × (fuse.new ≡ fuse.old) }
+        ensures change { Changes self.old self.new fuse.old fuse.new out (option_copied put.entry) }
+    {
+        let put = placed(&self.block.free, put)?;
+        self.change(fuse, out, &put)
+    }
+
+    /// The change, with the label that is put under the number of its slot, which is free.
+    fn change(
+        &mut self,
+        fuse: &mut Fuse,
+        out: Option<u32>,
+        put: &Option<Label>,
+    ) -> Result<Option<u32>, ChangeRefused>
+        requires running { self.old.stopped ≡ false }
+        requires used { (slot : ℕ) → out ≡ Some slot → IsUsedSlot self.old.block.free slot }
+        requires free { IsFreeSlot self.old.block.free (slot_of_put put.now) }
+        requires sound { (label : Label) → put.now ≡ Some label → IsSound label }
+        ensures answer { result ≡ change_answer self.old.block fuse.old put.now }
+        ensures change { IsChanged self.old self.new fuse.old fuse.new out put.now }
+    {
+        turn(&mut self.block, out, put);
+        match write_spelled(&mut self.words, fuse, &self.block, put) {
+            Ok(()) => {
+                relabel(&mut self.labels, out, put);
+                Ok(slot_of(put))
+            }
+            Err(PowerCut) => {
+                self.stopped = true;
+                Err(ChangeRefused::PowerCut)
+            }
+        }
+    }
+
+    /// Whether power was cut in a change. Where it wasn't, no word is pending, and the current block and
+    /// the labels are those that the words show (`IsReady`).
+    pub fn is_stopped(&self) -> bool
+        ensures flag { result ≡ self.now.stopped }
+        ensures ready { result ≡ false → IsReady self.now }
+    {
+        self.stopped
+    }
+
+    /// The area's words: none is pending unless the area is stopped.
+    pub fn into_words(self) -> CutWords
+        ensures { result ≡ self.words }
+    {
+        self.words
+    }
+}
