@@ -46,11 +46,11 @@ pub record IsRefused (reading : Reading) : Type 0 where
   pub is : reading ≡ Err fault
   pub other : refused_version reading ≡ None
 
-data VersionOr (o : Option AreaFault) : Type 0 where
+pub data VersionOr (o : Option AreaFault) : Type 0 where
   none : o ≡ None → VersionOr o
   version : (major minor : ℕ) → o ≡ Some (Unsupported major minor) → VersionOr o
 
-version_or : (f : IndexFault) → VersionOr (refused_version (Err f))
+pub version_or : (f : IndexFault) → VersionOr (refused_version (Err f))
 version_or Signature = none refl
 version_or Sequence = none refl
 version_or (Version major minor) = version major minor refl
@@ -93,7 +93,7 @@ closed_refused area size s block closed =
 same_refused : (a b : Reading) → a ≡ b → IsRefused b → IsRefused a
 same_refused a b e r = subst IsRefused (sym e) r
 
-all_free : (area : List ℕ) (size k slots : ℕ) → map (slot_at area size) (enumerate_from k (replicate slots true)) ≡ replicate slots None
+pub all_free : (area : List ℕ) (size k slots : ℕ) → map (slot_at area size) (enumerate_from k (replicate slots true)) ≡ replicate slots None
 all_free area size k zero = refl
 all_free area size k (suc slots) = ap (λ (rest : List SlotState). None ∷ rest) (all_free area size (k + 1) slots)
 
@@ -104,10 +104,10 @@ module _ (words : List ℕ) (size slots : ℕ) (ok : IsInit words size slots) wh
   abbrev half : List ℕ
   half = half_words words size slots
 
-  sized : IsSized words size
+  pub sized : IsSized words size
   sized = subst (IsSized words) (sym ok.size_is) (is_sized words ok.area)
 
-  half_valid : IsValid (8 * length words) one
+  pub half_valid : IsValid (8 * length words) one
   half_valid =
       let bytes : ℕ = length (bytes_of words) in
       record {
@@ -130,7 +130,7 @@ module _ (words : List ℕ) (size slots : ℕ) (ok : IsInit words size slots) wh
   inside : size / 8 + size / 8 ≤ length words
   inside = omega (arith, sized.inside, sized.whole)
 
-  half_length : length half ≡ length words
+  pub half_length : length half ≡ length words
   half_length = length_put words (size / 8) (words_in (block_spelling one)) (omega (arith, block_words, inside))
 
   past_block : (i : ℕ) → (i < size / 8) ⊎ (size / 8 + size / 8 ≤ i) → get_or half i 0 ≡ get_or words i 0
@@ -183,7 +183,7 @@ module _ (words : List ℕ) (size slots : ℕ) (ok : IsInit words size slots) wh
       (put_bytes words (size / 8) (block_spelling one) (size / 8) inside (omega (arith, half_spelled.len, sized.whole)) half_spelled.bytes)
       ∙ half_spelled.reads
 
-  half_block : block_in (bytes_of half) ≡ Ok one
+  pub half_block : block_in (bytes_of half) ≡ Ok one
   half_block =
       let lower = lower_as half half_length (λ i lt. past_block i (inl lt)) in
       block_by (bytes_of half) one side.One parts.0.fault half_reads (lower ∙ parts.0.is)
@@ -192,7 +192,7 @@ module _ (words : List ℕ) (size slots : ℕ) (ok : IsInit words size slots) wh
   half_empty = record { current = half_block; listed = ap (slots_with (bytes_of half)) half_block ∙ ap Ok (all_free (bytes_of half) size 0 slots) }
 
   -- the second block is written as a change of nothing
-  change : IsChange half one None None
+  pub change : IsChange half one None None
   change = record {
     area = subst IsAreaSize (length_bytes words ∙ ap (λ (n : ℕ). 8 * n) (sym half_length) ∙ sym (length_bytes half)) ok.area;
     current = half_block;
@@ -200,7 +200,7 @@ module _ (words : List ℕ) (size slots : ℕ) (ok : IsInit words size slots) wh
     label = λ l e. absurd (cc);
   }
 
-  before_empty : slots_before half one ≡ replicate slots None
+  pub before_empty : slots_before half one ≡ replicate slots None
   before_empty = all_free (bytes_of half) size 0 slots
 
   abbrev first : List Step
@@ -209,7 +209,7 @@ module _ (words : List ℕ) (size slots : ℕ) (ok : IsInit words size slots) wh
   abbrev second : List Step
   second = block_steps (full_words words size slots) size side.Zero
 
-  first_count : length first ≡ count_of_steps size None
+  pub first_count : length first ≡ count_of_steps size None
   first_count = length_change half size side.One None sized.enough
 
   first_cut : (n : ℕ) (left : List ℕ) → n ≤ length first → IsLeftAfter words (first ++ second) n left → IsWhole words half [] (guard_of size side.One) (closed_word (get_or half (guard_of size side.One) 0)) (guarded_by size side.One) n left
@@ -226,6 +226,9 @@ module _ (words : List ℕ) (size slots : ℕ) (ok : IsInit words size slots) wh
 
   as_empty : (left : List ℕ) (s : Side) (seq : ℕ) → Shows left (empty_block size slots s seq) (slots_before half one) → IsEmpty left size slots s seq
   as_empty left s seq shows = subst (Shows left (empty_block size slots s seq)) before_empty shows
+
+  pub half_settled : after (settled words) first ≡ settled half
+  half_settled = all_settled words half [] (guard_of size side.One) (closed_word (get_or half (guard_of size side.One) 0)) (guarded_by size side.One) lies
 
   pub init_cut : (n : ℕ) (left : List ℕ) → IsLeftAfter words (first ++ second) n left → IsInitCut size slots n left
   init_cut n left cut =

@@ -11,4 +11,5 @@ pub mod Pending
 pub mod Opened
 pub mod Filled
 pub mod Replaced
+pub mod Blocks
 mod Rows

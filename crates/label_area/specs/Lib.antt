@@ -7,3 +7,4 @@ pub mod State
 pub mod Opened
 pub mod Shown
 pub mod Replace
+pub mod Initialise

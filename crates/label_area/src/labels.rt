@@ -4,6 +4,9 @@ ghost use Rattle.nvd_words.specs.Checks.{Answers};
 ghost use Rattle.label_index.specs.Area.{IsAreaSize};
 ghost use Rattle.cut_words.specs.Words.{settled};
 ghost use Rattle.label_area.specs.Change.{slot_of_put, IsFreeSlot};
+ghost use Rattle.cut_words.specs.WordBytes.{bytes_of};
+ghost use Rattle.label_area.specs.Area.{block_in};
+ghost use Rattle.label_area.specs.Initialise.{InitLeaves, blank, fuse_left, init_count, initialised};
 ghost use Rattle.label_area.specs.Opened.{IsReady, opened};
 ghost use Rattle.label_area.specs.Replace.{change_answer, replace_answer, Changes, IsChanged, IsUsedSlot};
 ghost use Rattle.label_codec.specs.Writable.{IsSound};
@@ -11,6 +14,7 @@ ghost use Rattle.label_codec.specs.declared.label.Label.{Label};
 
 use crate::change::write_spelled;
 use crate::fault::{AreaFault, AreaRefused, ChangeRefused};
+use crate::initial::{blank_of_words, write_both};
 use crate::list::LabelList;
 use crate::next::{placed, relabel, slot_of, turn};
 use crate::read::{Shown, shown_by_words};
@@ -68,6 +72,59 @@ pub fn open_area(alloc: Global, words: CutWords) -> Result<LabelArea, AreaRefuse
             stopped: false,
         }),
         Err(fault) => Err(AreaRefused { words, fault }),
+    }
+}
+
+/// Initialises a module's label area that has no index block: writes the block of side One under the
+/// sequence number 2, and then that of side Zero under 3, with all slots free (UEFI 2.10, section 13.19;
+/// the order is this project's rule). It has as many slots as fit.
+///
+/// None of the words is pending, and the area has a label area's size, as for [`open_area`]. Each block
+/// takes two steps for each of its words and two more, so both take 132 where a block has 256 bytes.
+/// Refusals, of which all but the last give the words and the fuse back as they are:
+///
+/// 1. `Unsupported`: no index block is valid, and one was refused for its version.
+/// 2. `AlreadyInitialised`: an index block is valid; the number is that of the current one.
+/// 3. `OutOfMemory`: no memory for the area's bytes, its list of free slots or its labels.
+/// 4. `PowerCut`: the fuse has fewer steps left than the two blocks need. As many were made as there
+///    were. What a cut then leaves is refused by [`open_area`] as `NoIndex` until the first block stands,
+///    and is an empty area from then on; where one step of a block alone is missing the chooser says which
+///    (`IsInitCut`).
+pub fn init_area(alloc: Global, words: CutWords, fuse: &mut Fuse) -> Result<LabelArea, AreaRefused>
+    requires settled { words ≡ settled words.kept }
+    requires size { IsAreaSize (8 * length words.kept) }
+    ensures answer { Answers (record { words = words; fault = AreaFault.OutOfMemory }) result (initialised words.kept fuse.old) }
+    ensures spent { fuse.new ≡ fuse_left result fuse.old (init_count (length words.kept)) }
+    ensures whole { InitLeaves (length words.kept) fuse.old result }
+{
+    match blank_of_words(alloc, &words) {
+        Ok(shown) => initialise(words, shown, fuse),
+        Err(fault) => Err(AreaRefused { words, fault }),
+    }
+}
+
+/// Writes both blocks of an area that has none, of which the first and the list of labels are there.
+fn initialise(mut words: CutWords, shown: Shown, fuse: &mut Fuse) -> Result<LabelArea, AreaRefused>
+    requires settled { words ≡ settled words.kept }
+    requires size { IsAreaSize (8 * length words.kept) }
+    requires none { block_in (bytes_of words.kept) ≡ Err AreaFault.NoIndex }
+    requires first { shown ≡ blank (length words.kept) }
+    ensures answer { result ≡ initialised words.kept fuse.old }
+    ensures spent { fuse.new ≡ fuse_left result fuse.old (init_count (length words.kept)) }
+    ensures whole { InitLeaves (length words.kept) fuse.old result }
+{
+    let Shown { mut block, labels } = shown;
+    match write_both(&mut words, fuse, &mut block) {
+        Ok(()) => Ok(LabelArea {
+            words,
+            block,
+            labels,
+            stopped: false,
+        }),
+        Err(PowerCut) => Err(AreaRefused {
+            words,
+            fault: AreaFault::PowerCut,
+        }),
     }
 }
 

@@ -39,6 +39,7 @@
 mod area;
 mod change;
 mod fault;
+mod initial;
 mod labels;
 mod law;
 mod list;
@@ -51,5 +52,5 @@ mod tests;
 pub use area::{current_block, read_slot};
 pub use change::{write_block, write_change};
 pub use fault::{AreaFault, AreaRefused, ChangeRefused};
-pub use labels::{LabelArea, open_area};
+pub use labels::{LabelArea, init_area, open_area};
 pub use law::{init_is_whole, replace_is_whole};

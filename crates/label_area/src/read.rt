@@ -82,3 +82,15 @@ pub(crate) fn shown_by_words(alloc: Global, words: &CutWords) -> Result<Shown, A
         Err(_) => Err(AreaFault::OutOfMemory),
     }
 }
+
+/// The current block of words, none of which is pending, or why there is none.
+pub(crate) fn block_of_words(alloc: Global, words: &CutWords) -> Result<IndexBlock, AreaFault>
+    requires settled { words.now ≡ settled words.now.kept }
+    requires size { IsAreaSize (8 * length words.now.kept) }
+    ensures { Answers AreaFault.OutOfMemory result (block_in (bytes_of words.now.kept)) }
+{
+    match bytes_of_words(alloc, words) {
+        Ok(bytes) => current_block(alloc, &bytes),
+        Err(_) => Err(AreaFault::OutOfMemory),
+    }
+}
