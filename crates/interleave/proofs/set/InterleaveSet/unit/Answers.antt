@@ -1,4 +1,4 @@
-use Rattle.std.proofs.Common.{List, subst}
+use Rattle.std.proofs.Common.{◌^◌, List, subst}
 use Rattle.nfit_reader.specs.declared.table.Mapping.{Mapping}
 use Rattle.interleave.specs.Sound.{PartsAlike}
 use Rattle.interleave.proofs.Stripes.{parts_alike}
@@ -7,4 +7,4 @@ use Rattle.interleave.proofs.set.InterleaveSet.unit.Goals as goal
 pub returns-clause-parts : goal.returns-clause-parts
 returns-clause-parts c =
     subst (λ (l : List Mapping). PartsAlike l) c.self.view_is
-    (parts_alike c.self.inside.line c.self.inside.lines c.self.inside.mappings c.self.inside.table.items c.self.invariant.made c.self.invariant.some)
+    (parts_alike (2 ^ c.self.inside.line_bits) (2 ^ c.self.inside.count_bits) c.self.inside.mappings c.self.inside.table.items c.self.invariant.made c.self.invariant.some)
