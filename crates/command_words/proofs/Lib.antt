@@ -1,0 +1,5 @@
+pub mod Described
+pub mod Digits
+pub mod Rows
+pub mod Simple
+pub mod Taken
