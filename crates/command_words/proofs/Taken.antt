@@ -1,16 +1,15 @@
 -- What clap answered, as what the words give.
-use Rattle.std.proofs.Common.{◌≡◌, ◌≢◌, List, [], ◌∷◌, Option, Some, None, true, refl, sym, ap, ◌∙◌, subst, inl, inr}
-use Rattle.clap.specs.Words.{App, HasKind, HasMatchesOf, IsAmong, Kinds, Row, Text, fault_of, found_of, is_simple, is_simple_and_free, kind_of, matches_of, rows_of}
+use Rattle.std.proofs.Common.{◌≡◌, ◌≢◌, List, [], ◌∷◌, Some, None, true, refl, subst, inl, inr}
+use Rattle.clap.specs.Words.{App, HasKind, HasMatchesOf, IsAmong, Kinds, Row, Text, fault_of, found_of, is_simple_and_free, kind_of, matches_of, rows_of}
 use Rattle.clap.specs.declared.error.Error.{Error}
 use Rattle.clap.specs.declared.error.kind.ErrorKind.{ErrorKind}
 use Rattle.clap.specs.declared.error.kind.ErrorKind.TheVariants as kind
 use Rattle.clap.specs.declared.parser.matches.ArgMatches.{ArgMatches}
-use Rattle.command_words.specs.declared.argument.Argument.{Argument}
-use Rattle.command_words.specs.App.{app_for}
+use Rattle.command_words.specs.App.{Described, app_for}
 use Rattle.command_words.specs.Parsed.{parsed, rows_unless}
 use Rattle.command_words.proofs.Simple.{simple_app, free_app}
 
-pub words_taken : (arguments : List Argument) (words : List Text) (app : App) (m : ArgMatches) → app ≡ app_for arguments
+pub words_taken : (arguments : List Described) (words : List Text) (app : App) (m : ArgMatches) → app ≡ app_for arguments
     → (is_simple_and_free app ≡ true → fault_of app words ≡ []) → HasMatchesOf app words m → parsed arguments words ≡ Some (rows_of (found_of m))
 unfolding parsed
 words_taken arguments words app m same faultless matched =
@@ -28,7 +27,7 @@ faulty : (kinds : Kinds) (error : Error) (rows : List Row) → HasKind kinds err
 faulty kinds error rows (inl memory) other = absurd (other memory)
 faulty kinds error rows (inr among) other = some_fault kinds (kind_of error) rows among
 
-pub words_refused : (arguments : List Argument) (words : List Text) (app : App) (error : Error) → app ≡ app_for arguments
+pub words_refused : (arguments : List Described) (words : List Text) (app : App) (error : Error) → app ≡ app_for arguments
     → (is_simple_and_free app ≡ true → HasKind (fault_of app words) error) → kind_of error ≢ kind.OutOfMemory → parsed arguments words ≡ None
 unfolding parsed
 words_refused arguments words app error same fails other =

@@ -6,6 +6,14 @@ use Rattle.command_words.specs.declared.argument.Argument.{Argument}
 use Rattle.command_words.specs.declared.argument.Form.{Form}
 use Rattle.command_words.specs.declared.argument.Form.TheVariants.{Place, Optional, Required, Flag}
 
+-- an argument by its name and its form
+abbrev pub Described : Type 0
+Described = Text × Form
+
+-- an argument without where its name lies in memory
+abbrev pub said : Argument → Described
+said argument = (argument.name.now, argument.form)
+
 -- an argument of a form, with its name as id and as long name
 abbrev pub rule_of_form : Form → Text → Rule
 rule_of_form Place name = record (new_rule name) { action = Some Set; required = true }
@@ -13,8 +21,8 @@ rule_of_form Optional name = record (new_rule name) { action = Some Set; long = 
 rule_of_form Required name = record (new_rule name) { action = Some Set; long = Some name; required = true }
 rule_of_form Flag name = record (new_rule name) { action = Some SetTrue; long = Some name }
 
-abbrev pub rule_for : Argument → Rule
-rule_for argument = rule_of_form argument.form argument.name.now
+abbrev pub rule_for : Described → Rule
+rule_for argument = rule_of_form argument.1 argument.0
 
 -- the command with these arguments: its first word is no program's name, and it has no help and no version flag
 abbrev pub app_with : List Rule → App
@@ -28,5 +36,5 @@ app_with rules = record {
   subs = [];
 }
 
-abbrev pub app_for : List Argument → App
+abbrev pub app_for : List Described → App
 app_for arguments = app_with (map rule_for arguments)

@@ -3,9 +3,8 @@ use Rattle.std.specs.Prelude.{ℕ, Bool, false, List, [], ◌∷◌, Option, Som
 use Rattle.std.specs.Option.{option_map_or}
 use Rattle.std.specs.Str.{bytes_eq}
 use Rattle.clap.specs.Words.{App, Kinds, Row, Text, fault_of, first_of, found_of, matches_of, rows_of}
-use Rattle.command_words.specs.declared.argument.Argument.{Argument}
 use Rattle.command_words.specs.declared.values.Parsed.{Parsed}
-use Rattle.command_words.specs.App.{app_for}
+use Rattle.command_words.specs.App.{Described, app_for}
 use Rattle.command_words.specs.Numbers.{number_within}
 
 -- the rows of clap's matches: for each argument that was given, or has a value without that, its name and its values
@@ -22,7 +21,7 @@ abbrev pub taken_by : App → List Text → Option (List Row)
 taken_by app words = rows_unless (fault_of app words) (matches_of app words)
 
 -- what the words after a command's name give
-unfoldable pub parsed : List Argument → List Text → Option (List Row)
+unfoldable pub parsed : List Described → List Text → Option (List Row)
 parsed arguments words = taken_by (app_for arguments) words
 
 -- ---- the value of an argument by its name

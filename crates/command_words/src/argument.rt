@@ -1,7 +1,7 @@
 //! One argument of a command, and what clap is told of it.
 ghost use Rattle.std.specs.Prelude.{◌≡◌, false};
 ghost use Rattle.clap.specs.Words.{rule_of};
-ghost use Rattle.command_words.specs.App.{rule_for};
+ghost use Rattle.command_words.specs.App.{rule_for, said};
 
 use clap::{Arg, ArgAction};
 use std::alloc::Global;
@@ -30,7 +30,7 @@ pub struct Argument {
 
 /// The argument of clap: its id is the argument's name.
 pub fn clap_argument<'a>(alloc: Global, argument: Argument) -> Arg<'a>
-    ensures rule { rule_of result ≡ rule_for argument }
+    ensures rule { rule_of result ≡ rule_for (said argument) }
     ensures local { result.global ≡ false }
 {
     let arg = Arg::new(alloc, argument.name);

@@ -1,6 +1,6 @@
 ghost use Rattle.std.specs.Prelude.{◌≡◌, ◌≢◌, IfOk, Some, None, Err, map, string_bytes};
 ghost use Rattle.clap.specs.Words.{app_of, kind_of};
-ghost use Rattle.command_words.specs.App.{app_for};
+ghost use Rattle.command_words.specs.App.{app_for, said};
 ghost use Rattle.command_words.specs.Parsed.{rows, parsed};
 
 use crate::argument::{Argument, clap_argument};
@@ -26,7 +26,7 @@ pub struct Parsed<'a> {
 
 /// The command of clap that has these arguments.
 fn described<'a>(alloc: Global, arguments: &[Argument]) -> Result<Command<'a>, AllocError>
-    ensures { IfOk result (λ command. app_of command ≡ app_for arguments.now) }
+    ensures { IfOk result (λ command. app_of command ≡ app_for (map said arguments.now)) }
 {
     let mut command = Command::new(alloc, "command")
         .no_binary_name(true)
@@ -60,8 +60,8 @@ pub fn parse<'a>(
     arguments: &[Argument],
     words: &'a [String],
 ) -> Result<Parsed<'a>, WordsFault>
-    ensures taken { IfOk result (λ values. parsed arguments.now (map string_bytes words.now) ≡ Some (rows values)) }
-    ensures usage { result ≡ Err WordsFault.Usage → parsed arguments.now (map string_bytes words.now) ≡ None }
+    ensures taken { IfOk result (λ values. parsed (map said arguments.now) (map string_bytes words.now) ≡ Some (rows values)) }
+    ensures usage { result ≡ Err WordsFault.Usage → parsed (map said arguments.now) (map string_bytes words.now) ≡ None }
 {
     let Ok(command) = described(alloc, arguments) else {
         return Err(WordsFault::OutOfMemory);

@@ -1,4 +1,3 @@
-pub mod Digits
 pub mod Whole
 pub mod Ending
 pub mod Causes

@@ -1,4 +1,4 @@
-pub mod Numbers
+pub mod Commands
 pub mod Words
 pub mod Outcome
 pub mod Texts

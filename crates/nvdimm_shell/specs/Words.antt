@@ -1,29 +1,23 @@
 -- The words of a command line: a name, and the words after it.
-use Rattle.std.specs.Prelude.{ℕ, List, [], ◌∷◌, Option, Some, None, if◌then◌else◌, codes}
+use Rattle.std.specs.Prelude.{List, [], ◌∷◌, ℕ, Option, Some, None, codes}
 use Rattle.std.specs.Option.{option_map, option_and_then}
-use Rattle.std.specs.Str.{bytes_eq}
+use Rattle.clap.specs.Words.{Row}
+use Rattle.command_words.specs.Parsed.{parsed, number_in}
+use Rattle.nvdimm_shell.specs.declared.commands.Kind.{Kind}
+use Rattle.nvdimm_shell.specs.declared.commands.Kind.TheVariants as kind
 use Rattle.nvdimm_shell.specs.declared.words.Command.{Command}
 use Rattle.nvdimm_shell.specs.declared.words.Command.TheVariants.{Labels}
-use Rattle.nvdimm_shell.specs.declared.words.Kind.{Kind}
-use Rattle.nvdimm_shell.specs.declared.words.Kind.TheVariants as kind
-use Rattle.nvdimm_shell.specs.Numbers.{number_up_to}
+use Rattle.nvdimm_shell.specs.Commands.{kind_of, arguments_of}
 
--- the command that a name says
-unfoldable pub kind_of : List ℕ → Option Kind
-kind_of name =
-    if bytes_eq name (codes "labels") then Some kind.Labels
-    else None
+-- the command that the values of its arguments make; modules are numbered 0 to 63
+abbrev pub command_in : Kind → List Row → Option Command
+command_in kind.Labels values = option_map (λ m. Labels m) (number_in 0 63 (codes "module") values)
 
--- the words after a name are one number up to a limit
-abbrev pub one_number : ℕ → List (List ℕ) → Option ℕ
-one_number limit (word ∷ []) = number_up_to limit word
-one_number limit words = None
-
--- the command of a name with the words after it; modules are numbered 0 to 63
+-- the command of a name with the words after it
 abbrev pub command_with : Kind → List (List ℕ) → Option Command
-command_with kind.Labels words = option_map (λ m. Labels m) (one_number 63 words)
+command_with kind words = option_and_then (command_in kind) (parsed (arguments_of kind) words)
 
 -- the command that the words say, None where they aren't a command line
 abbrev pub command_of : List (List ℕ) → Option Command
 command_of [] = None
-command_of (name ∷ words) = option_and_then (λ k. command_with k words) (kind_of name)
+command_of (name ∷ words) = option_and_then (λ kind. command_with kind words) (kind_of name)

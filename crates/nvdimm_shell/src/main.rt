@@ -20,10 +20,10 @@
 mod area;
 #[cfg(test)]
 mod areas;
+mod commands;
 mod labels;
 mod laws;
 mod nfit;
-mod numbers;
 mod outcome;
 mod status;
 #[cfg(test)]

@@ -11,6 +11,7 @@ use crate::labels::labels_answer;
 use crate::outcome::{Answer, usage_answer};
 use crate::status::{Status, Stop};
 use crate::words::{Command, command_from};
+use command_words::WordsFault;
 use nvd_media::{Chooser, Gate, ImageSink, ImageSource, TextSink, TextSource};
 use std::alloc::{AllocError, Global};
 use std::sync::Wait;
@@ -59,9 +60,10 @@ fn answer_to<S: ImageSource, T: TextSource>(
     ensures unread { LeavesScript (map string_bytes words.now) (T.left script.old) (T.left script.new) }
     ensures failed { result ≡ Err Stop.ReadFault → Rose (S.faults images.old) (S.faults images.new) }
 {
-    match command_from(words) {
-        Some(command) => perform(alloc, command, images, script),
-        None => found_memory(usage_answer(alloc)),
+    match command_from(alloc, words) {
+        Ok(command) => perform(alloc, command, images, script),
+        Err(WordsFault::Usage) => found_memory(usage_answer(alloc)),
+        Err(WordsFault::OutOfMemory) => Err(Stop::OutOfMemory),
     }
 }
 

@@ -1,7 +1,11 @@
-ghost use Rattle.std.specs.Prelude.{◌≡◌, ◌≤◌, IfSome, map, string_bytes};
-ghost use Rattle.nvdimm_shell.specs.Words.{command_of, command_with, kind_of, one_number};
+//! What the words of a command line ask for.
+ghost use Rattle.std.specs.Prelude.{◌≡◌, IfOk, Some, None, Err, map, string_bytes};
+ghost use Rattle.command_words.specs.Parsed.{rows};
+ghost use Rattle.nvdimm_shell.specs.Words.{command_of, command_with, command_in};
 
-use crate::numbers::number_from;
+use crate::commands::Kind;
+use command_words::{Parsed, WordsFault, parse};
+use std::alloc::Global;
 
 /// What the words ask for.
 #[derive(Clone, Copy, Debug, PartialEq, Eq)]
@@ -10,58 +14,43 @@ pub enum Command {
     Labels(u32),
 }
 
-/// What the first word names.
-#[derive(Clone, Copy, Debug, PartialEq, Eq)]
-pub enum Kind {
-    Labels,
-}
-
 /// The greatest number of a module.
 const LAST_MODULE: u64 = 63;
 
-/// The command that a name says.
-#[tactic(auto, using(nvd_words::proofs::Checks::choices), unfolding(crate::specs::Words::kind_of))]
-fn kind_from(name: &str) -> Option<Kind>
-    ensures { result ≡ kind_of name.now }
-{
-    if name == "labels" {
-        return Some(Kind::Labels);
-    }
-    None
-}
-
-/// The one number that words are, up to a limit.
-fn one_number_from(words: &[String], limit: u64) -> Option<u64>
-    ensures number { result ≡ one_number limit (map string_bytes words.now) }
-    ensures within { IfSome result (λ n. n ≤ limit) }
-{
-    match words {
-        [word] => number_from(word.as_str(), limit),
-        _ => None,
-    }
-}
-
-/// The command of a name with the words after it.
-fn command_with(kind: Kind, words: &[String]) -> Option<Command>
-    ensures { result ≡ command_with kind (map string_bytes words.now) }
+/// The command that the values of its arguments make.
+fn command_in(kind: Kind, values: &Parsed<'_>) -> Option<Command>
+    ensures { result ≡ command_in kind (rows values.now) }
 {
     match kind {
         Kind::Labels => {
-            let module = one_number_from(words, LAST_MODULE)?;
+            let module = values.number("module", 0, LAST_MODULE)?;
             Some(Command::Labels(module as u32))
         }
     }
 }
 
-/// The command that the words say, `None` where they aren't a command line.
-pub fn command_from(words: &[String]) -> Option<Command>
-    ensures { result ≡ command_of (map string_bytes words.now) }
+/// The command of a name with the words after it.
+fn command_with(alloc: Global, kind: Kind, words: &[String]) -> Result<Command, WordsFault>
+    ensures command { IfOk result (λ command. command_with kind (map string_bytes words.now) ≡ Some command) }
+    ensures usage { result ≡ Err WordsFault.Usage → command_with kind (map string_bytes words.now) ≡ None }
+{
+    match parse(alloc, kind.arguments(), words) {
+        Ok(values) => command_in(kind, &values).ok_or(WordsFault::Usage),
+        Err(fault) => Err(fault),
+    }
+}
+
+/// The command that the words say; `Usage` exactly where they aren't a command line, unless memory is
+/// wanting.
+pub fn command_from(alloc: Global, words: &[String]) -> Result<Command, WordsFault>
+    ensures command { IfOk result (λ command. command_of (map string_bytes words.now) ≡ Some command) }
+    ensures usage { result ≡ Err WordsFault.Usage → command_of (map string_bytes words.now) ≡ None }
 {
     let [name, others @ ..] = words else {
-        return None;
+        return Err(WordsFault::Usage);
     };
-    match kind_from(name.as_str()) {
-        Some(kind) => command_with(kind, others),
-        None => None,
+    match Kind::of_name(name.as_str()) {
+        Some(kind) => command_with(alloc, kind, others),
+        None => Err(WordsFault::Usage),
     }
 }

@@ -1,4 +1,3 @@
-use Rattle.std.proofs.Common.{refl, rules}
 use Rattle.clap.specs.Words.{app_of}
 use Rattle.command_words.proofs.Described.{argument_more}
 use Rattle.command_words.proofs.values.described.Goals as goal

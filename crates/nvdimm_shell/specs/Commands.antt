@@ -1,0 +1,17 @@
+-- The table of commands: each has a name, and a list of arguments for the words after it.
+use Rattle.std.specs.Prelude.{List, [], ◌∷◌, ℕ, Option, Some, None, if◌then◌else◌, codes}
+use Rattle.std.specs.Str.{bytes_eq}
+use Rattle.command_words.specs.App.{Described}
+use Rattle.command_words.specs.declared.argument.Form.TheVariants.{Place}
+use Rattle.nvdimm_shell.specs.declared.commands.Kind.{Kind}
+use Rattle.nvdimm_shell.specs.declared.commands.Kind.TheVariants as kind
+
+-- the command that a name says
+unfoldable pub kind_of : List ℕ → Option Kind
+kind_of name =
+    if bytes_eq name (codes "labels") then Some kind.Labels
+    else None
+
+-- the arguments of a command
+abbrev pub arguments_of : Kind → List Described
+arguments_of kind.Labels = (codes "module", Place) ∷ []

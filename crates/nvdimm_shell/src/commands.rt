@@ -1,0 +1,41 @@
+//! The table of commands: each has a name, and a list of arguments for the words after it.
+use command_words::{Argument, Form};
+
+/// What a command does.
+#[derive(Clone, Copy, Debug, PartialEq, Eq)]
+pub enum Kind {
+    /// Prints the current index block and the labels of a module.
+    Labels,
+}
+
+/// The number of a module.
+const MODULE: Argument = Argument {
+    name: "module",
+    form: Form::Place,
+};
+
+impl Kind {
+    ghost use Rattle.std.specs.Prelude.{◌≡◌, map};
+    ghost use Rattle.command_words.specs.App.{said};
+    ghost use Rattle.nvdimm_shell.specs.Commands.{kind_of, arguments_of};
+
+    /// The command that a name says.
+    #[tactic(auto, using(nvd_words::proofs::Checks::choices), unfolding(crate::specs::Commands::kind_of))]
+    pub fn of_name(name: &str) -> Option<Kind>
+        ensures { result ≡ kind_of name.now }
+    {
+        if name == "labels" {
+            return Some(Kind::Labels);
+        }
+        None
+    }
+
+    /// The command's arguments.
+    pub fn arguments(self) -> &'static [Argument]
+        ensures { map said result.now ≡ arguments_of self }
+    {
+        match self {
+            Kind::Labels => &[MODULE],
+        }
+    }
+}
