@@ -35,10 +35,12 @@ mod modules;
 mod names;
 mod read;
 mod regions;
+mod shared;
 mod structures;
 mod table;
 #[cfg(test)]
 mod tests;
 
 pub use read::read_nfit;
+pub use shared::Shared;
 pub use table::{Identity, Lines, Mapping, Nfit, NfitFault, Region};

@@ -36,20 +36,11 @@ pub(crate) fn links_of(alloc: Global, structures: &[Structure]) -> Result<Vec<Li
         .collect(alloc)
 }
 
-fn copy_of(alloc: Global, lines: &Lines) -> Result<Lines, AllocError>
-    ensures { IfOk result (λ copy. copy ≡ lines.now) }
-{
-    Ok(Lines {
-        size: lines.size,
-        offsets: Items::from_vec(Vec::from_slice(alloc, lines.offsets.as_slice())?),
-    })
-}
-
-fn lines_of(alloc: Global, names: &Names, index: u16) -> Result<Option<Lines>, AllocError>
+fn lines_of(names: &Names, index: u16) -> Result<Option<Lines>, AllocError>
     ensures { IfOk result (λ lines. lines ≡ tree.get nat_cmp names.now.lines index) }
 {
     match names.lines(index) {
-        Some(lines) => Ok(Some(copy_of(alloc, lines)?)),
+        Some(lines) => Ok(Some(lines.share()?)),
         None => Ok(None),
     }
 }
@@ -65,7 +56,6 @@ const NO_IDENTITY: Identity = Identity {
 /// A mapping with what it names.
 #[tactic(auto, unfolding(crate::specs::Table::mapping_of))]
 fn mapping_of(
-    alloc: Global,
     names: &Names,
     numbers: &BTreeMap<u32, u32>,
     link: Link,
@@ -74,7 +64,7 @@ fn mapping_of(
         IsNumbered numbers.now structures →
         IfOk result (λ mapping. mapping ≡ mapping_of structures link) }
 {
-    let lines = lines_of(alloc, names, link.interleave)?;
+    let lines = lines_of(names, link.interleave)?;
     Ok(Mapping {
         module: numbers.get(&link.handle).copied().unwrap_or(0),
         size: link.size,
@@ -157,7 +147,7 @@ fn mappings_of(
 {
     let mut mappings = Items::new(alloc);
     for link in group {
-        mappings.push(mapping_of(alloc, names, numbers, *link)?)?;
+        mappings.push(mapping_of(names, numbers, *link)?)?;
     }
     Ok(mappings)
 }

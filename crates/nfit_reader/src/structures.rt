@@ -11,6 +11,7 @@ ghost use Rattle.nfit_reader.specs.Counted.{IsShort};
 ghost use Rattle.std.specs.List.{All};
 
 use crate::fields::{eight_at, four_at, two_at};
+use crate::shared::Shared;
 use crate::table::{Identity, Lines, NfitFault};
 use nvd_words::Items;
 use std::alloc::{AllocError, Global};
@@ -243,7 +244,7 @@ fn lines_of(alloc: Global, span: &[u8]) -> Result<Lines, AllocError>
     }
     Ok(Lines {
         size: four_at(span, LINE_SIZE_AT),
-        offsets,
+        offsets: Shared::from_items(offsets)?,
     })
 }
 

@@ -1,5 +1,6 @@
-ghost use Rattle.std.specs.Prelude.{◌≡◌};
+ghost use Rattle.std.specs.Prelude.{◌≡◌, IfOk};
 
+use crate::shared::Shared;
 use nvd_words::Items;
 use std::alloc::AllocError;
 
@@ -52,7 +53,21 @@ pub struct Lines {
     /// Line Size, in bytes.
     pub size: u32,
     /// Line Offset of each line described, in units of the line size.
-    pub offsets: Items<u32>,
+    /// The mappings that name the structure share the list.
+    pub offsets: Shared<u32>,
+}
+
+impl Lines {
+    /// The same lines for one more mapping; nothing is copied. `AllocError` where the list has too
+    /// many owners to count.
+    pub fn share(&self) -> Result<Lines, AllocError>
+        ensures { IfOk result (λ lines. lines ≡ self.now) }
+    {
+        Ok(Lines {
+            size: self.size,
+            offsets: self.offsets.share()?,
+        })
+    }
 }
 
 /// What a control region says of its module, each number as it stands in the table.
