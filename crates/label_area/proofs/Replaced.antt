@@ -10,7 +10,7 @@ use Rattle.cut_words.specs.Words.{Words, Step, after, settled, IsLeft}
 use Rattle.cut_words.specs.Fuses.{Makes, lasts}
 use Rattle.cut_words.specs.WordBytes.{bytes_of}
 use Rattle.cut_words.proofs.Bytes.{length_bytes}
-use Rattle.cut_words.proofs.Making.{makes_all}
+use Rattle.cut_words.proofs.Making.{makes_all, makes_length}
 use Rattle.label_codec.specs.declared.label.Label.{Label}
 use Rattle.label_codec.specs.Writable.{IsSound, IsWritable}
 use Rattle.label_index.specs.declared.index.IndexBlock.{IndexBlock}
@@ -18,13 +18,13 @@ use Rattle.label_index.specs.Area.{block_size_of, IsAreaSize}
 use Rattle.label_index.specs.Valid.{IsValid}
 use Rattle.label_area.specs.declared.fault.ChangeRefused.{ChangeRefused}
 use Rattle.label_area.specs.declared.fault.ChangeRefused.TheVariants.{NoSlot, PowerCut}
-use Rattle.label_area.specs.Area.{SlotState, label_in, labels_in, slots_by}
+use Rattle.label_area.specs.Area.{SlotState, label_in, labels_in, slots_by, slots_with}
 use Rattle.label_area.specs.Change.{opposite, slot_of_put, next_block, words_after, replace_steps, count_of_steps, with_put, without, IsFreeSlot}
-use Rattle.label_area.specs.Whole.{IsChange, IsCut, slots_before, slots_after, steps_under}
+use Rattle.label_area.specs.Whole.{IsChange, IsCut, Shows, slots_before, slots_after, steps_under}
 use Rattle.label_area.specs.Writing.{CanWrite, writing_steps}
 use Rattle.label_area.specs.State.{AreaState}
-use Rattle.label_area.specs.Opened.{IsReady, state_of, labels_by}
-use Rattle.label_area.specs.Replace.{least_free, under_slot, placed, IsUsedSlot, IsInside, change_answer, with_new, without_old, changed, IsChanged}
+use Rattle.label_area.specs.Opened.{IsReady, OpensAs, opened_by, labels_by}
+use Rattle.label_area.specs.Replace.{least_free, under_slot, placed, IsUsedSlot, IsInside, change_answer, with_new, without_old, labels_after, changed, Reopens, IsChanged}
 use Rattle.label_area.proofs.Before.{IsSized, IsCurrent}
 use Rattle.label_area.proofs.Written.{length_change, slot_inside}
 use Rattle.label_area.proofs.After.{sized, valid_next, length_after, length_slots, final_block, final_slots, replace_cut, replace_settles}
@@ -39,6 +39,18 @@ listed_put (Some l) slots = map-set label_in slots l.slot (Some (Some l))
 listed_without : (out : Option ℕ) (slots : List SlotState) → labels_in (without out slots) ≡ without_old out (labels_in slots)
 listed_without None slots = refl
 listed_without (Some k) slots = map-set label_in slots k None
+
+-- ---- how words are opened
+
+shows_opens : (left : List ℕ) (block : IndexBlock) (slots : List SlotState) (labels : List (Option Label)) → IsAreaSize (8 * length left) → labels_in slots ≡ labels → Shows left block slots → OpensAs left block labels
+shows_opens left block slots labels size is shows =
+    let listed : slots_with (bytes_of left) (Ok block) ≡ Ok slots = ap (slots_with (bytes_of left)) (sym shows.current) ∙ shows.listed in
+    let same : slots_by (bytes_of left) block ≡ slots = cc in
+    record {
+      size = size;
+      opens = ap (opened_by left) shows.current
+          ∙ ap (λ (ls : List (Option Label)). Ok (record { words = settled left; block = block; labels = ls; stopped = false })) (ap labels_in same ∙ is);
+    }
 
 -- ---- one change
 
@@ -95,6 +107,33 @@ module _ (area : AreaState) (ready : IsReady area) (out : Option ℕ) (put : Opt
         replace_cut values area.block out put change n shown
         (subst (λ (w : Words). IsLeft w shown) (h.words ∙ ap (λ (w : Words). after w (take n steps)) words_settled) cut)
 
+    -- and how that is opened
+    labels_before : labels_in (slots_before values area.block) ≡ area.labels
+    labels_before = ap (λ (a : AreaState). a.labels) (sym ready.shown)
+
+    labels_then : labels_in (slots_after values area.block out put) ≡ labels_after out put area.labels
+    labels_then =
+        listed_without out (with_put put (slots_before values area.block)) ∙ ap (without_old out) (listed_put put (slots_before values area.block))
+        ∙ ap (λ (ls : List (Option Label)). labels_after out put ls) labels_before
+
+    cut_reopens : (n : ℕ) (left : List ℕ) → length left ≡ length values → IsCut values area.block out put n left → Reopens area out put n left
+    cut_reopens n left len cut =
+        let size : IsAreaSize (8 * length left) = subst IsAreaSize (ap (λ (k : ℕ). 8 * k) (sym len)) ready.size in
+        let old : Shows left area.block (slots_before values area.block) → OpensAs left area.block area.labels =
+        shows_opens left area.block (slots_before values area.block) area.labels size labels_before in
+        let new : Shows left next (slots_after values area.block out put) → OpensAs left next (labels_after out put area.labels) =
+        shows_opens left next (slots_after values area.block out put) (labels_after out put area.labels) size labels_then in
+        record {
+          before = λ lt. old (cut.before lt);
+          either = λ e. elim (cut.either e) [ inl shows ↦ inl (old shows) | inr shows ↦ inr (new shows) ];
+          after = λ le. new (cut.after le);
+        }
+
+    pub change_reopens : (new : Words) (fuse left : Option ℕ) (made : Bool) → Makes area.words new fuse left steps made
+        → (shown : List ℕ) → IsLeft new shown → Reopens area out put (steps_under fuse count) shown
+    change_reopens new fuse left made h shown cut =
+        cut_reopens (steps_under fuse count) shown (cut.same_length ∙ makes_length area.words new fuse left steps made h) (change_whole new fuse left made h shown cut)
+
     -- whether all steps were made
     pub all_made : (new : Words) (fuse left : Option ℕ) (made : Bool) → Makes area.words new fuse left steps made → lasts fuse count ≡ made
     all_made new fuse left made h = ap (lasts fuse) (sym steps_count) ∙ sym h.all_made
@@ -105,10 +144,7 @@ module _ (area : AreaState) (ready : IsReady area) (out : Option ℕ) (put : Opt
 
     -- the area after it
     pub labels_changed : labels_by final next ≡ without_old out (with_new put area.labels)
-    labels_changed =
-        ap labels_in (final_slots values area.block out put change) ∙ listed_without out (with_put put (slots_before values area.block))
-        ∙ ap (without_old out) (listed_put put (slots_before values area.block))
-        ∙ ap (λ (a : AreaState). without_old out (with_new put a.labels)) (sym ready.shown)
+    labels_changed = ap labels_in (final_slots values area.block out put change) ∙ labels_then
 
     pub changed_ready : IsReady (changed area out put)
     changed_ready = record {
@@ -123,6 +159,7 @@ module _ (area : AreaState) (ready : IsReady area) (out : Option ℕ) (put : Opt
       made = subst (λ (b : Bool). Makes area.words new.words fuse left steps (not b)) (sym stopped) h;
       done = λ running. absurd (let both : true ≡ false = sym stopped ∙ running in cc);
       whole = change_whole new.words fuse left false h;
+      reopens = change_reopens new.words fuse left false h;
     }
 
     pub done_changed : (new : AreaState) (fuse left : Option ℕ) → new ≡ changed area out put → Makes area.words new.words fuse left steps true → IsChanged area new fuse left out put
@@ -130,6 +167,7 @@ module _ (area : AreaState) (ready : IsReady area) (out : Option ℕ) (put : Opt
       made = subst (λ (a : AreaState). Makes area.words new.words fuse left steps (not a.stopped)) (sym is) h;
       done = λ running. is;
       whole = change_whole new.words fuse left true h;
+      reopens = change_reopens new.words fuse left true h;
     }
 
     pub now_changed : (words : Words) (block : IndexBlock) (labels : List (Option Label)) (stopped : Bool) (fuse left : Option ℕ) → Makes area.words words fuse left steps true

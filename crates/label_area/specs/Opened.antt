@@ -41,3 +41,8 @@ opened_by values (Err fault) = Err (refused values fault)
 -- an area that is opened, or why it is refused
 abbrev pub opened : List ℕ → Result AreaState AreaRefused
 opened values = opened_by values (block_in (bytes_of values))
+
+-- words that are opened as an area with this block and these labels
+pub record OpensAs (values : List ℕ) (now : IndexBlock) (list : List (Option Label)) : Type 0 where
+  pub size : IsAreaSize (8 * length values)
+  pub opens : opened values ≡ Ok (record { words = settled values; block = now; labels = list; stopped = false })

@@ -1,5 +1,5 @@
 -- A change of the labels of an area that is held open.
-use Rattle.std.specs.Prelude.{◌≡◌, ◌<◌, ℕ, Bool, true, false, not, if◌then◌else◌, List, slice_index_or, slice_set, Option, Some, None, Result, Ok, Err}
+use Rattle.std.specs.Prelude.{◌≡◌, ◌⊎◌, ◌+◌, ◌<◌, ◌≤◌, ℕ, Bool, true, false, not, if◌then◌else◌, List, slice_index_or, slice_set, Option, Some, None, Result, Ok, Err}
 use Rattle.std.specs.List.{position}
 use Rattle.label_codec.specs.declared.label.Label.{Label}
 use Rattle.label_index.specs.declared.index.IndexBlock.{IndexBlock}
@@ -10,6 +10,7 @@ use Rattle.label_area.specs.declared.fault.ChangeRefused.TheVariants.{NoSlot, Po
 use Rattle.label_area.specs.Change.{slot_of_put, next_block, words_after, replace_steps, count_of_steps}
 use Rattle.label_area.specs.Whole.{IsCut, steps_under}
 use Rattle.label_area.specs.State.{AreaState}
+use Rattle.label_area.specs.Opened.{OpensAs}
 
 -- ---- where the label goes
 
@@ -59,14 +60,24 @@ abbrev pub without_old : Option ℕ → List (Option Label) → List (Option Lab
 without_old None labels = labels
 without_old (Some out) labels = slice_set labels out None
 
+abbrev pub labels_after : Option ℕ → Option Label → List (Option Label) → List (Option Label)
+labels_after out put labels = without_old out (with_new put labels)
+
 -- an area after a change: no word is pending, the next block is current, and the labels of two slots changed
 abbrev pub changed : AreaState → Option ℕ → Option Label → AreaState
 changed area out put = record {
   words = settled (words_after area.words.kept area.block out put);
   block = next_block area.block out put;
-  labels = without_old out (with_new put area.labels);
+  labels = labels_after out put area.labels;
   stopped = false;
 }
+
+-- What a cut after n steps of a change leaves is opened with the block and the labels from before it, until one step alone is
+-- missing; then, as each word is left kept or stored, with those or with the ones after it; and with these when none is missing.
+pub record Reopens (area : AreaState) (out : Option ℕ) (put : Option Label) (n : ℕ) (left : List ℕ) : Type 0 where
+  pub before : n + 1 < count_of_steps area.block.size put → OpensAs left area.block area.labels
+  pub either : n + 1 ≡ count_of_steps area.block.size put → OpensAs left area.block area.labels ⊎ OpensAs left (next_block area.block out put) (labels_after out put area.labels)
+  pub after : count_of_steps area.block.size put ≤ n → OpensAs left (next_block area.block out put) (labels_after out put area.labels)
 
 -- what became of an area and a fuse by a change whose label has its slot
 pub record IsChanged (old new : AreaState) (fuse left out : Option ℕ) (put : Option Label) : Type 0 where
@@ -74,8 +85,9 @@ pub record IsChanged (old new : AreaState) (fuse left out : Option ℕ) (put : O
   pub made : Makes old.words new.words fuse left (replace_steps old.words.kept old.block out put) (not new.stopped)
   -- with all of them made
   pub done : new.stopped ≡ false → new ≡ changed old out put
-  -- what a cut leaves
+  -- what a cut leaves: its current block and its slots, and so how it is opened
   pub whole : (values : List ℕ) → IsLeft new.words values → IsCut old.words.kept old.block out put (steps_under fuse (count_of_steps old.block.size put)) values
+  pub reopens : (values : List ℕ) → IsLeft new.words values → Reopens old out put (steps_under fuse (count_of_steps old.block.size put)) values
 
 -- and so where a slot is found for the label
 abbrev pub Changes : AreaState → AreaState → Option ℕ → Option ℕ → Option ℕ → Option Label → Type 0

@@ -38,6 +38,8 @@
 
 mod area;
 mod change;
+#[cfg(test)]
+mod change_tests;
 mod fault;
 mod initial;
 mod labels;

@@ -1,5 +1,9 @@
-use crate::write_block;
+use crate::*;
 use cut_words::{CutWords, Fuse, WordSpace};
+use label_codec::Label;
+use label_index::Side;
+use nvd_media::{ListChooser, SeedChooser};
+use nvd_words::word_at;
 use std::alloc::{AllocError, Global};
 
 /// What four words show after a block of four words was written over zeros with so many steps left.
@@ -27,4 +31,175 @@ fn a_block_is_closed_and_then_opened(rt: HostRuntime) -> Result<(), AllocError> 
         assert_eq!(rt; shown_after(alloc, steps)?, want);
     }
     Ok(())
+}
+
+/// What an area of 1,024 bytes shows: its current side, Seq, how many slots are free, and the Dpa of
+/// the label of each slot.
+#[derive(Clone, Copy, Debug, PartialEq, Eq)]
+pub(crate) struct Seen {
+    pub(crate) side: Side,
+    pub(crate) seq: u32,
+    pub(crate) free: u32,
+    pub(crate) labels: [Option<u64>; 2],
+}
+
+/// What is found of words: what they show, that they are no area, or that the area is stopped.
+#[derive(Clone, Copy, Debug, PartialEq, Eq)]
+pub(crate) enum Found {
+    Area(Seen),
+    Refused(AreaFault),
+    Stopped,
+}
+
+fn dpa_of(labels: &[Option<Label>], slot: usize) -> Option<u64> {
+    match labels.get(slot) {
+        Some(Some(label)) => Some(label.dpa),
+        _ => None,
+    }
+}
+
+pub(crate) fn shown(area: &LabelArea) -> Found {
+    if area.is_stopped() {
+        return Found::Stopped;
+    }
+    let labels = area.labels();
+    Found::Area(Seen {
+        side: area.side(),
+        seq: area.seq(),
+        free: area.free_slots(),
+        labels: [dpa_of(labels, 0), dpa_of(labels, 1)],
+    })
+}
+
+/// Opens an area of 1,024 bytes.
+pub(crate) fn opened(
+    alloc: Global,
+    words: Vec<u64>,
+) -> Result<Result<LabelArea, AreaFault>, AllocError> {
+    if words.len() != 128 {
+        return Ok(Err(AreaFault::NoIndex));
+    }
+    match open_area(alloc, CutWords::new(alloc, words)?) {
+        Ok(area) => Ok(Ok(area)),
+        Err(
+            AreaRefused {
+                fault: AreaFault::OutOfMemory,
+                ..
+            },
+        ) => Err(AllocError),
+        Err(refused) => Ok(Err(refused.fault)),
+    }
+}
+
+pub(crate) fn look(alloc: Global, words: Vec<u64>) -> Result<Found, AllocError> {
+    Ok(match opened(alloc, words)? {
+        Ok(area) => shown(&area),
+        Err(fault) => Found::Refused(fault),
+    })
+}
+
+/// The words of an area.
+pub(crate) fn words_of(alloc: Global, area: &[u8; 1024]) -> Result<Vec<u64>, AllocError> {
+    let mut words = Vec::new(alloc);
+    for i in 0..128 {
+        words.push(word_at(area, 8 * i))?;
+    }
+    Ok(words)
+}
+
+// ---- the first two blocks
+
+/// Initialises an area of 1,024 bytes.
+fn initialised(
+    alloc: Global,
+    words: Vec<u64>,
+    fuse: &mut Fuse,
+) -> Result<Result<LabelArea, AreaRefused>, AllocError> {
+    if words.len() != 128 {
+        return Err(AllocError);
+    }
+    Ok(init_area(alloc, CutWords::new(alloc, words)?, fuse))
+}
+
+/// The words of an area and why it was refused, of an area of zeros that is initialised with so many steps left.
+fn zeros_under(
+    alloc: Global,
+    fuse: &mut Fuse,
+) -> Result<(CutWords, Option<AreaFault>), AllocError> {
+    Ok(match initialised(alloc, vec![in alloc; 0; 128]?, fuse)? {
+        Ok(area) => (area.into_words(), None),
+        Err(refused) => (refused.words, Some(refused.fault)),
+    })
+}
+
+#[test]
+fn an_area_is_initialised_once(rt: HostRuntime) -> Result<(), AllocError> {
+    let alloc = rt.alloc();
+    let mut fuse = Fuse::after(132);
+    let (words, fault) = zeros_under(alloc, &mut fuse)?;
+    assert_eq!(rt; (fault, fuse.left()), (None, Some(0)));
+    let words = words.leave(&mut SeedChooser::new(1));
+    // The block at 0: Seq 3 and its Checksum; the block at 256: Seq 2.
+    assert_eq!(rt; words.get(2).copied(), Some(0x3_0100_0000));
+    assert_eq!(rt; words.get(8).copied(), Some(0x2793_83A7_D832_3A33));
+    assert_eq!(rt; words.get(34).copied(), Some(0x2_0100_0000));
+    let mut fuse = Fuse::after(5);
+    let again = initialised(alloc, words, &mut fuse)?;
+    let fault = again.err().map(|refused| refused.fault);
+    assert_eq!(rt; fault, Some(AreaFault::AlreadyInitialised { seq: 3 }));
+    assert_eq!(rt; fuse.left(), Some(5));
+    Ok(())
+}
+
+/// In an area of 131,072 bytes: 510 slots, MySize 256, LabelOff 512, and bits of Free up to the last slot.
+#[test]
+fn blocks_and_slots_fill_an_area(rt: HostRuntime) -> Result<(), AllocError> {
+    let alloc = rt.alloc();
+    let words = CutWords::new(alloc, vec![in alloc; 0; 16384]?)?;
+    let Ok(area) = init_area(alloc, words, &mut Fuse::none()) else {
+        return Err(AllocError);
+    };
+    if !area.is_stopped() {
+        assert_eq!(rt; (area.free_slots(), area.labels().len()), (510, 510));
+    }
+    let words = area.into_words().leave(&mut SeedChooser::new(1));
+    assert_eq!(rt; words.get(4).copied(), Some(256));
+    assert_eq!(rt; words.get(6).copied(), Some(512));
+    assert_eq!(rt; words.get(7).copied(), Some(0x0002_0001_0000_01fe));
+    assert_eq!(rt; words.get(15).copied(), Some(u64::MAX));
+    assert_eq!(rt; words.get(16).copied(), Some(0x3fff_ffff_ffff_ffff));
+    assert_eq!(rt; words.get(17).copied(), Some(0));
+    Ok(())
+}
+
+/// Steps, the chooser's answer, and what is left.
+#[test]
+fn what_a_cut_leaves_of_the_first_blocks(rt: HostRuntime) -> Result<(), AllocError> {
+    let alloc = rt.alloc();
+    let none = Found::Refused(AreaFault::NoIndex);
+    for steps in 0..132 {
+        for answer in [false, true] {
+            let want = match (steps, answer) {
+                (0..=64, _) | (65, false) => none,
+                (65..=130, _) | (131, false) => empty(Side::One, 2),
+                _ => empty(Side::Zero, 3),
+            };
+            let mut fuse = Fuse::after(steps);
+            let (words, fault) = zeros_under(alloc, &mut fuse)?;
+            assert_eq!(rt; (fault, fuse.left()), (Some(AreaFault::PowerCut), Some(0)));
+            let left = words.leave(&mut ListChooser::new(vec![in alloc; answer; 64]?));
+            assert_eq!(rt; look(alloc, left)?, want);
+        }
+    }
+    Ok(())
+}
+
+/// An area of which both slots are free.
+fn empty(side: Side, seq: u32) -> Found {
+    Found::Area(Seen {
+        side,
+        seq,
+        free: 2,
+        labels: [None, None],
+    })
 }
