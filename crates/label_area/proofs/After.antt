@@ -1,5 +1,5 @@
 -- A finished change shows the slots with two of them changed, and a change is whole under every cut.
-use Rattle.std.proofs.Common.{◌≡◌, ◌⊎◌, ℕ, zero, suc, ◌+◌, ◌*◌, ◌/◌, ◌%◌, ◌<◌, ◌≤◌, List, length, take, drop, get_or, Result, Ok, Option, Some, None, Bool, true, false, eqb, refl, sym, ap, ◌∙◌, subst, arith, inl, inr}
+use Rattle.std.proofs.Common.{◌≡◌, ◌⊎◌, ℕ, zero, suc, ◌+◌, ◌*◌, ◌/◌, ◌<◌, ◌≤◌, List, length, take, drop, get_or, Result, Ok, Option, Some, None, Bool, true, false, eqb, refl, sym, ap, ◌∙◌, subst, arith, inl, inr}
 use Rattle.std.specs.Prelude.{◌||◌}
 use Rattle.std.specs.List.{enumerate_from}
 use Rattle.std.specs.Result.{result_ok}
@@ -8,12 +8,12 @@ use Rattle.std.proofs.lemmas.Bool.{cases_eq, cases_Bool}
 use Rattle.std.proofs.lemmas.List.{get_or_default, get_or-map, ext_get_or, length-map, length-set, get_or-set_same, get_or-set_other}
 use Rattle.std.proofs.lemmas.List.FromFn.{get_or-enumerate_from, length-enumerate_from}
 use Rattle.nvd_words.specs.Ring.{successor_of, is_newer}
-use Rattle.cut_words.specs.WordBytes.{bytes_of, words_in}
+use Rattle.cut_words.specs.WordBytes.{bytes_of}
 use Rattle.cut_words.specs.Groups.{NotIn}
 use Rattle.cut_words.specs.Words.{after, settled, IsLeftAfter}
 use Rattle.cut_words.specs.Guarded.{IsGuarded, IsOld}
 use Rattle.cut_words.proofs.Bytes.{same_bytes}
-use Rattle.cut_words.proofs.Put.{put_outside, put_bytes, length_put, length_words}
+use Rattle.cut_words.proofs.Put.{put_bytes}
 use Rattle.cut_words.proofs.Guarded.{whole, all_settled}
 use Rattle.label_codec.specs.declared.label.Label.{Label}
 use Rattle.label_codec.specs.declared.label.LabelFault.{LabelFault}
@@ -28,10 +28,10 @@ use Rattle.label_index.specs.Valid.{IsValid}
 use Rattle.label_area.specs.Area.{SlotState, slot_at, slots_by, block_in, slots_with}
 use Rattle.label_area.specs.Change.{guard_of, guarded_by, words_of_slot, closed_word, opposite, slot_of_put, taken, given, next_block, with_label, words_after, replace_steps, count_of_steps, with_put, without}
 use Rattle.label_area.specs.Whole.{IsChange, IsCut, Shows, slots_before, slots_after, ReplaceIsWhole, ReplaceSettles}
-use Rattle.label_area.proofs.Spellings.{IsSpelled, valid_spelled, writable_spelled}
+use Rattle.label_area.proofs.Spellings.{IsSpelled, writable_spelled}
 use Rattle.label_area.proofs.Before.{IsSeq, IsSized, is_sized, sized_as, reading_is, same_reading, IsCurrent, is_current, other_block, past_blocks, in_blocks, below_slots, other_slot, old_reads}
 use Rattle.label_area.proofs.Steps.{spelled as spelled_next, block_inside as next_inside, labelled_length as length_with, final_length as length_final, past_block as past_next}
-use Rattle.label_area.proofs.Written.{block_out, guard_apart, guarded_below, length_change, PutFits, length_labelled, labelled_outside, label_there, slot_below, slot_inside}
+use Rattle.label_area.proofs.Written.{block_out, guard_apart, guarded_below, length_change, PutFits, labelled_outside, label_there, slot_below, slot_inside}
 
 -- ---- the newer block is current
 

@@ -1,5 +1,5 @@
 -- Both blocks of an area that is initialised.
-use Rattle.std.proofs.Common.{◌≡◌, ◌≢◌, ℕ, zero, suc, ◌+◌, ◌*◌, ◌≤◌, List, ◌∷◌, ◌++◌, length, map, replicate, take, Bool, true, false, Option, Some, None, Result, Ok, Err, refl, sym, ap, ◌∙◌, subst, arith, take_all, eqb, inl, inr}
+use Rattle.std.proofs.Common.{◌≡◌, ◌≢◌, ℕ, zero, suc, ◌*◌, List, ◌∷◌, length, replicate, take, Bool, true, false, Option, Some, None, Result, Ok, Err, refl, sym, ap, ◌∙◌, subst, arith, take_all, eqb, inl, inr}
 use Rattle.std.specs.Prelude.{◌||◌}
 use Rattle.std.proofs.lemmas.Bool.{cases_Bool}
 use Rattle.nvd_words.specs.Ring.{is_newer}
@@ -18,16 +18,15 @@ use Rattle.label_index.specs.Index.{index_reading, current_of}
 use Rattle.label_index.specs.Area.{IsAreaSize, block_size_of, slots_of}
 use Rattle.label_area.specs.declared.fault.AreaFault.TheVariants.{NoIndex, PowerCut, Unsupported, OutOfMemory, AlreadyInitialised}
 use Rattle.label_area.specs.declared.fault.AreaFault.{AreaFault}
-use Rattle.label_area.specs.Area.{SlotState, current_block, block_in, label_in, labels_in}
+use Rattle.label_area.specs.Area.{current_block, block_in, labels_in}
 use Rattle.label_area.specs.Change.{block_steps, count_of_steps}
 use Rattle.label_area.specs.Writing.{CanWrite, writing_steps}
 use Rattle.label_area.specs.Whole.{IsChange, steps_under}
 use Rattle.label_area.specs.Init.{empty_block, half_words, full_words, init_steps, IsInit, IsInitCut}
 use Rattle.label_area.specs.declared.read.Shown.{Shown}
-use Rattle.label_area.specs.State.{AreaState}
 use Rattle.label_area.specs.Opened.{IsReady, labels_by}
-use Rattle.label_area.specs.Initialise.{size_for, slots_for, init_count, blank_by, initial, initialised}
-use Rattle.label_area.proofs.Init.{sized, half_valid, half_length, half_block, change, first_count, half_settled, init_cut, all_free, none, version, version_or}
+use Rattle.label_area.specs.Initialise.{size_for, slots_for, blank_by, initial, initialised}
+use Rattle.label_area.proofs.Init.{sized, half_valid, half_length, change, first_count, half_settled, init_cut, all_free, none, version, version_or}
 use Rattle.label_area.proofs.Written.{length_change}
 use Rattle.label_area.proofs.After.{next_valid, length_after, final_block, replace_settles}
 use Rattle.label_area.proofs.Opened.{area_size}

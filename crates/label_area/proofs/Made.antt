@@ -1,24 +1,20 @@
 -- What a cut leaves of the steps that the code makes.
-use Rattle.std.proofs.Common.{◌≡◌, ◌⊎◌, ℕ, zero, suc, ◌+◌, ◌-◌, ◌*◌, ◌/◌, ◌%◌, ◌^◌, ◌<◌, ◌≤◌, List, [], ◌∷◌, ◌++◌, length, take, drop, get_or, Option, Some, None, Bool, refl, sym, ap, ◌∙◌, subst, arith, inl, inr}
-use Rattle.std.specs.List.{range_with_len}
+use Rattle.std.proofs.Common.{◌≡◌, ◌⊎◌, ℕ, ◌+◌, ◌/◌, List, ◌++◌, length, take, Option, Some, None, Bool, sym, ap, ◌∙◌, subst, arith, inl, inr}
 use Rattle.std.proofs.lemmas.Bool.{cases_lt, cases_eq, leb-true}
-use Rattle.std.proofs.lemmas.List.{get_or_append_left, get_or-append_right, length-take-le, length-drop, get_or-take, get_or-drop, take_all}
-use Rattle.cut_words.specs.Words.{Words, Step, store, after, settled, IsLeft}
-use Rattle.cut_words.specs.Groups.{stores, keeps, group, written}
-use Rattle.cut_words.specs.WordBytes.{words_in, put_at}
+use Rattle.std.proofs.lemmas.List.{take_all}
+use Rattle.cut_words.specs.Words.{Words, Step, after, settled, IsLeft}
+use Rattle.cut_words.specs.WordBytes.{words_in}
 use Rattle.cut_words.specs.Fuses.{Makes}
-use Rattle.cut_words.specs.Runs.{stores_from, run_steps}
-use Rattle.label_area.specs.Writing.{others_keeps, others_steps, block_steps_from, IsLabelAt, IsWholeAfter, SettlesAfter}
+use Rattle.cut_words.specs.Runs.{run_steps}
+use Rattle.label_area.specs.Writing.{block_steps_from, IsLabelAt, IsWholeAfter, SettlesAfter}
 use Rattle.cut_words.proofs.Making.{makes_all}
 use Rattle.label_codec.specs.declared.label.Label.{Label}
-use Rattle.label_codec.specs.Label.{spelling_of as label_spelling}
 use Rattle.label_index.specs.declared.index.IndexBlock.{IndexBlock}
 use Rattle.label_index.specs.Index.{place_of}
 use Rattle.label_index.specs.Spelling.{spelling_of as block_spelling}
-use Rattle.label_area.specs.Change.{guard_of, guarded_by, words_of_slot, closed_word, opposite, slot_of_put, next_block, with_label, words_after, replace_steps, count_of_steps}
+use Rattle.label_area.specs.Change.{opposite, next_block, words_after, replace_steps, count_of_steps}
 use Rattle.label_area.specs.Whole.{IsChange, IsCut, Shows, slots_before, slots_after}
-use Rattle.label_area.proofs.Before.{IsSized, past_blocks}
-use Rattle.label_area.proofs.Written.{length_change, words_of_label}
+use Rattle.label_area.proofs.Written.{length_change}
 use Rattle.label_area.proofs.Steps.{writing_is}
 use Rattle.label_area.proofs.After.{replace_cut, replace_settles, sized, fits, next_valid}
 

@@ -1,23 +1,18 @@
 -- A change of an area that is held open.
-use Rattle.std.proofs.Common.{◌≡◌, ℕ, ◌+◌, ◌*◌, ◌/◌, ◌<◌, ◌≤◌, List, length, map, get_or, take, Bool, true, false, leb, Option, Some, None, Result, Ok, Err, refl, sym, ap, ◌∙◌, subst, arith, inl, inr, take_all}
+use Rattle.std.proofs.Common.{◌≡◌, ℕ, ◌*◌, ◌<◌, List, length, get_or, take, Bool, true, false, Option, Some, None, Ok, Err, refl, sym, ap, ◌∙◌, subst, arith, inl, inr, take_all}
 use Rattle.std.specs.Prelude.{not}
-use Rattle.std.proofs.Math.ListN.{set}
-use Rattle.std.proofs.lemmas.Bool.{cases_lt, leb-true}
+use Rattle.std.proofs.lemmas.Bool.{cases_lt}
 use Rattle.std.proofs.lemmas.List.{get_or_past, map-set, length-map}
 use Rattle.std.proofs.lemmas.List.Quantifiers.{position-Some}
-use Rattle.std.specs.List.{position}
 use Rattle.cut_words.specs.Words.{Words, Step, after, settled, IsLeft}
 use Rattle.cut_words.specs.Fuses.{Makes, lasts}
 use Rattle.cut_words.specs.WordBytes.{bytes_of}
-use Rattle.cut_words.proofs.Bytes.{length_bytes}
 use Rattle.cut_words.proofs.Making.{makes_all, makes_length}
 use Rattle.label_codec.specs.declared.label.Label.{Label}
 use Rattle.label_codec.specs.Writable.{IsSound, IsWritable}
 use Rattle.label_index.specs.declared.index.IndexBlock.{IndexBlock}
 use Rattle.label_index.specs.Area.{block_size_of, IsAreaSize}
-use Rattle.label_index.specs.Valid.{IsValid}
-use Rattle.label_area.specs.declared.fault.ChangeRefused.{ChangeRefused}
-use Rattle.label_area.specs.declared.fault.ChangeRefused.TheVariants.{NoSlot, PowerCut}
+use Rattle.label_area.specs.declared.fault.ChangeRefused.TheVariants.{PowerCut}
 use Rattle.label_area.specs.Area.{SlotState, label_in, labels_in, slots_by, slots_with}
 use Rattle.label_area.specs.Change.{opposite, slot_of_put, next_block, words_after, replace_steps, count_of_steps, with_put, without, IsFreeSlot}
 use Rattle.label_area.specs.Whole.{IsChange, IsCut, Shows, slots_before, slots_after, steps_under}
@@ -25,7 +20,7 @@ use Rattle.label_area.specs.Writing.{CanWrite, writing_steps}
 use Rattle.label_area.specs.State.{AreaState}
 use Rattle.label_area.specs.Opened.{IsReady, OpensAs, opened_by, labels_by}
 use Rattle.label_area.specs.Replace.{least_free, under_slot, placed, IsUsedSlot, IsInside, change_answer, with_new, without_old, labels_after, changed, Reopens, IsChanged}
-use Rattle.label_area.proofs.Before.{IsSized, IsCurrent}
+use Rattle.label_area.proofs.Before.{IsCurrent}
 use Rattle.label_area.proofs.Written.{length_change, slot_inside}
 use Rattle.label_area.proofs.After.{sized, valid_next, length_after, length_slots, final_block, final_slots, replace_cut, replace_settles}
 use Rattle.label_area.proofs.Opened.{area_size, ready_current}

@@ -1,5 +1,5 @@
 -- Initialising an area that has no index block.
-use Rattle.std.specs.Prelude.{◌≡◌, ℕ, ◌*◌, true, false, if◌then◌else◌, List, length, replicate, Option, None, Result, Ok, Err}
+use Rattle.std.specs.Prelude.{◌≡◌, ℕ, ◌*◌, false, if◌then◌else◌, List, length, replicate, Option, None, Result, Ok, Err}
 use Rattle.label_index.specs.declared.index.IndexBlock.{IndexBlock}
 use Rattle.label_index.specs.declared.index.Side.TheVariants as side
 use Rattle.label_index.specs.Area.{block_size_of, slots_of}

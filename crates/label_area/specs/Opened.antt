@@ -1,9 +1,9 @@
 -- A label area that is held open: its words, and what they show.
-use Rattle.std.specs.Prelude.{◌≡◌, ℕ, ◌*◌, Bool, false, List, length, Option, Result, Ok, Err}
+use Rattle.std.specs.Prelude.{◌≡◌, ℕ, ◌*◌, false, List, length, Option, Result, Ok, Err}
 use Rattle.label_codec.specs.declared.label.Label.{Label}
 use Rattle.label_index.specs.declared.index.IndexBlock.{IndexBlock}
 use Rattle.label_index.specs.Area.{IsAreaSize}
-use Rattle.cut_words.specs.Words.{Words, settled}
+use Rattle.cut_words.specs.Words.{settled}
 use Rattle.cut_words.specs.WordBytes.{bytes_of}
 use Rattle.label_area.specs.declared.fault.AreaFault.{AreaFault}
 use Rattle.label_area.specs.declared.fault.AreaRefused.{AreaRefused}

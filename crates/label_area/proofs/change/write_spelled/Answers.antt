@@ -1,4 +1,4 @@
-use Rattle.std.proofs.Common.{ℕ, ◌≡◌, ◌/◌, List, length, take, Option, Some, None, sym, ap, subst, ◌∙◌, arith}
+use Rattle.std.proofs.Common.{◌/◌, List, length, take, sym, subst, arith}
 use Rattle.std.specs.Prelude.{is_ok}
 use Rattle.std.proofs.lemmas.List.{length-take-le}
 use Rattle.cut_words.specs.Words.{Step}

@@ -1,14 +1,14 @@
-use Rattle.std.proofs.Common.{ℕ, ◌≡◌, ◌++◌, List, Bool, true, false, Option, None, sym, ap, ◌∙◌, subst}
+use Rattle.std.proofs.Common.{List, Bool, true, false, None, sym, ap, subst}
 use Rattle.std.specs.Prelude.{is_ok}
 use Rattle.std.proofs.lemmas.Result.{err_from_is_err_and}
-use Rattle.cut_words.specs.Words.{Words, settled}
+use Rattle.cut_words.specs.Words.{Words}
 use Rattle.cut_words.specs.Fuses.{Makes}
 use Rattle.cut_words.proofs.Making.{makes_cut}
 use Rattle.label_index.specs.declared.index.IndexBlock.{IndexBlock}
 use Rattle.label_index.specs.declared.index.Side.TheVariants as side
 use Rattle.label_area.specs.Change.{block_steps}
 use Rattle.label_area.specs.Writing.{CanWrite, writing_steps}
-use Rattle.label_area.specs.Init.{empty_block, half_words, full_words, init_steps}
+use Rattle.label_area.specs.Init.{empty_block, half_words, full_words}
 use Rattle.label_area.proofs.Blocks.{can_write_one, can_write_two, first_done, both_made}
 use Rattle.label_area.proofs.initial.write_both.Goals as goal
 

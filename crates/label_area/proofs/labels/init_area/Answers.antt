@@ -1,6 +1,5 @@
-use Rattle.std.proofs.Common.{◌≡◌, length, Result, Ok, Err, sym, ap, ◌∙◌}
+use Rattle.std.proofs.Common.{length}
 use Rattle.cut_words.specs.WordBytes.{bytes_of}
-use Rattle.label_area.specs.Area.{block_in}
 use Rattle.label_area.proofs.Blocks.{blank_fault}
 use Rattle.label_area.proofs.labels.init_area.Goals as goal
 

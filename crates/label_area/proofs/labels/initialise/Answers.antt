@@ -1,18 +1,12 @@
-use Rattle.std.proofs.Common.{ℕ, ◌≡◌, ◌*◌, List, length, Bool, true, false, Option, None, Result, Ok, Err, sym, ap, ◌∙◌, subst, refl}
-use Rattle.std.specs.Prelude.{if◌then◌else◌}
-use Rattle.cut_words.specs.Words.{Words, settled}
-use Rattle.cut_words.specs.Fuses.{Makes, lasts}
-use Rattle.label_codec.specs.declared.label.Label.{Label}
-use Rattle.label_index.specs.declared.index.IndexBlock.{IndexBlock}
+use Rattle.std.proofs.Common.{◌≡◌, length, true, false, Ok, sym, ap, ◌∙◌, subst}
+use Rattle.cut_words.specs.Fuses.{Makes}
 use Rattle.label_index.specs.declared.index.Side.TheVariants as side
-use Rattle.label_area.specs.declared.fault.AreaFault.{AreaFault}
-use Rattle.label_area.specs.declared.fault.AreaRefused.{AreaRefused}
 use Rattle.label_area.specs.declared.read.Shown.{Shown}
 use Rattle.label_area.specs.Init.{empty_block, init_steps, IsInit}
 use Rattle.label_area.specs.State.{AreaState}
 use Rattle.label_area.specs.Opened.{IsReady}
-use Rattle.label_area.specs.Initialise.{size_for, slots_for, init_count, initial, initialised_by, cut_short}
-use Rattle.label_area.proofs.Blocks.{is_init, initial_is, initial_ready, both_done, both_last, both_burnt, both_whole, done_answer, cut_answer}
+use Rattle.label_area.specs.Initialise.{size_for, slots_for}
+use Rattle.label_area.proofs.Blocks.{is_init, initial_is, initial_ready, both_burnt, both_whole, done_answer, cut_answer}
 use Rattle.label_area.proofs.labels.initialise.Goals as goal
 
 pub write_both-requires-clause-init : goal.write_both-requires-clause-init

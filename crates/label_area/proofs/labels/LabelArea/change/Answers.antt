@@ -1,14 +1,8 @@
-use Rattle.std.proofs.Common.{ℕ, ◌≡◌, List, length, Bool, true, false, Option, Some, Ok, refl, sym, ap, ◌∙◌, subst, arith}
-use Rattle.std.specs.Prelude.{is_ok}
-use Rattle.cut_words.specs.Words.{Words, Step}
-use Rattle.cut_words.specs.Fuses.{Makes}
-use Rattle.label_codec.specs.declared.label.Label.{Label}
-use Rattle.label_index.specs.declared.index.IndexBlock.{IndexBlock}
-use Rattle.label_area.specs.Change.{slot_of_put, next_block, replace_steps, IsFreeSlot}
-use Rattle.label_area.specs.Writing.{CanWrite, writing_steps}
+use Rattle.std.proofs.Common.{ℕ, ◌≡◌, true, false, Option, Some, Ok, refl, sym, ap, ◌∙◌, subst}
+use Rattle.label_area.specs.Change.{slot_of_put, IsFreeSlot}
 use Rattle.label_area.specs.State.{AreaState}
 use Rattle.label_area.specs.Opened.{IsReady}
-use Rattle.label_area.specs.Replace.{IsUsedSlot, IsInside, IsChanged, change_answer, changed}
+use Rattle.label_area.specs.Replace.{IsUsedSlot, IsInside, IsChanged, change_answer}
 use Rattle.label_area.proofs.Opened.{ready_current}
 use Rattle.label_area.proofs.Replaced.{slots_inside, can_write, labels_count, steps_next, cut_changed, done_changed, now_changed, cut_answer, done_answer, changed_ready}
 use Rattle.label_area.proofs.labels.LabelArea.change.Goals as goal

@@ -1,4 +1,4 @@
-use Rattle.std.proofs.Common.{ℕ, ◌≡◌, List, Bool, Option, Ok, sym, ap, ◌∙◌, subst}
+use Rattle.std.proofs.Common.{sym, ap, ◌∙◌, subst}
 use Rattle.std.specs.Option.{option_copied}
 use Rattle.label_area.specs.Change.{slot_of_put, IsFreeSlot}
 use Rattle.label_area.specs.State.{AreaState}
