@@ -9,6 +9,8 @@ mod mapped;
 mod pieces;
 mod reading;
 mod sizes;
+#[cfg(test)]
+mod tests;
 
 pub use fault::LoadFault;
 pub use loading::{Loaded, load};
