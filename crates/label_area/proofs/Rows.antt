@@ -1,5 +1,5 @@
 -- Worked examples: the laws' conditions are met by an area of 1,024 zero bytes, and by that area after its two blocks are written.
-use Rattle.std.proofs.Common.{◌≡◌, ℕ, List, [], ◌∷◌, length, get_or, replicate, Some, None, true, false, refl, ap, subst, arith}
+use Rattle.std.proofs.Common.{◌≡◌, ℕ, List, [], ◌∷◌, length, get_or, replicate, Some, None, Ok, Err, true, false, refl, ap, subst, arith}
 use Rattle.label_codec.specs.declared.label.Label.{Label}
 use Rattle.label_codec.specs.Writable.{IsWritable}
 use Rattle.nvd_words.specs.Checks.{checked}
@@ -12,6 +12,11 @@ use Rattle.cut_words.specs.WordBytes.{bytes_of}
 use Rattle.label_area.specs.Change.{count_of_steps}
 use Rattle.label_area.specs.Whole.{IsChange}
 use Rattle.label_area.specs.Init.{IsInit, empty_block, full_words, init_steps}
+use Rattle.label_area.specs.declared.fault.ChangeRefused.TheVariants.{NoSlot, PowerCut}
+use Rattle.label_area.specs.Opened.{IsReady}
+use Rattle.label_area.specs.Replace.{least_free, placed, replace_answer, labels_after}
+use Rattle.label_area.specs.Initialise.{init_count, initial}
+use Rattle.label_area.proofs.Blocks.{is_init, initial_ready}
 
 -- ---- an area without a block
 
@@ -49,3 +54,44 @@ can_put l ok first = record {
   free = λ k e. let is : k ≡ 0 = cc in ap (λ (n : ℕ). get_or (true ∷ true ∷ []) n false) is;
   label = λ m e. subst IsWritable (let is : l ≡ m = cc in is) ok;
 }
+
+-- ---- an open area
+
+-- the area of zeros is initialised in 132 steps, and is then one that may be changed
+pub init_steps_count : init_count 128 ≡ 132
+unfolding greatest
+init_steps_count = refl
+
+pub is_ready : IsReady (initial zeros)
+is_ready = initial_ready zeros (record { multiple = refl; low = omega arith; high = omega arith }) (is_init zeros (record { multiple = refl; low = omega arith; high = omega arith }) can_init.refused)
+
+-- the least free slot
+pub least_of_three : least_free (false ∷ true ∷ true ∷ []) ≡ Some 1
+least_of_three = refl
+
+pub none_is_free : least_free (false ∷ false ∷ []) ≡ None
+none_is_free = refl
+
+-- a label goes there under that number, and no slot is refused
+pub put_there : (l : Label) → placed (false ∷ true ∷ []) (Some l) ≡ Ok (Some (record l { slot = 1 }))
+put_there l = refl
+
+pub no_slot : (l : Label) → placed (false ∷ false ∷ []) (Some l) ≡ Err NoSlot
+no_slot l = refl
+
+-- 130 steps are enough for a put, and 129 aren't; 66 are for a removal
+pub put_made : (l : Label) → replace_answer (empty_block 256 2 side.Zero 3) (Some 130) (Some l) ≡ Ok (Some 0)
+put_made l = refl
+
+pub put_cut : (l : Label) → replace_answer (empty_block 256 2 side.Zero 3) (Some 129) (Some l) ≡ Err PowerCut
+put_cut l = refl
+
+pub removal_made : replace_answer (empty_block 256 2 side.Zero 3) (Some 66) None ≡ Ok None
+removal_made = refl
+
+pub removal_cut : replace_answer (empty_block 256 2 side.Zero 3) (Some 65) None ≡ Err PowerCut
+removal_cut = refl
+
+-- a label comes and another goes; the rest stays
+pub labels_of_three : (a b l : Label) → labels_after (Some 0) (Some (record l { slot = 1 })) (Some a ∷ None ∷ Some b ∷ []) ≡ None ∷ Some (record l { slot = 1 }) ∷ Some b ∷ []
+labels_of_three a b l = refl

@@ -29,11 +29,16 @@
 //! old Seq, and only the checksum would stand between them and the reader; with it no promise rests on a
 //! checksum.
 //!
-//! `specs/Area.antt` states what an area has: `block_in` is the current block of an area's bytes or why
-//! there is none, `slot_bytes` are the bytes of a slot, and `slots_in` is what each slot holds.
-//! `specs/Change.antt` states one change (`next_block`, `words_after`, `replace_steps`), `specs/Whole.antt`
-//! what a cut leaves of it (`IsCut`, and the law `ReplaceIsWhole`), and `specs/Init.antt` the first two
-//! blocks and what a cut leaves of those (`InitIsWhole`).
+//! | promise | call | definition |
+//! |---|---|---|
+//! | which block is current, or why none is; what a slot holds | [`current_block`], [`read_slot`] | `block_in`, `slots_in` of `specs/Area.antt` |
+//! | an area is opened as its words show it, or refused | [`open_area`] | `opened`, `IsReady` of `specs/Opened.antt` |
+//! | its labels by slot, and what its current block says | [`LabelArea::labels`], [`LabelArea::free_slots`], [`LabelArea::seq`], [`LabelArea::side`], [`LabelArea::is_used`] | `AreaState` of `specs/State.antt` |
+//! | one change: its answer, its steps, what becomes of the area, and what a cut leaves | [`LabelArea::replace`] | `replace_answer`, `IsChanged`, `Reopens` of `specs/Replace.antt` |
+//! | the first two blocks: the same | [`init_area`] | `initialised` of `specs/Initialise.antt`, `IsInitCut` of `specs/Init.antt` |
+//! | the steps of a change in any row of words | [`write_change`], [`write_block`] | `specs/Writing.antt` |
+//! | a change is whole under every cut, whatever code makes it | [`replace_is_whole`] | `ReplaceIsWhole` of `specs/Whole.antt`; `next_block`, `words_after`, `replace_steps` of `specs/Change.antt` |
+//! | so are the first two blocks | [`init_is_whole`] | `InitIsWhole` of `specs/Init.antt` |
 #![tactic(auto)]
 
 mod area;
