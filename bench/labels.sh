@@ -1,5 +1,5 @@
 #!/bin/sh
-# Times `labels` on a label area of 1 MiB with every slot used, beside `cat` of the same file.
+# Times `labels` on an image set whose label area has 1 MiB and every slot used, beside `cat` of that file.
 # usage: bench/labels.sh   (wants the proved build: NVD_BUILD=proved ./nvd samples/small - labels 0)
 set -eu
 top=$(CDPATH='' cd -- "$(dirname -- "$0")/.." && pwd)
@@ -12,16 +12,18 @@ import os, resource, subprocess, sys, time, uuid
 top, work, program = sys.argv[1:]
 sys.path.insert(0, os.path.join(top, "samples"))
 sys.dont_write_bytecode = True
-from make_small import index_block, label
+from make_small import index_block, label, nfit
 
 size, slots = 768, 4090
 area = index_block(0, 2, size, slots, []) + index_block(1, 1, size, slots, [])
 for slot in range(slots):
     area += label(uuid.UUID(int=slot + 1), b"namespace %d" % slot, slot, 4096, dpa=4096 * slot)
 assert len(area) == 1048576
+files = {"nfit.bin": nfit(1, 65536, 1), "labels-0.bin": area, "contents-0.bin": bytes(65536), "complete": b""}
+for name, data in files.items():
+    with open(os.path.join(work, name), "wb") as file:
+        file.write(data)
 path = os.path.join(work, "labels-0.bin")
-with open(path, "wb") as file:
-    file.write(area)
 
 def median(words, runs=21):
     times = []

@@ -10,8 +10,10 @@ use Rattle.nvdimm_shell.specs.declared.commands.Kind.TheVariants as kind
 unfoldable pub kind_of : List ℕ → Option Kind
 kind_of name =
     if bytes_eq name (codes "labels") then Some kind.Labels
+    else if bytes_eq name (codes "nfit") then Some kind.Nfit
     else None
 
 -- the arguments of a command
 abbrev pub arguments_of : Kind → List Described
 arguments_of kind.Labels = (codes "module", Place) ∷ []
+arguments_of kind.Nfit = []

@@ -1,14 +1,11 @@
 -- The command `labels`: a module's current index block and its labels.
-use Rattle.std.specs.Prelude.{ℕ, ◌+◌, if◌then◌else◌, Bool, List, [], ◌∷◌, ◌++◌, length, Option, Some, None, Result, Ok, Err, codes, count_by}
+use Rattle.std.specs.Prelude.{ℕ, ◌+◌, if◌then◌else◌, Bool, List, [], ◌∷◌, ◌++◌, Option, Some, None, Result, Ok, Err, codes, count_by}
 use Rattle.std.specs.Int.{w64, to_be_bytes}
 use Rattle.std.specs.Fmt.{decimal}
 use Rattle.hex.specs.Hex.{encode_lower}
-use Rattle.nvd_media.specs.declared.object.Object.TheVariants as object
-use Rattle.nvd_media.specs.Images.{Images}
 use Rattle.label_index.specs.declared.index.IndexBlock.{IndexBlock}
 use Rattle.label_index.specs.declared.index.Side.{Side}
 use Rattle.label_index.specs.declared.index.Side.TheVariants as side
-use Rattle.label_index.specs.Area.{is_area_size}
 use Rattle.label_codec.specs.declared.label.Label.{Label}
 use Rattle.label_codec.specs.declared.label.LabelFault.{LabelFault}
 use Rattle.label_codec.specs.Label.{label_reading}
@@ -16,6 +13,7 @@ use Rattle.label_codec.specs.Mode.{mode_of}
 use Rattle.label_area.specs.declared.fault.AreaFault.{AreaFault}
 use Rattle.label_area.specs.declared.fault.AreaFault.TheVariants.{Unsupported}
 use Rattle.label_area.specs.Area.{block_in, slot_bytes}
+use Rattle.image_set.specs.Load.{ImageSet, area_of}
 use Rattle.nvdimm_shell.specs.Outcome.{Outcome, image_fault, printed, joined, lf}
 use Rattle.nvdimm_shell.specs.Texts.{name_text, uuid_text, mode_text, label_fault_text}
 
@@ -81,15 +79,11 @@ found_outcome m area (Err fault) = fault_outcome m fault
 abbrev pub area_outcome : ℕ → List ℕ → Outcome
 area_outcome m area = found_outcome m area (block_in area)
 
--- what is said of an object whose length is no label area's size
-abbrev pub size_outcome : ℕ → ℕ → Outcome
-size_outcome m bytes = image_fault (codes "labels " ∷ decimal m ∷ codes " Size " ∷ decimal bytes ∷ lf ∷ [])
+-- what is said of a module's label area; there is none where the table doesn't name the module, or it has no area
+abbrev pub module_outcome : ℕ → Option (List ℕ) → Outcome
+module_outcome m None = image_fault (codes "labels " ∷ decimal m ∷ codes " Missing" ∷ lf ∷ [])
+module_outcome m (Some area) = area_outcome m area
 
--- what is said of the object
-abbrev pub object_outcome : ℕ → Option (List ℕ) → Outcome
-object_outcome m None = image_fault (codes "labels " ∷ decimal m ∷ codes " Missing" ∷ lf ∷ [])
-object_outcome m (Some area) = if is_area_size (length area) then area_outcome m area else size_outcome m (length area)
-
--- what `labels M` comes to
-abbrev pub labels_outcome : ℕ → Images → Outcome
-labels_outcome m set = object_outcome m (set (object.Labels m))
+-- what `labels M` comes to on a set that is loaded, whose label areas have a label area's size
+abbrev pub labels_outcome : ℕ → ImageSet → Outcome
+labels_outcome m loaded = module_outcome m (area_of loaded m)

@@ -2,7 +2,7 @@ pub mod Commands
 pub mod Words
 pub mod Outcome
 pub mod Texts
-pub mod Found
+pub mod LoadFaults
 pub mod Labels
 pub mod Nfit
 pub mod Run

@@ -1,19 +1,17 @@
 -- The lines of the command `nfit`: a firmware table's modules and regions.
 use Rattle.std.specs.Prelude.{ℕ, ◌+◌, List, [], ◌∷◌, ◌++◌, Result, Ok, Err, codes}
-use Rattle.std.specs.Result.{result_map_both}
 use Rattle.std.specs.Int.{w64, to_be_bytes}
 use Rattle.std.specs.Fmt.{decimal}
 use Rattle.hex.specs.Hex.{encode_lower}
 use Rattle.nfit_reader.specs.declared.table.Nfit.{Nfit}
-use Rattle.nfit_reader.specs.declared.table.NfitFault.{NfitFault}
 use Rattle.nfit_reader.specs.declared.table.Mapping.{Mapping}
 use Rattle.nfit_reader.specs.declared.table.Region.{Region}
-use Rattle.nfit_reader.specs.Table.{nfit_reading}
 use Rattle.interleave.specs.declared.set.SetFault.{SetFault}
 use Rattle.interleave.specs.declared.set.SetFault.TheVariants.{Ways, Twice, Offsets, Line, Share, Size, Cover, OutOfMemory}
 use Rattle.interleave.specs.Places.{cookie_of, unit_of}
 use Rattle.interleave.specs.Sets.{set_reading}
-use Rattle.nvdimm_shell.specs.Outcome.{joined, lf}
+use Rattle.image_set.specs.Load.{ImageSet}
+use Rattle.nvdimm_shell.specs.Outcome.{Outcome, printed, joined, lf}
 
 -- module M handle H
 abbrev pub module_line : ℕ → ℕ → List ℕ
@@ -70,6 +68,6 @@ region_lines number (region ∷ regions) = region_line number region ++ region_l
 abbrev pub nfit_text : Nfit → List ℕ
 nfit_text nfit = module_lines 0 nfit.modules ++ region_lines 0 nfit.regions
 
--- the lines of a table's bytes, or what is wrong with it
-abbrev pub nfit_lines_of : List ℕ → Result (List ℕ) NfitFault
-nfit_lines_of bytes = result_map_both nfit_text (λ fault. fault) (nfit_reading bytes)
+-- what `nfit` comes to on a set that is loaded
+abbrev pub nfit_outcome : ImageSet → Outcome
+nfit_outcome loaded = printed (nfit_text loaded.nfit)

@@ -2,23 +2,33 @@
 use Rattle.std.specs.Prelude.{◌≡◌, ◌⊎◌, ℕ, Bool, false, IsTrue, IsSome, List, ◌++◌, Option, Some, None, MatchOption, codes, take}
 use Rattle.std.specs.Io.KnownBytes.{Keeps, Appends}
 use Rattle.nvd_media.specs.Images.{Images, IsSameSet, Becomes, IsUnfinished}
+use Rattle.image_set.specs.Load.{ImageSet, loading}
 use Rattle.nvdimm_shell.specs.declared.status.Status.{Status}
 use Rattle.nvdimm_shell.specs.declared.status.Status.TheVariants as status
 use Rattle.nvdimm_shell.specs.declared.words.Command.{Command}
-use Rattle.nvdimm_shell.specs.declared.words.Command.TheVariants.{Labels}
+use Rattle.nvdimm_shell.specs.declared.words.Command.TheVariants.{Labels, Nfit}
 use Rattle.nvdimm_shell.specs.Words.{command_of}
 use Rattle.nvdimm_shell.specs.Outcome.{Outcome, usage, lf, status_of}
+use Rattle.nvdimm_shell.specs.LoadFaults.{on_loaded}
 use Rattle.nvdimm_shell.specs.Labels.{labels_outcome}
+use Rattle.nvdimm_shell.specs.Nfit.{nfit_outcome}
 
 -- ---- a case for each command
 
--- what a command may come to, for images and a script
+-- what a command comes to on the set that it loads
+abbrev pub loaded_outcome : Command → ImageSet → Outcome
+loaded_outcome (Labels m) loaded = labels_outcome m loaded
+loaded_outcome Nfit loaded = nfit_outcome loaded
+
+-- what a command may come to, for images and a script: the whole set is loaded first
 abbrev pub Comes : Command → Images → List ℕ → Outcome → Type 0
-Comes (Labels m) set script outcome = outcome ≡ labels_outcome m set
+Comes (Labels m) set script outcome = outcome ≡ on_loaded (loaded_outcome (Labels m)) (loading set)
+Comes Nfit set script outcome = outcome ≡ on_loaded (loaded_outcome Nfit) (loading set)
 
 -- whether a command reads the script
 abbrev pub reads_script : Command → Bool
 reads_script (Labels m) = false
+reads_script Nfit = false
 
 -- ---- once for all commands
 

@@ -6,12 +6,13 @@ use Rattle.command_words.specs.Parsed.{parsed, number_in}
 use Rattle.nvdimm_shell.specs.declared.commands.Kind.{Kind}
 use Rattle.nvdimm_shell.specs.declared.commands.Kind.TheVariants as kind
 use Rattle.nvdimm_shell.specs.declared.words.Command.{Command}
-use Rattle.nvdimm_shell.specs.declared.words.Command.TheVariants.{Labels}
+use Rattle.nvdimm_shell.specs.declared.words.Command.TheVariants.{Labels, Nfit}
 use Rattle.nvdimm_shell.specs.Commands.{kind_of, arguments_of}
 
 -- the command that the values of its arguments make; modules are numbered 0 to 63
 abbrev pub command_in : Kind → List Row → Option Command
 command_in kind.Labels values = option_map (λ m. Labels m) (number_in 0 63 (codes "module") values)
+command_in kind.Nfit values = Some Nfit
 
 -- the command of a name with the words after it
 abbrev pub command_with : Kind → List (List ℕ) → Option Command

@@ -6,6 +6,8 @@ use command_words::{Argument, Form};
 pub enum Kind {
     /// Prints the current index block and the labels of a module.
     Labels,
+    /// Prints the modules and regions of the firmware's table.
+    Nfit,
 }
 
 /// The number of a module.
@@ -27,6 +29,9 @@ impl Kind {
         if name == "labels" {
             return Some(Kind::Labels);
         }
+        if name == "nfit" {
+            return Some(Kind::Nfit);
+        }
         None
     }
 
@@ -36,6 +41,7 @@ impl Kind {
     {
         match self {
             Kind::Labels => &[MODULE],
+            Kind::Nfit => &[],
         }
     }
 }

@@ -1,28 +1,19 @@
 //! The command `labels`: a module's current index block and its labels.
-ghost use Rattle.std.specs.Prelude.{◌≡◌, ◌≢◌, ◌≤◌, ◌<◌, ◌+◌, ◌*◌, ◌++◌, List, ℕ, Option, IfOk, OnOk, None, length, string_bytes};
-ghost use Rattle.nvdimm_shell.specs.Found.{Shows, IsSized};
+ghost use Rattle.std.specs.Prelude.{◌≡◌, ◌≢◌, ◌≤◌, ◌<◌, ◌+◌, ◌*◌, ◌++◌, IfOk, IfSome, OnOk, None, length, string_bytes};
+ghost use Rattle.std.specs.Option.{option_map};
+ghost use Rattle.image_set.specs.Load.{image_set_in};
+ghost use Rattle.image_set.specs.Sound.{IsSound};
 ghost use Rattle.nvdimm_shell.specs.Outcome.{outcome_of};
-ghost use Rattle.nvdimm_shell.specs.Labels.{object_outcome, area_outcome, size_outcome, block_outcome, fault_outcome, index_line, label_line, bad_line, numbers_text, ending_text, used_line, slot_line, lines_from};
+ghost use Rattle.nvdimm_shell.specs.Labels.{labels_outcome, module_outcome, area_outcome, block_outcome, fault_outcome, index_line, label_line, bad_line, numbers_text, ending_text, used_line, slot_line, lines_from};
 ghost use Rattle.label_index.specs.Area.{IsAreaSize};
 
-use crate::area::Found;
-use crate::outcome::Answer;
-use crate::status::Ending;
+use crate::outcome::{Answer, image_answer, printed_answer};
 use crate::texts::{label_fault_text, mode_text, name_text};
+use image_set::Loaded;
 use label_area::{AreaFault, current_block, read_slot};
 use label_codec::{Label, LabelFault};
 use label_index::{IndexBlock, Side};
 use std::alloc::{AllocError, Global};
-
-/// An answer that names a fault of the images.
-fn image_answer(text: String) -> Answer
-    ensures { outcome_of result ≡ record { ending = Ending.Image; text = string_bytes text; saved = None } }
-{
-    Answer {
-        ending: Ending::Image,
-        text: text.into_bytes(),
-    }
-}
 
 /// The line of the current index block.
 fn index_line(alloc: Global, block: &IndexBlock) -> Result<String, AllocError>
@@ -134,10 +125,7 @@ fn block_answer(alloc: Global, area: &[u8], block: &IndexBlock) -> Result<Answer
 {
     let mut text = index_line(alloc, block)?.into_bytes();
     add_lines(alloc, area, block, &mut text)?;
-    Ok(Answer {
-        ending: Ending::Done,
-        text,
-    })
+    Ok(printed_answer(text))
 }
 
 /// The answer on an area without a current block.
@@ -169,28 +157,30 @@ fn area_answer(alloc: Global, module: u32, area: &[u8]) -> Result<Answer, AllocE
     }
 }
 
-/// The answer where the object is absent.
+/// The answer where there is no such area.
 fn missing_answer(alloc: Global, module: u32) -> Result<Answer, AllocError>
-    ensures { IfOk result (λ answer. outcome_of answer ≡ object_outcome «module» None) }
+    ensures { IfOk result (λ answer. outcome_of answer ≡ module_outcome «module» None) }
 {
     Ok(image_answer(format!(in alloc; "image labels {} Missing\n", module)?))
 }
 
-/// The answer where the object's length is no label area's size.
-fn size_answer(alloc: Global, module: u32, length: u64) -> Result<Answer, AllocError>
-    ensures { IfOk result (λ answer. outcome_of answer ≡ size_outcome «module» length) }
+/// The answer on a module's label area, if it has one.
+fn module_answer(alloc: Global, module: u32, area: Option<Vec<u8>>) -> Result<Answer, AllocError>
+    requires { IfSome area (λ bytes. IsAreaSize (length bytes.items)) }
+    ensures { IfOk result (λ answer. outcome_of answer ≡ module_outcome «module» (option_map (λ bytes. bytes.items) area)) }
 {
-    Ok(image_answer(format!(in alloc; "image labels {} Size {}\n", module, length)?))
+    match area {
+        Some(area) => area_answer(alloc, module, &area),
+        None => missing_answer(alloc, module),
+    }
 }
 
-/// The answer of `labels` on what was found of the module's label area.
-pub fn labels_answer(alloc: Global, module: u32, found: Found) -> Result<Answer, AllocError>
-    requires { IsSized found }
-    ensures { IfOk result (λ answer. (object : Option (List ℕ)) → Shows object found → outcome_of answer ≡ object_outcome «module» object) }
+/// The answer of `labels` on an image set: the module's current index block and its labels. The set was
+/// loaded, so each of its label areas has a label area's size.
+pub fn labels_answer(alloc: Global, module: u32, loaded: &Loaded) -> Result<Answer, AllocError>
+    requires { IsSound loaded.now }
+    ensures { IfOk result (λ answer. outcome_of answer ≡ labels_outcome «module» (image_set_in loaded.now)) }
 {
-    match found {
-        Found::Missing => missing_answer(alloc, module),
-        Found::Odd(length) => size_answer(alloc, module, length),
-        Found::Whole(area) => area_answer(alloc, module, &area),
-    }
+    let area = loaded.area(alloc, module)?;
+    module_answer(alloc, module, area)
 }

@@ -3,26 +3,28 @@
 //! ```text
 //! nvdimm_shell IN OUT COMMAND ..
 //!
-//!  IN/labels-0.bin ──► bytes ──► index blocks, labels ──► lines ──► standard output, exit status
-//!      nvd_media       area        label_index, label_codec   labels, texts    top, main
-//!                                  label_area
+//!  words ──► command                                       words, commands, command_words
+//!  IN/*.bin ──► image set ──► lines ──► standard output, exit status
+//!   nvd_media   image_set     labels, nfit, texts    top, main
+//!                 └──► the first object that is missing or outside its limits: load_faults
 //! ```
 //!
 //! IN is an image directory; OUT is the directory of the image set that a command writes, and `-` for
 //! the commands that write none. [`top::run`] does the work over the outside's traits, so that its
 //! contract says all of it, and `main` gives it the real objects.
 //!
-//! A command is a case of `Comes` in `specs/Run.antt`, an entry of `specs/Words.antt`, and a handler
-//! that makes an [`outcome::Answer`] without a source or a sink; faults of reading and writing and want
-//! of memory are handled once, for all commands, by `Ends` and in `top`.
+//! A command is an entry of the table in `specs/Commands.antt`, a case of `Comes` in `specs/Run.antt`, and
+//! a handler that makes an [`outcome::Answer`] from the set that was loaded, without a source or a sink.
+//! Loading, faults of reading and writing and want of memory are handled once, for all commands, by
+//! `on_loaded`, by `Ends` and in `top`.
 #![tactic(auto)]
 
-mod area;
 #[cfg(test)]
 mod areas;
 mod commands;
 mod labels;
 mod laws;
+mod load_faults;
 mod nfit;
 mod outcome;
 mod status;

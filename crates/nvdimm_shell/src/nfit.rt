@@ -1,13 +1,13 @@
 //! The lines of the command `nfit`: the modules and regions of a firmware table.
 ghost use Rattle.std.specs.Prelude.{◌≡◌, ◌≢◌, ◌<◌, ◌^◌, ◌++◌, IfOk, OnOk, Result, Ok, Err, length, slice_index_or, string_bytes};
-ghost use Rattle.std.specs.Result.{result_map_both};
-ghost use Rattle.nvd_words.specs.Checks.{Answers};
 ghost use Rattle.nfit_reader.specs.declared.table.Region.{Region};
 ghost use Rattle.nfit_reader.specs.Counted.{AreCounted};
-ghost use Rattle.nvdimm_shell.specs.Nfit.{module_line, module_lines, set_fault_text, members_text, range_text, set_text, reading_text, region_start, region_line, region_lines, nfit_text, nfit_lines_of};
+ghost use Rattle.nvdimm_shell.specs.Outcome.{outcome_of, printed};
+ghost use Rattle.nvdimm_shell.specs.Nfit.{module_line, module_lines, set_fault_text, members_text, range_text, set_text, reading_text, region_start, region_line, region_lines, nfit_text};
 
+use crate::outcome::{Answer, printed_answer};
 use interleave::{InterleaveSet, SetFault, interleave_set};
-use nfit_reader::{Nfit, NfitFault, Region, read_nfit};
+use nfit_reader::{Nfit, Region};
 use std::alloc::{AllocError, Global};
 
 /// The line of a module.
@@ -143,15 +143,13 @@ fn nfit_text(alloc: Global, nfit: &Nfit) -> Result<String, AllocError>
     Ok(text)
 }
 
-/// The lines of the modules and regions of a firmware table, given by its bytes, or the first thing that
-/// is wrong with it, as `read_nfit` names it.
-///
-/// A region that is no interleave set has a line that says why. `OutOfMemory` may come in place of any
-/// other answer, where memory was refused. (The table: ACPI 6.5, section 5.2.25. The text is this
-/// project's.)
-pub fn nfit_lines(alloc: Global, bytes: &[u8]) -> Result<String, NfitFault>
-    ensures { Answers NfitFault.OutOfMemory (result_map_both string_bytes (λ fault. fault) result) (nfit_lines_of bytes.now) }
+/// The answer of `nfit` on a firmware table: a line for each module and each region. A region that is no
+/// interleave set has a line that says why. (The table: ACPI 6.5, section 5.2.25.)
+pub fn nfit_answer(alloc: Global, nfit: &Nfit) -> Result<Answer, AllocError>
+    requires counted { AreCounted nfit.now }
+    requires few { length nfit.now.regions < 2 ^ 32 }
+    ensures { IfOk result (λ answer. outcome_of answer ≡ printed (nfit_text nfit.now)) }
 {
-    let nfit = read_nfit(alloc, bytes)?;
-    Ok(nfit_text(alloc, &nfit)?)
+    let text = nfit_text(alloc, nfit)?;
+    Ok(printed_answer(text.into_bytes()))
 }

@@ -3,15 +3,20 @@ ghost use Rattle.std.specs.Option.{ForSome};
 ghost use Rattle.std.specs.Io.KnownBytes.{Appends};
 ghost use Rattle.nvd_media.specs.Causes.{Rose};
 ghost use Rattle.nvd_media.specs.Images.{IsEmptySet};
+ghost use Rattle.image_set.specs.Load.{image_set_in};
+ghost use Rattle.image_set.specs.Sound.{IsSound};
 ghost use Rattle.nvdimm_shell.specs.Outcome.{outcome_of, lf};
-ghost use Rattle.nvdimm_shell.specs.Run.{ComesTold, reads_script, IsDue, LeavesScript, Ends, AppendsPart};
+ghost use Rattle.nvdimm_shell.specs.LoadFaults.{load_outcome};
+ghost use Rattle.nvdimm_shell.specs.Run.{loaded_outcome, ComesTold, reads_script, IsDue, LeavesScript, Ends, AppendsPart};
 
-use crate::area::read_area;
 use crate::labels::labels_answer;
+use crate::load_faults::load_answer;
+use crate::nfit::nfit_answer;
 use crate::outcome::{Answer, usage_answer};
 use crate::status::{Status, Stop};
 use crate::words::{Command, command_from};
 use command_words::WordsFault;
+use image_set::{LoadFault, Loaded, load};
 use nvd_media::{Chooser, Gate, ImageSink, ImageSource, TextSink, TextSource};
 use std::alloc::{AllocError, Global};
 use std::sync::Wait;
@@ -28,6 +33,33 @@ fn found_memory(answer: Result<Answer, AllocError>) -> Result<Answer, Stop>
     }
 }
 
+/// What a command comes to on the set that it loads.
+#[tactic(auto, unfolding(image_set::specs::Load::image_set_in))]
+fn loaded_answer(alloc: Global, command: Command, loaded: &Loaded) -> Result<Answer, AllocError>
+    requires { IsSound loaded.now }
+    ensures { IfOk result (λ answer. outcome_of answer ≡ loaded_outcome command (image_set_in loaded.now)) }
+{
+    match command {
+        Command::Labels(module) => labels_answer(alloc, module, loaded),
+        Command::Nfit => nfit_answer(alloc, &loaded.nfit),
+    }
+}
+
+/// The answer on a set that isn't loaded, or the stop where that is no finding about its objects.
+fn unloaded(alloc: Global, fault: LoadFault) -> Result<Answer, Stop>
+    ensures text { IfOk result (λ answer. outcome_of answer ≡ load_outcome fault) }
+    ensures source { IfOk result (λ _. fault ≢ LoadFault.ReadFault) }
+    ensures memory { IfOk result (λ _. fault ≢ LoadFault.OutOfMemory) }
+    ensures failed { result ≡ Err Stop.ReadFault → fault ≡ LoadFault.ReadFault }
+    ensures read { fault ≡ LoadFault.ReadFault → result ≡ Err Stop.ReadFault }
+{
+    match fault {
+        LoadFault::ReadFault => Err(Stop::ReadFault),
+        LoadFault::OutOfMemory => Err(Stop::OutOfMemory),
+        _ => found_memory(load_answer(alloc, fault)),
+    }
+}
+
 /// What a command comes to.
 fn perform<S: ImageSource, T: TextSource>(
     alloc: Global,
@@ -40,11 +72,9 @@ fn perform<S: ImageSource, T: TextSource>(
     ensures unread { reads_script command ≡ false → T.left _script.new ≡ T.left _script.old }
     ensures failed { result ≡ Err Stop.ReadFault → Rose (S.faults images.old) (S.faults images.new) }
 {
-    match command {
-        Command::Labels(module) => {
-            let found = read_area(alloc, images, module)?;
-            found_memory(labels_answer(alloc, module, found))
-        }
+    match load(alloc, images) {
+        Ok(loaded) => found_memory(loaded_answer(alloc, command, &loaded)),
+        Err(fault) => unloaded(alloc, fault),
     }
 }
 

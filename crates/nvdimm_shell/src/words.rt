@@ -12,6 +12,8 @@ use std::alloc::Global;
 pub enum Command {
     /// Print the current index block and the labels of a module.
     Labels(u32),
+    /// Print the modules and regions of the firmware's table.
+    Nfit,
 }
 
 /// The greatest number of a module.
@@ -26,6 +28,7 @@ fn command_in(kind: Kind, values: &Parsed<'_>) -> Option<Command>
             let module = values.number("module", 0, LAST_MODULE)?;
             Some(Command::Labels(module as u32))
         }
+        Kind::Nfit => Some(Command::Nfit),
     }
 }
 
