@@ -5,3 +5,4 @@ pub mod Ends
 pub mod Eights
 pub mod Filled
 pub mod Chain
+mod Rows

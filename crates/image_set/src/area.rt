@@ -25,7 +25,8 @@ fn bytes_in(alloc: Global, words: &CutWords) -> Result<Vec<u8>, AllocError>
 /// The bytes of a label area, where there is one.
 fn area_bytes(alloc: Global, area: &Option<CutWords>) -> Result<Option<Vec<u8>>, AllocError>
     requires { IsArea area.now }
-    ensures area { IfOk result (λ found. option_map (λ bytes. bytes.items) found ≡ option_map bytes_kept area.now) }
+    ensures area { IfOk result (λ found. option_map (λ bytes. bytes.items) found
+        ≡ option_map bytes_kept area.now) }
     ensures sized { IfOk result (λ found. IfSome found (λ bytes. IsAreaSize (length bytes.items))) }
 {
     match area {
@@ -35,12 +36,16 @@ fn area_bytes(alloc: Global, area: &Option<CutWords>) -> Result<Option<Vec<u8>>,
 }
 
 impl Loaded {
-    /// The bytes of a module's label area, `None` where the table doesn't name the module, or it has no
-    /// label area. Their length is a label area's size.
+    /// The bytes of a module's label area (UEFI 2.10, section 13.19), `None` where the table doesn't
+    /// name the module, or it has no label area. Their length is a label area's size. The one error is
+    /// want of memory.
     pub fn area(&self, alloc: Global, module: u32) -> Result<Option<Vec<u8>>, AllocError>
         requires { IsSound self.now }
-        ensures area { IfOk result (λ found. option_map (λ bytes. bytes.items) found ≡ area_of (image_set_in self.now) «module») }
-        ensures sized { IfOk result (λ found. IfSome found (λ bytes. IsAreaSize (length bytes.items))) }
+        ensures area { IfOk result
+            (λ found. option_map (λ bytes. bytes.items) found ≡ area_of (image_set_in self.now)
+            «module») }
+        ensures sized { IfOk result
+            (λ found. IfSome found (λ bytes. IsAreaSize (length bytes.items))) }
     {
         match self.labels.as_slice().get(module as usize) {
             Some(area) => area_bytes(alloc, area),

@@ -23,24 +23,26 @@ use nvd_media::{ImageSource, Object};
 use nvd_words::Items;
 use std::alloc::Global;
 
-/// An image set in memory. Modules go by their numbers in the firmware's table.
+/// An image set in memory. Lists go by the numbers of the modules in the firmware's table; contracts
+/// see the words of an object as lists of kept values (`Words` of cut_words).
 #[derive(Debug, Drop)]
 pub struct Loaded {
     /// What the firmware's table says.
     pub nfit: Nfit,
     /// The bytes of the table's object, also those past its Length.
     pub nfit_bytes: Items<u8>,
-    /// The label area of each module that has one.
+    /// The label area of each module that has one, from its byte 0, the low byte of each word first.
     pub labels: Items<Option<CutWords>>,
-    /// The contents of each module.
+    /// The contents of each module, from its device address 0, the low byte of each word first.
     pub contents: Items<CutWords>,
-    /// The list of bad ranges of each module that has one, not looked into.
+    /// The bytes of the list of bad ranges of each module that has one. They aren't looked into.
     pub bad: Items<Option<Items<u8>>>,
 }
 
 /// Reads the firmware's table.
 fn table_of(alloc: Global, bytes: &[u8]) -> Result<Nfit, LoadFault>
-    ensures reading { Answers LoadFault.OutOfMemory result (result_map_both (λ nfit. nfit) LoadFault.Nfit (nfit_reading bytes.now)) }
+    ensures reading { Answers LoadFault.OutOfMemory result (result_map_both (λ nfit. nfit)
+        LoadFault.Nfit (nfit_reading bytes.now)) }
     ensures apart { result ≢ Err (LoadFault.Nfit NfitFault.OutOfMemory) }
     ensures no_read { result ≢ Err LoadFault.ReadFault }
     ensures counted { IfOk result AreCounted }
@@ -61,15 +63,18 @@ fn checked_sizes<S: ImageSource>(
     nfit: &Nfit,
 ) -> Result<Items<Sizes>, LoadFault>
     requires { NamesItsModules nfit.now }
-    ensures told { ForSome (S.held images.old) (λ set. AnswersRead result (value_unless (map (sizes_of set) (range_with_len 0 (length nfit.now.modules)))
-        (first_fault (modules_fault set (length nfit.now.modules) ∷ mappings_fault set nfit.now.regions ∷ [])))) }
+    ensures told { ForSome (S.held images.old) (λ set. AnswersRead result
+        (value_unless (map (sizes_of set) (range_with_len 0 (length nfit.now.modules)))
+        (first_fault (modules_fault set (length nfit.now.modules)
+        ∷ mappings_fault set nfit.now.regions ∷ [])))) }
     ensures sized { IfOk result AreSized }
     ensures count { IfOk result (λ sizes. length sizes ≡ length nfit.now.modules) }
     ensures mapped { IfOk result (λ sizes. All (AreMapped (contents_of sizes)) nfit.now.regions) }
     ensures apart { result ≢ Err (LoadFault.Nfit NfitFault.OutOfMemory) }
     ensures same { S.held images.new ≡ S.held images.old }
     ensures later { S.faults images.old ≤ S.faults images.new }
-    ensures failed { result ≡ Err LoadFault.ReadFault → Rose (S.faults images.old) (S.faults images.new) }
+    ensures failed { result ≡ Err LoadFault.ReadFault
+        → Rose (S.faults images.old) (S.faults images.new) }
 {
     let sizes = modules_sizes(alloc, images, nfit.modules.len() as u32)?;
     match mappings_fault(nfit.regions.as_slice(), sizes.as_slice()) {
@@ -94,12 +99,15 @@ fn read_set<S: ImageSource>(
     requires sized { AreSized sizes.now }
     requires mapped { All (AreMapped (contents_of sizes.now)) nfit.regions }
     requires there { ForSome (S.held images.old) (λ set. AreSizesOf set sizes.now) }
-    requires read { ForSome (S.held images.old) (λ set. nfit_bytes.items ≡ bytes_of set Object.Nfit) }
-    ensures told { ForSome (S.held images.old) (λ set. IfOk result (λ loaded. image_set_in loaded ≡ image_set_of set nfit)) }
+    requires read { ForSome (S.held images.old)
+        (λ set. nfit_bytes.items ≡ bytes_of set Object.Nfit) }
+    ensures told { ForSome (S.held images.old)
+        (λ set. IfOk result (λ loaded. image_set_in loaded ≡ image_set_of set nfit)) }
     ensures sound { IfOk result IsSound }
     ensures same { S.held images.new ≡ S.held images.old }
     ensures later { S.faults images.old ≤ S.faults images.new }
-    ensures failed { result ≡ Err Stop.ReadFault → Rose (S.faults images.old) (S.faults images.new) }
+    ensures failed { result ≡ Err Stop.ReadFault
+        → Rose (S.faults images.old) (S.faults images.new) }
 {
     let mut room = piece_room(alloc)?;
     let labels = read_areas(alloc, images, sizes, &mut room)?;
@@ -114,12 +122,24 @@ fn read_set<S: ImageSource>(
     })
 }
 
-/// Loads an image set.
+/// Loads an image set: its table, and the objects of the modules that the table names.
+///
+/// - `told`: where the source tells what it holds, the answer is that of the set (`loading`). The set
+///   is loaded, and has the bytes of the source's objects, exactly where no fault holds; else the first
+///   fault is named: `Missing` where the mark, the table or a module's contents aren't there, `Size`
+///   where an object has a length outside its limits or contents end before one of their mappings does,
+///   `Nfit` where the table isn't read.
+/// - `failed`: `ReadFault` comes only where the source's count of faults rose in this call.
+/// - `OutOfMemory` may come in place of any other answer. No fault wraps it (`apart`).
+/// - `sound`: what was loaded is inside its limits and belongs together, whatever the source tells.
+/// - `same`, `later`: the source holds what it held, and its count of faults never falls. After a
+///   fault nothing is kept.
 pub fn load<S: ImageSource>(alloc: Global, images: &mut S) -> Result<Loaded, LoadFault>
     ensures told { ForSome (S.held images.old) (Loads result) }
     ensures sound { IfOk result IsSound }
     ensures apart { result ≢ Err (LoadFault.Nfit NfitFault.OutOfMemory) }
-    ensures failed { result ≡ Err LoadFault.ReadFault → Rose (S.faults images.old) (S.faults images.new) }
+    ensures failed { result ≡ Err LoadFault.ReadFault
+        → Rose (S.faults images.old) (S.faults images.new) }
     ensures later { S.faults images.old ≤ S.faults images.new }
     ensures same { S.held images.new ≡ S.held images.old }
 {

@@ -10,7 +10,7 @@ use nvd_media::{ImageSource, Object};
 use nvd_words::word_at;
 use std::alloc::{AllocError, Global};
 
-/// How many bytes are read at a time.
+/// How many bytes are read at a time: few calls on the source, and a buffer that stays in the caches.
 const PIECE: usize = 256 << 10;
 
 /// How many bytes a word has.
@@ -48,12 +48,14 @@ pub(crate) fn read_words<S: ImageSource>(
     requires room { vec_len room.old ≡ 262144 }
     requires whole { bytes % 8 ≡ 0 }
     requires there { ForSome (S.held images.old) (λ set. length (bytes_in set object) ≡ bytes) }
-    ensures told { ForSome (S.held images.old) (λ set. IfOk result (λ words. bytes_of words.items ≡ bytes_in set object)) }
+    ensures told { ForSome (S.held images.old)
+        (λ set. IfOk result (λ words. bytes_of words.items ≡ bytes_in set object)) }
     ensures count { IfOk result (λ words. 8 * vec_len words ≡ bytes) }
     ensures room { vec_len room.new ≡ 262144 }
     ensures same { S.held images.new ≡ S.held images.old }
     ensures later { S.faults images.old ≤ S.faults images.new }
-    ensures failed { result ≡ Err Stop.ReadFault → Rose (S.faults images.old) (S.faults images.new) }
+    ensures failed { result ≡ Err Stop.ReadFault
+        → Rose (S.faults images.old) (S.faults images.new) }
 {
     let mut words = Vec::with_capacity(alloc, (bytes / WORD as u64) as usize)?;
     let mut at = 0;
@@ -75,11 +77,13 @@ pub(crate) fn read_bytes<S: ImageSource>(
     bytes: u64,
 ) -> Result<Vec<u8>, Stop>
     requires { ForSome (S.held images.old) (λ set. length (bytes_in set object) ≡ bytes) }
-    ensures told { ForSome (S.held images.old) (λ set. IfOk result (λ read. read.items ≡ bytes_in set object)) }
+    ensures told { ForSome (S.held images.old)
+        (λ set. IfOk result (λ read. read.items ≡ bytes_in set object)) }
     ensures count { IfOk result (λ read. vec_len read ≡ bytes) }
     ensures same { S.held images.new ≡ S.held images.old }
     ensures later { S.faults images.old ≤ S.faults images.new }
-    ensures failed { result ≡ Err Stop.ReadFault → Rose (S.faults images.old) (S.faults images.new) }
+    ensures failed { result ≡ Err Stop.ReadFault
+        → Rose (S.faults images.old) (S.faults images.new) }
 {
     let mut read = vec![in alloc; 0; bytes as usize]?;
     images.read(object, 0, &mut read)?;

@@ -29,13 +29,15 @@ fn read_object<S: ImageSource>(
     requires room { vec_len room.old ≡ 262144 }
     requires whole { bytes % 8 ≡ 0 }
     requires there { ForSome (S.held images.old) (λ set. length (bytes_of set object) ≡ bytes) }
-    ensures told { ForSome (S.held images.old) (λ set. IfOk result (λ words. bytes_kept words ≡ bytes_of set object)) }
+    ensures told { ForSome (S.held images.old)
+        (λ set. IfOk result (λ words. bytes_kept words ≡ bytes_of set object)) }
     ensures count { IfOk result (λ words. size_of words ≡ bytes) }
     ensures kept { IfOk result (λ words. words ≡ settled words.kept) }
     ensures room { vec_len room.new ≡ 262144 }
     ensures same { S.held images.new ≡ S.held images.old }
     ensures later { S.faults images.old ≤ S.faults images.new }
-    ensures failed { result ≡ Err Stop.ReadFault → Rose (S.faults images.old) (S.faults images.new) }
+    ensures failed { result ≡ Err Stop.ReadFault
+        → Rose (S.faults images.old) (S.faults images.new) }
 {
     let words = read_words(alloc, images, object, bytes, room)?;
     Ok(CutWords::new(alloc, words)?)
@@ -51,13 +53,16 @@ fn read_area<S: ImageSource>(
 ) -> Result<Option<CutWords>, Stop>
     requires room { vec_len room.old ≡ 262144 }
     requires sized { (n : ℕ) → bytes ≡ Some n → IsAreaSize n }
-    requires there { ForSome (S.held images.old) (λ set. bytes ≡ option_map length (set (Object.Labels «module»))) }
-    ensures told { ForSome (S.held images.old) (λ set. IfOk result (λ area. option_map bytes_kept area ≡ set (Object.Labels «module»))) }
+    requires there { ForSome (S.held images.old) (λ set. bytes
+        ≡ option_map length (set (Object.Labels «module»))) }
+    ensures told { ForSome (S.held images.old)
+        (λ set. IfOk result (λ area. option_map bytes_kept area ≡ set (Object.Labels «module»))) }
     ensures sound { IfOk result IsArea }
     ensures room { vec_len room.new ≡ 262144 }
     ensures same { S.held images.new ≡ S.held images.old }
     ensures later { S.faults images.old ≤ S.faults images.new }
-    ensures failed { result ≡ Err Stop.ReadFault → Rose (S.faults images.old) (S.faults images.new) }
+    ensures failed { result ≡ Err Stop.ReadFault
+        → Rose (S.faults images.old) (S.faults images.new) }
 {
     match bytes {
         None => Ok(None),
@@ -74,12 +79,15 @@ fn read_ranges<S: ImageSource>(
 ) -> Result<Option<Items<u8>>, Stop>
     requires multiple { (n : ℕ) → bytes ≡ Some n → n % 16 ≡ 0 }
     requires few { (n : ℕ) → bytes ≡ Some n → n ≤ 65536 }
-    requires there { ForSome (S.held images.old) (λ set. bytes ≡ option_map length (set (Object.BadRanges «module»))) }
-    ensures told { ForSome (S.held images.old) (λ set. IfOk result (λ ranges. ranges ≡ set (Object.BadRanges «module»))) }
+    requires there { ForSome (S.held images.old) (λ set. bytes
+        ≡ option_map length (set (Object.BadRanges «module»))) }
+    ensures told { ForSome (S.held images.old)
+        (λ set. IfOk result (λ ranges. ranges ≡ set (Object.BadRanges «module»))) }
     ensures sound { IfOk result IsBadRanges }
     ensures same { S.held images.new ≡ S.held images.old }
     ensures later { S.faults images.old ≤ S.faults images.new }
-    ensures failed { result ≡ Err Stop.ReadFault → Rose (S.faults images.old) (S.faults images.new) }
+    ensures failed { result ≡ Err Stop.ReadFault
+        → Rose (S.faults images.old) (S.faults images.new) }
 {
     match bytes {
         None => Ok(None),
@@ -103,13 +111,16 @@ pub(crate) fn read_areas<S: ImageSource>(
     requires few { length sizes.now ≤ 64 }
     requires sized { All IsSized sizes.now }
     requires there { ForSome (S.held images.old) (λ set. AreSizesOf set sizes.now) }
-    ensures told { ForSome (S.held images.old) (λ set. IfOk result (λ areas. map (option_map bytes_kept) areas ≡ map (λ m. set (Object.Labels m)) (range_with_len 0 (length sizes.now)))) }
+    ensures told { ForSome (S.held images.old) (λ set. IfOk result
+        (λ areas. map (option_map bytes_kept) areas
+        ≡ map (λ m. set (Object.Labels m)) (range_with_len 0 (length sizes.now)))) }
     ensures sound { IfOk result (All IsArea) }
     ensures count { IfOk result (λ areas. length areas ≡ length sizes.now) }
     ensures room { vec_len room.new ≡ 262144 }
     ensures same { S.held images.new ≡ S.held images.old }
     ensures later { S.faults images.old ≤ S.faults images.new }
-    ensures failed { result ≡ Err Stop.ReadFault → Rose (S.faults images.old) (S.faults images.new) }
+    ensures failed { result ≡ Err Stop.ReadFault
+        → Rose (S.faults images.old) (S.faults images.new) }
 {
     let mut areas = Items::new(alloc);
     for module in 0..sizes.len() as u32 {
@@ -131,13 +142,16 @@ pub(crate) fn read_contents<S: ImageSource>(
     requires few { length sizes.now ≤ 64 }
     requires sized { All IsSized sizes.now }
     requires there { ForSome (S.held images.old) (λ set. AreSizesOf set sizes.now) }
-    ensures told { ForSome (S.held images.old) (λ set. IfOk result (λ contents. map bytes_kept contents ≡ map (λ m. bytes_of set (Object.Contents m)) (range_with_len 0 (length sizes.now)))) }
+    ensures told { ForSome (S.held images.old) (λ set. IfOk result
+        (λ contents. map bytes_kept contents
+        ≡ map (λ m. bytes_of set (Object.Contents m)) (range_with_len 0 (length sizes.now)))) }
     ensures sound { IfOk result (All IsContents) }
     ensures sizes { IfOk result (λ contents. map size_of contents ≡ contents_of sizes.now) }
     ensures room { vec_len room.new ≡ 262144 }
     ensures same { S.held images.new ≡ S.held images.old }
     ensures later { S.faults images.old ≤ S.faults images.new }
-    ensures failed { result ≡ Err Stop.ReadFault → Rose (S.faults images.old) (S.faults images.new) }
+    ensures failed { result ≡ Err Stop.ReadFault
+        → Rose (S.faults images.old) (S.faults images.new) }
 {
     let mut contents = Items::new(alloc);
     for module in 0..sizes.len() as u32 {
@@ -157,12 +171,14 @@ pub(crate) fn read_bad<S: ImageSource>(
     requires few { length sizes.now ≤ 64 }
     requires sized { All IsSized sizes.now }
     requires there { ForSome (S.held images.old) (λ set. AreSizesOf set sizes.now) }
-    ensures told { ForSome (S.held images.old) (λ set. IfOk result (λ bad. bad ≡ map (λ m. set (Object.BadRanges m)) (range_with_len 0 (length sizes.now)))) }
+    ensures told { ForSome (S.held images.old) (λ set. IfOk result (λ bad. bad
+        ≡ map (λ m. set (Object.BadRanges m)) (range_with_len 0 (length sizes.now)))) }
     ensures sound { IfOk result (All IsBadRanges) }
     ensures count { IfOk result (λ bad. length bad ≡ length sizes.now) }
     ensures same { S.held images.new ≡ S.held images.old }
     ensures later { S.faults images.old ≤ S.faults images.new }
-    ensures failed { result ≡ Err Stop.ReadFault → Rose (S.faults images.old) (S.faults images.new) }
+    ensures failed { result ≡ Err Stop.ReadFault
+        → Rose (S.faults images.old) (S.faults images.new) }
 {
     let mut bad = Items::new(alloc);
     for module in 0..sizes.len() as u32 {

@@ -28,11 +28,13 @@ pub(crate) struct Sizes {
 
 /// Asks for the mark.
 fn find_mark<S: ImageSource>(images: &mut S) -> Result<(), LoadFault>
-    ensures told { ForSome (S.held images.old) (λ set. AnswersRead result (value_unless tt (needed_fault (λ _. true) Object.Mark (set Object.Mark)))) }
+    ensures told { ForSome (S.held images.old) (λ set. AnswersRead result
+        (value_unless tt (needed_fault (λ _. true) Object.Mark (set Object.Mark)))) }
     ensures apart { result ≢ Err (LoadFault.Nfit NfitFault.OutOfMemory) }
     ensures same { S.held images.new ≡ S.held images.old }
     ensures later { S.faults images.old ≤ S.faults images.new }
-    ensures failed { result ≡ Err LoadFault.ReadFault → Rose (S.faults images.old) (S.faults images.new) }
+    ensures failed { result ≡ Err LoadFault.ReadFault
+        → Rose (S.faults images.old) (S.faults images.new) }
 {
     let object = Object::Mark;
     match images.length(object)? {
@@ -43,12 +45,15 @@ fn find_mark<S: ImageSource>(images: &mut S) -> Result<(), LoadFault>
 
 /// The size of the firmware's table.
 fn find_table<S: ImageSource>(images: &mut S) -> Result<u64, LoadFault>
-    ensures told { ForSome (S.held images.old) (λ set. AnswersRead result (value_unless (length (bytes_of set Object.Nfit)) (needed_fault is_nfit_size Object.Nfit (set Object.Nfit)))) }
+    ensures told { ForSome (S.held images.old) (λ set. AnswersRead result
+        (value_unless (length (bytes_of set Object.Nfit))
+        (needed_fault is_nfit_size Object.Nfit (set Object.Nfit)))) }
     ensures sized { IfOk result (λ bytes. is_nfit_size bytes ≡ true) }
     ensures apart { result ≢ Err (LoadFault.Nfit NfitFault.OutOfMemory) }
     ensures same { S.held images.new ≡ S.held images.old }
     ensures later { S.faults images.old ≤ S.faults images.new }
-    ensures failed { result ≡ Err LoadFault.ReadFault → Rose (S.faults images.old) (S.faults images.new) }
+    ensures failed { result ≡ Err LoadFault.ReadFault
+        → Rose (S.faults images.old) (S.faults images.new) }
 {
     let object = Object::Nfit;
     match images.length(object)? {
@@ -60,12 +65,14 @@ fn find_table<S: ImageSource>(images: &mut S) -> Result<u64, LoadFault>
 
 /// The size of the firmware's table of an image set that has its mark.
 pub(crate) fn table_size<S: ImageSource>(images: &mut S) -> Result<u64, LoadFault>
-    ensures told { ForSome (S.held images.old) (λ set. AnswersRead result (value_unless (length (bytes_of set Object.Nfit)) (table_fault set))) }
+    ensures told { ForSome (S.held images.old) (λ set. AnswersRead result
+        (value_unless (length (bytes_of set Object.Nfit)) (table_fault set))) }
     ensures sized { IfOk result (λ bytes. is_nfit_size bytes ≡ true) }
     ensures apart { result ≢ Err (LoadFault.Nfit NfitFault.OutOfMemory) }
     ensures same { S.held images.new ≡ S.held images.old }
     ensures later { S.faults images.old ≤ S.faults images.new }
-    ensures failed { result ≡ Err LoadFault.ReadFault → Rose (S.faults images.old) (S.faults images.new) }
+    ensures failed { result ≡ Err LoadFault.ReadFault
+        → Rose (S.faults images.old) (S.faults images.new) }
 {
     find_mark(images)?;
     find_table(images)
@@ -73,12 +80,15 @@ pub(crate) fn table_size<S: ImageSource>(images: &mut S) -> Result<u64, LoadFaul
 
 /// The size of a module's label area, where it has one.
 fn labels_size<S: ImageSource>(images: &mut S, module: u32) -> Result<Option<u64>, LoadFault>
-    ensures told { ForSome (S.held images.old) (λ set. AnswersRead result (value_unless (option_map length (set (Object.Labels «module»))) (optional_fault is_area_size (Object.Labels «module») (set (Object.Labels «module»))))) }
+    ensures told { ForSome (S.held images.old) (λ set. AnswersRead result
+        (value_unless (option_map length (set (Object.Labels «module»)))
+        (optional_fault is_area_size (Object.Labels «module») (set (Object.Labels «module»))))) }
     ensures sized { IfOk result (λ found. (bytes : ℕ) → found ≡ Some bytes → IsAreaSize bytes) }
     ensures apart { result ≢ Err (LoadFault.Nfit NfitFault.OutOfMemory) }
     ensures same { S.held images.new ≡ S.held images.old }
     ensures later { S.faults images.old ≤ S.faults images.new }
-    ensures failed { result ≡ Err LoadFault.ReadFault → Rose (S.faults images.old) (S.faults images.new) }
+    ensures failed { result ≡ Err LoadFault.ReadFault
+        → Rose (S.faults images.old) (S.faults images.new) }
 {
     let object = Object::Labels(module);
     match images.length(object)? {
@@ -91,12 +101,16 @@ fn labels_size<S: ImageSource>(images: &mut S, module: u32) -> Result<Option<u64
 /// The size of a module's contents, after so many bytes of those before it.
 fn contents_size<S: ImageSource>(images: &mut S, module: u32, before: u64) -> Result<u64, LoadFault>
     requires { before ≤ 536870912 }
-    ensures told { ForSome (S.held images.old) (λ set. AnswersRead result (value_unless (length (bytes_of set (Object.Contents «module»))) (needed_fault (is_contents_size before) (Object.Contents «module») (set (Object.Contents «module»))))) }
+    ensures told { ForSome (S.held images.old) (λ set. AnswersRead result
+        (value_unless (length (bytes_of set (Object.Contents «module»)))
+        (needed_fault (is_contents_size before) (Object.Contents «module»)
+        (set (Object.Contents «module»))))) }
     ensures sized { IfOk result (λ bytes. is_contents_size before bytes ≡ true) }
     ensures apart { result ≢ Err (LoadFault.Nfit NfitFault.OutOfMemory) }
     ensures same { S.held images.new ≡ S.held images.old }
     ensures later { S.faults images.old ≤ S.faults images.new }
-    ensures failed { result ≡ Err LoadFault.ReadFault → Rose (S.faults images.old) (S.faults images.new) }
+    ensures failed { result ≡ Err LoadFault.ReadFault
+        → Rose (S.faults images.old) (S.faults images.new) }
 {
     let object = Object::Contents(module);
     match images.length(object)? {
@@ -108,12 +122,17 @@ fn contents_size<S: ImageSource>(images: &mut S, module: u32, before: u64) -> Re
 
 /// The size of a module's list of bad ranges, where it has one.
 fn bad_size<S: ImageSource>(images: &mut S, module: u32) -> Result<Option<u64>, LoadFault>
-    ensures told { ForSome (S.held images.old) (λ set. AnswersRead result (value_unless (option_map length (set (Object.BadRanges «module»))) (optional_fault is_bad_size (Object.BadRanges «module») (set (Object.BadRanges «module»))))) }
-    ensures sized { IfOk result (λ found. (bytes : ℕ) → found ≡ Some bytes → is_bad_size bytes ≡ true) }
+    ensures told { ForSome (S.held images.old) (λ set. AnswersRead result
+        (value_unless (option_map length (set (Object.BadRanges «module»)))
+        (optional_fault is_bad_size (Object.BadRanges «module»)
+        (set (Object.BadRanges «module»))))) }
+    ensures sized { IfOk result (λ found. (bytes : ℕ) → found ≡ Some bytes
+        → is_bad_size bytes ≡ true) }
     ensures apart { result ≢ Err (LoadFault.Nfit NfitFault.OutOfMemory) }
     ensures same { S.held images.new ≡ S.held images.old }
     ensures later { S.faults images.old ≤ S.faults images.new }
-    ensures failed { result ≡ Err LoadFault.ReadFault → Rose (S.faults images.old) (S.faults images.new) }
+    ensures failed { result ≡ Err LoadFault.ReadFault
+        → Rose (S.faults images.old) (S.faults images.new) }
 {
     let object = Object::BadRanges(module);
     match images.length(object)? {
@@ -130,13 +149,15 @@ fn module_sizes<S: ImageSource>(
     before: u64,
 ) -> Result<Sizes, LoadFault>
     requires { before ≤ 536870912 }
-    ensures told { ForSome (S.held images.old) (λ set. AnswersRead result (value_unless (sizes_of set «module») (module_fault set before «module»))) }
+    ensures told { ForSome (S.held images.old) (λ set. AnswersRead result
+        (value_unless (sizes_of set «module») (module_fault set before «module»))) }
     ensures sized { IfOk result IsSized }
     ensures few { IfOk result (λ sizes. before + sizes.contents ≤ 536870912) }
     ensures apart { result ≢ Err (LoadFault.Nfit NfitFault.OutOfMemory) }
     ensures same { S.held images.new ≡ S.held images.old }
     ensures later { S.faults images.old ≤ S.faults images.new }
-    ensures failed { result ≡ Err LoadFault.ReadFault → Rose (S.faults images.old) (S.faults images.new) }
+    ensures failed { result ≡ Err LoadFault.ReadFault
+        → Rose (S.faults images.old) (S.faults images.new) }
 {
     let labels = labels_size(images, module)?;
     let contents = contents_size(images, module, before)?;
@@ -154,13 +175,15 @@ pub(crate) fn modules_sizes<S: ImageSource>(
     images: &mut S,
     count: u32,
 ) -> Result<Items<Sizes>, LoadFault>
-    ensures told { ForSome (S.held images.old) (λ set. AnswersRead result (value_unless (map (sizes_of set) (range_with_len 0 count)) (modules_fault set count))) }
+    ensures told { ForSome (S.held images.old) (λ set. AnswersRead result
+        (value_unless (map (sizes_of set) (range_with_len 0 count)) (modules_fault set count))) }
     ensures sized { IfOk result AreSized }
     ensures count { IfOk result (λ sizes. length sizes ≡ count) }
     ensures apart { result ≢ Err (LoadFault.Nfit NfitFault.OutOfMemory) }
     ensures same { S.held images.new ≡ S.held images.old }
     ensures later { S.faults images.old ≤ S.faults images.new }
-    ensures failed { result ≡ Err LoadFault.ReadFault → Rose (S.faults images.old) (S.faults images.new) }
+    ensures failed { result ≡ Err LoadFault.ReadFault
+        → Rose (S.faults images.old) (S.faults images.new) }
 {
     let mut all = Items::new(alloc);
     let mut before = 0;
