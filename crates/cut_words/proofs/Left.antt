@@ -29,7 +29,7 @@ read_in_drop xs ys i same =
 
 pub left_one : {C : Type 0} (picks : C → ℕ → Bool → C → Type 0) (kept now : List ℕ) (flags : List Bool) (values : List ℕ) (view : Words) (i x y : ℕ) (got : Bool) (value : ℕ) (c c' : C)
     → words_of kept flags values ≡ view → length values ≡ length kept → length flags ≡ length kept → i < length view.kept → length now ≡ length view.kept
-    → drop i now ≡ drop i view.kept → x ≡ get_or now i x → y ≡ get_or values i y → got ≡ get_or flags i false
+    → drop i now ≡ drop i view.kept → x ≡ get_or now i x → y ≡ get_or values i 0 → got ≡ get_or flags i false
     → LeavesOne picks i x (cond got (Some y) None) value c c' → LeavesOne picks i (get_or view.kept i 0) (get_or view.stored i None) value c c'
 left_one picks kept now flags values view i x y got value c c' is sized flagged lt now_sized untouched read_kept read_value read_flag one =
     let flag_lt : i < length flags = omega (arith, ap (λ (w : Words). length w.kept) is, flagged) in
@@ -37,7 +37,7 @@ left_one picks kept now flags values view i x y got value c c' is sized flagged 
     let kept_is : x ≡ get_or view.kept i 0 = get_or_read now i x (omega (arith, now_sized)) read_kept 0 ∙ read_in_drop now view.kept i untouched in
     let stored_is : cond got (Some y) None ≡ get_or view.stored i None =
     ap (λ (b : Bool). cond b (Some y) None) read_flag
-    ∙ ap (λ (v : ℕ). cond (get_or flags i false) (Some v) None) (get_or_read values i y value_lt read_value 0)
+    ∙ ap (λ (v : ℕ). cond (get_or flags i false) (Some v) None) read_value
     ∙ sym (option_at flags values i flag_lt value_lt) ∙ ap (λ (w : Words). get_or w.stored i None) is in
     subst (λ (o : Option ℕ). LeavesOne picks i (get_or view.kept i 0) o value c c') stored_is
     (subst (λ (k : ℕ). LeavesOne picks i k (cond got (Some y) None) value c c') kept_is one)

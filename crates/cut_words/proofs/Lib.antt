@@ -1,3 +1,4 @@
+pub mod Reached
 pub mod Since
 pub mod OneStep
 pub mod Left

@@ -103,11 +103,11 @@ module _ (kept : List ℕ) (flags : List Bool) (values : List ℕ) (view : Words
       by_flag false = refl
 
   pub loads_pending : (x : ℕ) → words_of kept flags values ≡ view → length values ≡ length kept → length flags ≡ length kept → i < length view.kept
-      → get_or flags i false ≡ true → x ≡ get_or values i x → x ≡ seen_at view i
+      → get_or flags i false ≡ true → x ≡ get_or values i 0 → x ≡ seen_at view i
   loads_pending x is sized flagged lt flag read =
       let flag_lt : i < length flags = in_flags is sized flagged lt in
       let value_lt : i < length values = in_values is sized flagged lt in
-      get_or_read values i x value_lt read 0 ∙ sym (seen_pending kept flags values i flag_lt value_lt flag) ∙ ap (λ (w : Words). seen_at w i) is
+      read ∙ sym (seen_pending kept flags values i flag_lt value_lt flag) ∙ ap (λ (w : Words). seen_at w i) is
 
   pub loads_kept : (x : ℕ) → words_of kept flags values ≡ view → length values ≡ length kept → length flags ≡ length kept → i < length view.kept
       → get_or flags i false ≡ false → x ≡ get_or kept i x → x ≡ seen_at view i
@@ -126,14 +126,14 @@ stores_one kept flags flags' values view i v f f1 is sized flagged lt more enoug
     ∙ ap (λ (w : Words). stepped w (store i v)) is)
 
 pub keeps_one : (kept : List ℕ) (flags flags' : List Bool) (values : List ℕ) (view : Words) (i x : ℕ) (f f1 : Option ℕ) → words_of kept flags values ≡ view
-    → length values ≡ length kept → length flags ≡ length kept → i < length view.kept → flags' ≡ set flags i false → get_or flags i false ≡ true → x ≡ get_or values i x
+    → length values ≡ length kept → length flags ≡ length kept → i < length view.kept → flags' ≡ set flags i false → get_or flags i false ≡ true → x ≡ get_or values i 0
     → true ≡ lasts f 1 → f1 ≡ burnt f 1 → Makes view (words_of (set kept i x) flags' values) f f1 (keep i ∷ []) true
 keeps_one kept flags flags' values view i x f f1 is sized flagged lt less flag read enough left =
     let flag_lt : i < length flags = in_flags kept flags values view i is sized flagged lt in
     let value_lt : i < length values = in_values kept flags values view i is sized flagged lt in
     made_one view (words_of (set kept i x) flags' values) f f1 (keep i) enough left
     (ap (λ (fs : List Bool). words_of (set kept i x) fs values) less
-    ∙ kept_as kept flags values i x flag_lt value_lt flag (get_or_read values i x value_lt read 0)
+    ∙ kept_as kept flags values i x flag_lt value_lt flag read
     ∙ ap (λ (w : Words). stepped w (keep i)) is)
 
 pub keeps_still : (kept : List ℕ) (flags : List Bool) (values : List ℕ) (view : Words) (i : ℕ) (f f1 : Option ℕ) → words_of kept flags values ≡ view

@@ -51,6 +51,7 @@ mod runs;
 mod space;
 #[cfg(test)]
 mod tests;
+mod values;
 mod words;
 
 pub use fuse::{Fuse, PowerCut};

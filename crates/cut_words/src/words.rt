@@ -4,6 +4,7 @@ ghost use Rattle.cut_words.specs.Leaving.{LeavesOne, LeavesFrom};
 
 use crate::fuse::{Fuse, PowerCut};
 use crate::space::WordSpace;
+use crate::values::Values;
 use nvd_media::Chooser;
 use nvd_words::Flags;
 use std::alloc::{AllocError, Global};
@@ -11,13 +12,13 @@ use std::marker::Model;
 
 /// A row of words in memory. Contracts see the kept value of each word, and the one stored since.
 ///
-/// It takes two words and a bit for each of its words; those of the second that were never stored to
-/// are never touched.
+/// It takes two words and a bit for each of its words; of the second ones those past the last word that
+/// was stored to are never touched.
 #[derive(Debug, Drop)]
 pub struct CutWords {
     kept: Vec<u64>,
     /// The value stored since, where the word is pending.
-    stored: Vec<u64>,
+    stored: Values,
     pending: Flags,
 }
 
@@ -28,9 +29,9 @@ impl Model for CutWords {
 
     ghost Value = { Words };
 
-    ghost view = { λ words. record { kept = words.kept.items; stored = options_of words.pending words.stored.items } };
+    ghost view = { λ words. record { kept = words.kept.items; stored = options_of words.pending words.stored } };
 
-    ghost invariant = { λ words. (length words.stored.items ≡ length words.kept.items) × (length words.pending ≡ length words.kept.items) };
+    ghost invariant = { λ words. (length words.stored ≡ length words.kept.items) × (length words.pending ≡ length words.kept.items) };
 }
 
 /// What a power cut leaves of one word.
@@ -49,7 +50,7 @@ impl CutWords {
     pub fn new(alloc: Global, words: Vec<u64>) -> Result<CutWords, AllocError>
         ensures { IfOk result (λ made. made ≡ settled words.items) }
     {
-        let stored = vec![in alloc; 0; words.len()]?;
+        let stored = Values::new(alloc, words.len())?;
         let pending = Flags::new(alloc, words.len())?;
         Ok(CutWords {
             kept: words,
@@ -79,7 +80,7 @@ impl CutWords {
             pending,
         } = self;
         for i in 0..kept.len() {
-            kept[i] = leave_one(choose, i as u64, kept[i], stored[i], pending.get(i));
+            kept[i] = leave_one(choose, i as u64, kept[i], stored.get(i), pending.get(i));
         }
         kept
     }
@@ -95,7 +96,7 @@ impl WordSpace for CutWords {
     fn load(&self, i: u64) -> u64 {
         let i = i as usize;
         if self.pending.get(i) {
-            self.stored[i]
+            self.stored.get(i)
         } else {
             self.kept[i]
         }
@@ -103,7 +104,7 @@ impl WordSpace for CutWords {
 
     fn store(&mut self, fuse: &mut Fuse, i: u64, v: u64) -> Result<(), PowerCut> {
         fuse.spend()?;
-        self.stored[i as usize] = v;
+        self.stored.set(i as usize, v);
         self.pending.set(i as usize);
         Ok(())
     }
@@ -112,7 +113,7 @@ impl WordSpace for CutWords {
         fuse.spend()?;
         let i = i as usize;
         if self.pending.get(i) {
-            self.kept[i] = self.stored[i];
+            self.kept[i] = self.stored.get(i);
             self.pending.clear(i);
         }
         Ok(())

@@ -11,12 +11,12 @@ returns-in_err-spend c =
 
 pub returns-then-get : goal.returns-then-get
 returns-then-get c = record {
-  made = keeps_one c.self.inside.kept.items c.self.inside.pending c.clear.new.self c.self.inside.stored.items c.args.self.now c.args.i c.index.result.now c.args.fuse.now c.spend.new.self
-      c.self.view_is c.self.invariant.0 c.self.invariant.1 c.requires c.clear.ensures (sym c.get.ensures ∙ c.if-get.true) c.index.ensures c.in_ok-spend.ensures.made c.in_ok-spend.ensures.left;
+  made = keeps_one c.self.inside.kept.items c.self.inside.pending c.clear.new.self c.self.inside.stored c.args.self.now c.args.i c.get-then-get.result c.args.fuse.now c.spend.new.self
+      c.self.view_is c.self.invariant.0 c.self.invariant.1 c.requires c.clear.ensures (sym c.get.ensures ∙ c.if-get.true) c.get-then-get.ensures c.in_ok-spend.ensures.made c.in_ok-spend.ensures.left;
 }
 
 pub returns-else-get : goal.returns-else-get
 returns-else-get c = record {
-  made = keeps_still c.self.inside.kept.items c.self.inside.pending c.self.inside.stored.items c.args.self.now c.args.i c.args.fuse.now c.spend.new.self
+  made = keeps_still c.self.inside.kept.items c.self.inside.pending c.self.inside.stored c.args.self.now c.args.i c.args.fuse.now c.spend.new.self
       c.self.view_is c.self.invariant.0 c.self.invariant.1 c.requires (sym c.get.ensures ∙ c.if-get.false) c.in_ok-spend.ensures.made c.in_ok-spend.ensures.left;
 }
