@@ -15,7 +15,7 @@ use Rattle.label_area.specs.Init.{IsInit, empty_block, full_words, init_steps}
 use Rattle.label_area.specs.declared.fault.ChangeRefused.TheVariants.{NoSlot, PowerCut}
 use Rattle.label_area.specs.Opened.{IsReady}
 use Rattle.label_area.specs.Replace.{least_free, placed, replace_answer, labels_after}
-use Rattle.label_area.specs.Initialise.{init_count, initial}
+use Rattle.label_area.specs.Initialise.{init_count as count_of_both, initial}
 use Rattle.label_area.proofs.Blocks.{is_init, initial_ready}
 
 -- ---- an area without a block
@@ -58,7 +58,7 @@ can_put l ok first = record {
 -- ---- an open area
 
 -- the area of zeros is initialised in 132 steps, and is then one that may be changed
-pub init_steps_count : init_count 128 ≡ 132
+pub init_steps_count : count_of_both 128 ≡ 132
 unfolding greatest
 init_steps_count = refl
 
