@@ -1,5 +1,5 @@
 //! A label area that is held open, and its labels.
-ghost use Rattle.std.specs.Prelude.{◌≡◌, ◌*◌, ℕ, Bool, true, false, not, Some, Err, length, option_copied, count_by, slice_index_or};
+ghost use Rattle.std.specs.Prelude.{◌≡◌, ◌*◌, ◌≤◌, ℕ, Bool, true, false, not, Some, Err, length, option_copied, count_by, slice_index_or};
 ghost use Rattle.nvd_words.specs.Checks.{Answers};
 ghost use Rattle.label_index.specs.Area.{IsAreaSize};
 ghost use Rattle.cut_words.specs.Words.{settled};
@@ -130,10 +130,12 @@ fn initialise(mut words: CutWords, shown: Shown, fuse: &mut Fuse) -> Result<Labe
 
 impl LabelArea {
     /// The label of each slot, by the slot's number: `None` is a free slot, or a used one without a valid
-    /// label. The area isn't stopped.
+    /// label. There are as many as the current block has slots, at most 4,096. The area isn't stopped.
     pub fn labels(&self) -> &[Option<Label>]
         requires { self.now.stopped ≡ false }
-        ensures { result.now ≡ self.now.labels }
+        ensures listed { result.now ≡ self.now.labels }
+        ensures each { length result.now ≡ length self.now.block.free }
+        ensures few { length result.now ≤ 4096 }
     {
         self.labels.as_slice()
     }
