@@ -49,7 +49,7 @@ def nfit(handle, size, serial):
     """One persistent-memory range of one module, without an interleave structure."""
     spa = struct.pack("<HHHHII16sQQQ", 0, 56, 1, 0, 0, 0, PERSISTENT_MEMORY.bytes_le, 1 << 32, size, 0)
     mapping = struct.pack("<HHIHHHHQQQHHHH", 1, 48, handle, 0, 0, 1, 1, size, 0, 0, 0, 1, 0, 0)
-    control = struct.pack("<HHHHHHHHBBHIHH", 4, 32, 1, 0x1234, 0, 0, 0, 0, 0, 0, 0, serial, 0x301, 0)
+    control = struct.pack("<HHHHHHHHHBBHHIHH", 4, 32, 1, 0x1234, 0, 0, 0, 0, 0, 0, 0, 0, 0, serial, 0x301, 0)
     table = bytearray(struct.pack("<4sIBB6s8sI4sI4x", b"NFIT", 0, 1, 0, b"NVDSMP", b"SMALLSET", 1, b"NVDM", 1))
     table += spa + mapping + control
     table[4:8] = struct.pack("<I", len(table))
