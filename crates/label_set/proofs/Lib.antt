@@ -1,0 +1,5 @@
+pub mod Firsts
+pub mod Lesser
+pub mod Found
+pub mod Finding
+pub mod Twice

@@ -1,0 +1,137 @@
+ghost use Rattle.std.specs.Prelude.{◌≡◌, ◌<◌, length};
+ghost use Rattle.nvd_words.specs.Checks.{first_fault};
+ghost use Rattle.label_set.specs.Status.{local_finding, twice_finding, broken_finding, differing_finding, missing_finding, findings, naming_of, status_of};
+
+use crate::agreeing::{
+    agreed_name, agreed_name_where, all_updating, differ_in, some_local, some_updating,
+};
+use crate::least::{least_breaking, least_missing, least_twice};
+use crate::placed::{Field, Placed, SetStatus, Why};
+use crate::rules::Rule;
+use interleave::InterleaveSet;
+
+/// A label has the flag LOCAL.
+fn local(labels: &[Placed]) -> Option<SetStatus>
+    ensures { result ≡ local_finding labels.now }
+{
+    if some_local(labels) {
+        Some(SetStatus::Local)
+    } else {
+        None
+    }
+}
+
+/// A module has two of the labels.
+fn twice(labels: &[Placed]) -> Option<SetStatus>
+    ensures { result ≡ twice_finding labels.now }
+{
+    match least_twice(labels) {
+        Some(module) => Some(SetStatus::Incomplete {
+            why: Why::Twice { module },
+        }),
+        None => None,
+    }
+}
+
+/// A label breaks a rule.
+fn broken(rule: Rule, set: &InterleaveSet, labels: &[Placed]) -> Option<SetStatus>
+    ensures { result ≡ broken_finding rule set.now labels.now }
+{
+    match least_breaking(rule, set, labels) {
+        Some(placed) => Some(SetStatus::Incomplete {
+            why: rule.why(&placed),
+        }),
+        None => None,
+    }
+}
+
+/// Labels don't agree in a field.
+fn differing(field: Field, set: &InterleaveSet, labels: &[Placed]) -> Option<SetStatus>
+    ensures { result ≡ differing_finding field set.now labels.now }
+{
+    if differ_in(field, set, labels) {
+        Some(SetStatus::Incomplete {
+            why: Why::Differs { field },
+        })
+    } else {
+        None
+    }
+}
+
+/// A module of the set has no label.
+fn missing(set: &InterleaveSet, labels: &[Placed]) -> Option<SetStatus>
+    ensures { result ≡ missing_finding set.now labels.now }
+{
+    let module = least_missing(set, labels)?;
+    if all_updating(labels) {
+        return Some(SetStatus::Unfinished);
+    }
+    Some(SetStatus::Incomplete {
+        why: Why::Missing { module },
+    })
+}
+
+/// The first rule that finds something.
+fn finding(set: &InterleaveSet, labels: &[Placed]) -> Option<SetStatus>
+    ensures { result ≡ first_fault (findings set.now labels.now) }
+{
+    local(labels)
+        .or(twice(labels))
+        .or(broken(Rule::Inside, set, labels))
+        .or(broken(Rule::Cookie, set, labels))
+        .or(differing(Field::Count, set, labels))
+        .or(broken(Rule::Position, set, labels))
+        .or(differing(Field::Dpa, set, labels))
+        .or(differing(Field::RawSize, set, labels))
+        .or(differing(Field::LbaSize, set, labels))
+        .or(differing(Field::Guids, set, labels))
+        .or(broken(Rule::Aligned, set, labels))
+        .or(missing(set, labels))
+}
+
+/// What labels make of which no rule finds anything: a namespace where their names agree, or where
+/// those without UPDATING agree on one and those with it on another.
+fn naming(labels: &[Placed]) -> SetStatus
+    ensures { result ≡ naming_of labels.now }
+{
+    if let Some(name) = agreed_name(labels) {
+        return SetStatus::Complete {
+            name,
+            pending: some_updating(labels),
+        };
+    }
+    match (
+        agreed_name_where(false, labels),
+        agreed_name_where(true, labels),
+    ) {
+        (Some(name), Some(_)) => SetStatus::Complete {
+            name,
+            pending: true,
+        },
+        _ => SetStatus::Incomplete {
+            why: Why::Differs {
+                field: Field::Names,
+            },
+        },
+    }
+}
+
+/// What the labels of one UUID make, next to the interleave set of the region in which they lie.
+///
+/// The first rule of `specs/Status.antt` that applies decides: Local; Twice; Outside; Cookie; Differs
+/// in Count; Position; Differs in Dpa (relative to the mapping), RawSize, LbaSize, Guids; Unaligned;
+/// then, where a module has no label, Unfinished if all labels have UPDATING and else Missing; then
+/// Complete, or Differs in Names. Of several modules the least is named. The rules are this project's,
+/// over the fields of UEFI 2.10, section 13.19.
+///
+/// Condition: there is a label. All labels have one UUID; nothing else about them is asked. It takes no
+/// memory, and a pass over the labels for each rule; for Twice one for each module that has a label.
+pub fn status(set: &InterleaveSet, labels: &[Placed]) -> SetStatus
+    requires { 0 < length labels.now }
+    ensures { result ≡ status_of set.now labels.now }
+{
+    match finding(set, labels) {
+        Some(status) => status,
+        None => naming(labels),
+    }
+}
