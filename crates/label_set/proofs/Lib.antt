@@ -3,3 +3,4 @@ pub mod Lesser
 pub mod Found
 pub mod Finding
 pub mod Twice
+mod Rows
