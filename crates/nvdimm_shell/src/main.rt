@@ -27,6 +27,8 @@ mod laws;
 mod load_faults;
 mod nfit;
 mod outcome;
+#[cfg(test)]
+mod sets;
 mod status;
 #[cfg(test)]
 mod tables;
