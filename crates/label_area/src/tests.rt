@@ -2,7 +2,7 @@ use crate::*;
 use cut_words::{CutWords, Fuse, WordSpace};
 use label_codec::Label;
 use label_index::Side;
-use nvd_media::{ListChooser, SeedChooser};
+use nvd_media::{Chooser, ListChooser, SeedChooser};
 use nvd_words::word_at;
 use std::alloc::{AllocError, Global};
 
@@ -121,22 +121,47 @@ fn initialised(
     Ok(init_area(alloc, CutWords::new(alloc, words)?, fuse))
 }
 
-/// The words of an area and why it was refused, of an area of zeros that is initialised with so many steps left.
-fn zeros_under(
+/// The words of an area without an index: zeros for the seed 0, else noise.
+fn without_index(alloc: Global, seed: u64) -> Result<Vec<u64>, AllocError> {
+    let mut words = Vec::new(alloc);
+    let mut word = seed;
+    for _ in 0..128 {
+        words.push(word)?;
+        word = word.wrapping_mul(0xBF58_476D_1CE4_E5B9);
+    }
+    Ok(words)
+}
+
+/// The words of such an area, and why it was refused, where it is initialised with so many steps left.
+fn first_blocks_under(
     alloc: Global,
+    seed: u64,
     fuse: &mut Fuse,
 ) -> Result<(CutWords, Option<AreaFault>), AllocError> {
-    Ok(match initialised(alloc, vec![in alloc; 0; 128]?, fuse)? {
-        Ok(area) => (area.into_words(), None),
-        Err(refused) => (refused.words, Some(refused.fault)),
-    })
+    Ok(
+        match initialised(alloc, without_index(alloc, seed)?, fuse)? {
+            Ok(area) => (area.into_words(), None),
+            Err(refused) => (refused.words, Some(refused.fault)),
+        },
+    )
+}
+
+/// What a cut after so many steps leaves of it, by a chooser.
+fn cut_of_first_blocks<C: Chooser>(
+    alloc: Global,
+    seed: u64,
+    steps: u64,
+    choose: &mut C,
+) -> Result<Found, AllocError> {
+    let (words, _) = first_blocks_under(alloc, seed, &mut Fuse::after(steps))?;
+    look(alloc, words.leave(choose))
 }
 
 #[test]
 fn an_area_is_initialised_once(rt: HostRuntime) -> Result<(), AllocError> {
     let alloc = rt.alloc();
     let mut fuse = Fuse::after(132);
-    let (words, fault) = zeros_under(alloc, &mut fuse)?;
+    let (words, fault) = first_blocks_under(alloc, 0, &mut fuse)?;
     assert_eq!(rt; (fault, fuse.left()), (None, Some(0)));
     let words = words.leave(&mut SeedChooser::new(1));
     // The block at 0: Seq 3 and its Checksum; the block at 256: Seq 2.
@@ -172,23 +197,36 @@ fn blocks_and_slots_fill_an_area(rt: HostRuntime) -> Result<(), AllocError> {
     Ok(())
 }
 
-/// Steps, the chooser's answer, and what is left.
+/// What is left after so many steps where a chooser keeps all that was stored, or all that was kept.
+fn left_of_first_blocks(steps: u64, stored: bool) -> Found {
+    match (steps, stored) {
+        (0..=64, _) | (65, false) => Found::Refused(AreaFault::NoIndex),
+        (65..=130, _) | (131, false) => empty(Side::One, 2),
+        _ => empty(Side::Zero, 3),
+    }
+}
+
+/// Every cut, over zeros and over noise, with both constant choosers and a seeded one.
 #[test]
 fn what_a_cut_leaves_of_the_first_blocks(rt: HostRuntime) -> Result<(), AllocError> {
     let alloc = rt.alloc();
-    let none = Found::Refused(AreaFault::NoIndex);
-    for steps in 0..132 {
-        for answer in [false, true] {
-            let want = match (steps, answer) {
-                (0..=64, _) | (65, false) => none,
-                (65..=130, _) | (131, false) => empty(Side::One, 2),
-                _ => empty(Side::Zero, 3),
-            };
+    for seed in [0, 7] {
+        for steps in 0..132 {
             let mut fuse = Fuse::after(steps);
-            let (words, fault) = zeros_under(alloc, &mut fuse)?;
+            let (_, fault) = first_blocks_under(alloc, seed, &mut fuse)?;
             assert_eq!(rt; (fault, fuse.left()), (Some(AreaFault::PowerCut), Some(0)));
-            let left = words.leave(&mut ListChooser::new(vec![in alloc; answer; 64]?));
-            assert_eq!(rt; look(alloc, left)?, want);
+            let kept = left_of_first_blocks(steps, false);
+            let stored = left_of_first_blocks(steps, true);
+            let mut keep = ListChooser::new(Vec::new(alloc));
+            let mut store = ListChooser::new(vec![in alloc; true; 64]?);
+            let mut draw = SeedChooser::new(steps);
+            assert_eq!(rt; cut_of_first_blocks(alloc, seed, steps, &mut keep)?, kept);
+            assert_eq!(rt;
+                cut_of_first_blocks(alloc, seed, steps, &mut store)?,
+                stored
+            );
+            let drawn = cut_of_first_blocks(alloc, seed, steps, &mut draw)?;
+            assert!(rt; drawn == kept || drawn == stored);
         }
     }
     Ok(())
