@@ -37,8 +37,8 @@ enum Progress {
 /// An image set in a directory, a file for each object.
 ///
 /// It tells nothing of their bytes. As a source: a file that isn't there is an absent object; what else
-/// the system refuses, a file that is no regular one, and a file that ends too early are counted
-/// failures. As a sink: the first write makes the directory, and one that is there already is a counted
+/// the system refuses, a link whose target isn't there, a file that is no regular one, and a file that
+/// ends too early are counted failures. As a sink: the first write makes the directory, and one that is there already is a counted
 /// failure, as is the directory `-`, which stands for none; once a call failed, all later ones do, so a
 /// half-written directory never gets its mark. Each write is on the disk when it is done, as far as the
 /// system's sync calls say so, and `finish` makes the mark last.
@@ -67,9 +67,19 @@ impl<'a, R: Files + AllocGlobal> DirImages<'a, R> {
     }
 
     fn file_length(&self, object: Object) -> io::Result<Option<u64>> {
-        match fs::metadata(self.rt, &self.path(object)?) {
+        let path = self.path(object)?;
+        match fs::metadata(self.rt, &path) {
             Ok(metadata) if metadata.is_file() => Ok(Some(metadata.len())),
             Ok(_) => Err(io::Error::from(io::ErrorKind::InvalidInput)),
+            Err(e) if e.kind() == io::ErrorKind::NotFound => self.absent(&path),
+            Err(e) => Err(e),
+        }
+    }
+
+    /// `None` where nothing stands at a path; a link whose target isn't there is a failure.
+    fn absent(&self, path: &str) -> io::Result<Option<u64>> {
+        match fs::symlink_metadata(self.rt, path) {
+            Ok(_) => Err(io::Error::from(io::ErrorKind::NotFound)),
             Err(e) if e.kind() == io::ErrorKind::NotFound => Ok(None),
             Err(e) => Err(e),
         }
