@@ -20,6 +20,7 @@ pub fn store_from<W: WordSpace>(
     requires settled { NonePending (W.words words.old) base (length values.now) }
     ensures made { Makes (W.words words.old) (W.words words.new) fuse.old fuse.new (stores_from base values.now) (is_ok result) }
     ensures count { length (W.words words.new).kept ≡ length (W.words words.old).kept }
+    ensures beside { W.beside words.new ≡ W.beside words.old }
 {
     let mut place = base;
     let mut index = 0;
@@ -44,6 +45,7 @@ pub fn keep_from<W: WordSpace>(
     requires small { length (W.words words.old).kept < 2 ^ 60 }
     ensures made { Makes (W.words words.old) (W.words words.new) fuse.old fuse.new (keeps_from base count) (is_ok result) }
     ensures count { length (W.words words.new).kept ≡ length (W.words words.old).kept }
+    ensures beside { W.beside words.new ≡ W.beside words.old }
 {
     let mut place = base;
     while place < base + count {
@@ -66,6 +68,7 @@ pub fn write_word<W: WordSpace>(
     requires settled { slice_index_or (W.words words.old).stored i None ≡ None }
     ensures made { Makes (W.words words.old) (W.words words.new) fuse.old fuse.new (written i v) (is_ok result) }
     ensures count { length (W.words words.new).kept ≡ length (W.words words.old).kept }
+    ensures beside { W.beside words.new ≡ W.beside words.old }
 {
     words.store(fuse, i, v)?;
     words.keep(fuse, i)
@@ -87,6 +90,7 @@ pub fn write_from<W: WordSpace>(
     requires settled { NonePending (W.words words.old) base (length values.now) }
     ensures made { Makes (W.words words.old) (W.words words.new) fuse.old fuse.new (run_steps base values.now) (is_ok result) }
     ensures count { length (W.words words.new).kept ≡ length (W.words words.old).kept }
+    ensures beside { W.beside words.new ≡ W.beside words.old }
 {
     store_from(words, fuse, base, values)?;
     keep_from(words, fuse, base, values.len() as u64)

@@ -1,4 +1,4 @@
-ghost use Rattle.std.specs.Prelude.{◌≡◌, ◌<◌, IfOk, if◌then◌else◌, Some, None, length, slice_index_or, is_some};
+ghost use Rattle.std.specs.Prelude.{◌≡◌, ◌<◌, IfOk, if◌then◌else◌, Some, None, [], length, slice_index_or, is_some};
 ghost use Rattle.cut_words.specs.Words.{settled, IsLeft};
 ghost use Rattle.cut_words.specs.Leaving.{LeavesOne, LeavesFrom};
 
@@ -88,6 +88,8 @@ impl CutWords {
 
 impl WordSpace for CutWords {
     ghost words = { λ words. words };
+
+    ghost beside = { λ _. [] };
 
     fn count(&self) -> u64 {
         self.kept.len() as u64

@@ -35,6 +35,7 @@ fn store_others<W: WordSpace>(
     requires settled { NonePending (W.words words.old) base (length block.now) }
     ensures made { Makes (W.words words.old) (W.words words.new) fuse.old fuse.new (others_stores base block.now) (is_ok result) }
     ensures count { length (W.words words.new).kept ≡ length (W.words words.old).kept }
+    ensures beside { W.beside words.new ≡ W.beside words.old }
 {
     store_from(words, fuse, base, &block[..SEQ_WORD])?;
     store_from(words, fuse, base + 3, &block[AFTER_SEQ..])
@@ -52,6 +53,7 @@ fn keep_others<W: WordSpace>(
     requires enough { 3 ≤ count }
     ensures made { Makes (W.words words.old) (W.words words.new) fuse.old fuse.new (others_keeps base count) (is_ok result) }
     ensures count { length (W.words words.new).kept ≡ length (W.words words.old).kept }
+    ensures beside { W.beside words.new ≡ W.beside words.old }
 {
     keep_from(words, fuse, base, 2)?;
     keep_from(words, fuse, base + 3, count - 3)
@@ -70,6 +72,7 @@ fn write_others<W: WordSpace>(
     requires settled { NonePending (W.words words.old) base (length block.now) }
     ensures made { Makes (W.words words.old) (W.words words.new) fuse.old fuse.new (others_steps base block.now) (is_ok result) }
     ensures count { length (W.words words.new).kept ≡ length (W.words words.old).kept }
+    ensures beside { W.beside words.new ≡ W.beside words.old }
 {
     store_others(words, fuse, base, block)?;
     keep_others(words, fuse, base, block.len() as u64)
@@ -91,6 +94,7 @@ pub fn write_block<W: WordSpace>(
     requires settled { NonePending (W.words words.old) base (length block.now) }
     ensures made { Makes (W.words words.old) (W.words words.new) fuse.old fuse.new (block_steps_from base block.now) (is_ok result) }
     ensures count { length (W.words words.new).kept ≡ length (W.words words.old).kept }
+    ensures beside { W.beside words.new ≡ W.beside words.old }
 {
     write_word(words, fuse, base + 2, block[SEQ_WORD] % CLOSED)?;
     write_others(words, fuse, base, block)?;
@@ -114,6 +118,7 @@ fn write_steps<W: WordSpace>(
     requires block_settled { NonePending (W.words words.old) block_at (length block.now) }
     ensures made { Makes (W.words words.old) (W.words words.new) fuse.old fuse.new (run_steps label_at label.now ++ block_steps_from block_at block.now) (is_ok result) }
     ensures count { length (W.words words.new).kept ≡ length (W.words words.old).kept }
+    ensures beside { W.beside words.new ≡ W.beside words.old }
 {
     write_from(words, fuse, label_at, label)?;
     write_block(words, fuse, block_at, block)
@@ -146,6 +151,7 @@ pub fn write_change<W: WordSpace>(
     ensures whole { IsWholeAfter (W.words words.old) (W.words words.new) label_at label.now block_at block.now (is_ok result) }
     ensures settles { SettlesAfter (W.words words.old) (W.words words.new) label_at label.now block_at block.now (is_ok result) }
     ensures count { length (W.words words.new).kept ≡ length (W.words words.old).kept }
+    ensures beside { W.beside words.new ≡ W.beside words.old }
 {
     write_steps(words, fuse, label_at, label, block_at, block)
 }

@@ -10,6 +10,7 @@ loop-place-preserved g c =
     let new = g.W.WordSpace.words c.keep.new.self in
     let same = makes_length now new c.loop-place.fuse c.keep.new.fuse (keep c.loop-place.place ∷ []) true c.in_ok-keep.ensures.made in
     record {
+      beside = c.in_ok-keep.ensures.beside ∙ c.loop-place.invariant.beside;
       inside = omega (arith, same, c.loop-place.invariant.inside);
       small = omega (arith, same, c.loop-place.invariant.small);
       same = same ∙ c.loop-place.invariant.same;

@@ -9,6 +9,7 @@ abbrev pub invariant-loop-place : goal.invariant-loop-place
 invariant-loop-place g l = record {
   inside : l.base + l.count ≤ length (g.W.WordSpace.words l.words).kept;
   same : length (g.W.WordSpace.words l.words).kept ≡ length (g.W.WordSpace.words l.initial.words).kept;
+  beside : g.W.WordSpace.beside l.words ≡ g.W.WordSpace.beside l.initial.words;
   small : length (g.W.WordSpace.words l.words).kept < 2 ^ 60;
   within : l.place ≤ l.base + l.count;
   on : (w : Words) (f : Option ℕ) (made : Bool) → Makes (g.W.WordSpace.words l.words) w l.fuse f (keeps_from l.place (l.base + l.count - l.place)) made

@@ -12,6 +12,7 @@ loop-index-preserved g c =
     let made = c.in_ok-store.ensures.made in
     let same = makes_length now new c.loop-index.fuse c.store.new.fuse (store c.loop-index.place (get_or c.args.values.now c.loop-index.index 0) ∷ []) true c.in_ok-store.ensures.made in
     record {
+      beside = c.in_ok-store.ensures.beside ∙ c.loop-index.invariant.beside;
       at = omega arith;
       same = same ∙ c.loop-index.invariant.same;
       within = omega arith;

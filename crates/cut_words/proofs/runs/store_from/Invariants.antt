@@ -11,6 +11,7 @@ invariant-loop-index g l = record {
   within : l.index ≤ length l.values;
   inside : l.base + length l.values ≤ length (g.W.WordSpace.words l.words).kept;
   same : length (g.W.WordSpace.words l.words).kept ≡ length (g.W.WordSpace.words l.initial.words).kept;
+  beside : g.W.WordSpace.beside l.words ≡ g.W.WordSpace.beside l.initial.words;
   small : length (g.W.WordSpace.words l.words).kept < 2 ^ 60;
   settled : NonePending (g.W.WordSpace.words l.words) l.place (length l.values - l.index);
   on : (w : Words) (f : Option ℕ) (made : Bool) → Makes (g.W.WordSpace.words l.words) w l.fuse f (stores_from l.place (drop l.index l.values)) made
