@@ -1,0 +1,5 @@
+mod InTurn
+mod Places
+mod Spread
+mod Beside
+mod Rows

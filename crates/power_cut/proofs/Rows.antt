@@ -1,0 +1,69 @@
+-- Worked rows, computed on the definitions.
+use Rattle.std.proofs.Common.{◌≡◌, ◌≢◌, ℕ, Bool, true, false, List, [], ◌∷◌, Option, Some, None, refl, inl, inr}
+use Rattle.nfit_reader.specs.declared.table.Mapping.{Mapping}
+use Rattle.cut_words.specs.Words.{Words, store, stepped}
+use Rattle.power_cut.specs.Namespace.{Namespace, beside_of, count_of, is_inside, over, place_of, words_of}
+use Rattle.power_cut.specs.Left.{InTurn, LeavesOption, LeavesWords}
+
+-- a mapping of two lines of 8 bytes, with a line of another module after each
+abbrev striped : ℕ → ℕ → ℕ → Mapping
+striped number offset start = record {
+  «module» = number;
+  size = 16;
+  offset = offset;
+  start = start;
+  ways = 2;
+  lines = Some (record { size = 8; offsets = 0 ∷ 2 ∷ [] });
+  identity = record { vendor = 0; date = 0; location = 0; serial = 0 };
+}
+
+-- module 1 has the first line of a stripe, and module 0 the second
+abbrev two : List Mapping
+two = striped 1 0 0 ∷ striped 0 8 8 ∷ []
+
+places : (place_of two 0 ≡ Some (1, 0)) × (place_of two 8 ≡ Some (0, 8)) × (place_of two 16 ≡ Some (1, 8)) × (place_of two 31 ≡ Some (0, 23)) × (place_of two 32 ≡ None)
+places = (refl, refl, refl, refl, refl)
+
+-- three words of module 0 and two of module 1; one of each has a value stored since
+abbrev modules : List Words
+modules = record { kept = 10 ∷ 11 ∷ 12 ∷ []; stored = Some 5 ∷ None ∷ Some 7 ∷ [] } ∷ record { kept = 20 ∷ 21 ∷ []; stored = None ∷ None ∷ [] } ∷ []
+
+-- the namespace of the second line of each
+abbrev second : Namespace
+second = over two 8 8 modules
+
+words_of_second : words_of second ≡ record { kept = 21 ∷ 12 ∷ []; stored = None ∷ Some 7 ∷ [] }
+unfolding words_of
+words_of_second = refl
+
+-- the one of the first line of each
+words_of_first : words_of (over two 0 8 modules) ≡ record { kept = 20 ∷ 11 ∷ []; stored = None ∷ None ∷ [] }
+unfolding words_of
+words_of_first = refl
+
+beside_second : beside_of second ≡ record { kept = 10 ∷ 11 ∷ 0 ∷ []; stored = Some 5 ∷ None ∷ None ∷ [] } ∷ record { kept = 20 ∷ 0 ∷ []; stored = None ∷ None ∷ [] } ∷ []
+unfolding beside_of
+beside_second = refl
+
+-- ---- what a cut leaves, under a chooser that gives a list of answers in turn
+
+abbrev picks : List Bool → ℕ → Bool → List Bool → Type 0
+picks before word answer after = before ≡ answer ∷ after
+
+-- a label area that isn't there asks nothing, the next asks for its one pending word
+areas : InTurn (LeavesOption picks) (None ∷ Some (record { kept = 1 ∷ 2 ∷ []; stored = None ∷ Some 9 ∷ [] }) ∷ []) (None ∷ Some (1 ∷ 9 ∷ []) ∷ []) (true ∷ false ∷ []) (false ∷ [])
+areas = (
+  None,
+  Some (1 ∷ 9 ∷ []) ∷ [],
+  true ∷ false ∷ [],
+  refl,
+  (refl, refl),
+  (
+    Some (1 ∷ 9 ∷ []),
+    [],
+    false ∷ [],
+    refl,
+    (1 ∷ 9 ∷ [], refl, (1, true ∷ false ∷ [], (refl, refl), (9 ∷ [], refl, (9, false ∷ [], (true, refl, refl), ([], refl, (refl, refl)))))),
+    (refl, refl),
+  ),
+)

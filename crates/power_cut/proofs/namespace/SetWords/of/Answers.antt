@@ -1,0 +1,24 @@
+use Rattle.power_cut.specs.Namespace.{over}
+use Rattle.power_cut.proofs.Places.{are_apart}
+use Rattle.power_cut.proofs.Spread.{is_over, laid_of}
+use Rattle.power_cut.proofs.namespace.SetWords.of.Goals as goal
+
+pub invariant_of-result : goal.invariant_of-result
+invariant_of-result c = (
+  laid_of c.args.set.now c.args.offset c.args.raw c.span-span.result c.unit-unit.result c.args.modules.items c.requires.from c.requires.to c.requires.inside
+      c.unit-unit.ensures.unit c.unit-unit.ensures.whole c.unit-unit.ensures.parts c.span-span.ensures.span c.span-span.ensures.fits c.span-span.ensures.each c.span-span.ensures.apart
+      c.span-span.ensures.places c.span-span.ensures.words,
+  record { rows = c.requires.rows; reach = c.requires.reach },
+)
+
+pub returns-clause-apart : goal.returns-clause-apart
+returns-clause-apart c = are_apart (over c.args.set.now c.args.offset c.args.raw c.args.modules.items)
+    (laid_of c.args.set.now c.args.offset c.args.raw c.span-span.result c.unit-unit.result c.args.modules.items c.requires.from c.requires.to c.requires.inside
+    c.unit-unit.ensures.unit c.unit-unit.ensures.whole c.unit-unit.ensures.parts c.span-span.ensures.span c.span-span.ensures.fits c.span-span.ensures.each c.span-span.ensures.apart
+    c.span-span.ensures.places c.span-span.ensures.words)
+
+pub returns-clause-over : goal.returns-clause-over
+returns-clause-over c = is_over (over c.args.set.now c.args.offset c.args.raw c.args.modules.items)
+    (laid_of c.args.set.now c.args.offset c.args.raw c.span-span.result c.unit-unit.result c.args.modules.items c.requires.from c.requires.to c.requires.inside
+    c.unit-unit.ensures.unit c.unit-unit.ensures.whole c.unit-unit.ensures.parts c.span-span.ensures.span c.span-span.ensures.fits c.span-span.ensures.each c.span-span.ensures.apart
+    c.span-span.ensures.places c.span-span.ensures.words)

@@ -1,0 +1,39 @@
+//! The words of a namespace that lies spread over modules, and what a power cut leaves of all parts of an
+//! image set.
+//!
+//! **A namespace's words.** A namespace on an interleave set has the same extent in each mapping: `raw`
+//! bytes from the relative address `offset` on. Its words are those of the region from byte
+//! `ways * offset` on, in order; the set says at which word of which module each of them lies (ACPI 6.5,
+//! section 5.2.25.4). With two modules and two lines of a stripe in each:
+//!
+//! ```text
+//! region    | line 0 | line 1 | line 2 | line 3 | ..      offset = one line, raw = one line:
+//! module 0  | line 0 | line 2 | ..                        the words of lines 2 and 3,
+//! module 1  | line 1 | line 3 | ..                        which lie in both modules
+//! ```
+//!
+//! [`SetWords`] is such a row of words. `specs/Namespace.antt` defines its words (`words_of`, by the
+//! forward formula of the places), where they lie (`IsOver`), and the modules' other words (`beside_of`);
+//! the two together are all words (`AreAll`).
+//!
+//! **What a cut leaves.** The parts of an image set that lose power are the label areas and the contents of
+//! its modules, each a row of words ([`cut_words::CutWords`]). A cut leaves, for each word by itself, its
+//! kept value or the one stored since; a chooser says which, and is asked in this order:
+//!
+//! ```text
+//! label area of module 0, 1, ..  ──  contents of module 0, 1, ..
+//!
+//!     words 0, 1, 2, ..  of each, rising; only those that have a value stored since
+//! ```
+//!
+//! `specs/Left.antt` says so: `LeavesAll` is the order of the questions and what each answer leaves, and
+//! `IsLeftOfAll` what holds of the images whatever the answers are. Both are this project's rules.
+#![tactic(auto)]
+
+mod leaving;
+mod namespace;
+#[cfg(test)]
+mod tests;
+
+pub use leaving::{ArenaLeft, Images, Place, leave_all};
+pub use namespace::{SetWords, reach_ends, words_and_beside_are_all};

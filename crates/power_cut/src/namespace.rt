@@ -1,0 +1,166 @@
+//! The words of a namespace, which lie spread over the modules of an interleave set.
+ghost use Rattle.std.specs.Prelude.{◌≡◌, ℕ, ◌+◌, ◌*◌, ◌/◌, ◌%◌, ◌^◌, ◌<◌, ◌≤◌, true, None, is_some, length, slice_index_or};
+ghost use Rattle.std.specs.List.{All};
+ghost use Rattle.interleave.specs.Places.{LiesAt, unit_of};
+ghost use Rattle.interleave.specs.Sound.{IsWord, span_of};
+ghost use Rattle.power_cut.specs.Namespace.{Namespace, HasBytes, HasRows, ReachEnds, IsLaid, IsOver, IsRow, AreApart, AreAll, AreSameOutside, beside_of, byte_at, count_of, row_of, words_of};
+
+use cut_words::{CutWords, Fuse, PowerCut, WordSpace};
+use interleave::InterleaveSet;
+use std::marker::Model;
+
+/// How many bytes a word has.
+const WORD: u64 = 8;
+
+/// Whether a module has the words of its bytes from a device address on.
+fn has_words(modules: &[CutWords], module: u32, start: u64, bytes: u64) -> bool
+    ensures yes { result ≡ true → HasBytes modules.now «module» start bytes }
+    ensures no { HasBytes modules.now «module» start bytes → result ≡ true }
+{
+    match modules.get(module as usize) {
+        Some(words) => {
+            u128::from(start) + u128::from(bytes) <= u128::from(WORD) * u128::from(words.count())
+        }
+        None => false,
+    }
+}
+
+/// Whether these modules, by number, have the words of the set's modules up to the end of each mapping:
+/// what [`SetWords::of`] asks of them.
+pub fn reach_ends(set: &InterleaveSet, modules: &[CutWords]) -> bool
+    ensures yes { result ≡ true → ReachEnds set.now modules.now }
+    ensures no { ReachEnds set.now modules.now → result ≡ true }
+{
+    let bytes = set.span();
+    for position in 0..set.ways() {
+        if !has_words(modules, set.module_at(position), set.start(position), bytes) {
+            return false;
+        }
+    }
+    true
+}
+
+/// The words of a namespace on an interleave set. It owns the words of all modules, and borrows the set.
+/// Contracts see the set, the namespace's extent and the modules' words.
+#[derive(Drop)]
+pub struct SetWords<'a> {
+    set: &'a InterleaveSet,
+    /// The namespace's address in each mapping, relative to the mapping's start, in bytes.
+    offset: u64,
+    /// Its bytes in each mapping.
+    raw: u64,
+    /// The words of all modules, by number.
+    modules: Vec<CutWords>,
+}
+
+impl<'a> Model for SetWords<'a> {
+    ghost use Rattle.power_cut.specs.Namespace.{Namespace, IsLaid, HasRows};
+
+    ghost Value = { Namespace };
+
+    ghost view = { λ words. record { set = words.set.now; offset = words.offset; raw = words.raw; modules = words.modules.items } };
+
+    ghost invariant = { λ words. IsLaid (record { set = words.set.now; offset = words.offset; raw = words.raw; modules = words.modules.items }) × HasRows words.set.now words.modules.items };
+}
+
+impl<'a> SetWords<'a> {
+    /// The words of the namespace that has `raw` bytes from the relative address `offset` on in each
+    /// mapping of the set.
+    ///
+    /// Both are multiples of the set's unit, and the namespace ends inside the mappings. `modules` has the
+    /// words of all modules by number, those of the set's modules at least up to the end of the mapping.
+    /// It takes no memory. No two words of the namespace lie on one word of a module (`apart`).
+    pub fn of(set: &'a InterleaveSet, offset: u64, raw: u64, modules: Vec<CutWords>) -> SetWords<'a>
+        requires from { offset % unit_of set.now ≡ 0 }
+        requires to { raw % unit_of set.now ≡ 0 }
+        requires inside { offset + raw ≤ span_of set.now }
+        requires rows { All IsRow modules.items }
+        requires reach { ReachEnds set.now modules.items }
+        ensures made { result ≡ record { set = set.now; offset = offset; raw = raw; modules = modules.items } }
+        ensures apart { AreApart result }
+        ensures over { IsOver result modules.items (words_of result) }
+    {
+        let _unit = set.unit();
+        let _span = set.span();
+        SetWords {
+            set,
+            offset,
+            raw,
+            modules,
+        }
+    }
+
+    /// The words of the modules, in which each word of the namespace is where `InterleaveSet::place` says.
+    /// It takes no memory.
+    pub fn into_modules(self) -> Vec<CutWords>
+        ensures modules { result.items ≡ self.entry.modules }
+        ensures over { IsOver self.entry result.items (words_of self.entry) }
+        ensures rows { HasRows self.entry.set result.items }
+    {
+        let SetWords { modules, .. } = self;
+        modules
+    }
+
+    /// Whether a word of the namespace has a value stored since its last keep, also where that equals the
+    /// kept one. The word is there.
+    pub fn pending(&self, i: u64) -> bool
+        requires { i < length (words_of self.now).kept }
+        ensures { result ≡ is_some (slice_index_or (words_of self.now).stored i None) }
+    {
+        let (module, word) = self.locate(i);
+        self.modules[module].pending(word)
+    }
+
+    /// The module of a word of the namespace, and which word of it that is.
+    fn locate(&self, i: u64) -> (usize, u64)
+        requires { i < count_of self.now }
+        ensures there { LiesAt self.now.set (byte_at self.now i) result.0 (8 * result.1) }
+        ensures module { result.0 < length self.now.modules }
+        ensures word { result.1 < length (row_of self.now.modules result.0).kept }
+    {
+        let first = u64::from(self.set.ways()) * self.offset;
+        let (module, address) = self.set.place(first + WORD * i);
+        (module as usize, address / WORD)
+    }
+}
+
+impl<'a> WordSpace for SetWords<'a> {
+    ghost words = { λ words. words_of words };
+
+    ghost beside = { λ words. beside_of words };
+
+    fn count(&self) -> u64 {
+        u64::from(self.set.ways()) * self.raw / WORD
+    }
+
+    fn load(&self, i: u64) -> u64 {
+        let (module, word) = self.locate(i);
+        self.modules[module].load(word)
+    }
+
+    fn store(&mut self, fuse: &mut Fuse, i: u64, v: u64) -> Result<(), PowerCut> {
+        let (module, word) = self.locate(i);
+        self.modules[module].store(fuse, word, v)
+    }
+
+    fn keep(&mut self, fuse: &mut Fuse, i: u64) -> Result<(), PowerCut> {
+        let (module, word) = self.locate(i);
+        self.modules[module].keep(fuse, word)
+    }
+}
+
+/// A law: the words of a namespace and those that stand beside it are all words of the modules (`all`),
+/// and where what stands beside it is the same, so is every word outside its extents (`outside`). So what
+/// leaves `beside` as it was changed words of the namespace alone.
+///
+/// `offset` and `raw` are as in [`SetWords::of`].
+pub fn words_and_beside_are_all(set: &InterleaveSet, offset: u64, raw: u64)
+    requires from { offset % unit_of set.now ≡ 0 }
+    requires to { raw % unit_of set.now ≡ 0 }
+    requires inside { offset + raw ≤ span_of set.now }
+    ensures all { AreAll set.now offset raw }
+    ensures outside { AreSameOutside set.now offset raw }
+{
+    let _unit = set.unit();
+    let _span = set.span();
+}
