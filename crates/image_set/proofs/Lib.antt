@@ -6,3 +6,7 @@ pub mod Eights
 pub mod Filled
 pub mod Chain
 mod Rows
+mod Adding
+mod Fronts
+pub mod Kept
+mod Areas

@@ -2,3 +2,5 @@ pub mod Limits
 pub mod Load
 pub mod Sound
 pub mod Sizes
+pub mod Save
+pub mod Changed

@@ -91,3 +91,34 @@ impl From<Stop> for LoadFault {
         }
     }
 }
+
+/// Why an image set isn't saved.
+#[derive(Clone, Copy, Debug, PartialEq, Eq)]
+pub enum SaveFault {
+    /// The sink failed: the set isn't finished.
+    WriteFault,
+    /// Memory ran out: the sink is as it was.
+    OutOfMemory,
+}
+
+impl From<Failed> for SaveFault {
+    ghost use Rattle.std.specs.Prelude.{◌≡◌};
+    ghost use Rattle.image_set.specs.declared.fault.SaveFault.TheVariants.{WriteFault};
+
+    ghost from_gives = { λ _ fault. fault ≡ WriteFault };
+
+    fn from(_error: Failed) -> SaveFault {
+        SaveFault::WriteFault
+    }
+}
+
+impl From<AllocError> for SaveFault {
+    ghost use Rattle.std.specs.Prelude.{◌≡◌};
+    ghost use Rattle.image_set.specs.declared.fault.SaveFault.TheVariants.{OutOfMemory};
+
+    ghost from_gives = { λ _ fault. fault ≡ OutOfMemory };
+
+    fn from(_error: AllocError) -> SaveFault {
+        SaveFault::OutOfMemory
+    }
+}

@@ -1,3 +1,4 @@
+mod saves;
 mod sets;
 
 use crate::{LoadFault, Loaded, load};

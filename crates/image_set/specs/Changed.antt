@@ -1,0 +1,47 @@
+-- What a cut leaves of a loaded set of which one label area was changed: this project's rules.
+use Rattle.std.specs.Prelude.{◌≡◌, ℕ, ◌^◌, ◌<◌, Bool, List, [], length, slice_get, slice_index_or, slice_set, Option, Some, None}
+use Rattle.nvd_media.specs.declared.object.Object.{Object}
+use Rattle.nvd_media.specs.declared.object.Object.TheVariants as object
+use Rattle.nvd_media.specs.Images.{Images, IsSameSet}
+use Rattle.cut_words.specs.Words.{Words, IsLeft}
+use Rattle.cut_words.specs.WordBytes.{bytes_of}
+use Rattle.power_cut.specs.Left.{LeavesWords}
+use Rattle.image_set.specs.declared.changing.SetLeft.{SetLeft}
+use Rattle.image_set.specs.declared.loading.Loaded.{Loaded}
+use Rattle.image_set.specs.Load.{ImageSet, image_set_in}
+use Rattle.image_set.specs.Save.{HasModules, set_of}
+
+-- the objects of an image set, under its mark
+unfoldable pub objects_of : ImageSet → Images
+objects_of set object.Mark = Some []
+objects_of set object.Nfit = Some set.nfit_bytes
+objects_of set (object.Labels m) = slice_index_or set.labels m None
+objects_of set (object.Contents m) = slice_get set.contents m
+objects_of set (object.BadRanges m) = slice_index_or set.bad m None
+
+-- an image set with another label area of a module
+abbrev pub with_area : ImageSet → ℕ → List ℕ → ImageSet
+with_area set m bytes = record {
+  nfit = set.nfit;
+  nfit_bytes = set.nfit_bytes;
+  labels = slice_set set.labels m (Some bytes);
+  contents = set.contents;
+  bad = set.bad;
+}
+
+-- the objects that are saved
+abbrev pub objects_in : SetLeft → Images
+objects_in left = set_of left.nfit left.images left.bad
+
+-- what is left can be saved
+pub record IsSavable (left : SetLeft) : Type 0 where
+  pub modules : HasModules left.images left.bad
+  pub few : length left.images.contents < 2 ^ 32
+
+-- What is left of a set in which these words stand for the label area of a module, and no other word is pending: the chooser is
+-- asked for these words alone, and all other objects are left as they were.
+pub record LeavesArea {C : Type 0} (picks : C → ℕ → Bool → C → Type 0) (loaded : Loaded) (m : ℕ) (area : Words) (before after : C) (left : SetLeft) : Type 0 where
+  pub row : List ℕ
+  pub asked : LeavesWords picks area row before after
+  pub left_of : IsLeft area row
+  pub objects : IsSameSet (objects_in left) (objects_of (with_area (image_set_in loaded) m (bytes_of row)))

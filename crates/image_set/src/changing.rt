@@ -1,0 +1,136 @@
+//! One label area of a loaded set is changed, and what a cut then leaves of the set is saved.
+ghost use Rattle.std.specs.Prelude.{◌≡◌, ◌<◌, ◌≤◌, ℕ, List, Some, None, IfOk, MatchResult, OnOk, Err, length, slice_index_or, slice_set};
+ghost use Rattle.std.specs.Option.{ForSome, option_map};
+ghost use Rattle.nvd_media.specs.Causes.{Rose};
+ghost use Rattle.nvd_media.specs.Images.{Becomes, Keeps, IsEmptySet, IsSameSet, IsUnfinished};
+ghost use Rattle.image_set.specs.Changed.{IsSavable, LeavesArea, objects_in, with_area};
+ghost use Rattle.image_set.specs.Load.{area_of, bytes_kept, image_set_in};
+ghost use Rattle.image_set.specs.Sound.{IsArea, IsSound};
+
+use crate::fault::SaveFault;
+use crate::loading::Loaded;
+use crate::saving::save;
+use cut_words::CutWords;
+use nvd_media::{Chooser, ImageSink};
+use nvd_words::Items;
+use power_cut::{Images, leave_all};
+use std::alloc::{AllocError, Global};
+
+/// An image set as it is saved.
+#[derive(Debug, Drop)]
+pub struct SetLeft {
+    /// The bytes of the firmware's table.
+    pub nfit: Items<u8>,
+    /// The words of the modules' label areas and contents.
+    pub images: Images,
+    /// The bytes of the modules' lists of bad ranges.
+    pub bad: Items<Option<Items<u8>>>,
+}
+
+/// The label areas without that of a module, which comes beside them.
+fn without_area(
+    labels: Items<Option<CutWords>>,
+    module: u32,
+) -> (Items<Option<CutWords>>, Option<CutWords>)
+    ensures rest { result.0 ≡ slice_set labels «module» None }
+    ensures area { result.1 ≡ slice_index_or labels «module» None }
+{
+    let mut labels = labels.into_vec();
+    let area = match labels.get_mut(module as usize) {
+        Some(area) => area.take(),
+        None => None,
+    };
+    (Items::from_vec(labels), area)
+}
+
+/// The label areas with these words as that of a module.
+fn with_area(
+    labels: Items<Option<CutWords>>,
+    module: u32,
+    area: CutWords,
+) -> Items<Option<CutWords>>
+    requires { «module» < length labels }
+    ensures { result ≡ slice_set labels «module» (Some area) }
+{
+    let mut labels = labels.into_vec();
+    labels[module as usize] = Some(area);
+    Items::from_vec(labels)
+}
+
+impl Loaded {
+    /// Takes a module's label area out, where there is one: `None` where the table doesn't name the
+    /// module, or it has no label area.
+    ///
+    /// - `area`, `settled`: its bytes are the area's; it has a label area's size, and no word of it is
+    ///   pending.
+    /// - `sound`, `others`: the rest of the set is sound, and with a label area put back it is the set
+    ///   with that label area in place of the one that was taken.
+    pub fn take_area(self, module: u32) -> (Loaded, Option<CutWords>)
+        requires { IsSound self }
+        ensures area { option_map bytes_kept result.1 ≡ area_of (image_set_in self) «module» }
+        ensures settled { IsArea result.1 }
+        ensures sound { IsSound result.0 }
+        ensures others { (bytes : List ℕ) → with_area (image_set_in result.0) «module» bytes
+            ≡ with_area (image_set_in self) «module» bytes }
+        ensures count { length result.0.labels ≡ length self.labels }
+    {
+        let (labels, area) = without_area(self.labels, module);
+        let loaded = Loaded {
+            nfit: self.nfit,
+            nfit_bytes: self.nfit_bytes,
+            labels,
+            contents: self.contents,
+            bad: self.bad,
+        };
+        (loaded, area)
+    }
+
+    /// What a power cut leaves of the set in which these words stand for the label area of a module,
+    /// which the table names. Where none of the words is pending, they stay as they are.
+    ///
+    /// `left`: the chooser is asked for the words of this area alone, since no other word is pending; all
+    /// other objects are left as they were. The one error is want of memory.
+    pub fn leave_area<C: Chooser>(
+        self,
+        alloc: Global,
+        module: u32,
+        area: CutWords,
+        choose: &mut C,
+    ) -> Result<SetLeft, AllocError>
+        requires sound { IsSound self }
+        requires named { «module» < length self.labels }
+        ensures left { IfOk result (LeavesArea C.picks self «module» area choose.old choose.new) }
+        ensures savable { IfOk result IsSavable }
+    {
+        let labels = with_area(self.labels, module, area);
+        let images = leave_all(alloc, labels, self.contents, Vec::new(alloc), choose)?;
+        Ok(SetLeft {
+            nfit: self.nfit_bytes,
+            images,
+            bad: self.bad,
+        })
+    }
+}
+
+impl SetLeft {
+    /// Saves the set, as `save` does.
+    pub fn save<K: ImageSink>(&self, alloc: Global, out: &mut K) -> Result<(), SaveFault>
+        requires empty { ForSome (K.made out.old) IsEmptySet }
+        requires savable { IsSavable self.now }
+        ensures told { Becomes (K.made out.old) (K.made out.new) (λ set now. MatchResult result
+            (λ _. IsSameSet now (objects_in self.now)) (λ _. IsUnfinished set now)) }
+        ensures kept { OnOk result (Keeps (K.kept out.old) (K.kept out.new) (λ set now. IsEmptySet set
+            → IsSameSet now (objects_in self.now))) }
+        ensures failed { result ≡ Err SaveFault.WriteFault → Rose (K.faults out.old) (K.faults out.new) }
+        ensures later { K.faults out.old ≤ K.faults out.new }
+        ensures untouched { result ≡ Err SaveFault.OutOfMemory → out.new ≡ out.old }
+    {
+        save(
+            alloc,
+            self.nfit.as_slice(),
+            &self.images,
+            self.bad.as_slice(),
+            out,
+        )
+    }
+}
