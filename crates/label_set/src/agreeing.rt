@@ -8,7 +8,7 @@ use crate::rules::{agrees, is_local, is_updating, same_name};
 use interleave::InterleaveSet;
 use label_codec::Name;
 
-/// Whether a label has the flag LOCAL.
+/// Whether a label has the flag LOCAL (UEFI 2.10, section 13.19, Flags): the namespace is one module's own.
 pub fn some_local(labels: &[Placed]) -> bool
     ensures { result ≡ list_any is_local labels.now }
 {

@@ -20,5 +20,7 @@ mod least;
 mod placed;
 mod rules;
 
+pub use agreeing::some_local;
 pub use deciding::status;
 pub use placed::{Field, Placed, SetStatus, Why};
+pub use rules::is_outside;

@@ -66,8 +66,9 @@ fn leaves(start: u64, span: u64, placed: &Placed) -> bool
     label.dpa < start || label.raw > span || label.dpa - start > span - label.raw
 }
 
-/// Whether a label's module isn't in the set, or its extent isn't inside the mapping.
-fn is_outside(set: &InterleaveSet, placed: &Placed) -> bool
+/// Whether a label's module isn't in the set, or its extent isn't inside the mapping of that module
+/// (UEFI 2.10, section 13.19, Dpa and RawSize).
+pub fn is_outside(set: &InterleaveSet, placed: &Placed) -> bool
     ensures { result ≡ is_outside set.now placed.now }
 {
     match start_of(set, placed.module) {
