@@ -1,0 +1,7 @@
+mod Rows
+mod Refusals
+pub mod Fronts
+pub mod Slots
+pub mod Areas
+pub mod Labels
+pub mod Others
