@@ -1,0 +1,5 @@
+pub mod Left
+pub mod Laws
+pub mod Whole
+pub mod Apart
+pub mod Recovered
