@@ -1,0 +1,16 @@
+//! The recovery of namespaces, as a step on their map and as changes of labels.
+//!
+//! Recovery finishes what a power cut left of commands: it removes the labels of **unfinished** entries, and
+//! rewrites the labels of **pending** ones without UPDATING, under the entry's name. A label on a module
+//! without a free slot can't be rewritten and stays. It is defined twice (`namespace_changes`): as a step on
+//! the map of entries, `recovered`, and as a list of label changes, `recovery_changes`, many UUIDs one after
+//! another. The law here says that both come to the same, for any number of entries of any status.
+//!
+//! | promise | law | statement |
+//! |---|---|---|
+//! | recovery's changes make of the areas what recovery makes of the map | [`recovery_is_its_changes`] | `RecoveryAgrees` of `specs/Recovery.antt` |
+#![tactic(auto)]
+
+mod recovering;
+
+pub use recovering::recovery_is_its_changes;
