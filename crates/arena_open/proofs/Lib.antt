@@ -1,0 +1,21 @@
+pub mod Apart
+pub mod Written
+pub mod Cuts
+pub mod Bytes
+pub mod Counts
+pub mod Runs
+pub mod Ranges
+pub mod New
+pub mod Formatted
+pub mod Groups
+pub mod Pending
+pub mod Opening
+pub mod Turns
+pub mod Recovering
+pub mod Answering
+pub mod OnceMore
+pub mod Rewritten
+pub mod Again
+pub mod States
+pub mod Sectors
+mod Rows

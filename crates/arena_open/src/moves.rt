@@ -1,0 +1,102 @@
+//! Pending moves: which there are, the map with them, and the blocks that are free.
+ghost use Rattle.std.specs.Prelude.{◌≡◌, ◌≢◌, ℕ, ◌+◌, ◌^◌, ◌<◌, ◌≤◌, length, All, IfOk, map};
+ghost use Rattle.nvd_words.specs.Checks.{Answers};
+ghost use Rattle.flog.specs.declared.half.Half.{Half};
+ghost use Rattle.flog.specs.declared.group.Group.{Group};
+ghost use Rattle.arena_open.specs.Reading.{free_of, is_pending, moved, moves_of, opened_with, on_map};
+ghost use Rattle.map_table.specs.Blocks.{block_check, blocks_of};
+ghost use Rattle.arena_open.specs.Halves.{AreInRange, AreMoves, IsInRange, IsMove};
+
+use crate::opened::Opened;
+use crate::refused::OpenRefused;
+use arena_layout::Info;
+use flog::{Group, Half};
+use map_table::{BlockFault, check_blocks, entry, normal};
+use nvd_words::Items;
+use std::alloc::{AllocError, Global};
+
+/// Whether a half names a move that the map doesn't show.
+fn is_pending(entries: &[u32], half: &Half) -> bool
+    requires { IsInRange (length entries.now) half.now }
+    ensures { result ≡ is_pending entries.now half.now }
+{
+    half.old != half.new && entry(entries[half.lba as usize], half.lba).block == half.old
+}
+
+/// The pending moves, in order of lanes, all by one map.
+fn pending_moves(
+    alloc: Global,
+    entries: &[u32],
+    groups: &[Group],
+) -> Result<Items<Half>, AllocError>
+    requires { AreInRange (length entries.now) groups.now }
+    ensures { IfOk result (λ moves. moves ≡ moves_of entries.now groups.now) }
+{
+    let mut moves = Items::new(alloc);
+    for group in groups {
+        if is_pending(entries, &group.half) {
+            moves.push(group.half)?;
+        }
+    }
+    Ok(moves)
+}
+
+/// The lanes' free blocks.
+fn free_blocks(alloc: Global, groups: &[Group]) -> Result<Vec<u32>, AllocError>
+    ensures { IfOk result (λ free. free.items ≡ free_of groups.now) }
+{
+    groups.iter().map(|group| group.half.old).collect(alloc)
+}
+
+/// Makes moves in a map, one after another.
+fn make_moves(entries: &mut [u32], moves: &[Half])
+    requires { AreMoves (length entries.old) moves.now }
+    ensures { entries.new ≡ moved entries.old moves.now }
+{
+    for half in moves {
+        entries[half.lba as usize] = normal(half.new);
+    }
+}
+
+/// Whether the blocks of a map and the free ones are each named once.
+fn check_map(
+    alloc: Global,
+    entries: &[u32],
+    groups: &[Group],
+    internal: u32,
+) -> Result<(), BlockFault>
+    requires { length entries.now ≤ 2 ^ 32 }
+    ensures { Answers BlockFault.OutOfMemory result (block_check internal (blocks_of entries.now (free_of groups.now))) }
+{
+    match free_blocks(alloc, groups) {
+        Ok(free) => check_blocks(alloc, entries, &free, internal),
+        Err(_) => Err(BlockFault::OutOfMemory),
+    }
+}
+
+/// What an arena stands for by its map as read and its lanes' halves.
+pub(crate) fn with_moves(
+    alloc: Global,
+    info: Info,
+    groups: Items<Group>,
+    mut entries: Vec<u32>,
+) -> Result<Opened, OpenRefused>
+    requires few { length entries.items ≤ 2 ^ 30 }
+    requires in_range { AreInRange (length entries.items) groups }
+    ensures { Answers OpenRefused.OutOfMemory result (on_map info groups entries.items) }
+{
+    let Ok(moves) = pending_moves(alloc, &entries, groups.as_slice()) else {
+        return Err(OpenRefused::OutOfMemory);
+    };
+    make_moves(&mut entries, moves.as_slice());
+    match check_map(alloc, &entries, groups.as_slice(), info.layout.internal) {
+        Ok(()) => Ok(Opened {
+            info,
+            groups,
+            entries: Items::from_vec(entries),
+            moves,
+        }),
+        Err(BlockFault::OutOfMemory) => Err(OpenRefused::OutOfMemory),
+        Err(fault) => Err(OpenRefused::Block(fault)),
+    }
+}

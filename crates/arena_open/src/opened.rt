@@ -1,0 +1,24 @@
+use arena_layout::Info;
+use flog::{Group, Half};
+use nvd_words::Items;
+
+/// What an arena's words stand for.
+#[derive(Debug, Drop)]
+pub struct Opened {
+    pub info: Info,
+    /// Each lane's current half.
+    pub groups: Items<Group>,
+    /// The map's entries with the pending moves made.
+    pub entries: Items<u32>,
+    /// The moves that are pending in the map as it was read, in order of lanes.
+    pub moves: Items<Half>,
+}
+
+/// A lane between two writes.
+#[derive(Clone, Copy, Debug, PartialEq, Eq)]
+pub struct LaneState {
+    /// The lane's free block.
+    pub free: u32,
+    /// Its current half, and the side at which that stands.
+    pub group: Group,
+}
