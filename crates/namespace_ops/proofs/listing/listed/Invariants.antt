@@ -1,0 +1,8 @@
+use Rattle.std.proofs.Common.{◌≡◌, ◌++◌, map}
+use Rattle.std.specs.List.{filter_map}
+use Rattle.namespaces.specs.Namespaces.{entries_of, namespace_of}
+use Rattle.namespace_ops.specs.Groups.{namespace_in}
+use Rattle.namespace_ops.proofs.listing.listed.Given as goal
+
+abbrev pub invariant-loop-group : goal.invariant-loop-group
+invariant-loop-group l = l.listed ++ filter_map (λ v. namespace_in l.sets v.items) l.group-iterator ≡ map (λ e. namespace_of e 0) (entries_of l.sets l.labels)
