@@ -1,11 +1,20 @@
 -- Each status has its cause.
-use Rattle.std.proofs.Common.{◌≡◌, ℕ, List, [], Option, Some, None, Result, Ok, Err, refl, sym, ap, ◌∙◌, subst, inl, inr}
-use Rattle.std.specs.Prelude.{◌⊎◌, MatchOption}
+use Rattle.std.proofs.Common.{◌≡◌, ℕ, ◌*◌, ◌/◌, Bool, true, false, List, [], length, Option, Some, None, Result, Ok, Err, refl, sym, ap, ◌∙◌, subst, inl, inr, arith}
+use Rattle.std.specs.Prelude.{◌⊎◌, not, MatchOption, if◌then◌else◌}
+use Rattle.std.proofs.lemmas.Bool.{cases_Bool}
 use Rattle.nvd_media.specs.Images.{Images}
+use Rattle.cut_words.specs.Words.{Words}
+use Rattle.cut_words.specs.Fuses.{lasts}
+use Rattle.cut_words.specs.WordBytes.{bytes_of}
+use Rattle.cut_words.proofs.Bytes.{length_bytes}
 use Rattle.label_index.specs.declared.index.IndexBlock.{IndexBlock}
 use Rattle.label_area.specs.declared.fault.AreaFault.{AreaFault}
 use Rattle.label_area.specs.declared.fault.AreaFault.TheVariants.{Unsupported, NoIndex, OutOfMemory, AlreadyInitialised, PowerCut}
 use Rattle.label_area.specs.Area.{block_in}
+use Rattle.label_area.specs.Initialise.{initialised, initialised_by, init_count}
+use Rattle.label_area.proofs.Blocks.{read_fault}
+use Rattle.namespaces.specs.declared.listed.Namespace.{Namespace}
+use Rattle.namespace_ops.specs.declared.registry.OpenFault.{OpenFault}
 use Rattle.image_set.specs.declared.fault.LoadFault.{LoadFault}
 use Rattle.image_set.specs.Load.{ImageSet, area_of, loading}
 use Rattle.nvdimm_shell.specs.declared.status.Ending.{Ending}
@@ -13,17 +22,22 @@ use Rattle.nvdimm_shell.specs.declared.status.Ending.TheVariants as ending
 use Rattle.nvdimm_shell.specs.declared.status.Status.{Status}
 use Rattle.nvdimm_shell.specs.declared.status.Status.TheVariants as status
 use Rattle.nvdimm_shell.specs.declared.words.Command.{Command}
-use Rattle.nvdimm_shell.specs.declared.words.Command.TheVariants.{Labels, Nfit}
+use Rattle.nvdimm_shell.specs.declared.words.Command.TheVariants.{Labels, Nfit, Init}
+use Rattle.nvdimm_shell.specs.declared.words.Command.TheVariants as command
+use Rattle.nvdimm_shell.specs.declared.words.Power.{Power}
 use Rattle.nvdimm_shell.specs.Words.{command_of}
 use Rattle.nvdimm_shell.specs.Outcome.{Outcome, usage, status_of}
-use Rattle.nvdimm_shell.specs.LoadFaults.{on_loaded}
 use Rattle.nvdimm_shell.specs.Labels.{module_outcome, found_outcome, fault_outcome}
-use Rattle.nvdimm_shell.specs.Run.{loaded_outcome, ComesTold, IsDue}
-use Rattle.nvdimm_shell.specs.Laws.{IsRefusedArea, IsAcceptedArea, IsRefusedFor, IsAcceptedFor, HasTableCause, EachStatusHasItsCause, AcceptedIsOk}
+use Rattle.nvdimm_shell.specs.Init.{InitArea, InitComes, InitModule, not_initialised}
+use Rattle.nvdimm_shell.specs.List.{listed_of, listed_outcome}
+use Rattle.nvdimm_shell.specs.Run.{LoadedComes, OnLoaded, ComesTold, IsDue}
+use Rattle.nvdimm_shell.specs.Laws.{IsRefusedArea, IsAcceptedArea, IsKeptArea, IsBlankArea, IsRefusedFor, IsAcceptedFor, is_cut, is_short, HasTableCause, EachStatusHasItsCause, AcceptedIsOk}
 
--- the two ways in which a command on images is answered
-abbrev CommandCase : Command → Result ImageSet LoadFault → Ending → Type 0
-CommandCase command found e = (IsRefusedFor command found × (e ≡ ending.Image)) ⊎ (IsAcceptedFor command found × (e ≡ ending.Done))
+-- the three ways in which a command on images is answered
+data CommandCase (command : Command) (found : Result ImageSet LoadFault) (e : Ending) : Type 0 where
+  is_refused : IsRefusedFor command found → e ≡ ending.Image → CommandCase command found e
+  is_done : IsAcceptedFor command found → is_cut command found ≡ false → e ≡ ending.Done → CommandCase command found e
+  is_cut_short : IsAcceptedFor command found → is_cut command found ≡ true → e ≡ ending.PowerCut → CommandCase command found e
 
 abbrev AreaCase : Option (List ℕ) → Ending → Type 0
 AreaCase found e = (IsRefusedArea found × (e ≡ ending.Image)) ⊎ (IsAcceptedArea found × (e ≡ ending.Done))
@@ -35,6 +49,13 @@ fault_ending m OutOfMemory = refl
 fault_ending m (AlreadyInitialised seq) = refl
 fault_ending m PowerCut = refl
 
+kept_ending : (m : ℕ) (fault : AreaFault) → (not_initialised m fault).ending ≡ ending.Image
+kept_ending m (Unsupported major minor) = refl
+kept_ending m NoIndex = refl
+kept_ending m OutOfMemory = refl
+kept_ending m (AlreadyInitialised seq) = refl
+kept_ending m PowerCut = refl
+
 area_case : (m : ℕ) (area : List ℕ) (found : Result IndexBlock AreaFault) → block_in area ≡ found → AreaCase (Some area) (found_outcome m area found).ending
 area_case m area (Ok block) is = inr ((area, refl, (block, is)), refl)
 area_case m area (Err fault) is = inl (inr (area, refl, (fault, is)), fault_ending m fault)
@@ -43,63 +64,145 @@ module_case : (m : ℕ) (found : Option (List ℕ)) → AreaCase found (module_o
 module_case m None = inl (inl refl, refl)
 module_case m (Some area) = area_case m area (block_in area) refl
 
-command_case : (command : Command) (found : Result ImageSet LoadFault) → CommandCase command found (on_loaded (loaded_outcome command) found).ending
-command_case command (Err fault) = inl (tt, refl)
-command_case (Labels m) (Ok loaded) = module_case m (area_of loaded m)
-command_case Nfit (Ok loaded) = inr (tt, refl)
+labels_case : (m : ℕ) (loaded : ImageSet) (e : Ending) → AreaCase (area_of loaded m) e → CommandCase (Labels m) (Ok loaded) e
+labels_case m loaded e (inl refused) = is_refused refused.0 refused.1
+labels_case m loaded e (inr accepted) = is_done accepted.0 refl accepted.1
 
--- what is due for a command, whatever the script
-command_due : (command : Command) (set : Images) (left : Option (List ℕ)) (outcome : Outcome) → ComesTold command (Some set) left outcome
-    → outcome ≡ on_loaded (loaded_outcome command) (loading set)
-command_due (Labels m) set left outcome comes = comes set [] refl (λ reads. absurd (let e = reads in cc))
-command_due Nfit set left outcome comes = comes set [] refl (λ reads. absurd (let e = reads in cc))
+list_case : (loaded : ImageSet) (found : Result (List Namespace) OpenFault) → listed_of loaded ≡ found → CommandCase command.List (Ok loaded) (listed_outcome found).ending
+list_case loaded (Ok namespaces) is = is_done (namespaces, is) refl refl
+list_case loaded (Err fault) is = is_refused (fault, is) refl
 
--- the ways in which an outcome is due
-abbrev DueCase : List (List ℕ) → Images → Outcome → Type 0
-DueCase words set outcome =
-    ((command_of words ≡ None) × (outcome.ending ≡ ending.Usage))
-    ⊎ ((command : Command) × (command_of words ≡ Some command) × CommandCase command (loading set) outcome.ending)
+ending_of : (a b : Outcome) → a ≡ b → a.ending ≡ b.ending
+ending_of a b is = ap (λ (o : Outcome). o.ending) is
 
-due_by : (words : List (List ℕ)) (set : Images) (left : Option (List ℕ)) (outcome : Outcome) (found : Option Command) → command_of words ≡ found
-    → MatchOption found (outcome ≡ usage) (λ command. ComesTold command (Some set) left outcome) → DueCase words set outcome
-due_by words set left outcome None is due = inl (is, ap (λ (o : Outcome). o.ending) due)
-due_by words set left outcome (Some command) is due =
-    inr (command, is, subst (CommandCase command (loading set)) (sym (ap (λ (o : Outcome). o.ending) (command_due command set left outcome due))) (command_case command (loading set)))
+-- ---- `init`
 
-status_case : (words : List (List ℕ)) (set : Images) (outcome : Outcome) (s : Status) → DueCase words set outcome → status_of outcome.ending ≡ s → HasTableCause words set s
-status_case words set outcome s (inl u) is = subst (HasTableCause words set) (sym (ap status_of u.1) ∙ is) u.0
-status_case words set outcome s (inr (command, said, inl refused)) is = subst (HasTableCause words set) (sym (ap status_of refused.1) ∙ is) (command, said, refused.0)
-status_case words set outcome s (inr (command, said, inr accepted)) is = subst (HasTableCause words set) (sym (ap status_of accepted.1) ∙ is) (command, said, accepted.0)
+-- the words of an area are an eighth of its bytes
+pub words_in_area : (values area : List ℕ) → bytes_of values ≡ area → length area / 8 ≡ length values
+words_in_area values area is = let e = length_bytes values in let f = ap (λ (xs : List ℕ). length xs) is in omega arith
 
-pub each_status : EachStatusHasItsCause
-each_status words set left made made' text text' status.ReadFault ends = tt
-each_status words set left made made' text text' status.WriteFault ends = tt
-each_status words set left made made' text text' status.OutOfMemory ends = tt
-each_status words set left made made' text text' other ends =
-    status_case words set ends.0 other (due_by words set left ends.0 (command_of words) refl ends.1) ends.2
+-- a module's area that has no index block, with power lasting or not
+data InitCase (steps : Option ℕ) (found : Option (List ℕ)) (e : Ending) : Type 0 where
+  is_kept : IsKeptArea found → e ≡ ending.Image → InitCase steps found e
+  is_blank : IsBlankArea found → is_short steps found ≡ false → e ≡ ending.Done → InitCase steps found e
+  is_blank_short : IsBlankArea found → is_short steps found ≡ true → e ≡ ending.PowerCut → InitCase steps found e
 
-area_ending : (m : ℕ) (found : Option (List ℕ)) → IsAcceptedArea found → (module_outcome m found).ending ≡ ending.Done
-area_ending m None accepted = absurd (let e = accepted.1 in cc)
-area_ending m (Some area) accepted =
-    let same : accepted.0 ≡ area = let e = accepted.1 in cc in
-    let block : block_in area ≡ Ok accepted.2.0 = subst (λ (xs : List ℕ). block_in xs ≡ Ok accepted.2.0) same accepted.2.1 in
-    ap (λ (r : Result IndexBlock AreaFault). (found_outcome m area r).ending) block
+module _ (leaves : ℕ → Words → List ℕ → Type 0) (m : ℕ) (power : Power) (loaded : ImageSet) (outcome : Outcome) where
+  blank_case : (values area : List ℕ) → bytes_of values ≡ area → block_in area ≡ Err NoIndex → (b : Bool) → lasts power.steps (init_count (length values)) ≡ b
+      → InitArea leaves m power loaded (initialised_by values power.steps (Err NoIndex)) outcome → InitCase power.steps (Some area) outcome.ending
+  blank_case values area is none true long comes =
+      is_blank (area, refl, none) (ap (λ (n : ℕ). not (lasts power.steps (init_count n))) (words_in_area values area is) ∙ ap not long)
+      (let done = rw long at comes in done.ends)
+  blank_case values area is none false short comes =
+      is_blank_short (area, refl, none) (ap (λ (n : ℕ). not (lasts power.steps (init_count n))) (words_in_area values area is) ∙ ap not short)
+      (let cut = rw short at comes in cut.2.ends)
 
-accepted_ending : (command : Command) (found : Result ImageSet LoadFault) → IsAcceptedFor command found → (on_loaded (loaded_outcome command) found).ending ≡ ending.Done
-accepted_ending command (Err fault) accepted = absurd accepted
-accepted_ending (Labels m) (Ok loaded) accepted = area_ending m (area_of loaded m) accepted
-accepted_ending Nfit (Ok loaded) accepted = refl
+  found_case : (values area : List ℕ) → bytes_of values ≡ area → (found : Result IndexBlock AreaFault) → block_in area ≡ found
+      → InitArea leaves m power loaded (initialised_by values power.steps found) outcome → InitCase power.steps (Some area) outcome.ending
+  found_case values area is (Ok block) read comes = is_kept (inr (area, refl, λ none. (let e = sym read ∙ none in cc))) (ending_of outcome _ comes ∙ kept_ending m (AlreadyInitialised block.seq))
+  found_case values area is (Err NoIndex) read comes = blank_case values area is read (lasts power.steps (init_count (length values))) refl comes
+  found_case values area is (Err (Unsupported major minor)) read comes = is_kept (inr (area, refl, λ none. (let e = sym read ∙ none in cc))) (ending_of outcome _ comes ∙ kept_ending m (Unsupported major minor))
+  found_case values area is (Err OutOfMemory) read comes = is_kept (inr (area, refl, λ none. (let e = sym read ∙ none in cc))) (ending_of outcome _ comes ∙ kept_ending m OutOfMemory)
+  found_case values area is (Err (AlreadyInitialised seq)) read comes = is_kept (inr (area, refl, λ none. (let e = sym read ∙ none in cc))) (ending_of outcome _ comes ∙ kept_ending m (AlreadyInitialised seq))
+  found_case values area is (Err PowerCut) read comes = absurd (read_fault area PowerCut read refl)
 
-due_ending : (words : List (List ℕ)) (command : Command) (set : Images) (left : Option (List ℕ)) (outcome : Outcome) → command_of words ≡ Some command
-    → IsAcceptedFor command (loading set) → IsDue words (Some set) left outcome → outcome.ending ≡ ending.Done
-due_ending words command set left outcome said accepted due =
-    let comes : ComesTold command (Some set) left outcome =
-    subst (λ (o : Option Command). MatchOption o (outcome ≡ usage) (λ c. ComesTold c (Some set) left outcome)) said due in
-    ap (λ (o : Outcome). o.ending) (command_due command set left outcome comes) ∙ accepted_ending command (loading set) accepted
+  init_case : (found : Option (List ℕ)) → InitModule leaves m power loaded found outcome → InitCase power.steps found outcome.ending
+  init_case None comes = is_kept (inl refl) (ending_of outcome _ comes)
+  init_case (Some area) (values, is, comes) = found_case values area is (block_in area) refl
+      (subst (λ (xs : List ℕ). InitArea leaves m power loaded (initialised_by values power.steps (block_in xs)) outcome) is comes)
 
-pub accepted : AcceptedIsOk
-accepted words command set left made made' text text' status.ReadFault said images ends = inr tt
-accepted words command set left made made' text text' status.WriteFault said images ends = inr tt
-accepted words command set left made made' text text' status.OutOfMemory said images ends = inr tt
-accepted words command set left made made' text text' other said images ends =
-    inl (sym ends.2 ∙ ap status_of (due_ending words command set left ends.0 said images ends.1))
+init_command : (m : ℕ) (power : Power) (loaded : ImageSet) (e : Ending) → InitCase power.steps (area_of loaded m) e → CommandCase (Init m power) (Ok loaded) e
+init_command m power loaded e (is_kept kept image) = is_refused kept image
+init_command m power loaded e (is_blank blank long done) = is_done blank long done
+init_command m power loaded e (is_blank_short blank short cut) = is_cut_short blank short cut
+
+-- ---- any command
+
+module _ (leaves : ℕ → Words → List ℕ → Type 0) where
+  command_case : (command : Command) (found : Result ImageSet LoadFault) (outcome : Outcome) → OnLoaded (LoadedComes leaves command) found outcome → CommandCase command found outcome.ending
+  command_case command (Err fault) outcome comes = is_refused tt (ending_of outcome _ comes)
+  command_case (Labels m) (Ok loaded) outcome comes =
+      subst (λ (e : Ending). CommandCase (Labels m) (Ok loaded) e) (sym (ending_of outcome _ comes)) (labels_case m loaded (module_outcome m (area_of loaded m)).ending (module_case m (area_of loaded m)))
+  command_case Nfit (Ok loaded) outcome comes = is_done tt refl (ending_of outcome _ comes)
+  command_case command.List (Ok loaded) outcome comes =
+      subst (λ (e : Ending). CommandCase command.List (Ok loaded) e) (sym (ending_of outcome _ comes)) (list_case loaded (listed_of loaded) refl)
+  command_case (Init m power) (Ok loaded) outcome comes = init_command m power loaded outcome.ending (init_case leaves m power loaded outcome (area_of loaded m) comes)
+
+  -- what is due for a command, whatever the script
+  command_due : (command : Command) (set : Images) (left : Option (List ℕ)) (outcome : Outcome) → ComesTold leaves command (Some set) left outcome
+      → OnLoaded (LoadedComes leaves command) (loading set) outcome
+  command_due (Labels m) set left outcome comes = comes set [] refl (λ reads. absurd (let e = reads in cc))
+  command_due Nfit set left outcome comes = comes set [] refl (λ reads. absurd (let e = reads in cc))
+  command_due command.List set left outcome comes = comes set [] refl (λ reads. absurd (let e = reads in cc))
+  command_due (Init m power) set left outcome comes = comes set [] refl (λ reads. absurd (let e = reads in cc))
+
+  -- the ways in which an outcome is due
+  abbrev DueCase : List (List ℕ) → Images → Outcome → Type 0
+  DueCase words set outcome =
+      ((command_of words ≡ None) × (outcome.ending ≡ ending.Usage))
+      ⊎ ((command : Command) × (command_of words ≡ Some command) × CommandCase command (loading set) outcome.ending)
+
+  due_by : (words : List (List ℕ)) (set : Images) (left : Option (List ℕ)) (outcome : Outcome) (found : Option Command) → command_of words ≡ found
+      → MatchOption found (outcome ≡ usage) (λ command. ComesTold leaves command (Some set) left outcome) → DueCase words set outcome
+  due_by words set left outcome None is due = inl (is, ending_of outcome _ due)
+  due_by words set left outcome (Some command) is due = inr (command, is, command_case command (loading set) outcome (command_due command set left outcome due))
+
+  by_command : (words : List (List ℕ)) (set : Images) (command : Command) (e : Ending) (s : Status) → command_of words ≡ Some command → CommandCase command (loading set) e → status_of e ≡ s
+      → HasTableCause words set s
+  by_command words set command e s said (is_refused refused image) is = subst (HasTableCause words set) (sym (ap status_of image) ∙ is) (command, said, refused)
+  by_command words set command e s said (is_done accepted long done) is = subst (HasTableCause words set) (sym (ap status_of done) ∙ is) (command, said, accepted, long)
+  by_command words set command e s said (is_cut_short accepted short cut) is = subst (HasTableCause words set) (sym (ap status_of cut) ∙ is) (command, said, accepted, short)
+
+  status_case : (words : List (List ℕ)) (set : Images) (outcome : Outcome) (s : Status) → DueCase words set outcome → status_of outcome.ending ≡ s → HasTableCause words set s
+  status_case words set outcome s (inl u) is = subst (HasTableCause words set) (sym (ap status_of u.1) ∙ is) u.0
+  status_case words set outcome s (inr (command, said, answered)) is = by_command words set command outcome.ending s said answered is
+
+  pub each_status : EachStatusHasItsCause leaves
+  each_status words set left made made' text text' status.ReadFault ends = tt
+  each_status words set left made made' text text' status.WriteFault ends = tt
+  each_status words set left made made' text text' status.OutOfMemory ends = tt
+  each_status words set left made made' text text' other ends =
+      status_case words set ends.0 other (due_by words set left ends.0 (command_of words) refl ends.1) ends.2
+
+  -- ---- completeness
+
+  not_both : (found : Option (List ℕ)) → IsRefusedArea found → IsAcceptedArea found → ⊥
+  not_both found (inl none) (area, is, block) = let e = sym none ∙ is in cc
+  not_both found (inr (refused, at_refused, (fault, read))) (area, is, (block, reads)) =
+      let same : Some refused ≡ Some area = sym at_refused ∙ is in
+      let one : refused ≡ area = (let e = same in cc) in
+      let both : Err fault ≡ Ok block = sym read ∙ ap block_in one ∙ reads in
+      (let e = both in cc)
+
+  not_both_blank : (found : Option (List ℕ)) → IsKeptArea found → IsBlankArea found → ⊥
+  not_both_blank found (inl none) (area, is, blank) = let e = sym none ∙ is in cc
+  not_both_blank found (inr (kept, at_kept, read)) (area, is, blank) =
+      let same : Some kept ≡ Some area = sym at_kept ∙ is in
+      let one : kept ≡ area = (let e = same in cc) in
+      read (ap block_in one ∙ blank)
+
+  apart : (command : Command) (found : Result ImageSet LoadFault) → IsRefusedFor command found → IsAcceptedFor command found → ⊥
+  apart command (Err fault) refused accepted = accepted
+  apart (Labels m) (Ok loaded) refused accepted = not_both (area_of loaded m) refused accepted
+  apart Nfit (Ok loaded) refused accepted = refused
+  apart command.List (Ok loaded) (fault, refused) (namespaces, accepted) = let e = sym refused ∙ accepted in cc
+  apart (Init m power) (Ok loaded) refused accepted = not_both_blank (area_of loaded m) refused accepted
+
+  done_case : (command : Command) (found : Result ImageSet LoadFault) (e : Ending) → CommandCase command found e → IsAcceptedFor command found → is_cut command found ≡ false → e ≡ ending.Done
+  done_case command found e (is_refused refused image) accepted long = absurd (apart command found refused accepted)
+  done_case command found e (is_done also long' done) accepted long = done
+  done_case command found e (is_cut_short also short cut) accepted long = absurd (let b = sym short ∙ long in cc)
+
+  due_ending : (words : List (List ℕ)) (command : Command) (set : Images) (left : Option (List ℕ)) (outcome : Outcome) → command_of words ≡ Some command
+      → IsAcceptedFor command (loading set) → is_cut command (loading set) ≡ false → IsDue leaves words (Some set) left outcome → outcome.ending ≡ ending.Done
+  due_ending words command set left outcome said accepted long due =
+      let comes : ComesTold leaves command (Some set) left outcome =
+      subst (λ (o : Option Command). MatchOption o (outcome ≡ usage) (λ c. ComesTold leaves c (Some set) left outcome)) said due in
+      done_case command (loading set) outcome.ending (command_case command (loading set) outcome (command_due command set left outcome comes)) accepted long
+
+  pub accepted : AcceptedIsOk leaves
+  accepted words command set left made made' text text' status.ReadFault said images long ends = inr tt
+  accepted words command set left made made' text text' status.WriteFault said images long ends = inr tt
+  accepted words command set left made made' text text' status.OutOfMemory said images long ends = inr tt
+  accepted words command set left made made' text text' other said images long ends =
+      inl (sym ends.2 ∙ ap status_of (due_ending words command set left ends.0 said images long ends.1))

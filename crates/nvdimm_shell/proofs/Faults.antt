@@ -6,8 +6,8 @@ use Rattle.label_area.specs.declared.fault.AreaFault.{AreaFault}
 use Rattle.label_area.specs.declared.fault.AreaFault.TheVariants.{OutOfMemory}
 use Rattle.label_area.specs.Area.{block_in}
 use Rattle.nvdimm_shell.specs.declared.outcome.Answer.{Answer}
-use Rattle.nvdimm_shell.specs.Outcome.{outcome_of}
 use Rattle.nvdimm_shell.specs.Labels.{fault_outcome, found_outcome, area_outcome}
+use Rattle.nvdimm_shell.specs.Saved.{outcome_of}
 
 -- a fault that is a finding is the area's
 pub fault_said : {E : Type 0} (r : Result Answer E) (m : ℕ) (area : List ℕ) (fault : AreaFault) (read : Result IndexBlock AreaFault) → read ≡ Err fault

@@ -3,4 +3,7 @@ pub mod Causes
 pub mod Utf8
 pub mod Faults
 pub mod Regions
+pub mod InitLeaves
+pub mod Parts
+pub mod Listing
 pub mod Rows

@@ -2,7 +2,7 @@
 use Rattle.std.specs.Prelude.{List, [], ◌∷◌, ℕ, Option, Some, None, if◌then◌else◌, codes}
 use Rattle.std.specs.Str.{bytes_eq}
 use Rattle.command_words.specs.App.{Described}
-use Rattle.command_words.specs.declared.argument.Form.TheVariants.{Place}
+use Rattle.command_words.specs.declared.argument.Form.TheVariants.{Place, Optional}
 use Rattle.nvdimm_shell.specs.declared.commands.Kind.{Kind}
 use Rattle.nvdimm_shell.specs.declared.commands.Kind.TheVariants as kind
 
@@ -11,9 +11,13 @@ unfoldable pub kind_of : List ℕ → Option Kind
 kind_of name =
     if bytes_eq name (codes "labels") then Some kind.Labels
     else if bytes_eq name (codes "nfit") then Some kind.Nfit
+    else if bytes_eq name (codes "list") then Some kind.List
+    else if bytes_eq name (codes "init") then Some kind.Init
     else None
 
 -- the arguments of a command
 abbrev pub arguments_of : Kind → List Described
 arguments_of kind.Labels = (codes "module", Place) ∷ []
 arguments_of kind.Nfit = []
+arguments_of kind.List = []
+arguments_of kind.Init = (codes "module", Place) ∷ (codes "cut", Optional) ∷ (codes "evict", Optional) ∷ []

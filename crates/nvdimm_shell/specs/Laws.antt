@@ -1,16 +1,32 @@
 -- Laws about what a run comes to, in the words of the table of exit statuses.
-use Rattle.std.specs.Prelude.{◌≡◌, ◌⊎◌, ⊤, ℕ, List, Option, Some, None, Result, Ok, Err}
-use Rattle.nvd_media.specs.Images.{Images}
+use Rattle.std.specs.Prelude.{◌≡◌, ◌≢◌, ◌⊎◌, ⊤, ℕ, ◌/◌, Bool, true, false, not, List, length, Option, Some, None, Result, Ok, Err}
+use Rattle.nvd_media.specs.Images.{Images, IsSameSet}
+use Rattle.cut_words.specs.Words.{Words}
+use Rattle.cut_words.specs.Fuses.{lasts}
+use Rattle.cut_words.specs.WordBytes.{bytes_of}
 use Rattle.label_index.specs.declared.index.IndexBlock.{IndexBlock}
+use Rattle.label_index.specs.Area.{IsAreaSize}
 use Rattle.label_area.specs.declared.fault.AreaFault.{AreaFault}
+use Rattle.label_area.specs.declared.fault.AreaFault.TheVariants.{NoIndex}
 use Rattle.label_area.specs.Area.{block_in}
+use Rattle.label_area.specs.Init.{IsInitCut}
+use Rattle.label_area.specs.Initialise.{init_count, size_for, slots_for}
+use Rattle.label_area.specs.Whole.{steps_under}
+use Rattle.namespaces.specs.declared.listed.Namespace.{Namespace}
+use Rattle.namespace_ops.specs.declared.registry.OpenFault.{OpenFault}
 use Rattle.image_set.specs.declared.fault.LoadFault.{LoadFault}
 use Rattle.image_set.specs.Load.{ImageSet, area_of, loading}
+use Rattle.image_set.specs.Changed.{objects_of, with_area}
 use Rattle.nvdimm_shell.specs.declared.status.Status.{Status}
 use Rattle.nvdimm_shell.specs.declared.status.Status.TheVariants as status
 use Rattle.nvdimm_shell.specs.declared.words.Command.{Command}
-use Rattle.nvdimm_shell.specs.declared.words.Command.TheVariants.{Labels, Nfit}
+use Rattle.nvdimm_shell.specs.declared.words.Command.TheVariants.{Labels, Nfit, Init}
+use Rattle.nvdimm_shell.specs.declared.words.Command.TheVariants as command
+use Rattle.nvdimm_shell.specs.declared.words.Power.{Power}
 use Rattle.nvdimm_shell.specs.Words.{command_of}
+use Rattle.nvdimm_shell.specs.Outcome.{Outcome}
+use Rattle.nvdimm_shell.specs.Init.{LeavesBy, InitComes}
+use Rattle.nvdimm_shell.specs.List.{listed_of}
 use Rattle.nvdimm_shell.specs.Run.{IsDue, Ends}
 
 -- a module's label area that is refused: there is none, or it has no valid index block
@@ -21,31 +37,53 @@ IsRefusedArea found = (found ≡ None) ⊎ ((area : List ℕ) × (found ≡ Some
 abbrev pub IsAcceptedArea : Option (List ℕ) → Type 0
 IsAcceptedArea found = (area : List ℕ) × (found ≡ Some area) × ((block : IndexBlock) × (block_in area ≡ Ok block))
 
--- a command is refused for the images: the set isn't loaded, or the module's label area is refused
+-- a module's label area that isn't initialised: there is none, or it isn't one that has no index block
+abbrev pub IsKeptArea : Option (List ℕ) → Type 0
+IsKeptArea found = (found ≡ None) ⊎ ((area : List ℕ) × (found ≡ Some area) × (block_in area ≢ Err NoIndex))
+
+-- one that is: it has no index block
+abbrev pub IsBlankArea : Option (List ℕ) → Type 0
+IsBlankArea found = (area : List ℕ) × (found ≡ Some area) × (block_in area ≡ Err NoIndex)
+
+-- a command is refused for the images: the set isn't loaded, the module's label area is refused, or no namespaces are listed
 abbrev pub IsRefusedFor : Command → Result ImageSet LoadFault → Type 0
 IsRefusedFor command (Err fault) = ⊤
 IsRefusedFor (Labels m) (Ok loaded) = IsRefusedArea (area_of loaded m)
 IsRefusedFor Nfit (Ok loaded) = ⊥
+IsRefusedFor command.List (Ok loaded) = (fault : OpenFault) × (listed_of loaded ≡ Err fault)
+IsRefusedFor (Init m power) (Ok loaded) = IsKeptArea (area_of loaded m)
 
--- the images are accepted for a command: the set is loaded, and so is the module's label area
+-- the images are accepted for a command: the set is loaded, and so is the module's label area, or the namespaces are listed
 abbrev pub IsAcceptedFor : Command → Result ImageSet LoadFault → Type 0
 IsAcceptedFor command (Err fault) = ⊥
 IsAcceptedFor (Labels m) (Ok loaded) = IsAcceptedArea (area_of loaded m)
 IsAcceptedFor Nfit (Ok loaded) = ⊤
+IsAcceptedFor command.List (Ok loaded) = (namespaces : List Namespace) × (listed_of loaded ≡ Ok namespaces)
+IsAcceptedFor (Init m power) (Ok loaded) = IsBlankArea (area_of loaded m)
+
+-- the steps that a label area's first two blocks take are more than power lasts for
+abbrev pub is_short : Option ℕ → Option (List ℕ) → Bool
+is_short steps None = false
+is_short steps (Some area) = not (lasts steps (init_count (length area / 8)))
+
+-- a command takes more steps than power lasts for
+abbrev pub is_cut : Command → Result ImageSet LoadFault → Bool
+is_cut (Init m power) (Ok loaded) = is_short power.steps (area_of loaded m)
+is_cut command found = false
 
 -- the cause that the table gives a status; those of faults and of want of memory stand on the run itself
 abbrev pub HasTableCause : List (List ℕ) → Images → Status → Type 0
-HasTableCause words set status.Ok = (command : Command) × (command_of words ≡ Some command) × IsAcceptedFor command (loading set)
+HasTableCause words set status.Ok = (command : Command) × (command_of words ≡ Some command) × IsAcceptedFor command (loading set) × (is_cut command (loading set) ≡ false)
 HasTableCause words set status.Usage = command_of words ≡ None
 HasTableCause words set status.Image = (command : Command) × (command_of words ≡ Some command) × IsRefusedFor command (loading set)
 HasTableCause words set status.Refused = ⊥
-HasTableCause words set status.PowerCut = ⊥
+HasTableCause words set status.PowerCut = (command : Command) × (command_of words ≡ Some command) × IsAcceptedFor command (loading set) × (is_cut command (loading set) ≡ true)
 HasTableCause words set other = ⊤
 
 -- each status has only the cause that the table gives it
-abbrev pub EachStatusHasItsCause : Type 0
-EachStatusHasItsCause = (words : List (List ℕ)) (set : Images) (left : Option (List ℕ)) (made made' : Option Images) (text text' : Option (List ℕ)) (s : Status)
-    → Ends (IsDue words (Some set) left) made made' text text' s → HasTableCause words set s
+abbrev pub EachStatusHasItsCause : (ℕ → Words → List ℕ → Type 0) → Type 0
+EachStatusHasItsCause leaves = (words : List (List ℕ)) (set : Images) (left : Option (List ℕ)) (made made' : Option Images) (text text' : Option (List ℕ)) (s : Status)
+    → Ends (IsDue leaves words (Some set) left) made made' text text' s → HasTableCause words set s
 
 -- a status that says that something outside failed, or that memory was wanting
 abbrev pub IsFromOutside : Status → Type 0
@@ -54,7 +92,21 @@ IsFromOutside status.WriteFault = ⊤
 IsFromOutside status.OutOfMemory = ⊤
 IsFromOutside other = ⊥
 
--- where the words are a command line and the images are accepted for the command, the status is Ok, or it comes from outside
-abbrev pub AcceptedIsOk : Type 0
-AcceptedIsOk = (words : List (List ℕ)) (command : Command) (set : Images) (left : Option (List ℕ)) (made made' : Option Images) (text text' : Option (List ℕ)) (s : Status)
-    → command_of words ≡ Some command → IsAcceptedFor command (loading set) → Ends (IsDue words (Some set) left) made made' text text' s → (s ≡ status.Ok) ⊎ IsFromOutside s
+-- where the words are a command line, the images are accepted for the command and power lasts, the status is Ok, or it comes
+-- from outside
+abbrev pub AcceptedIsOk : (ℕ → Words → List ℕ → Type 0) → Type 0
+AcceptedIsOk leaves = (words : List (List ℕ)) (command : Command) (set : Images) (left : Option (List ℕ)) (made made' : Option Images) (text text' : Option (List ℕ)) (s : Status)
+    → command_of words ≡ Some command → IsAcceptedFor command (loading set) → is_cut command (loading set) ≡ false
+    → Ends (IsDue leaves words (Some set) left) made made' text text' s → (s ≡ status.Ok) ⊎ IsFromOutside s
+
+-- ---- what `init` leaves
+
+-- an area after so many of the steps of `init`: one that has no index block, or an empty one, by `IsInitCut`
+abbrev pub IsLeftByInit : Option ℕ → List ℕ → List ℕ → Type 0
+IsLeftByInit steps area now = (values : List ℕ) × (bytes_of values ≡ now) × IsInitCut (size_for (length area / 8)) (slots_for (length area / 8)) (steps_under steps (init_count (length area / 8))) values
+
+-- a set that `init M` saves has an area that is left by so many of its steps, and all else as it was loaded
+abbrev pub InitLeavesWhole : {C : Type 0} → (C → ℕ → C → Type 0) → (C → ℕ → Bool → C → Type 0) → C → Type 0
+InitLeavesWhole begins picks choose = (m : ℕ) (power : Power) (loaded : ImageSet) (outcome : Outcome) (set : Images) (area : List ℕ)
+    → InitComes (LeavesBy begins picks choose) m power loaded outcome → outcome.saved ≡ Some set → area_of loaded m ≡ Some area → IsAreaSize (length area)
+    → (now : List ℕ) × IsSameSet set (objects_of (with_area loaded m now)) × IsLeftByInit power.steps area now

@@ -5,5 +5,8 @@ pub mod Texts
 pub mod LoadFaults
 pub mod Labels
 pub mod Nfit
+pub mod Saved
+pub mod Init
+pub mod List
 pub mod Run
 pub mod Laws

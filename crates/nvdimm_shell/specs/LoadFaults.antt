@@ -1,5 +1,5 @@
 -- What is said of an image set that isn't loaded.
-use Rattle.std.specs.Prelude.{ℕ, List, [], ◌∷◌, ◌++◌, Result, Ok, Err, codes}
+use Rattle.std.specs.Prelude.{ℕ, List, [], ◌∷◌, ◌++◌, codes}
 use Rattle.std.specs.Fmt.{decimal}
 use Rattle.nvd_media.specs.declared.object.Object.{Object}
 use Rattle.nvd_media.specs.declared.object.Object.TheVariants as object
@@ -7,7 +7,6 @@ use Rattle.nfit_reader.specs.declared.table.NfitFault.{NfitFault}
 use Rattle.nfit_reader.specs.declared.table.NfitFault.TheVariants as nfit
 use Rattle.image_set.specs.declared.fault.LoadFault.{LoadFault}
 use Rattle.image_set.specs.declared.fault.LoadFault.TheVariants as fault
-use Rattle.image_set.specs.Load.{ImageSet}
 use Rattle.nvdimm_shell.specs.Outcome.{Outcome, image_fault, lf}
 
 -- the name of an object
@@ -41,8 +40,3 @@ load_fault_text fault.OutOfMemory = []
 -- what is said of a set that isn't loaded
 abbrev pub load_outcome : LoadFault → Outcome
 load_outcome fault = image_fault (load_fault_text fault ∷ lf ∷ [])
-
--- what a command comes to by the set that it loads
-abbrev pub on_loaded : (ImageSet → Outcome) → Result ImageSet LoadFault → Outcome
-on_loaded command (Ok loaded) = command loaded
-on_loaded command (Err fault) = load_outcome fault

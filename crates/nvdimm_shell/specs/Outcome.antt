@@ -5,7 +5,6 @@ use Rattle.nvdimm_shell.specs.declared.status.Status.{Status}
 use Rattle.nvdimm_shell.specs.declared.status.Status.TheVariants as status
 use Rattle.nvdimm_shell.specs.declared.status.Ending.{Ending}
 use Rattle.nvdimm_shell.specs.declared.status.Ending.TheVariants as ending
-use Rattle.nvdimm_shell.specs.declared.outcome.Answer.{Answer}
 
 -- how it ends, the text that is printed, and the image set that is saved
 pub record Outcome : Type 0 where
@@ -52,7 +51,3 @@ exit_status_of status.ReadFault = 5
 exit_status_of status.WriteFault = 6
 exit_status_of status.OutOfMemory = 7
 exit_status_of status.PowerCut = 8
-
--- an answer without where it lies in memory; no command saves an image set yet
-abbrev pub outcome_of : Answer → Outcome
-outcome_of answer = record { ending = answer.ending; text = answer.text.items; saved = None }

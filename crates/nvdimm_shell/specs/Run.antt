@@ -1,45 +1,59 @@
 -- What a run does, seen from outside.
-use Rattle.std.specs.Prelude.{◌≡◌, ◌⊎◌, ℕ, Bool, false, IsTrue, IsSome, List, ◌++◌, Option, Some, None, MatchOption, codes, take}
+use Rattle.std.specs.Prelude.{◌≡◌, ◌⊎◌, ℕ, Bool, false, IsTrue, IsSome, List, ◌++◌, Option, Some, None, Result, Ok, Err, MatchOption, codes, take}
 use Rattle.std.specs.Io.KnownBytes.{Keeps, Appends}
 use Rattle.nvd_media.specs.Images.{Images, IsSameSet, Becomes, IsUnfinished}
+use Rattle.cut_words.specs.Words.{Words}
+use Rattle.image_set.specs.declared.fault.LoadFault.{LoadFault}
 use Rattle.image_set.specs.Load.{ImageSet, loading}
 use Rattle.nvdimm_shell.specs.declared.status.Status.{Status}
 use Rattle.nvdimm_shell.specs.declared.status.Status.TheVariants as status
 use Rattle.nvdimm_shell.specs.declared.words.Command.{Command}
-use Rattle.nvdimm_shell.specs.declared.words.Command.TheVariants.{Labels, Nfit}
+use Rattle.nvdimm_shell.specs.declared.words.Command.TheVariants.{Labels, Nfit, Init}
+use Rattle.nvdimm_shell.specs.declared.words.Command.TheVariants as command
 use Rattle.nvdimm_shell.specs.Words.{command_of}
 use Rattle.nvdimm_shell.specs.Outcome.{Outcome, usage, lf, status_of}
-use Rattle.nvdimm_shell.specs.LoadFaults.{on_loaded}
+use Rattle.nvdimm_shell.specs.LoadFaults.{load_outcome}
 use Rattle.nvdimm_shell.specs.Labels.{labels_outcome}
 use Rattle.nvdimm_shell.specs.Nfit.{nfit_outcome}
+use Rattle.nvdimm_shell.specs.Init.{InitComes}
+use Rattle.nvdimm_shell.specs.List.{list_outcome}
 
 -- ---- a case for each command
 
--- what a command comes to on the set that it loads
-abbrev pub loaded_outcome : Command → ImageSet → Outcome
-loaded_outcome (Labels m) loaded = labels_outcome m loaded
-loaded_outcome Nfit loaded = nfit_outcome loaded
+-- what a command may come to on the set that it loads; `leaves` says what a power cut may leave of words, by the number from
+-- which the chooser is begun
+abbrev pub LoadedComes : (ℕ → Words → List ℕ → Type 0) → Command → ImageSet → Outcome → Type 0
+LoadedComes leaves (Labels m) loaded outcome = outcome ≡ labels_outcome m loaded
+LoadedComes leaves Nfit loaded outcome = outcome ≡ nfit_outcome loaded
+LoadedComes leaves command.List loaded outcome = outcome ≡ list_outcome loaded
+LoadedComes leaves (Init m power) loaded outcome = InitComes leaves m power loaded outcome
+
+-- by the set that is loaded, or by why none is
+abbrev pub OnLoaded : (ImageSet → Outcome → Type 0) → Result ImageSet LoadFault → Outcome → Type 0
+OnLoaded comes (Ok loaded) outcome = comes loaded outcome
+OnLoaded comes (Err fault) outcome = outcome ≡ load_outcome fault
 
 -- what a command may come to, for images and a script: the whole set is loaded first
-abbrev pub Comes : Command → Images → List ℕ → Outcome → Type 0
-Comes (Labels m) set script outcome = outcome ≡ on_loaded (loaded_outcome (Labels m)) (loading set)
-Comes Nfit set script outcome = outcome ≡ on_loaded (loaded_outcome Nfit) (loading set)
+abbrev pub Comes : (ℕ → Words → List ℕ → Type 0) → Command → Images → List ℕ → Outcome → Type 0
+Comes leaves command set script outcome = OnLoaded (LoadedComes leaves command) (loading set) outcome
 
 -- whether a command reads the script
 abbrev pub reads_script : Command → Bool
 reads_script (Labels m) = false
 reads_script Nfit = false
+reads_script command.List = false
+reads_script (Init m power) = false
 
 -- ---- once for all commands
 
 -- a command comes to this, whatever images and script are told
-abbrev pub ComesTold : Command → Option Images → Option (List ℕ) → Outcome → Type 0
-ComesTold command held left outcome =
-    (set : Images) (script : List ℕ) → held ≡ Some set → (IsTrue (reads_script command) → left ≡ Some script) → Comes command set script outcome
+abbrev pub ComesTold : (ℕ → Words → List ℕ → Type 0) → Command → Option Images → Option (List ℕ) → Outcome → Type 0
+ComesTold leaves command held left outcome =
+    (set : Images) (script : List ℕ) → held ≡ Some set → (IsTrue (reads_script command) → left ≡ Some script) → Comes leaves command set script outcome
 
 -- what the words come to
-abbrev pub IsDue : List (List ℕ) → Option Images → Option (List ℕ) → Outcome → Type 0
-IsDue words held left outcome = MatchOption (command_of words) (outcome ≡ usage) (λ command. ComesTold command held left outcome)
+abbrev pub IsDue : (ℕ → Words → List ℕ → Type 0) → List (List ℕ) → Option Images → Option (List ℕ) → Outcome → Type 0
+IsDue leaves words held left outcome = MatchOption (command_of words) (outcome ≡ usage) (λ command. ComesTold leaves command held left outcome)
 
 -- the script is as it was, unless the words are those of a command that reads it
 abbrev pub LeavesScript : List (List ℕ) → Option (List ℕ) → Option (List ℕ) → Type 0

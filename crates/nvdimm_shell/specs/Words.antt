@@ -1,18 +1,33 @@
 -- The words of a command line: a name, and the words after it.
-use Rattle.std.specs.Prelude.{List, [], ◌∷◌, ℕ, Option, Some, None, codes}
+use Rattle.std.specs.Prelude.{List, [], ◌∷◌, ℕ, Option, Some, None, unwrap_or, codes}
 use Rattle.std.specs.Option.{option_map, option_and_then}
 use Rattle.clap.specs.Words.{Row}
-use Rattle.command_words.specs.Parsed.{parsed, number_in}
+use Rattle.command_words.specs.Parsed.{parsed, number_in, optional_number_in}
 use Rattle.nvdimm_shell.specs.declared.commands.Kind.{Kind}
 use Rattle.nvdimm_shell.specs.declared.commands.Kind.TheVariants as kind
 use Rattle.nvdimm_shell.specs.declared.words.Command.{Command}
-use Rattle.nvdimm_shell.specs.declared.words.Command.TheVariants.{Labels, Nfit}
+use Rattle.nvdimm_shell.specs.declared.words.Command.TheVariants.{Labels, Nfit, Init}
+use Rattle.nvdimm_shell.specs.declared.words.Command.TheVariants as command
+use Rattle.nvdimm_shell.specs.declared.words.Power.{Power}
 use Rattle.nvdimm_shell.specs.Commands.{kind_of, arguments_of}
+
+-- the greatest number of an option
+abbrev pub most : ℕ
+most = 18446744073709551615
+
+-- how long power lasts, by the steps that were said, and from which seed the chooser begins
+abbrev pub power_of : Option ℕ → Option ℕ → Power
+power_of steps seed = record { steps = steps; seed = unwrap_or seed 0 }
+
+abbrev pub power_in : List Row → Option Power
+power_in values = option_and_then (λ steps. option_map (power_of steps) (optional_number_in 0 most (codes "evict") values)) (optional_number_in 0 most (codes "cut") values)
 
 -- the command that the values of its arguments make; modules are numbered 0 to 63
 abbrev pub command_in : Kind → List Row → Option Command
 command_in kind.Labels values = option_map (λ m. Labels m) (number_in 0 63 (codes "module") values)
 command_in kind.Nfit values = Some Nfit
+command_in kind.List values = Some command.List
+command_in kind.Init values = option_and_then (λ m. option_map (λ power. Init m power) (power_in values)) (number_in 0 63 (codes "module") values)
 
 -- the command of a name with the words after it
 abbrev pub command_with : Kind → List (List ℕ) → Option Command

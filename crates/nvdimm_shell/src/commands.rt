@@ -8,12 +8,28 @@ pub enum Kind {
     Labels,
     /// Prints the modules and regions of the firmware's table.
     Nfit,
+    /// Prints the namespaces.
+    List,
+    /// Writes fresh index blocks into the label area of a module.
+    Init,
 }
 
 /// The number of a module.
 const MODULE: Argument = Argument {
     name: "module",
     form: Form::Place,
+};
+
+/// After how many steps power is cut.
+const CUT: Argument = Argument {
+    name: "cut",
+    form: Form::Optional,
+};
+
+/// From which seed the chooser begins that says what a power cut leaves.
+const EVICT: Argument = Argument {
+    name: "evict",
+    form: Form::Optional,
 };
 
 impl Kind {
@@ -32,6 +48,12 @@ impl Kind {
         if name == "nfit" {
             return Some(Kind::Nfit);
         }
+        if name == "list" {
+            return Some(Kind::List);
+        }
+        if name == "init" {
+            return Some(Kind::Init);
+        }
         None
     }
 
@@ -42,6 +64,8 @@ impl Kind {
         match self {
             Kind::Labels => &[MODULE],
             Kind::Nfit => &[],
+            Kind::List => &[],
+            Kind::Init => &[MODULE, CUT, EVICT],
         }
     }
 }

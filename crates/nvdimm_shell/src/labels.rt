@@ -3,8 +3,8 @@ ghost use Rattle.std.specs.Prelude.{◌≡◌, ◌≢◌, ◌≤◌, ◌<◌, �
 ghost use Rattle.std.specs.Option.{option_map};
 ghost use Rattle.image_set.specs.Load.{image_set_in};
 ghost use Rattle.image_set.specs.Sound.{IsSound};
-ghost use Rattle.nvdimm_shell.specs.Outcome.{outcome_of};
 ghost use Rattle.nvdimm_shell.specs.Labels.{labels_outcome, module_outcome, area_outcome, block_outcome, fault_outcome, index_line, label_line, bad_line, numbers_text, ending_text, used_line, slot_line, lines_from};
+ghost use Rattle.nvdimm_shell.specs.Saved.{outcome_of};
 ghost use Rattle.label_index.specs.Area.{IsAreaSize};
 
 use crate::outcome::{Answer, image_answer, printed_answer};
@@ -129,7 +129,7 @@ fn block_answer(alloc: Global, area: &[u8], block: &IndexBlock) -> Result<Answer
 }
 
 /// The answer on an area without a current block.
-fn fault_answer(alloc: Global, module: u32, fault: AreaFault) -> Result<Answer, AllocError>
+pub fn fault_answer(alloc: Global, module: u32, fault: AreaFault) -> Result<Answer, AllocError>
     ensures text { IfOk result (λ answer. outcome_of answer ≡ fault_outcome «module» fault) }
     ensures finding { IfOk result (λ _. fault ≢ AreaFault.OutOfMemory) }
 {
@@ -158,7 +158,7 @@ fn area_answer(alloc: Global, module: u32, area: &[u8]) -> Result<Answer, AllocE
 }
 
 /// The answer where there is no such area.
-fn missing_answer(alloc: Global, module: u32) -> Result<Answer, AllocError>
+pub fn missing_answer(alloc: Global, module: u32) -> Result<Answer, AllocError>
     ensures { IfOk result (λ answer. outcome_of answer ≡ module_outcome «module» None) }
 {
     Ok(image_answer(format!(in alloc; "image labels {} Missing\n", module)?))

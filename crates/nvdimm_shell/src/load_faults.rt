@@ -1,7 +1,7 @@
 //! What is said of an image set that isn't loaded.
 ghost use Rattle.std.specs.Prelude.{◌≡◌, ◌≢◌, IfOk, string_bytes};
-ghost use Rattle.nvdimm_shell.specs.Outcome.{outcome_of};
 ghost use Rattle.nvdimm_shell.specs.LoadFaults.{object_text, nfit_fault_text, load_fault_text, load_outcome};
+ghost use Rattle.nvdimm_shell.specs.Saved.{outcome_of};
 
 use crate::outcome::{Answer, image_answer};
 use image_set::LoadFault;

@@ -5,7 +5,9 @@
 //!
 //!  words ──► command                                       words, commands, command_words
 //!  IN/*.bin ──► image set ──► lines ──► standard output, exit status
-//!   nvd_media   image_set     labels, nfit, texts    top, main
+//!   nvd_media   image_set │   labels, nfit, list, texts    top, main
+//!                 │       └──► a changed set, or what a power cut leaves of it ──► OUT/*.bin
+//!                 │            init
 //!                 └──► the first object that is missing or outside its limits: load_faults
 //! ```
 //!
@@ -22,8 +24,18 @@
 #[cfg(test)]
 mod areas;
 mod commands;
+mod init;
+#[cfg(test)]
+mod init_tests;
 mod labels;
 mod laws;
+mod list;
+#[cfg(test)]
+mod list_areas;
+#[cfg(test)]
+mod list_rules;
+#[cfg(test)]
+mod list_tests;
 mod load_faults;
 mod nfit;
 mod outcome;
@@ -39,7 +51,7 @@ mod top;
 mod words;
 
 use crate::status::Status;
-use nvd_media::{DirImages, ListChooser, NoGate, StdText, TextSink};
+use nvd_media::{DirImages, NoGate, SeedChooser, StdText, TextSink};
 use std::alloc::AllocError;
 use std::env;
 use std::process::ExitCode;
@@ -81,7 +93,7 @@ fn status_of<R: Files + AllocGlobal + Print + Input + Threads + Wait + Sync>(
         &mut StdText::new(rt),
         &mut DirImages::new(rt, sink.as_str()),
         &mut text,
-        &mut ListChooser::new(Vec::new(rt.alloc())),
+        &mut SeedChooser::new(0),
         &NoGate,
     )
 }

@@ -2,8 +2,9 @@
 ghost use Rattle.std.specs.Prelude.{◌≡◌, ◌≢◌, ◌<◌, ◌^◌, ◌++◌, IfOk, OnOk, Result, Ok, Err, length, slice_index_or, string_bytes};
 ghost use Rattle.nfit_reader.specs.declared.table.Region.{Region};
 ghost use Rattle.nfit_reader.specs.Counted.{AreCounted};
-ghost use Rattle.nvdimm_shell.specs.Outcome.{outcome_of, printed};
+ghost use Rattle.nvdimm_shell.specs.Outcome.{printed};
 ghost use Rattle.nvdimm_shell.specs.Nfit.{module_line, module_lines, set_fault_text, members_text, range_text, set_text, reading_text, region_start, region_line, region_lines, nfit_text};
+ghost use Rattle.nvdimm_shell.specs.Saved.{outcome_of};
 
 use crate::outcome::{Answer, printed_answer};
 use interleave::{InterleaveSet, SetFault, interleave_set};
@@ -28,7 +29,7 @@ fn add_modules(alloc: Global, handles: &[u32], text: &mut String) -> Result<(), 
 }
 
 /// Why a region is no interleave set.
-fn set_fault_text(alloc: Global, fault: SetFault) -> Result<String, AllocError>
+pub fn set_fault_text(alloc: Global, fault: SetFault) -> Result<String, AllocError>
     ensures text { IfOk result (λ text. string_bytes text ≡ set_fault_text fault) }
     ensures finding { IfOk result (λ _. fault ≢ SetFault.OutOfMemory) }
 {

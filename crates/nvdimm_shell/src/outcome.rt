@@ -1,14 +1,63 @@
-ghost use Rattle.std.specs.Prelude.{◌≡◌, IfOk, None, string_bytes};
-ghost use Rattle.nvdimm_shell.specs.Outcome.{outcome_of, printed, usage};
+ghost use Rattle.std.specs.Prelude.{◌≡◌, IfOk, OnOk, None, Some, Err, string_bytes};
+ghost use Rattle.std.specs.Option.{ForSome};
+ghost use Rattle.nvd_media.specs.Causes.{Rose};
+ghost use Rattle.nvd_media.specs.Images.{Becomes, IsEmptySet, IsUnfinished};
+ghost use Rattle.image_set.specs.Changed.{IsSavable, objects_in};
+ghost use Rattle.nvdimm_shell.specs.Run.{Saves};
+ghost use Rattle.nvdimm_shell.specs.Outcome.{printed, usage};
+ghost use Rattle.nvdimm_shell.specs.Saved.{outcome_of};
 
 use crate::status::Ending;
+use image_set::{SaveFault, SetLeft};
+use nvd_media::ImageSink;
 use std::alloc::{AllocError, Global};
+use std::marker::Model;
 
-/// What a command comes to: how it ends, and the bytes of its text.
+/// An image set that is to be saved.
+#[derive(Drop)]
+pub struct SavedSet {
+    left: SetLeft,
+}
+
+impl Model for SavedSet {
+    ghost use Rattle.image_set.specs.declared.changing.SetLeft.{SetLeft};
+
+    ghost Value = { SetLeft };
+
+    ghost use Rattle.image_set.specs.Changed.{IsSavable};
+
+    ghost view = { λ set. set.left };
+
+    ghost invariant = { λ set. IsSavable set.left };
+}
+
+impl SavedSet {
+    /// The set that is left.
+    pub fn new(left: SetLeft) -> SavedSet
+        requires { IsSavable left }
+        ensures { result ≡ left }
+    {
+        SavedSet { left }
+    }
+
+    /// Saves it: `out` was not written to, where it tells.
+    pub fn save<K: ImageSink>(&self, alloc: Global, out: &mut K) -> Result<(), SaveFault>
+        requires { ForSome (K.made out.old) IsEmptySet }
+        ensures saved { OnOk result (Saves (Some (objects_in self.now)) (K.made out.old) (K.made out.new)) }
+        ensures unfinished { result ≡ Err SaveFault.WriteFault → Becomes (K.made out.old) (K.made out.new) IsUnfinished }
+        ensures memory { result ≡ Err SaveFault.OutOfMemory → K.made out.new ≡ K.made out.old }
+        ensures failed { result ≡ Err SaveFault.WriteFault → Rose (K.faults out.old) (K.faults out.new) }
+    {
+        self.left.save(alloc, out)
+    }
+}
+
+/// What a command comes to: how it ends, the bytes of its text, and the image set that it saves.
 #[derive(Drop)]
 pub struct Answer {
     pub ending: Ending,
     pub text: Vec<u8>,
+    pub saved: Option<SavedSet>,
 }
 
 /// The answer to words that aren't a command line.
@@ -18,6 +67,7 @@ pub fn usage_answer(alloc: Global) -> Result<Answer, AllocError>
     Ok(Answer {
         ending: Ending::Usage,
         text: Vec::from_slice(alloc, b"usage\n")?,
+        saved: None,
     })
 }
 
@@ -28,6 +78,7 @@ pub fn image_answer(text: String) -> Answer
     Answer {
         ending: Ending::Image,
         text: text.into_bytes(),
+        saved: None,
     }
 }
 
@@ -38,5 +89,6 @@ pub fn printed_answer(text: Vec<u8>) -> Answer
     Answer {
         ending: Ending::Done,
         text,
+        saved: None,
     }
 }

@@ -57,7 +57,7 @@ fn outcome<R: Threads + Wait + Sync>(
 }
 
 /// The status and the text of a run in which nothing fails.
-fn quiet<R: Threads + Wait + Sync>(
+pub fn quiet<R: Threads + Wait + Sync>(
     rt: &R,
     alloc: Global,
     words: &[&str],

@@ -1,22 +1,27 @@
-ghost use Rattle.std.specs.Prelude.{◌≡◌, ◌≢◌, ◌⊎◌, ◌++◌, codes, map, string_bytes, false, IfOk, Err};
-ghost use Rattle.std.specs.Option.{ForSome};
+ghost use Rattle.std.specs.Prelude.{◌≡◌, ◌≢◌, ◌⊎◌, ◌++◌, codes, map, string_bytes, false, IfOk, IsSome, OnOk, Some, Err};
+ghost use Rattle.std.specs.Option.{ForSome, option_map};
 ghost use Rattle.std.specs.Io.KnownBytes.{Appends};
 ghost use Rattle.nvd_media.specs.Causes.{Rose};
-ghost use Rattle.nvd_media.specs.Images.{IsEmptySet};
+ghost use Rattle.nvd_media.specs.Images.{Becomes, IsEmptySet, IsUnfinished};
 ghost use Rattle.image_set.specs.Load.{image_set_in};
 ghost use Rattle.image_set.specs.Sound.{IsSound};
-ghost use Rattle.nvdimm_shell.specs.Outcome.{outcome_of, lf};
+ghost use Rattle.image_set.specs.Changed.{objects_in};
+ghost use Rattle.nvdimm_shell.specs.Outcome.{lf, status_of};
 ghost use Rattle.nvdimm_shell.specs.LoadFaults.{load_outcome};
-ghost use Rattle.nvdimm_shell.specs.Run.{loaded_outcome, ComesTold, reads_script, IsDue, LeavesScript, Ends, AppendsPart};
+ghost use Rattle.nvdimm_shell.specs.Init.{LeavesBy};
+ghost use Rattle.nvdimm_shell.specs.Run.{LoadedComes, ComesTold, reads_script, IsDue, LeavesScript, Saves, Ends, AppendsPart};
+ghost use Rattle.nvdimm_shell.specs.Saved.{outcome_of};
 
+use crate::init::init_answer;
 use crate::labels::labels_answer;
+use crate::list::list_answer;
 use crate::load_faults::load_answer;
 use crate::nfit::nfit_answer;
-use crate::outcome::{Answer, usage_answer};
-use crate::status::{Status, Stop};
+use crate::outcome::{Answer, SavedSet, usage_answer};
+use crate::status::{Ending, Status, Stop};
 use crate::words::{Command, command_from};
 use command_words::WordsFault;
-use image_set::{LoadFault, Loaded, load};
+use image_set::{LoadFault, Loaded, SaveFault, load};
 use nvd_media::{Chooser, Gate, ImageSink, ImageSource, TextSink, TextSource};
 use std::alloc::{AllocError, Global};
 use std::sync::Wait;
@@ -35,13 +40,20 @@ fn found_memory(answer: Result<Answer, AllocError>) -> Result<Answer, Stop>
 
 /// What a command comes to on the set that it loads.
 #[tactic(auto, unfolding(image_set::specs::Load::image_set_in))]
-fn loaded_answer(alloc: Global, command: Command, loaded: &Loaded) -> Result<Answer, AllocError>
-    requires { IsSound loaded.now }
-    ensures { IfOk result (λ answer. outcome_of answer ≡ loaded_outcome command (image_set_in loaded.now)) }
+fn loaded_answer<C: Chooser>(
+    alloc: Global,
+    command: Command,
+    loaded: Loaded,
+    choose: &mut C,
+) -> Result<Answer, AllocError>
+    requires { IsSound loaded }
+    ensures { IfOk result (λ answer. LoadedComes (LeavesBy C.begins C.picks choose.old) command (image_set_in loaded) (outcome_of answer)) }
 {
     match command {
-        Command::Labels(module) => labels_answer(alloc, module, loaded),
+        Command::Labels(module) => labels_answer(alloc, module, &loaded),
         Command::Nfit => nfit_answer(alloc, &loaded.nfit),
+        Command::List => list_answer(alloc, loaded),
+        Command::Init(module, power) => init_answer(alloc, module, power, loaded, choose),
     }
 }
 
@@ -61,52 +73,96 @@ fn unloaded(alloc: Global, fault: LoadFault) -> Result<Answer, Stop>
 }
 
 /// What a command comes to.
-fn perform<S: ImageSource, T: TextSource>(
+fn perform<S: ImageSource, T: TextSource, C: Chooser>(
     alloc: Global,
     command: Command,
     images: &mut S,
     _script: &mut T,
+    choose: &mut C,
 ) -> Result<Answer, Stop>
-    ensures told { IfOk result (λ answer. ComesTold command (S.held images.old) (T.left _script.old) (outcome_of answer)) }
+    ensures told { IfOk result (λ answer. ComesTold (LeavesBy C.begins C.picks choose.old) command (S.held images.old) (T.left _script.old) (outcome_of answer)) }
     ensures same { S.held images.new ≡ S.held images.old }
     ensures unread { reads_script command ≡ false → T.left _script.new ≡ T.left _script.old }
     ensures failed { result ≡ Err Stop.ReadFault → Rose (S.faults images.old) (S.faults images.new) }
 {
     match load(alloc, images) {
-        Ok(loaded) => found_memory(loaded_answer(alloc, command, &loaded)),
+        Ok(loaded) => found_memory(loaded_answer(alloc, command, loaded, choose)),
         Err(fault) => unloaded(alloc, fault),
     }
 }
 
 /// What the words come to.
-fn answer_to<S: ImageSource, T: TextSource>(
+fn answer_to<S: ImageSource, T: TextSource, C: Chooser>(
     alloc: Global,
     words: &[String],
     images: &mut S,
     script: &mut T,
+    choose: &mut C,
 ) -> Result<Answer, Stop>
-    ensures due { IfOk result (λ answer. IsDue (map string_bytes words.now) (S.held images.old) (T.left script.old) (outcome_of answer)) }
+    ensures due { IfOk result (λ answer. IsDue (LeavesBy C.begins C.picks choose.old) (map string_bytes words.now) (S.held images.old) (T.left script.old) (outcome_of answer)) }
     ensures same { S.held images.new ≡ S.held images.old }
     ensures unread { LeavesScript (map string_bytes words.now) (T.left script.old) (T.left script.new) }
     ensures failed { result ≡ Err Stop.ReadFault → Rose (S.faults images.old) (S.faults images.new) }
 {
     match command_from(alloc, words) {
-        Ok(command) => perform(alloc, command, images, script),
+        Ok(command) => perform(alloc, command, images, script, choose),
         Err(WordsFault::Usage) => found_memory(usage_answer(alloc)),
         Err(WordsFault::OutOfMemory) => Err(Stop::OutOfMemory),
     }
 }
 
-/// Prints the text of an answer. No answer has an image set to save yet.
-#[tactic(auto, using(crate::proofs::Ending::endings))]
-fn conclude<K: ImageSink, O: TextSink>(answer: &Answer, _out: &mut K, text: &mut O) -> Status
-    ensures ends { Ends (λ outcome. outcome ≡ outcome_of answer.now) (K.made _out.old) (K.made _out.new) (O.written text.old) (O.written text.new) result }
-    ensures no_read { result ≢ Status.ReadFault }
+/// Saves an image set, if there is one.
+fn save_if<K: ImageSink>(
+    alloc: Global,
+    saved: Option<SavedSet>,
+    out: &mut K,
+) -> Result<(), SaveFault>
+    requires { ForSome (K.made out.old) IsEmptySet }
+    ensures saved { OnOk result (Saves (option_map objects_in saved) (K.made out.old) (K.made out.new)) }
+    ensures unfinished { result ≡ Err SaveFault.WriteFault → IsSome saved × Becomes (K.made out.old) (K.made out.new) IsUnfinished }
+    ensures memory { result ≡ Err SaveFault.OutOfMemory → K.made out.new ≡ K.made out.old }
+    ensures failed { result ≡ Err SaveFault.WriteFault → Rose (K.faults out.old) (K.faults out.new) }
+{
+    match saved {
+        Some(set) => set.save(alloc, out),
+        None => Ok(()),
+    }
+}
+
+/// Prints the text of an answer whose image set, if it has one, is saved.
+fn printed<O: TextSink>(ending: Ending, bytes: &[u8], text: &mut O) -> Status
+    ensures all { result ≡ status_of ending → Appends (O.written text.old) (O.written text.new) bytes.now }
+    ensures part { result ≢ status_of ending → (result ≡ Status.WriteFault) × AppendsPart (O.written text.old) (O.written text.new) bytes.now }
     ensures failed { result ≡ Status.WriteFault → Rose (O.faults text.old) (O.faults text.new) }
 {
-    match text.write(&answer.text) {
-        Ok(()) => answer.ending.status(),
+    match text.write(bytes) {
+        Ok(()) => ending.status(),
         Err(_) => Status::WriteFault,
+    }
+}
+
+/// Saves the image set of an answer, if it has one, and then prints its text.
+#[tactic(auto, using(crate::proofs::Ending::endings))]
+fn conclude<K: ImageSink, O: TextSink>(
+    alloc: Global,
+    answer: Answer,
+    out: &mut K,
+    text: &mut O,
+) -> Status
+    requires { ForSome (K.made out.old) IsEmptySet }
+    ensures ends { Ends (λ outcome. outcome ≡ outcome_of answer) (K.made out.old) (K.made out.new) (O.written text.old) (O.written text.new) result }
+    ensures no_read { result ≢ Status.ReadFault }
+    ensures failed { result ≡ Status.WriteFault → Rose (K.faults out.old) (K.faults out.new) ⊎ Rose (O.faults text.old) (O.faults text.new) }
+{
+    let Answer {
+        ending,
+        text: bytes,
+        saved,
+    } = answer;
+    match save_if(alloc, saved, out) {
+        Ok(()) => printed(ending, &bytes, text),
+        Err(SaveFault::WriteFault) => Status::WriteFault,
+        Err(SaveFault::OutOfMemory) => Status::OutOfMemory,
     }
 }
 
@@ -134,8 +190,8 @@ fn stopped<O: TextSink>(stop: Stop, text: &mut O) -> Status
 ///   as they are told (`specs/Run.antt`). Status 2 is due exactly where the words aren't a command line,
 ///   3 where the images show a fault, 0 else; after 5 the text is `read fault`; 7 is the one status that
 ///   is free, and prints nothing.
-/// - `read_fault`, `write_fault`: status 5 and 6 come only where the count of faults of the images, of
-///   the text, rose in this call.
+/// - `read_fault`, `write_fault`: status 5 comes only where the count of faults of the images rose in this
+///   call, 6 only where that of `out` or of the text did.
 /// - `kept`, `unread`: the images are never written, and a script is left that the command doesn't read.
 #[tactic(auto, using(crate::proofs::Ending::endings))]
 pub fn run<
@@ -154,19 +210,19 @@ pub fn run<
     script: &mut T,
     out: &mut K,
     text: &mut O,
-    _choose: &mut C,
+    choose: &mut C,
     _gate: &G,
 ) -> Status
     requires { ForSome (K.made out.old) IsEmptySet }
-    ensures ends { Ends (IsDue (map string_bytes words.now) (S.held images.old) (T.left script.old))
+    ensures ends { Ends (IsDue (LeavesBy C.begins C.picks choose.old) (map string_bytes words.now) (S.held images.old) (T.left script.old))
         (K.made out.old) (K.made out.new) (O.written text.old) (O.written text.new) result }
     ensures read_fault { result ≡ Status.ReadFault → Rose (S.faults images.old) (S.faults images.new) }
-    ensures write_fault { result ≡ Status.WriteFault → Rose (O.faults text.old) (O.faults text.new) }
+    ensures write_fault { result ≡ Status.WriteFault → Rose (K.faults out.old) (K.faults out.new) ⊎ Rose (O.faults text.old) (O.faults text.new) }
     ensures kept { S.held images.new ≡ S.held images.old }
     ensures unread { LeavesScript (map string_bytes words.now) (T.left script.old) (T.left script.new) }
 {
-    match answer_to(alloc, words, images, script) {
-        Ok(answer) => conclude(&answer, out, text),
+    match answer_to(alloc, words, images, script, choose) {
+        Ok(answer) => conclude(alloc, answer, out, text),
         Err(stop) => stopped(stop, text),
     }
 }

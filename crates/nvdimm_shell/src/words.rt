@@ -1,11 +1,21 @@
 //! What the words of a command line ask for.
 ghost use Rattle.std.specs.Prelude.{◌≡◌, IfOk, Some, None, Err, map, string_bytes};
 ghost use Rattle.command_words.specs.Parsed.{rows};
-ghost use Rattle.nvdimm_shell.specs.Words.{command_of, command_with, command_in};
+ghost use Rattle.nvdimm_shell.specs.Words.{command_of, command_with, command_in, power_in};
 
 use crate::commands::Kind;
 use command_words::{Parsed, WordsFault, parse};
 use std::alloc::Global;
+
+/// How long power lasts, and what a cut then leaves.
+#[derive(Clone, Copy, Debug, PartialEq, Eq)]
+pub struct Power {
+    /// How many steps are made before power is cut, `None` where it isn't: the number of `--cut`.
+    pub steps: Option<u64>,
+    /// From which seed the chooser begins that says for each pending word what is left of it: the number
+    /// of `--evict`, or 0.
+    pub seed: u64,
+}
 
 /// What the words ask for.
 #[derive(Clone, Copy, Debug, PartialEq, Eq)]
@@ -14,10 +24,26 @@ pub enum Command {
     Labels(u32),
     /// Print the modules and regions of the firmware's table.
     Nfit,
+    /// Print the namespaces.
+    List,
+    /// Write fresh index blocks into the label area of a module.
+    Init(u32, Power),
 }
 
 /// The greatest number of a module.
 const LAST_MODULE: u64 = 63;
+
+/// The options on power cuts.
+fn power_in(values: &Parsed<'_>) -> Option<Power>
+    ensures { result ≡ power_in (rows values.now) }
+{
+    let steps = values.optional_number("cut", 0, u64::MAX)?;
+    let seed = values.optional_number("evict", 0, u64::MAX)?;
+    Some(Power {
+        steps,
+        seed: seed.unwrap_or(0),
+    })
+}
 
 /// The command that the values of its arguments make.
 fn command_in(kind: Kind, values: &Parsed<'_>) -> Option<Command>
@@ -29,6 +55,12 @@ fn command_in(kind: Kind, values: &Parsed<'_>) -> Option<Command>
             Some(Command::Labels(module as u32))
         }
         Kind::Nfit => Some(Command::Nfit),
+        Kind::List => Some(Command::List),
+        Kind::Init => {
+            let module = values.number("module", 0, LAST_MODULE)?;
+            let power = power_in(values)?;
+            Some(Command::Init(module as u32, power))
+        }
     }
 }
 
