@@ -1,18 +1,8 @@
--- Label areas that may be asked for their labels.
-use Rattle.std.specs.Prelude.{◌≡◌, ⊤, ℕ, ◌<◌, ◌^◌, false, List, length}
-use Rattle.std.specs.List.{All}
+-- What a registry keeps.
+use Rattle.std.specs.Prelude.{ℕ, ◌<◌, ◌^◌, List, length}
 use Rattle.nfit_reader.specs.declared.table.Mapping.{Mapping}
-use Rattle.namespace_ops.specs.declared.area.Area.{Area}
-use Rattle.namespace_ops.specs.declared.area.Area.TheVariants.{Absent, Refused, Ready}
-
--- power wasn't cut in a change of the area
-abbrev pub IsRunning : Area → Type 0
-IsRunning Absent = ⊤
-IsRunning (Refused refused) = ⊤
-IsRunning (Ready area) = area.stopped ≡ false
-
-abbrev pub AreRunning : List Area → Type 0
-AreRunning areas = All IsRunning areas
+use Rattle.module_areas.specs.declared.area.Area.{Area}
+use Rattle.module_areas.specs.Areas.{AreRunning}
 
 -- what a registry keeps of its interleave sets and its areas
 pub record IsOpen (sets : List (List Mapping)) (areas : List Area) : Type 0 where

@@ -9,31 +9,16 @@ use Rattle.nfit_reader.specs.declared.table.Region.{Region}
 use Rattle.interleave.specs.declared.set.SetFault.{SetFault}
 use Rattle.interleave.specs.declared.set.SetFault.TheVariants as set
 use Rattle.interleave.specs.Sets.{set_reading}
-use Rattle.label_codec.specs.declared.label.Label.{Label}
-use Rattle.label_index.specs.declared.index.IndexBlock.{IndexBlock}
 use Rattle.label_set.specs.declared.placed.Placed.{Placed}
 use Rattle.region_space.specs.declared.extent.SpaceFault.{SpaceFault}
 use Rattle.region_space.specs.declared.extent.SpaceFault.TheVariants as space
 use Rattle.region_space.specs.Space.{overlap_of}
-use Rattle.label_area.specs.State.{AreaState}
 use Rattle.namespaces.specs.declared.listed.Namespace.{Namespace}
-use Rattle.namespaces.specs.Namespaces.{placed_of, extent_of, entries_of, namespace_of}
-use Rattle.namespace_ops.specs.declared.area.Area.{Area}
-use Rattle.namespace_ops.specs.declared.area.Area.TheVariants.{Absent, Refused, Ready}
+use Rattle.namespaces.specs.Namespaces.{extent_of, entries_of, namespace_of}
+use Rattle.module_areas.specs.declared.area.Area.{Area}
+use Rattle.module_areas.specs.Areas.{labels_of}
 use Rattle.namespace_ops.specs.declared.registry.OpenFault.{OpenFault}
 use Rattle.namespace_ops.specs.declared.registry.OpenFault.TheVariants.{Set, Overlap, OutOfMemory}
-
--- ---- labels
-
--- the labels that an area shows, by slot; None where it isn't read
-abbrev pub shown_in : Area → Option (List (Option Label))
-shown_in Absent = None
-shown_in (Refused refused) = None
-shown_in (Ready area) = Some area.labels
-
--- the labels of all modules, rising by module and slot
-abbrev pub labels_of : List Area → List Placed
-labels_of areas = placed_of (map shown_in areas)
 
 -- ---- opening
 

@@ -1,10 +1,9 @@
 //! The registry of namespaces.
 #![tactic(auto)]
 
-mod area;
-mod gather;
+mod grouping;
 mod listing;
 mod registry;
 
-pub use area::Area;
+pub use module_areas::Area;
 pub use registry::{OpenFault, Registry};

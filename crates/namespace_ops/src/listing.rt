@@ -4,7 +4,7 @@ ghost use Rattle.std.specs.Option.{option_map, option_to_list};
 ghost use Rattle.namespaces.specs.Namespaces.{entries_of, extent_of, namespace_of, region_of, shown_name, status_in};
 ghost use Rattle.namespace_ops.specs.Groups.{namespace_in, namespace_with, number_in};
 
-use crate::gather::grouped;
+use crate::grouping::grouped;
 use interleave::InterleaveSet;
 use label_codec::Name;
 use label_set::{Placed, SetStatus, Why, is_outside, some_local, status};

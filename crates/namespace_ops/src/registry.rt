@@ -2,13 +2,12 @@ ghost use Rattle.std.specs.Prelude.{◌≡◌, ◌<◌, ◌^◌, IfOk, length, s
 ghost use Rattle.nfit_reader.specs.declared.table.Region.{Region};
 ghost use Rattle.nvd_words.specs.Checks.{Answers, value_unless};
 ghost use Rattle.nfit_reader.specs.Counted.{AreCounted};
-ghost use Rattle.namespace_ops.specs.Areas.{AreRunning};
-ghost use Rattle.namespace_ops.specs.Opening.{listing, opening, overlap_as, overlap_fault, set_fault_as, set_fault_from, set_or_fault, sets_of, labels_of};
+ghost use Rattle.namespace_ops.specs.Opening.{listing, opening, overlap_as, overlap_fault, set_fault_as, set_fault_from, set_or_fault, sets_of};
+ghost use Rattle.module_areas.specs.Areas.{AreRunning, labels_of};
 
-use crate::area::Area;
-use crate::gather::gathered;
 use crate::listing::{extents_of, listed};
 use interleave::{InterleaveSet, SetFault, interleave_set};
+use module_areas::{Area, gathered};
 use namespaces::Namespace;
 use nfit_reader::Nfit;
 use nvd_words::Items;

@@ -5,10 +5,11 @@ use Rattle.nvd_words.specs.Checks.{first_fault, value_unless}
 use Rattle.nfit_reader.specs.declared.table.Nfit.{Nfit}
 use Rattle.namespaces.specs.declared.listed.Namespace.{Namespace}
 use Rattle.namespaces.specs.Namespaces.{entries_of, namespace_of}
-use Rattle.namespace_ops.specs.declared.area.Area.{Area}
+use Rattle.module_areas.specs.declared.area.Area.{Area}
+use Rattle.module_areas.specs.Areas.{labels_of}
 use Rattle.namespace_ops.specs.declared.registry.OpenFault.{OpenFault}
 use Rattle.namespace_ops.specs.declared.registry.OpenFault.TheVariants.{OutOfMemory}
-use Rattle.namespace_ops.specs.Opening.{Opened, labels_of, listing, opening, overlap_fault, set_fault_from, sets_of}
+use Rattle.namespace_ops.specs.Opening.{Opened, listing, opening, overlap_fault, set_fault_from, sets_of}
 use Rattle.nvdimm_shell.specs.declared.outcome.Answer.{Answer}
 use Rattle.nvdimm_shell.specs.Outcome.{Outcome, printed}
 use Rattle.nvdimm_shell.specs.Saved.{outcome_of}

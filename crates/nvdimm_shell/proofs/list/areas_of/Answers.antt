@@ -6,8 +6,7 @@ use Rattle.cut_words.specs.Words.{Words}
 use Rattle.label_codec.specs.declared.label.Label.{Label}
 use Rattle.image_set.specs.Load.{bytes_kept}
 use Rattle.image_set.specs.Sound.{IsArea}
-use Rattle.namespace_ops.specs.Areas.{IsRunning}
-use Rattle.namespace_ops.specs.Opening.{shown_in}
+use Rattle.module_areas.specs.Areas.{IsRunning, shown_in}
 use Rattle.nvdimm_shell.specs.List.{shown_by}
 use Rattle.nvdimm_shell.proofs.list.areas_of.Goals as goal
 

@@ -3,8 +3,7 @@ use Rattle.std.specs.Option.{option_map}
 use Rattle.std.specs.List.{All}
 use Rattle.image_set.specs.Load.{bytes_kept}
 use Rattle.image_set.specs.Sound.{IsArea}
-use Rattle.namespace_ops.specs.Areas.{AreRunning}
-use Rattle.namespace_ops.specs.Opening.{shown_in}
+use Rattle.module_areas.specs.Areas.{AreRunning, shown_in}
 use Rattle.nvdimm_shell.specs.List.{shown_by}
 use Rattle.nvdimm_shell.proofs.list.areas_of.Given as goal
 

@@ -1,20 +1,13 @@
-//! The labels of all modules, and those of each UUID.
-ghost use Rattle.std.specs.Prelude.{◌≡◌, ◌<◌, ◌≤◌, ◌^◌, ◌++◌, ℕ, List, Some, IfOk, OnOk, None, length, if◌then◌else◌};
+//! The labels of all modules.
+ghost use Rattle.std.specs.Prelude.{◌≡◌, ◌<◌, ◌≤◌, ◌^◌, ◌++◌, Some, IfOk, OnOk, length};
 ghost use Rattle.std.specs.Option.{option_to_list};
-ghost use Rattle.std.specs.Str.{bytes_eq};
-ghost use Rattle.std.specs.Ordering.{nat_cmp};
-ghost use Rattle.std.specs.Cmp.Lexicographic.{slice_cmp};
-ghost use Rattle.std.specs.BTreeMap as tree;
 ghost use Rattle.namespaces.specs.Namespaces.{placed_in, placed_on};
-ghost use Rattle.namespace_ops.specs.Opening.{shown_in, labels_of};
-ghost use Rattle.namespace_ops.specs.Areas.{AreRunning, IsRunning};
-ghost use Rattle.namespace_ops.specs.Groups.{items_of, IsGrouped};
+ghost use Rattle.module_areas.specs.Areas.{AreRunning, IsRunning, labels_of, shown_in};
 
 use crate::area::Area;
 use label_codec::Label;
 use label_set::Placed;
 use std::alloc::{AllocError, Global};
-use std::collections::BTreeMap;
 
 /// Adds the label of a slot, where it has one.
 fn add_label(
@@ -62,7 +55,10 @@ fn add_area(module: u32, area: &Area, placed: &mut Vec<Placed>) -> Result<(), Al
 }
 
 /// The labels of all areas, rising by module and slot.
-pub(crate) fn gathered(alloc: Global, areas: &[Area]) -> Result<Vec<Placed>, AllocError>
+///
+/// No area was stopped by a power cut. An area that is absent or refused has none; a label has its module's
+/// and its slot's number. The one error is want of memory.
+pub fn gathered(alloc: Global, areas: &[Area]) -> Result<Vec<Placed>, AllocError>
     requires running { AreRunning areas.now }
     requires few { length areas.now < 2 ^ 32 }
     ensures { IfOk result (λ placed. placed.items ≡ labels_of areas.now) }
@@ -72,38 +68,4 @@ pub(crate) fn gathered(alloc: Global, areas: &[Area]) -> Result<Vec<Placed>, All
         add_area(module as u32, area, &mut placed)?;
     }
     Ok(placed)
-}
-
-/// Takes the labels of a UUID out.
-#[tactic(auto, using(crate::proofs::Grouped::orders))]
-fn taken(
-    alloc: Global,
-    groups: &mut BTreeMap<[u8; 16], Vec<Placed>>,
-    uuid: &[u8; 16],
-) -> Vec<Placed>
-    ensures group { result.items ≡ items_of (tree.get (slice_cmp nat_cmp) groups.old uuid.now) }
-    ensures others { (other : List ℕ) → tree.get (slice_cmp nat_cmp) groups.new other
-        ≡ (if bytes_eq uuid.now other then None else tree.get (slice_cmp nat_cmp) groups.old other) }
-{
-    match groups.remove(uuid) {
-        Some(group) => group,
-        None => Vec::new(alloc),
-    }
-}
-
-/// The labels by their UUID, those of each in their order.
-pub(crate) fn grouped(
-    alloc: Global,
-    labels: &[Placed],
-) -> Result<BTreeMap<[u8; 16], Vec<Placed>>, AllocError>
-    ensures { IfOk result (λ groups. IsGrouped groups labels.now) }
-{
-    let mut groups = BTreeMap::new(alloc);
-    for label in labels {
-        let uuid = label.label.uuid.into_bytes();
-        let mut group = taken(alloc, &mut groups, &uuid);
-        group.push(*label)?;
-        groups.insert(uuid, group)?;
-    }
-    Ok(groups)
 }

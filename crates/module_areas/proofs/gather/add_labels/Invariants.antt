@@ -1,7 +1,7 @@
 use Rattle.std.proofs.Common.{◌≡◌, ◌++◌, drop, Some}
 use Rattle.std.specs.List.{filter_map, enumerate_from}
 use Rattle.namespaces.specs.Namespaces.{placed_in, placed_on}
-use Rattle.namespace_ops.proofs.gather.add_labels.Given as goal
+use Rattle.module_areas.proofs.gather.add_labels.Given as goal
 
 abbrev pub invariant-loop-slot : goal.invariant-loop-slot
 invariant-loop-slot l =

@@ -5,7 +5,7 @@ use Rattle.std.specs.BTreeMap as tree
 use Rattle.namespaces.specs.Namespaces.{uuid_of}
 use Rattle.namespace_ops.specs.Groups.{items_of}
 use Rattle.namespace_ops.proofs.Grouped.{group_more}
-use Rattle.namespace_ops.proofs.gather.grouped.Goals as goal
+use Rattle.namespace_ops.proofs.grouping.grouped.Goals as goal
 
 pub loop-label-preserved : goal.loop-label-preserved
 loop-label-preserved c =

@@ -1,8 +1,8 @@
 use Rattle.std.proofs.Common.{◌≡◌, ◌++◌, drop, map}
 use Rattle.std.specs.List.{flat_map, enumerate_from}
 use Rattle.namespaces.specs.Namespaces.{placed_on}
-use Rattle.namespace_ops.specs.Opening.{shown_in, labels_of}
-use Rattle.namespace_ops.proofs.gather.gathered.Given as goal
+use Rattle.module_areas.specs.Areas.{shown_in, labels_of}
+use Rattle.module_areas.proofs.gather.gathered.Given as goal
 
 abbrev pub invariant-loop-module : goal.invariant-loop-module
 invariant-loop-module l =
