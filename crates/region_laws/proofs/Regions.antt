@@ -1,15 +1,14 @@
 -- The sets of a table's regions share no bytes.
-use Rattle.std.proofs.Common.{◌≡◌, ◌≢◌, ℕ, zero, suc, ◌+◌, ◌<◌, ◌≤◌, ◌&&◌, true, false, List, [], ◌∷◌, length, Option, Some, Ok, sym, ap, ◌∙◌, subst, arith, inl, inr}
+use Rattle.std.proofs.Common.{◌≡◌, ◌≢◌, ℕ, zero, suc, ◌+◌, ◌<◌, false, List, [], ◌∷◌, length, Some, Ok, sym, subst, arith, inl, inr}
 use Rattle.std.specs.Prelude.{◌⊎◌, slice_get, nat_lt, Contains}
 use Rattle.std.specs.List.{All}
 use Rattle.std.proofs.lemmas.Bool.{le-ltb, and_left, and_right}
 use Rattle.std.proofs.lemmas.Option.{none-some}
+use Rattle.std.proofs.lemmas.List.Elements.{All-contains}
 use Rattle.nvd_words.specs.Checks.{first_fault}
 use Rattle.nfit_reader.specs.declared.table.Mapping.{Mapping}
-use Rattle.nfit_reader.specs.declared.table.Nfit.{Nfit}
 use Rattle.nfit_reader.specs.declared.table.Region.{Region}
-use Rattle.nfit_reader.specs.Table.{nfit_reading}
-use Rattle.nfit_reader.specs.Counted.{AreCounted, IsCounted}
+use Rattle.nfit_reader.specs.Counted.{IsCounted}
 use Rattle.nfit_reader.specs.Sharing.{EndsBefore}
 use Rattle.nfit_reader.proofs.Sharing.{share_no_bytes}
 use Rattle.interleave.specs.Places.{by_offset}
@@ -18,8 +17,7 @@ use Rattle.interleave.proofs.Holders.{In, in_from, in_to}
 use Rattle.interleave.proofs.Sorted.{Makes, makes_set, in_by_offset}
 use Rattle.interleave.proofs.Checked.{no_fault}
 use Rattle.region_space.specs.Space.{ranges_meet}
-use Rattle.change_laws.specs.Left.{AreRegions}
-use Rattle.region_laws.specs.Regions.{AreSetsOf, TablesGiveRegions}
+use Rattle.region_laws.specs.Regions.{TablesGiveRegions}
 
 in_get : {X : Type 0} (xs : List X) (i : ℕ) (x : X) → slice_get xs i ≡ Some x → In xs x
 in_get [] i x e = absurd (none-some x e)
@@ -31,7 +29,7 @@ not_meeting m k (inl first) = and_right (nat_lt m.start (k.start + k.size)) (nat
 not_meeting m k (inr other) = and_left (nat_lt m.start (k.start + k.size)) (nat_lt k.start (m.start + m.size)) (le-ltb m.start (k.start + k.size) other)
 
 in_all : {X : Type 0} (P : X → Type 0) (xs : List X) (i : ℕ) (x : X) → All P xs → slice_get xs i ≡ Some x → P x
-in_all P xs i x all e = let c = in_to xs x (in_get xs i x e) in all x c
+in_all P xs i x all e = All-contains P xs x all (in_to xs x (in_get xs i x e))
 
 -- a mapping of a set is one of its region's, and has some bytes
 of_region : (r : Region) (set : List Mapping) (m : Mapping) → 0 < length r.mappings → set_reading r ≡ Ok set → Contains set m → Contains r.mappings m × (0 < m.size)
