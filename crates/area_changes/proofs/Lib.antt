@@ -1,0 +1,4 @@
+pub mod Slots
+pub mod OneChange
+pub mod Seen
+pub mod Went
