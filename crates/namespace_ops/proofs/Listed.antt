@@ -14,7 +14,6 @@ use Rattle.std.proofs.lemmas.Bool.{cases_Bool, false≢true, false_from_ne_true}
 use Rattle.std.proofs.lemmas.Cmp.{nat_list_cmp_total}
 use Rattle.std.proofs.lemmas.Map.Keys.{sorted_head, sorted_tail}
 use Rattle.std.proofs.lemmas.Map.Text.{is_eq-slice_cmp}
-use Rattle.std.proofs.lemmas.Option.{none-some, same_Some}
 use Rattle.std.proofs.lemmas.Slice.Eq.{bytes_eq-Decides}
 use Rattle.nfit_reader.specs.declared.table.Mapping.{Mapping}
 use Rattle.label_set.specs.declared.placed.Placed.{Placed}
@@ -22,8 +21,9 @@ use Rattle.namespaces.specs.declared.listed.Namespace.{Namespace}
 use Rattle.namespaces.specs.Namespaces.{Entry, entries_of, entry_at, entry_with, labels_with, lookup, namespace_of, uuid_lt}
 use Rattle.namespaces.specs.Laws.{IsRising}
 use Rattle.namespaces.proofs.Entries.{entry_uuid, entry_none, lookup_entries}
-use Rattle.namespaces.proofs.Rising.{rising_entries, rising_same, all_pass_to}
-use Rattle.namespace_ops.specs.Groups.{items_of, namespace_in, namespace_with, IsGrouped}
+use Rattle.namespaces.proofs.Rising.{rising_entries, rising_same}
+use Rattle.namespace_groups.specs.Seen.{namespace_in, namespace_with}
+use Rattle.namespace_ops.specs.Groups.{items_of, IsGrouped}
 
 abbrev cmp : List ℕ → List ℕ → Ordering
 cmp = slice_cmp nat_cmp

@@ -1,5 +1,5 @@
 -- The interleave sets of regions, one region after another.
-use Rattle.std.proofs.Common.{◌≡◌, ◌≢◌, ℕ, ◌+◌, ◌<◌, ◌≤◌, List, [], ◌∷◌, ◌++◌, Option, Some, None, Result, Ok, Err, length, drop, take, map, get_or, refl, sym, ap, ◌∙◌}
+use Rattle.std.proofs.Common.{◌≡◌, ℕ, ◌+◌, ◌<◌, ◌≤◌, List, [], ◌∷◌, ◌++◌, Option, Some, None, Result, Ok, Err, length, drop, take, map, get_or, refl, sym, ap, ◌∙◌}
 use Rattle.std.specs.Result.{result_err}
 use Rattle.std.proofs.lemmas.List.{at_drop_more, take_more, take_all, drop_all, map-append, length-append}
 use Rattle.nvd_words.specs.Checks.{first_fault, value_unless}
@@ -8,8 +8,7 @@ use Rattle.nfit_reader.specs.declared.table.Region.{Region}
 use Rattle.interleave.specs.declared.set.SetFault.{SetFault}
 use Rattle.interleave.specs.Sets.{set_reading}
 use Rattle.namespace_ops.specs.declared.registry.OpenFault.{OpenFault}
-use Rattle.namespace_ops.specs.declared.registry.OpenFault.TheVariants.{OutOfMemory}
-use Rattle.namespace_ops.specs.Opening.{set_as, set_fault_as, set_fault_from, set_in, set_or_fault}
+use Rattle.namespace_ops.specs.Opening.{set_as, set_fault_from, set_in, set_or_fault}
 
 -- a region that stands for none
 abbrev pub blank : Region

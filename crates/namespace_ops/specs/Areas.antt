@@ -1,5 +1,5 @@
 -- What a registry keeps.
-use Rattle.std.specs.Prelude.{ℕ, ◌<◌, ◌^◌, List, length}
+use Rattle.std.specs.Prelude.{◌<◌, ◌^◌, List, length}
 use Rattle.nfit_reader.specs.declared.table.Mapping.{Mapping}
 use Rattle.module_areas.specs.declared.area.Area.{Area}
 use Rattle.module_areas.specs.Areas.{AreRunning}

@@ -1,14 +1,11 @@
 -- Labels by their UUID, as a map holds them.
-use Rattle.std.specs.Prelude.{◌≡◌, ℕ, List, [], Option, Some, None, slice_get}
-use Rattle.std.specs.Option.{option_map}
+use Rattle.std.specs.Prelude.{◌≡◌, ℕ, List, [], Option, Some, None}
 use Rattle.std.specs.Ordering.{nat_cmp}
 use Rattle.std.specs.Cmp.Lexicographic.{slice_cmp}
 use Rattle.std.specs.BTreeMap as tree
 use Rattle.std.specs.Global.{Vec}
-use Rattle.nfit_reader.specs.declared.table.Mapping.{Mapping}
 use Rattle.label_set.specs.declared.placed.Placed.{Placed}
-use Rattle.namespaces.specs.declared.listed.Namespace.{Namespace}
-use Rattle.namespaces.specs.Namespaces.{labels_with, entry_with, namespace_of}
+use Rattle.namespaces.specs.Namespaces.{labels_with}
 
 abbrev pub items_of : Option (Vec Placed) → List Placed
 items_of None = []
@@ -17,15 +14,3 @@ items_of (Some labels) = labels.items
 -- each UUID has its labels, in their order
 pub record IsGrouped (groups : tree.BTreeMap (List ℕ) (Vec Placed)) (labels : List Placed) : Type 0 where
   pub group : (uuid : List ℕ) → items_of (tree.get (slice_cmp nat_cmp) groups uuid) ≡ labels_with uuid labels
-
--- the number of a region
-abbrev pub number_in : ℕ × List Mapping → ℕ
-number_in region = region.0
-
--- what a caller sees of the labels of one UUID, of which the first is given; none of them is claimed
-unfoldable pub namespace_with : List (List Mapping) → List Placed → Placed → Namespace
-namespace_with sets own first = namespace_of (entry_with sets own first) 0
-
--- none where there is no label
-abbrev pub namespace_in : List (List Mapping) → List Placed → Option Namespace
-namespace_in sets own = option_map (namespace_with sets own) (slice_get own 0)

@@ -1,5 +1,5 @@
 -- What a registry of namespaces is opened on, or why it isn't: UEFI 2.10, section 13.19, with this project's rules.
-use Rattle.std.specs.Prelude.{ℕ, ◌+◌, List, [], ◌∷◌, map, length, Option, Some, None, Result, Ok, Err}
+use Rattle.std.specs.Prelude.{ℕ, ◌+◌, List, [], ◌∷◌, map, Option, None, Result, Ok, Err}
 use Rattle.std.specs.Option.{option_map}
 use Rattle.std.specs.Result.{result_err}
 use Rattle.nvd_words.specs.Checks.{first_fault, value_unless}

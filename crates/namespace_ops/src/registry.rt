@@ -5,9 +5,10 @@ ghost use Rattle.nfit_reader.specs.Counted.{AreCounted};
 ghost use Rattle.namespace_ops.specs.Opening.{listing, opening, overlap_as, overlap_fault, set_fault_as, set_fault_from, set_or_fault, sets_of};
 ghost use Rattle.module_areas.specs.Areas.{AreRunning, labels_of};
 
-use crate::listing::{extents_of, listed};
+use crate::listing::listed;
 use interleave::{InterleaveSet, SetFault, interleave_set};
 use module_areas::{Area, gathered};
+use namespace_groups::extents_of;
 use namespaces::Namespace;
 use nfit_reader::Nfit;
 use nvd_words::Items;

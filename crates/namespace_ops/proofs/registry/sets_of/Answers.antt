@@ -1,4 +1,4 @@
-use Rattle.std.proofs.Common.{◌≡◌, ◌∙◌, Err, ap, sym, arith}
+use Rattle.std.proofs.Common.{◌∙◌, Err, ap, sym, arith}
 use Rattle.namespace_ops.specs.declared.registry.OpenFault.{OpenFault}
 use Rattle.namespace_ops.proofs.Sets.{blank, set_more, fault_found, none_found}
 use Rattle.namespace_ops.proofs.registry.sets_of.Goals as goal

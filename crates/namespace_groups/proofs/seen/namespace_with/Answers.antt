@@ -1,9 +1,9 @@
-use Rattle.std.proofs.Common.{◌≡◌, ◌∙◌, ap}
+use Rattle.std.proofs.Common.{◌∙◌, ap}
 use Rattle.std.specs.Option.{option_map}
 use Rattle.namespaces.specs.Namespaces.{status_in}
-use Rattle.namespace_ops.specs.Groups.{number_in}
-use Rattle.namespace_ops.proofs.Named.{made}
-use Rattle.namespace_ops.proofs.listing.namespace_with.Goals as goal
+use Rattle.namespace_groups.specs.Seen.{number_in}
+use Rattle.namespace_groups.proofs.Named.{made}
+use Rattle.namespace_groups.proofs.seen.namespace_with.Goals as goal
 
 pub returns : goal.returns
 returns c =

@@ -8,7 +8,7 @@ use Rattle.label_set.specs.declared.placed.Placed.{Placed}
 use Rattle.label_set.specs.declared.placed.SetStatus.{SetStatus}
 use Rattle.region_space.specs.declared.extent.Extent.{Extent}
 use Rattle.namespaces.specs.Namespaces.{extent_of, part_of, region_of, shown_name, status_in}
-use Rattle.namespace_ops.specs.Groups.{namespace_with, number_in}
+use Rattle.namespace_groups.specs.Seen.{namespace_with, number_in}
 
 parts : (labels : List Placed) → map extent_of labels ≡ map (λ p. p.extent) (map part_of labels)
 parts [] = refl
