@@ -31,17 +31,17 @@ use Rattle.arena_open.proofs.Again.{opens_all, drop_shifted}
 -- ---- the arena's own words say the same
 
 module _ (l : Layout) (words : List ℕ) (ok : IsLayout l) where
-  abbrev own : List ℕ
+  abbrev pub own : List ℕ
   own = take (l.size / 8) words
 
-  own_info : info_bytes own ≡ info_bytes words
+  pub own_info : info_bytes own ≡ info_bytes words
   own_info = ap bytes_of (take-take 512 (l.size / 8) words (omega (arith, ordered l ok)))
 
-  own_group : (lane : ℕ) → lane < l.lanes → group_words l own lane ≡ group_words l words lane
+  pub own_group : (lane : ℕ) → lane < l.lanes → group_words l own lane ≡ group_words l words lane
   own_group lane lt = map_range (λ k. value_at l own (log_word lane k)) (λ k. value_at l words (log_word lane k)) 0 8 (λ k low high.
       get_or-take (l.size / 8) words (l.flog_off / 8 + (8 * lane + k)) 0 (omega (arith, ordered l ok)))
 
-  own_map : map_in l own ≡ map_in l words
+  pub own_map : map_in l own ≡ map_in l words
   own_map = map_range (entry_at l own) (entry_at l words) 0 l.external (λ k low high.
       ap (λ (word : ℕ). entry_in word k) (get_or-take (l.size / 8) words (l.map_off / 8 + k / 2) 0 (omega (arith, ordered l ok))))
 

@@ -10,7 +10,7 @@ use Rattle.cut_words.specs.Words.{Words, settled}
 use Rattle.label_index.specs.Area.{IsAreaSize}
 use Rattle.image_set.specs.declared.sizes.Sizes.{Sizes}
 use Rattle.image_set.specs.Sizes.{sizes_of, contents_of, AreSizesOf, IsSized}
-use Rattle.image_set.specs.Sound.{size_of, IsArea, IsContents}
+use Rattle.image_set.specs.Sound.{size_of, IsArea, AreWords, IsContents}
 
 -- an object that is there was read
 pub there_told : (x : Option (List ℕ)) (found : Option ℕ) (n : ℕ) (bytes : List ℕ) → found ≡ option_map length x → found ≡ Some n → bytes ≡ unwrap_or x [] → Some bytes ≡ x
@@ -49,9 +49,10 @@ contents_on sizes contents words m d so_far lt is =
     ∙ ap (λ (front : List ℕ). front ++ size_of words ∷ []) so_far ∙ ap (λ (last : ℕ). contents_of (take m sizes) ++ last ∷ []) is
     ∙ sym (ap contents_of (take_more sizes m d lt) ∙ map-append (λ (s : Sizes). s.contents) (take m sizes) (get_or sizes m d ∷ []))
 
-pub contents_sound : (words : Words) (s : Sizes) → IsSized s → size_of words ≡ s.contents → words ≡ settled words.kept → IsContents words
-contents_sound words s sized count kept = record {
+pub contents_sound : (words : Words) (s : Sizes) → IsSized s → size_of words ≡ s.contents → words ≡ settled words.kept → AreWords words.kept → IsContents words
+contents_sound words s sized count kept fit = record {
   some = let a = sized.some in omega arith;
   multiple = let a = sized.multiple in omega arith;
   kept = kept;
+  fit = fit;
 }

@@ -1,5 +1,5 @@
 -- What holds of an image set that was loaded, whatever its source tells.
-use Rattle.std.specs.Prelude.{◌≡◌, ℕ, ◌+◌, ◌*◌, ◌%◌, ◌^◌, ◌<◌, ◌≤◌, List, length, map, sum, slice_index_or, Option, Some, Ok}
+use Rattle.std.specs.Prelude.{◌≡◌, ℕ, ◌+◌, ◌*◌, ◌%◌, ◌^◌, ◌<◌, ◌≤◌, List, length, map, sum, slice_index, slice_index_or, Option, Some, Ok}
 use Rattle.std.specs.List.{All}
 use Rattle.cut_words.specs.Words.{Words, settled}
 use Rattle.nfit_reader.specs.declared.table.Region.{Region}
@@ -18,11 +18,16 @@ pub record IsArea (area : Option Words) : Type 0 where
   pub sized : (words : Words) → area ≡ Some words → IsAreaSize (size_of words)
   pub kept : (words : Words) → area ≡ Some words → words ≡ settled words.kept
 
+-- each number is one of 64 bits
+pub record AreWords (values : List ℕ) : Type 0 where
+  pub each : (i : ℕ) → slice_index values i < 2 ^ 64
+
 -- contents are a positive multiple of 4,096 bytes, and no word of them is pending
 pub record IsContents (words : Words) : Type 0 where
   pub some : 0 < length words.kept
   pub multiple : size_of words % 4096 ≡ 0
   pub kept : words ≡ settled words.kept
+  pub fit : AreWords words.kept
 
 -- a list of bad ranges, where there is one, has a multiple of 16 bytes and at most 64 KiB
 pub record IsBadRanges (ranges : Option (List ℕ)) : Type 0 where

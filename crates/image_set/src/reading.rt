@@ -6,7 +6,7 @@ ghost use Rattle.nvd_media.specs.Causes.{Rose};
 ghost use Rattle.nvd_media.specs.Images.{bytes_of};
 ghost use Rattle.cut_words.specs.Words.{settled};
 ghost use Rattle.image_set.specs.Load.{bytes_kept};
-ghost use Rattle.image_set.specs.Sound.{size_of, IsArea, IsContents, IsBadRanges};
+ghost use Rattle.image_set.specs.Sound.{size_of, AreWords, IsArea, IsContents, IsBadRanges};
 ghost use Rattle.image_set.specs.Sizes.{contents_of, AreSizesOf, IsSized};
 ghost use Rattle.label_index.specs.Area.{IsAreaSize};
 
@@ -17,6 +17,15 @@ use cut_words::CutWords;
 use nvd_media::{ImageSource, Object};
 use nvd_words::Items;
 use std::alloc::Global;
+
+/// What the type says of words, as a clause. Nothing is done here: `prove!` costs nothing when it runs.
+fn know_words(words: &[u64])
+    ensures { AreWords words.now }
+{
+    if let Some(word) = words.first() {
+        prove!(*word <= u64::MAX);
+    }
+}
 
 /// An object of so many bytes, as words of which none is pending.
 fn read_object<S: ImageSource>(
@@ -33,6 +42,7 @@ fn read_object<S: ImageSource>(
         (λ set. IfOk result (λ words. bytes_kept words ≡ bytes_of set object)) }
     ensures count { IfOk result (λ words. size_of words ≡ bytes) }
     ensures kept { IfOk result (λ words. words ≡ settled words.kept) }
+    ensures fit { IfOk result (λ words. AreWords words.kept) }
     ensures room { vec_len room.new ≡ 262144 }
     ensures same { S.held images.new ≡ S.held images.old }
     ensures later { S.faults images.old ≤ S.faults images.new }
@@ -40,6 +50,7 @@ fn read_object<S: ImageSource>(
         → Rose (S.faults images.old) (S.faults images.new) }
 {
     let words = read_words(alloc, images, object, bytes, room)?;
+    know_words(&words);
     Ok(CutWords::new(alloc, words)?)
 }
 

@@ -28,7 +28,7 @@ loop-module-preserved g c = record {
       ∙ contents_on c.args.sizes.now c.loop-module.contents c.in_ok-words.words c.loop-module.module none c.loop-module.invariant.sizes (omega arith) c.in_ok-words.ensures.count;
   sound = subst (All IsContents) (sym c.in_ok-push.ensures.ok) (All-append IsContents c.loop-module.contents (c.in_ok-words.words ∷ []) c.loop-module.invariant.sound
       (all_one IsContents c.in_ok-words.words (contents_sound c.in_ok-words.words (get_or c.args.sizes.now c.loop-module.module none)
-      (All-get_or IsSized c.args.sizes.now c.loop-module.module none (omega arith) c.requires.sized) c.in_ok-words.ensures.count c.in_ok-words.ensures.kept)));
+      (All-get_or IsSized c.args.sizes.now c.loop-module.module none (omega arith) c.requires.sized) c.in_ok-words.ensures.count c.in_ok-words.ensures.kept c.in_ok-words.ensures.fit)));
   told = λ set told.
       ap (map bytes_kept) c.in_ok-push.ensures.ok
       ∙ map_on bytes_kept (λ (m : ℕ). bytes_of set (object.Contents m)) c.loop-module.contents c.in_ok-words.words c.loop-module.module (c.loop-module.invariant.told set told)
