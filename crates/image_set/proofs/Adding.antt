@@ -1,16 +1,15 @@
 -- Objects that are added to a set, one after another.
-use Rattle.std.proofs.Common.{◌≡◌, ◌≢◌, ℕ, ◌+◌, ◌-◌, ◌*◌, ◌^◌, ◌≤◌, ◌<◌, Bool, true, false, cond, List, [], ◌∷◌, ◌++◌, length, take, drop, Option, Some, None, Result, Ok, Err, refl, sym, ap, ◌∙◌, arith, inl, inr, append_assoc}
-use Rattle.std.specs.Prelude.{OnOk, OnErr, min}
+use Rattle.std.proofs.Common.{◌≡◌, ℕ, ◌+◌, ◌*◌, ◌≤◌, true, false, List, ◌++◌, length, take, drop, Option, Some, None, Result, Ok, Err, refl, sym, ap, ◌∙◌, arith, inl, inr, append_assoc}
+use Rattle.std.specs.Prelude.{OnOk, OnErr}
 use Rattle.std.specs.Option.{ForSome}
 use Rattle.std.proofs.lemmas.Bool.{cases_Bool}
-use Rattle.std.proofs.lemmas.List.{length-append}
 use Rattle.std.proofs.Math.Seq.{take-add}
 use Rattle.cut_words.specs.WordBytes as words
 use Rattle.cut_words.proofs.Bytes.{length_bytes}
 use Rattle.cut_words.proofs.Put.{bytes_of-append}
 use Rattle.nvd_media.specs.declared.object.Object.{Object}
 use Rattle.nvd_media.specs.declared.object.Object.TheVariants as object
-use Rattle.nvd_media.specs.Causes.{HasCause, Rose}
+use Rattle.nvd_media.specs.Causes.{Rose}
 use Rattle.nvd_media.specs.Images.{Images, IsSameSet, Becomes, Keeps, IsUnfinished, is_object, bytes_of, with_more}
 use Rattle.nvd_media.proofs.Told.{becomes_here, becomes_then, becomes_told}
 use Rattle.image_set.specs.Save.{Adds, with_some}

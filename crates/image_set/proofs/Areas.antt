@@ -1,5 +1,5 @@
 -- A loaded set with another label area, and what a cut leaves of it.
-use Rattle.std.proofs.Common.{◌≡◌, ℕ, zero, suc, ◌*◌, ◌^◌, ◌<◌, ◌≤◌, ◌+◌, Bool, List, [], ◌∷◌, length, map, get_or, Option, Some, None, refl, sym, ap, ◌∙◌, subst, arith}
+use Rattle.std.proofs.Common.{◌≡◌, ℕ, zero, suc, ◌<◌, ◌≤◌, Bool, List, [], ◌∷◌, length, map, get_or, Option, Some, None, refl, sym, ap, ◌∙◌, subst, arith}
 use Rattle.std.proofs.Math.ListN.{set}
 use Rattle.std.specs.Prelude.{slice_get}
 use Rattle.std.specs.Option.{option_map}
@@ -10,7 +10,7 @@ use Rattle.std.proofs.lemmas.Simd.{map-map}
 use Rattle.std.proofs.lemmas.Option.{slice_get-map}
 use Rattle.nvd_media.specs.declared.object.Object.TheVariants as object
 use Rattle.nvd_media.specs.Images.{IsSameSet}
-use Rattle.cut_words.specs.Words.{Words, IsLeft}
+use Rattle.cut_words.specs.Words.{Words}
 use Rattle.cut_words.specs.WordBytes.{bytes_of}
 use Rattle.power_cut.specs.declared.leaving.Images.{Images as Left}
 use Rattle.power_cut.specs.Left.{LeavesAll, IsLeftOfAll, LeavesWords}
@@ -18,7 +18,7 @@ use Rattle.image_set.specs.declared.changing.SetLeft.{SetLeft}
 use Rattle.image_set.specs.declared.loading.Loaded.{Loaded}
 use Rattle.image_set.specs.Load.{area_of, bytes_kept, image_set_in}
 use Rattle.image_set.specs.Save.{set_of}
-use Rattle.image_set.specs.Changed.{IsSavable, LeavesArea, objects_in, objects_of, with_area}
+use Rattle.image_set.specs.Changed.{IsSavable, LeavesArea, objects_of, with_area}
 use Rattle.image_set.specs.Sound.{IsArea, IsContents, IsSound}
 use Rattle.image_set.proofs.Kept.{AreaSettled, IsSettled, kept_in, kept_rows, one_left, one_is_left}
 

@@ -1,31 +1,23 @@
 -- The bytes of words that are added eight at a time, and the pieces in which they come.
-use Rattle.std.proofs.Common.{◌≡◌, ℕ, ◌+◌, ◌*◌, ◌≤◌, List, [], ◌∷◌, ◌++◌, length, take, drop, refl, sym, ap, ◌∙◌, arith, append_assoc}
+use Rattle.std.proofs.Common.{◌≡◌, ℕ, ◌+◌, ◌*◌, List, [], ◌∷◌, ◌++◌, length, take, drop, refl, sym, ap, ◌∙◌, arith, append_assoc}
 use Rattle.std.specs.Int.{w64, to_le_bytes, from_le_bytes}
 use Rattle.std.proofs.Math.Seq.{take-add}
 use Rattle.std.proofs.lemmas.Nat.{le_bytes_8}
-use Rattle.std.proofs.lemmas.List.{append-nil, length-append, length-drop, length-take-le}
-use Rattle.nvd_words.specs.Bytes.{number_at, AreBytes}
-use Rattle.nvd_words.proofs.ByteLists.{take_bytes, drop_bytes}
+use Rattle.std.proofs.lemmas.List.{append-nil, length-append}
+use Rattle.nvd_words.specs.Bytes.{AreBytes}
 use Rattle.cut_words.specs.WordBytes.{bytes_of}
 use Rattle.cut_words.proofs.Bytes.{length_bytes}
 use Rattle.cut_words.proofs.Put.{bytes_of-append}
 
--- the bytes of the number of eight bytes are these
-eight_back : (piece : List ℕ) (at : ℕ) → AreBytes piece → at + 8 ≤ length piece → to_le_bytes w64 (number_at w64 piece at) ≡ take 8 (drop at piece)
-unfolding number_at
-eight_back piece at small fits =
-    le_bytes_8 (take 8 (drop at piece)) (from_le_bytes w64 (take 8 (drop at piece)))
-    (length-take-le 8 (drop at piece) (omega (arith, length-drop at piece))) (take_bytes 8 (drop at piece) (drop_bytes at piece small)).each refl
-
--- another word
-pub eight_more : (words old piece : List ℕ) (at : ℕ) → AreBytes piece → at + 8 ≤ length piece → bytes_of words ≡ bytes_of old ++ take at piece
-    → bytes_of (words ++ number_at w64 piece at ∷ []) ≡ bytes_of old ++ take (at + 8) piece
-eight_more words old piece at small fits so_far =
-    bytes_of-append words (number_at w64 piece at ∷ [])
-    ∙ ap (λ (back : List ℕ). bytes_of words ++ back) (append-nil (to_le_bytes w64 (number_at w64 piece at)) ∙ eight_back piece at small fits)
-    ∙ ap (λ (front : List ℕ). front ++ take 8 (drop at piece)) so_far
-    ∙ append_assoc (bytes_of old) (take at piece) (take 8 (drop at piece))
-    ∙ ap (λ (back : List ℕ). bytes_of old ++ back) (sym (take-add at 8 piece))
+-- another word, taken from what is left
+pub word_more : (words old piece eight more rest : List ℕ) → AreBytes eight → length eight ≡ 8 → rest ≡ eight ++ more → bytes_of words ++ rest ≡ bytes_of old ++ piece
+    → bytes_of (words ++ from_le_bytes w64 eight ∷ []) ++ more ≡ bytes_of old ++ piece
+word_more words old piece eight more rest small long is so_far =
+    ap (λ (front : List ℕ). front ++ more) (bytes_of-append words (from_le_bytes w64 eight ∷ [])
+    ∙ ap (λ (back : List ℕ). bytes_of words ++ back) (append-nil (to_le_bytes w64 (from_le_bytes w64 eight)) ∙ le_bytes_8 eight (from_le_bytes w64 eight) long small.each refl))
+    ∙ append_assoc (bytes_of words) eight more
+    ∙ ap (λ (back : List ℕ). bytes_of words ++ back) (sym is)
+    ∙ so_far
 
 -- another piece
 pub piece_more : (words new piece all : List ℕ) (at count : ℕ) → bytes_of new ≡ bytes_of words ++ piece → piece ≡ take count (drop at all) → bytes_of words ≡ take at all

@@ -1,20 +1,19 @@
 -- A set that is written module by module.
-use Rattle.std.proofs.Common.{◌≡◌, ◌≢◌, ℕ, ◌+◌, ◌≤◌, ◌<◌, Bool, true, false, cond, List, [], ◌∷◌, ◌++◌, length, get_or, Option, Some, None, Result, Ok, Err, refl, sym, ap, ◌∙◌, arith, inl, inr}
-use Rattle.std.specs.Prelude.{OnOk, OnErr, nat_lt, nat_eq, ◌==◌, slice_get}
+use Rattle.std.proofs.Common.{◌≡◌, ℕ, ◌+◌, ◌<◌, Bool, true, false, cond, List, [], length, get_or, Option, Some, None, Result, Ok, refl, sym, ap, ◌∙◌, arith, inl, inr}
+use Rattle.std.specs.Prelude.{OnOk, nat_lt, ◌==◌, slice_get}
 use Rattle.std.specs.Option.{ForSome, option_map}
 use Rattle.std.proofs.lemmas.Bool.{cases_Bool, eqb-true}
 use Rattle.std.proofs.lemmas.Bool.Decides.{nat_tests}
 use Rattle.std.proofs.lemmas.Option.{slice_get_past, slice_get_read}
 use Rattle.std.proofs.lemmas.List.{get_or_past}
-use Rattle.nvd_media.specs.declared.object.Object.{Object}
 use Rattle.nvd_media.specs.declared.object.Object.TheVariants as object
-use Rattle.nvd_media.specs.Causes.{HasCause, Rose}
-use Rattle.nvd_media.specs.Images.{Images, IsEmptySet, IsSameSet, Becomes, Keeps, IsUnfinished, is_object, bytes_of, with_more}
+use Rattle.nvd_media.specs.Causes.{HasCause}
+use Rattle.nvd_media.specs.Images.{Images, IsEmptySet, IsSameSet, Becomes, Keeps, IsUnfinished, with_more}
 use Rattle.nvd_media.proofs.Told.{becomes_then, becomes_told}
 use Rattle.cut_words.specs.WordBytes as words
 use Rattle.power_cut.specs.declared.leaving.Images.{Images as Left}
 use Rattle.image_set.specs.Save.{Adds, HasModules, HasNone, front_of, set_of, with_module, with_some}
-use Rattle.image_set.proofs.Adding.{IsAlike, on_ok, on_err, keeps_then, rose_on, becomes_mono, some_here, some_other, some_alike, more_alike}
+use Rattle.image_set.proofs.Adding.{IsAlike, on_ok, on_err, keeps_then, rose_on, some_here, some_other, some_alike, more_alike}
 
 -- what became of a sink that was empty
 pub record Reaches {T E : Type 0} (made made' kept kept' : Option Images) (faults faults' : ℕ) (result : Result T E) (set : Images) : Type 0 where

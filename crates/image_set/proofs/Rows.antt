@@ -1,5 +1,5 @@
 -- Worked rows, computed.
-use Rattle.std.proofs.Common.{◌≡◌, ℕ, ◌-◌, ◌%◌, ◌++◌, List, [], ◌∷◌, Option, Some, None, Ok, Err, replicate, sum, length, codes, refl}
+use Rattle.std.proofs.Common.{◌≡◌, ℕ, ◌-◌, ◌%◌, ◌++◌, List, [], ◌∷◌, Option, Some, None, Ok, Err, replicate, sum, codes, refl}
 use Rattle.std.specs.Int.{w16, w32, w64, to_le_bytes}
 use Rattle.nvd_words.specs.Bytes.{number_at}
 use Rattle.nvd_words.specs.Checks.{first_fault}

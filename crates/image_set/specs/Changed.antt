@@ -1,6 +1,5 @@
 -- What a cut leaves of a loaded set of which one label area was changed: this project's rules.
-use Rattle.std.specs.Prelude.{◌≡◌, ℕ, ◌^◌, ◌<◌, Bool, List, [], length, slice_get, slice_index_or, slice_set, Option, Some, None}
-use Rattle.nvd_media.specs.declared.object.Object.{Object}
+use Rattle.std.specs.Prelude.{ℕ, ◌^◌, ◌<◌, Bool, List, [], length, slice_get, slice_index_or, slice_set, Some, None}
 use Rattle.nvd_media.specs.declared.object.Object.TheVariants as object
 use Rattle.nvd_media.specs.Images.{Images, IsSameSet}
 use Rattle.cut_words.specs.Words.{Words, IsLeft}

@@ -1,6 +1,6 @@
 -- The image set that is saved: this project's rules.
-use Rattle.std.specs.Prelude.{◌≡◌, ℕ, ◌≤◌, nat_lt, if◌then◌else◌, List, [], length, slice_get, slice_index_or, Option, Some, None, Result, OnOk}
-use Rattle.std.specs.Option.{option_map, ForSome}
+use Rattle.std.specs.Prelude.{◌≡◌, ℕ, nat_lt, if◌then◌else◌, List, [], length, slice_get, slice_index_or, Option, Some, None, Result, OnOk}
+use Rattle.std.specs.Option.{option_map}
 use Rattle.nvd_media.specs.declared.object.Object.{Object}
 use Rattle.nvd_media.specs.declared.object.Object.TheVariants as object
 use Rattle.nvd_media.specs.Causes.{HasCause}

@@ -7,7 +7,6 @@ ghost use Rattle.cut_words.specs.WordBytes.{bytes_of};
 
 use crate::fault::Stop;
 use nvd_media::{ImageSource, Object};
-use nvd_words::word_at;
 use std::alloc::{AllocError, Global};
 
 /// How many bytes are read at a time: few calls on the source, and a buffer that stays in the caches.
@@ -29,10 +28,10 @@ fn push_words(words: &mut Vec<u64>, piece: &[u8]) -> Result<(), AllocError>
     ensures bytes { OnOk result (bytes_of words.new.items ≡ bytes_of words.old.items ++ piece.now) }
     ensures count { OnOk result (8 * vec_len words.new ≡ 8 * vec_len words.old + length piece.now) }
 {
-    let mut at = 0;
-    while at < piece.len() {
-        words.push(word_at(piece, at))?;
-        at += WORD;
+    let mut rest = piece;
+    while let Some((bytes, more)) = rest.split_first_chunk::<WORD>() {
+        words.push(u64::from_le_bytes(*bytes))?;
+        rest = more;
     }
     Ok(())
 }

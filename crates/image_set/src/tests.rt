@@ -1,3 +1,4 @@
+mod changes;
 mod saves;
 mod sets;
 

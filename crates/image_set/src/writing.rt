@@ -1,8 +1,7 @@
 //! Words written as the bytes of an object, in large pieces.
-ghost use Rattle.std.specs.Prelude.{◌≡◌, ◌≢◌, ◌+◌, ◌-◌, ◌*◌, ◌<◌, ◌≤◌, ◌++◌, Some, None, min, take, drop, length, vec_len, IfOk};
+ghost use Rattle.std.specs.Prelude.{◌≡◌, ◌≢◌, ◌+◌, ◌-◌, ◌*◌, ◌<◌, ◌≤◌, ◌++◌, Some, None, min, take, drop, length, map, vec_len, IfOk};
 ghost use Rattle.std.specs.Option.{ForSome, option_map};
 ghost use Rattle.std.specs.Int.{w64, to_le_bytes};
-ghost use Rattle.std.specs.Vec.{vec_capacity};
 ghost use Rattle.nvd_media.specs.Images.{with_more, bytes_of as bytes_in};
 ghost use Rattle.cut_words.specs.WordBytes.{bytes_of};
 ghost use Rattle.image_set.specs.Save.{Adds, HasNone, with_some, with_module};
@@ -11,40 +10,29 @@ use nvd_media::{Failed, ImageSink, Object};
 use nvd_words::Items;
 use std::alloc::{AllocError, Global};
 
-/// How many words are written at a time.
-const PIECE_WORDS: usize = 32 << 10;
+/// How many words are written at a time. A sink may wait for each write until it is on the disk, so a
+/// piece is large.
+const PIECE_WORDS: usize = 1 << 20;
 
 /// How many bytes a word has.
-const WORD: u64 = 8;
+const WORD: usize = 8;
 
 /// The room for the bytes of a piece.
-pub(crate) fn spelling_room(alloc: Global) -> Result<Vec<u8>, AllocError>
-    ensures { IfOk result (λ room. 262144 ≤ vec_capacity room) }
+pub(crate) fn spelling_room(alloc: Global) -> Result<Vec<[u8; WORD]>, AllocError>
+    ensures { IfOk result (λ room. vec_len room ≡ 1048576) }
 {
-    Vec::with_capacity(alloc, PIECE_WORDS * WORD as usize)
+    vec![in alloc; [0; WORD]; PIECE_WORDS]
 }
 
-/// Adds the bytes of a word, for which there is room: the low byte first.
-fn push_word(room: &mut Vec<u8>, word: u64)
-    requires { vec_len room.old + 8 ≤ vec_capacity room.old }
-    ensures items { room.new.items ≡ room.old.items ++ to_le_bytes w64 word }
-    ensures len { vec_len room.new ≡ vec_len room.old + 8 }
-    ensures capacity { vec_capacity room.old ≤ vec_capacity room.new }
+/// The bytes of words, the low byte first, in a room for as many words.
+fn spell<'a>(room: &'a mut [[u8; WORD]], words: &[u64]) -> &'a [u8]
+    requires { length room.old ≡ length words.now }
+    ensures { result.now ≡ bytes_of words.now }
 {
-    let added = room.extend_from_slice(&word.to_le_bytes());
-    prove!(added.is_ok());
-}
-
-/// Puts the bytes of words into the room, in place of what it had.
-fn spell(room: &mut Vec<u8>, words: &[u64])
-    requires { 8 * length words.now ≤ vec_capacity room.old }
-    ensures items { room.new.items ≡ bytes_of words.now }
-    ensures capacity { vec_capacity room.old ≤ vec_capacity room.new }
-{
-    room.clear();
-    for word in words {
-        push_word(room, *word);
+    for i in 0..words.len() {
+        room[i] = words[i].to_le_bytes();
     }
+    room.as_flattened()
 }
 
 /// Writes the words of an object from a place on, as many as a piece has or as there are, and answers the
@@ -54,20 +42,20 @@ fn write_piece<K: ImageSink>(
     object: Object,
     words: &[u64],
     at: usize,
-    room: &mut Vec<u8>,
+    room: &mut Vec<[u8; WORD]>,
 ) -> Result<usize, Failed>
     requires not_mark { object ≢ Object.Mark }
     requires within { at ≤ length words.now }
-    requires room { 262144 ≤ vec_capacity room.old }
+    requires room { vec_len room.old ≡ 1048576 }
     requires end { ForSome (K.made out.old) (λ set. 8 * at ≡ length (bytes_in set object)) }
     ensures adds { Adds (K.made out.old) (K.made out.new) (K.kept out.old) (K.kept out.new) (K.faults out.old) (K.faults out.new) result
-        (λ set. with_more set object (bytes_of (take (min 32768 (length words.now - at)) (drop at words.now)))) }
-    ensures next { IfOk result (λ next. next ≡ at + min 32768 (length words.now - at)) }
-    ensures room { 262144 ≤ vec_capacity room.new }
+        (λ set. with_more set object (bytes_of (take (min 1048576 (length words.now - at)) (drop at words.now)))) }
+    ensures next { IfOk result (λ next. next ≡ at + min 1048576 (length words.now - at)) }
+    ensures room { vec_len room.new ≡ 1048576 }
 {
     let count = (words.len() - at).min(PIECE_WORDS);
-    spell(room, &words[at..at + count]);
-    out.write(object, WORD * at as u64, room)?;
+    let bytes = spell(&mut room[..count], &words[at..at + count]);
+    out.write(object, (WORD * at) as u64, bytes)?;
     Ok(at + count)
 }
 
@@ -76,14 +64,14 @@ pub(crate) fn write_words<K: ImageSink>(
     out: &mut K,
     object: Object,
     words: &[u64],
-    room: &mut Vec<u8>,
+    room: &mut Vec<[u8; WORD]>,
 ) -> Result<(), Failed>
     requires not_mark { object ≢ Object.Mark }
-    requires room { 262144 ≤ vec_capacity room.old }
+    requires room { vec_len room.old ≡ 1048576 }
     requires absent { ForSome (K.made out.old) (λ set. set object ≡ None) }
     ensures adds { Adds (K.made out.old) (K.made out.new) (K.kept out.old) (K.kept out.new) (K.faults out.old) (K.faults out.new) result
         (λ set. with_more set object (bytes_of words.now)) }
-    ensures room { 262144 ≤ vec_capacity room.new }
+    ensures room { vec_len room.new ≡ 1048576 }
 {
     let mut at = write_piece(out, object, words, 0, room)?;
     while at < words.len() {
@@ -97,13 +85,13 @@ fn write_area<K: ImageSink>(
     out: &mut K,
     module: u32,
     area: &Option<Items<u64>>,
-    room: &mut Vec<u8>,
+    room: &mut Vec<[u8; WORD]>,
 ) -> Result<(), Failed>
-    requires room { 262144 ≤ vec_capacity room.old }
+    requires room { vec_len room.old ≡ 1048576 }
     requires absent { ForSome (K.made out.old) (λ set. set (Object.Labels «module») ≡ None) }
     ensures adds { Adds (K.made out.old) (K.made out.new) (K.kept out.old) (K.kept out.new) (K.faults out.old) (K.faults out.new) result
         (λ set. with_some set (Object.Labels «module») (option_map bytes_of area.now)) }
-    ensures room { 262144 ≤ vec_capacity room.new }
+    ensures room { vec_len room.new ≡ 1048576 }
 {
     match area {
         Some(words) => write_words(out, Object::Labels(module), words.as_slice(), room),
@@ -135,13 +123,13 @@ pub(crate) fn write_module<K: ImageSink>(
     area: &Option<Items<u64>>,
     contents: &[u64],
     ranges: &Option<Items<u8>>,
-    room: &mut Vec<u8>,
+    room: &mut Vec<[u8; WORD]>,
 ) -> Result<(), Failed>
-    requires room { 262144 ≤ vec_capacity room.old }
+    requires room { vec_len room.old ≡ 1048576 }
     requires absent { ForSome (K.made out.old) (HasNone «module») }
     ensures adds { Adds (K.made out.old) (K.made out.new) (K.kept out.old) (K.kept out.new) (K.faults out.old) (K.faults out.new) result
         (with_module «module» (option_map bytes_of area.now) (bytes_of contents.now) ranges.now) }
-    ensures room { 262144 ≤ vec_capacity room.new }
+    ensures room { vec_len room.new ≡ 1048576 }
 {
     write_area(out, module, area, room)?;
     write_words(out, Object::Contents(module), contents, room)?;

@@ -1,15 +1,15 @@
-use Rattle.std.proofs.Common.{◌≡◌, ◌<◌, length, get_or, Some, None, Ok, refl, sym, ap, ◌∙◌, arith, subst}
+use Rattle.std.proofs.Common.{◌≡◌, ◌<◌, length, get_or, None, Ok, refl, sym, ap, ◌∙◌, arith, subst}
 use Rattle.std.specs.Prelude.{OnOk}
 use Rattle.std.specs.Option.{option_map}
 use Rattle.std.proofs.lemmas.List.{get_or_read}
 use Rattle.std.proofs.lemmas.Result.{err_from_is_err_and}
 use Rattle.nvd_media.specs.declared.object.Object.TheVariants as object
-use Rattle.nvd_media.specs.Images.{Images, IsSameSet, IsUnfinished, bytes_of as bytes_in}
+use Rattle.nvd_media.specs.Images.{Images, IsSameSet, IsUnfinished}
 use Rattle.cut_words.specs.WordBytes.{bytes_of}
 use Rattle.nvd_media.proofs.Told.{becomes_then}
 use Rattle.image_set.specs.Save.{front_of, set_of}
 use Rattle.image_set.proofs.Adding.{becomes_mono}
-use Rattle.image_set.proofs.Fronts.{Reaches, contents_here, labels_at, module_reached, ranges_at, reached_none, table_reached}
+use Rattle.image_set.proofs.Fronts.{contents_here, labels_at, module_reached, ranges_at, reached_none, table_reached}
 use Rattle.image_set.proofs.saving.write_objects.Goals as goal
 
 pub write-requires-clause-end : goal.write-requires-clause-end

@@ -1,12 +1,9 @@
-use Rattle.std.proofs.Common.{◌≡◌, ◌*◌, ◌≤◌, take, length, vec_len}
-use Rattle.std.specs.Vec.{vec_capacity}
-use Rattle.cut_words.specs.WordBytes.{bytes_of}
+use Rattle.std.proofs.Common.{◌≡◌, take, map, length}
+use Rattle.std.specs.Int.{w64, to_le_bytes}
 use Rattle.image_set.proofs.writing.spell.Given as goal
 
-abbrev pub invariant-loop-word : goal.invariant-loop-word
-invariant-loop-word l = record {
-  items : l.room.items ≡ bytes_of (take l.word-index l.words);
-  count : vec_len l.room ≡ 8 * l.word-index;
-  fits : 8 * length l.words ≤ vec_capacity l.room;
-  capacity : vec_capacity l.fn.room ≤ vec_capacity l.room;
+abbrev pub invariant-loop-i : goal.invariant-loop-i
+invariant-loop-i l = record {
+  count : length l.room ≡ length l.words;
+  so_far : take l.i l.room ≡ map (to_le_bytes w64) (take l.i l.words);
 }

@@ -1,7 +1,5 @@
-use Rattle.std.proofs.Common.{List, ℕ, ◌≡◌, subst, sym, ap, ◌∙◌, length}
+use Rattle.std.proofs.Common.{subst, sym, ap, ◌∙◌}
 use Rattle.std.specs.Option.{option_map}
-use Rattle.std.proofs.lemmas.List.{length-set}
-use Rattle.image_set.specs.declared.loading.Loaded.{Loaded}
 use Rattle.image_set.specs.Changed.{with_area}
 use Rattle.image_set.specs.Load.{bytes_kept, image_set_in}
 use Rattle.image_set.specs.Sound.{IsArea, IsSound}
