@@ -16,12 +16,15 @@
 //! |---|---|---|
 //! | what became of areas and a fuse by a list of changes | [`change_label`] | `Went` of `specs/Went.antt` |
 //! | what a cut leaves of the areas' words | [`into_words`] | `words_of`, `AreLeft` of `specs/Seen.antt` |
+//! | areas are opened as their words show them | [`open_areas`] | `opened_as` of `specs/Opening.antt` |
 //! | no changes; lists of changes one after another; a cut in the first of them | - | `went_none`, `went_both`, `went_cut` of `proofs/Went.antt` |
 //! | areas that are held show their labels, and each label names its slot | - | `seen_labels`, `seen_read` of `proofs/Seen.antt` |
 #![tactic(auto)]
 
 mod change;
+mod open;
 mod words;
 
 pub use change::change_label;
+pub use open::open_areas;
 pub use words::into_words;
