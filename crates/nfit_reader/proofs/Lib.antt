@@ -12,3 +12,6 @@ pub mod Missing
 pub mod Rows
 mod Counted
 mod Placed
+mod NoAlias
+mod Indexes
+pub mod Sharing

@@ -25,12 +25,14 @@
 //! modules, regions and mappings are selections from that list, and the answer is the first fault
 //! of `header_fault`, `spans_from` and `table_faults`. The code goes over the list a few times and
 //! looks indices up in maps (`names`, `modules`, `regions`, `alias`); its contract says that it
-//! gives the definition's reading exactly.
+//! gives the definition's reading exactly. Of a table that is read no two regions share bytes of a module
+//! ([`regions_share_no_bytes`]).
 #![tactic(auto)]
 
 mod alias;
 mod fields;
 mod header;
+mod law;
 mod modules;
 mod names;
 mod read;
@@ -41,6 +43,7 @@ mod table;
 #[cfg(test)]
 mod tests;
 
+pub use law::regions_share_no_bytes;
 pub use read::read_nfit;
 pub use shared::Shared;
 pub use table::{Identity, Lines, Mapping, Nfit, NfitFault, Region};

@@ -17,19 +17,19 @@ use Rattle.namespaces.specs.declared.listed.Namespace.{Namespace}
 use Rattle.namespace_ops.specs.declared.registry.OpenFault.{OpenFault}
 use Rattle.image_set.specs.declared.fault.LoadFault.{LoadFault}
 use Rattle.image_set.specs.Load.{ImageSet, area_of, loading}
-use Rattle.nvdimm_shell.specs.declared.status.Ending.{Ending}
-use Rattle.nvdimm_shell.specs.declared.status.Ending.TheVariants as ending
-use Rattle.nvdimm_shell.specs.declared.status.Status.{Status}
-use Rattle.nvdimm_shell.specs.declared.status.Status.TheVariants as status
+use Rattle.shell_answers.specs.declared.status.Ending.{Ending}
+use Rattle.shell_answers.specs.declared.status.Ending.TheVariants as ending
+use Rattle.shell_answers.specs.declared.status.Status.{Status}
+use Rattle.shell_answers.specs.declared.status.Status.TheVariants as status
 use Rattle.nvdimm_shell.specs.declared.words.Command.{Command}
 use Rattle.nvdimm_shell.specs.declared.words.Command.TheVariants.{Labels, Nfit, Init}
 use Rattle.nvdimm_shell.specs.declared.words.Command.TheVariants as command
-use Rattle.nvdimm_shell.specs.declared.words.Power.{Power}
+use Rattle.shell_answers.specs.declared.power.Power.{Power}
 use Rattle.nvdimm_shell.specs.Words.{command_of}
-use Rattle.nvdimm_shell.specs.Outcome.{Outcome, usage, status_of}
-use Rattle.nvdimm_shell.specs.Labels.{module_outcome, found_outcome, fault_outcome}
-use Rattle.nvdimm_shell.specs.Init.{InitArea, InitComes, InitModule, not_initialised}
-use Rattle.nvdimm_shell.specs.List.{listed_of, listed_outcome}
+use Rattle.shell_answers.specs.Outcome.{Outcome, usage, status_of}
+use Rattle.shell_listings.specs.Labels.{module_outcome, found_outcome, fault_outcome}
+use Rattle.shell_changes.specs.Init.{InitArea, InitComes, InitModule, not_initialised}
+use Rattle.shell_listings.specs.List.{listed_of, listed_outcome}
 use Rattle.nvdimm_shell.specs.Run.{LoadedComes, OnLoaded, ComesTold, IsDue}
 use Rattle.nvdimm_shell.specs.Laws.{IsRefusedArea, IsAcceptedArea, IsKeptArea, IsBlankArea, IsRefusedFor, IsAcceptedFor, is_cut, is_short, HasTableCause, EachStatusHasItsCause, AcceptedIsOk}
 

@@ -3,9 +3,9 @@ use Rattle.std.proofs.Common.{◌≡◌, ℕ, List, ◌++◌, Option, Some, None
 use Rattle.std.specs.Prelude.{◌⊎◌}
 use Rattle.std.specs.Io.KnownBytes.{Keeps, Appends}
 use Rattle.nvd_media.specs.Images.{Images}
-use Rattle.nvdimm_shell.specs.declared.status.Status.{Status}
-use Rattle.nvdimm_shell.specs.declared.status.Status.TheVariants as status
-use Rattle.nvdimm_shell.specs.Outcome.{Outcome, lf}
+use Rattle.shell_answers.specs.declared.status.Status.{Status}
+use Rattle.shell_answers.specs.declared.status.Status.TheVariants as status
+use Rattle.shell_answers.specs.Outcome.{Outcome, lf}
 use Rattle.nvdimm_shell.specs.Run.{Ends, AppendsPart}
 
 -- what is due may be said of more

@@ -1,9 +1,4 @@
 pub mod Ending
 pub mod Causes
-pub mod Utf8
-pub mod Faults
-pub mod Regions
 pub mod InitLeaves
-pub mod Parts
-pub mod Listing
 pub mod Rows

@@ -17,16 +17,17 @@ use Rattle.namespace_ops.specs.declared.registry.OpenFault.{OpenFault}
 use Rattle.image_set.specs.declared.fault.LoadFault.{LoadFault}
 use Rattle.image_set.specs.Load.{ImageSet, area_of, loading}
 use Rattle.image_set.specs.Changed.{objects_of, with_area}
-use Rattle.nvdimm_shell.specs.declared.status.Status.{Status}
-use Rattle.nvdimm_shell.specs.declared.status.Status.TheVariants as status
+use Rattle.shell_answers.specs.declared.status.Status.{Status}
+use Rattle.shell_answers.specs.declared.status.Status.TheVariants as status
 use Rattle.nvdimm_shell.specs.declared.words.Command.{Command}
 use Rattle.nvdimm_shell.specs.declared.words.Command.TheVariants.{Labels, Nfit, Init}
 use Rattle.nvdimm_shell.specs.declared.words.Command.TheVariants as command
-use Rattle.nvdimm_shell.specs.declared.words.Power.{Power}
+use Rattle.shell_answers.specs.declared.power.Power.{Power}
 use Rattle.nvdimm_shell.specs.Words.{command_of}
-use Rattle.nvdimm_shell.specs.Outcome.{Outcome}
-use Rattle.nvdimm_shell.specs.Init.{LeavesBy, InitComes}
-use Rattle.nvdimm_shell.specs.List.{listed_of}
+use Rattle.shell_answers.specs.Outcome.{Outcome}
+use Rattle.shell_changes.specs.Init.{InitComes}
+use Rattle.shell_answers.specs.Cut.{LeavesBy}
+use Rattle.shell_listings.specs.List.{listed_of}
 use Rattle.nvdimm_shell.specs.Run.{IsDue, Ends}
 
 -- a module's label area that is refused: there is none, or it has no valid index block

@@ -1,12 +1,4 @@
 pub mod Commands
 pub mod Words
-pub mod Outcome
-pub mod Texts
-pub mod LoadFaults
-pub mod Labels
-pub mod Nfit
-pub mod Saved
-pub mod Init
-pub mod List
 pub mod Run
 pub mod Laws

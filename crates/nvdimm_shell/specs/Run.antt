@@ -5,18 +5,19 @@ use Rattle.nvd_media.specs.Images.{Images, IsSameSet, Becomes, IsUnfinished}
 use Rattle.cut_words.specs.Words.{Words}
 use Rattle.image_set.specs.declared.fault.LoadFault.{LoadFault}
 use Rattle.image_set.specs.Load.{ImageSet, loading}
-use Rattle.nvdimm_shell.specs.declared.status.Status.{Status}
-use Rattle.nvdimm_shell.specs.declared.status.Status.TheVariants as status
+use Rattle.shell_answers.specs.declared.status.Status.{Status}
+use Rattle.shell_answers.specs.declared.status.Status.TheVariants as status
 use Rattle.nvdimm_shell.specs.declared.words.Command.{Command}
 use Rattle.nvdimm_shell.specs.declared.words.Command.TheVariants.{Labels, Nfit, Init}
 use Rattle.nvdimm_shell.specs.declared.words.Command.TheVariants as command
 use Rattle.nvdimm_shell.specs.Words.{command_of}
-use Rattle.nvdimm_shell.specs.Outcome.{Outcome, usage, lf, status_of}
-use Rattle.nvdimm_shell.specs.LoadFaults.{load_outcome}
-use Rattle.nvdimm_shell.specs.Labels.{labels_outcome}
-use Rattle.nvdimm_shell.specs.Nfit.{nfit_outcome}
-use Rattle.nvdimm_shell.specs.Init.{InitComes}
-use Rattle.nvdimm_shell.specs.List.{list_outcome}
+use Rattle.shell_answers.specs.Outcome.{Outcome, usage, lf, status_of}
+use Rattle.shell_answers.specs.LoadFaults.{load_outcome}
+use Rattle.shell_listings.specs.Labels.{labels_outcome}
+use Rattle.shell_listings.specs.Nfit.{nfit_outcome}
+use Rattle.shell_answers.specs.Saved.{Saves}
+use Rattle.shell_changes.specs.Init.{InitComes}
+use Rattle.shell_listings.specs.List.{list_outcome}
 
 -- ---- a case for each command
 
@@ -58,11 +59,6 @@ IsDue leaves words held left outcome = MatchOption (command_of words) (outcome �
 -- the script is as it was, unless the words are those of a command that reads it
 abbrev pub LeavesScript : List (List ℕ) → Option (List ℕ) → Option (List ℕ) → Type 0
 LeavesScript words left left' = MatchOption (command_of words) (left' ≡ left) (λ command. reads_script command ≡ false → left' ≡ left)
-
--- the sink has what an outcome saves, and is untouched where it saves nothing
-abbrev pub Saves : Option Images → Option Images → Option Images → Type 0
-Saves None made made' = made' ≡ made
-Saves (Some set) made made' = Becomes made made' (λ _ now. IsSameSet now set)
 
 -- the text has a front of what was to be printed
 abbrev pub AppendsPart : Option (List ℕ) → Option (List ℕ) → List ℕ → Type 0

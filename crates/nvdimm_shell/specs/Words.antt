@@ -8,7 +8,7 @@ use Rattle.nvdimm_shell.specs.declared.commands.Kind.TheVariants as kind
 use Rattle.nvdimm_shell.specs.declared.words.Command.{Command}
 use Rattle.nvdimm_shell.specs.declared.words.Command.TheVariants.{Labels, Nfit, Init}
 use Rattle.nvdimm_shell.specs.declared.words.Command.TheVariants as command
-use Rattle.nvdimm_shell.specs.declared.words.Power.{Power}
+use Rattle.shell_answers.specs.declared.power.Power.{Power}
 use Rattle.nvdimm_shell.specs.Commands.{kind_of, arguments_of}
 
 -- the greatest number of an option

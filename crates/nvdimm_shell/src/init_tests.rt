@@ -1,11 +1,11 @@
 //! Runs of `init` over forms in memory.
 use crate::areas::{AREA, AREA_SIZE};
 use crate::sets::{area_of, pair, patch, with_area};
-use crate::status::Status;
 use crate::tables::TWO_WAY;
 use crate::tests::quiet;
 use crate::top::run;
 use nvd_media::{Chooser, ListChooser, MemImages, MemText, NoGate, Object, SeedChooser, Stored};
+use shell_answers::Status;
 use std::alloc::{AllocError, Global};
 use std::sync::Wait;
 use std::thread::Threads;

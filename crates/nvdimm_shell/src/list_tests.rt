@@ -3,10 +3,10 @@ use crate::areas::{AREA_SIZE, Patch};
 use crate::list_areas::{ALONE, LISTS, MEETING, ONE, SINGLES};
 use crate::list_rules::{AGREED, PairCase, RULES, UNITS, WIDE};
 use crate::sets::{area_of, pair, patch, table_of, without};
-use crate::status::Status;
 use crate::tables::{TWO_LINES, TWO_WAY};
 use crate::tests::quiet;
 use nvd_media::{Object, Stored};
+use shell_answers::Status;
 use std::alloc::{AllocError, Global};
 
 /// Adds a module's label area, by what differs from another one.

@@ -24,34 +24,26 @@
 #[cfg(test)]
 mod areas;
 mod commands;
-mod init;
 #[cfg(test)]
 mod init_tests;
-mod labels;
 mod laws;
-mod list;
 #[cfg(test)]
 mod list_areas;
 #[cfg(test)]
 mod list_rules;
 #[cfg(test)]
 mod list_tests;
-mod load_faults;
-mod nfit;
-mod outcome;
 #[cfg(test)]
 mod sets;
-mod status;
 #[cfg(test)]
 mod tables;
 #[cfg(test)]
 mod tests;
-mod texts;
 mod top;
 mod words;
 
-use crate::status::Status;
 use nvd_media::{DirImages, NoGate, SeedChooser, StdText, TextSink};
+use shell_answers::Status;
 use std::alloc::AllocError;
 use std::env;
 use std::process::ExitCode;

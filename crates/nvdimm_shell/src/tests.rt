@@ -3,11 +3,11 @@ use crate::nfit::nfit_answer;
 use crate::sets::{
     SMALL_TEXT, UNLOADED, area_of, changed, pair, patch, table_of, with_area, without,
 };
-use crate::status::Status;
 use crate::tables::{TABLES, TWO_LINES, TWO_WAY};
 use crate::top::run;
 use nfit_reader::{NfitFault, read_nfit};
 use nvd_media::{ListChooser, MemImages, MemText, NoGate, Object, Stored};
+use shell_answers::Status;
 use std::alloc::{AllocError, Global};
 use std::sync::Wait;
 use std::thread::Threads;

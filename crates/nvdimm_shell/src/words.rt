@@ -5,17 +5,8 @@ ghost use Rattle.nvdimm_shell.specs.Words.{command_of, command_with, command_in,
 
 use crate::commands::Kind;
 use command_words::{Parsed, WordsFault, parse};
+use shell_answers::Power;
 use std::alloc::Global;
-
-/// How long power lasts, and what a cut then leaves.
-#[derive(Clone, Copy, Debug, PartialEq, Eq)]
-pub struct Power {
-    /// How many steps are made before power is cut, `None` where it isn't: the number of `--cut`.
-    pub steps: Option<u64>,
-    /// From which seed the chooser begins that says for each pending word what is left of it: the number
-    /// of `--evict`, or 0.
-    pub seed: u64,
-}
 
 /// What the words ask for.
 #[derive(Clone, Copy, Debug, PartialEq, Eq)]

@@ -1,0 +1,5 @@
+pub mod Slots
+pub mod OneChange
+pub mod Seen
+pub mod Went
+pub mod Opening

@@ -1,0 +1,5 @@
+pub mod Outcome
+pub mod Saved
+pub mod Texts
+pub mod LoadFaults
+pub mod Cut

@@ -1,0 +1,178 @@
+//! The command `init`: fresh index blocks in a module's label area, and what a power cut leaves of them.
+ghost use Rattle.std.specs.Prelude.{◌≡◌, ◌≢◌, ◌<◌, ◌*◌, ℕ, List, IfOk, length, string_bytes};
+ghost use Rattle.cut_words.specs.Words.{settled};
+ghost use Rattle.cut_words.specs.WordBytes.{bytes_of};
+ghost use Rattle.power_cut.specs.Left.{LeavesWords};
+ghost use Rattle.label_index.specs.Area.{IsAreaSize};
+ghost use Rattle.label_area.specs.Initialise.{initialised};
+ghost use Rattle.image_set.specs.Load.{image_set_in};
+ghost use Rattle.image_set.specs.Sound.{IsSound};
+ghost use Rattle.image_set.specs.Changed.{objects_of, with_area};
+ghost use Rattle.shell_answers.specs.Saved.{IsSaving};
+ghost use Rattle.shell_changes.specs.Init.{not_initialised, InitArea, InitComes, RefusedArea};
+ghost use Rattle.shell_answers.specs.Cut.{LeavesBy, cut_text, done_text};
+ghost use Rattle.shell_answers.specs.Saved.{outcome_of};
+
+use cut_words::CutWords;
+use image_set::Loaded;
+use label_area::{AreaFault, AreaRefused, LabelArea, init_area};
+use nvd_media::Chooser;
+use shell_answers::{Answer, Ending, Power, SavedSet, cut_line, fuse_of, image_answer};
+use shell_listings::{fault_answer, missing_answer};
+use std::alloc::{AllocError, Global};
+
+/// Answers with the set that a cut leaves in which these words are a module's label area. Of words of which
+/// none is pending all are left.
+fn saved_answer<C: Chooser>(
+    alloc: Global,
+    ending: Ending,
+    text: Vec<u8>,
+    rest: Loaded,
+    module: u32,
+    words: CutWords,
+    choose: &mut C,
+) -> Result<Answer, AllocError>
+    requires sound { IsSound rest }
+    requires there { «module» < length rest.labels }
+    ensures { IfOk result (λ answer. (left : List ℕ) × LeavesWords C.picks words left choose.old choose.new
+        × IsSaving ending text.items (objects_of (with_area (image_set_in rest) «module» (bytes_of left))) (outcome_of answer)) }
+{
+    let left = rest.leave_area(alloc, module, words, choose)?;
+    Ok(Answer {
+        ending,
+        text,
+        saved: Some(SavedSet::new(left)),
+    })
+}
+
+/// The answer where power was cut, with the words as they then are.
+fn cut_answer<C: Chooser>(
+    alloc: Global,
+    power: Power,
+    rest: Loaded,
+    module: u32,
+    words: CutWords,
+    choose: &mut C,
+) -> Result<Answer, AllocError>
+    requires sound { IsSound rest }
+    requires there { «module» < length rest.labels }
+    ensures { IfOk result (λ answer. (left : List ℕ) × LeavesBy C.begins C.picks choose.old power.seed words left
+        × IsSaving Ending.PowerCut (cut_text power.steps) (objects_of (with_area (image_set_in rest) «module» (bytes_of left))) (outcome_of answer)) }
+{
+    choose.begin(power.seed);
+    let text = cut_line(alloc, power.steps)?;
+    saved_answer(
+        alloc,
+        Ending::PowerCut,
+        text.into_bytes(),
+        rest,
+        module,
+        words,
+        choose,
+    )
+}
+
+/// The answer where both blocks stand.
+fn done_answer<C: Chooser>(
+    alloc: Global,
+    rest: Loaded,
+    module: u32,
+    area: LabelArea,
+    choose: &mut C,
+) -> Result<Answer, AllocError>
+    requires sound { IsSound rest }
+    requires there { «module» < length rest.labels }
+    requires settled { area.words ≡ settled area.words.kept }
+    ensures { IfOk result (λ answer. IsSaving Ending.Done done_text (objects_of (with_area (image_set_in rest) «module» (bytes_of area.words.kept))) (outcome_of answer)) }
+{
+    let text = Vec::from_slice(alloc, b"ok\n")?;
+    saved_answer(
+        alloc,
+        Ending::Done,
+        text,
+        rest,
+        module,
+        area.into_words(),
+        choose,
+    )
+}
+
+/// The answer on an area that isn't initialised.
+fn kept_answer(alloc: Global, module: u32, fault: AreaFault) -> Result<Answer, AllocError>
+    ensures text { IfOk result (λ answer. outcome_of answer ≡ not_initialised «module» fault) }
+    ensures finding { IfOk result (λ _. fault ≢ AreaFault.OutOfMemory) }
+{
+    match fault {
+        AreaFault::AlreadyInitialised { seq } => Ok(image_answer(format!(in alloc;
+            "image labels {} AlreadyInitialised {}\n",
+            module, seq
+        )?)),
+        _ => fault_answer(alloc, module, fault),
+    }
+}
+
+/// The answer on an area that is refused, with its words as they then are.
+fn refused_answer<C: Chooser>(
+    alloc: Global,
+    power: Power,
+    rest: Loaded,
+    module: u32,
+    refused: AreaRefused,
+    choose: &mut C,
+) -> Result<Answer, AllocError>
+    requires sound { IsSound rest }
+    requires there { «module» < length rest.labels }
+    ensures text { IfOk result (λ answer. RefusedArea (LeavesBy C.begins C.picks choose.old) «module» power (image_set_in rest) refused.words refused.fault (outcome_of answer)) }
+    ensures finding { IfOk result (λ _. refused.fault ≢ AreaFault.OutOfMemory) }
+{
+    let AreaRefused { words, fault } = refused;
+    match fault {
+        AreaFault::PowerCut => cut_answer(alloc, power, rest, module, words, choose),
+        fault => kept_answer(alloc, module, fault),
+    }
+}
+
+/// The answer on a module's label area, which was taken out of the set.
+fn area_answer<C: Chooser>(
+    alloc: Global,
+    power: Power,
+    rest: Loaded,
+    module: u32,
+    words: CutWords,
+    choose: &mut C,
+) -> Result<Answer, AllocError>
+    requires sound { IsSound rest }
+    requires there { «module» < length rest.labels }
+    requires settled { words ≡ settled words.kept }
+    requires size { IsAreaSize (8 * length words.kept) }
+    ensures { IfOk result (λ answer. InitArea (LeavesBy C.begins C.picks choose.old) «module» power (image_set_in rest) (initialised words.kept power.steps) (outcome_of answer)) }
+{
+    let mut fuse = fuse_of(power);
+    match init_area(alloc, words, &mut fuse) {
+        Ok(area) => done_answer(alloc, rest, module, area, choose),
+        Err(refused) => refused_answer(alloc, power, rest, module, refused, choose),
+    }
+}
+
+/// The answer of `init` on an image set: the set in which the module's label area, which had no index
+/// block, has two; or what a power cut leaves of that, where power doesn't last for all steps. The set was
+/// loaded, so each of its label areas has a label area's size.
+///
+/// An area that has an index block, or one of another version, is refused, and so is a module without an
+/// area; nothing is saved then.
+pub fn init_answer<C: Chooser>(
+    alloc: Global,
+    module: u32,
+    power: Power,
+    loaded: Loaded,
+    choose: &mut C,
+) -> Result<Answer, AllocError>
+    requires { IsSound loaded }
+    ensures { IfOk result (λ answer. InitComes (LeavesBy C.begins C.picks choose.old) «module» power (image_set_in loaded) (outcome_of answer)) }
+{
+    let (rest, area) = loaded.take_area(module);
+    match area {
+        Some(words) => area_answer(alloc, power, rest, module, words, choose),
+        None => missing_answer(alloc, module),
+    }
+}

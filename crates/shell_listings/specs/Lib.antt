@@ -1,0 +1,3 @@
+pub mod Labels
+pub mod Nfit
+pub mod List
