@@ -2,10 +2,12 @@
 use Rattle.std.specs.Prelude.{◌<◌, ◌^◌, List, length}
 use Rattle.nfit_reader.specs.declared.table.Mapping.{Mapping}
 use Rattle.module_areas.specs.declared.area.Area.{Area}
-use Rattle.module_areas.specs.Areas.{AreRunning}
+use Rattle.module_areas.specs.Areas.{AreRunning, labels_of}
+use Rattle.namespace_groups.specs.Groups.{Grouping, HasGroupsOf}
 
--- what a registry keeps of its interleave sets and its areas
-pub record IsOpen (sets : List (List Mapping)) (areas : List Area) : Type 0 where
+-- what a registry keeps of its interleave sets, its areas and their labels by UUID
+pub record IsOpen (sets : List (List Mapping)) (areas : List Area) (groups : Grouping) : Type 0 where
   pub running : AreRunning areas
   pub few_sets : length sets < 2 ^ 32
   pub few_areas : length areas < 2 ^ 32
+  pub grouped : HasGroupsOf groups.sorted (labels_of areas)

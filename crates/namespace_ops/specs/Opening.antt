@@ -14,7 +14,10 @@ use Rattle.region_space.specs.declared.extent.SpaceFault.{SpaceFault}
 use Rattle.region_space.specs.declared.extent.SpaceFault.TheVariants as space
 use Rattle.region_space.specs.Space.{overlap_of}
 use Rattle.namespaces.specs.declared.listed.Namespace.{Namespace}
-use Rattle.namespaces.specs.Namespaces.{extent_of, entries_of, namespace_of}
+use Rattle.namespace_changes.specs.declared.refused.OpRefused.{OpRefused}
+use Rattle.namespace_finding.specs.declared.found.Found.{Found}
+use Rattle.namespace_finding.specs.Finding.{found_of}
+use Rattle.namespaces.specs.Namespaces.{entry_at, extent_of, entries_of, namespace_of}
 use Rattle.module_areas.specs.declared.area.Area.{Area}
 use Rattle.module_areas.specs.Areas.{labels_of}
 use Rattle.namespace_ops.specs.declared.registry.OpenFault.{OpenFault}
@@ -70,3 +73,9 @@ opening nfit areas = value_unless (record { sets = sets_of nfit; areas = areas }
 -- the namespaces of a registry, rising by UUID; none is claimed
 unfoldable pub listing : Opened → List Namespace
 listing opened = map (λ e. namespace_of e 0) (entries_of opened.sets (labels_of opened.areas))
+
+-- ---- finding
+
+-- the complete sector namespace of a UUID, or why there is none
+unfoldable pub finding : Opened → List ℕ → Result Found OpRefused
+finding opened uuid = found_of opened.sets (entry_at opened.sets (labels_of opened.areas) uuid)

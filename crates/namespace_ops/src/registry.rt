@@ -2,13 +2,17 @@ ghost use Rattle.std.specs.Prelude.{◌≡◌, ◌<◌, ◌^◌, IfOk, length, s
 ghost use Rattle.nfit_reader.specs.declared.table.Region.{Region};
 ghost use Rattle.nvd_words.specs.Checks.{Answers, value_unless};
 ghost use Rattle.nfit_reader.specs.Counted.{AreCounted};
-ghost use Rattle.namespace_ops.specs.Opening.{listing, opening, overlap_as, overlap_fault, set_fault_as, set_fault_from, set_or_fault, sets_of};
+ghost use Rattle.namespace_ops.specs.Opening.{finding, listing, opening, overlap_as, overlap_fault, set_fault_as, set_fault_from, set_or_fault, sets_of};
+ghost use Rattle.namespace_finding.specs.Finding.{LiesIn, set_at};
 ghost use Rattle.module_areas.specs.Areas.{AreRunning, labels_of};
 
 use crate::listing::listed;
 use interleave::{InterleaveSet, SetFault, interleave_set};
+use label_codec::Mode;
 use module_areas::{Area, gathered};
-use namespace_groups::extents_of;
+use namespace_changes::OpRefused;
+use namespace_finding::{Found, find};
+use namespace_groups::{LabelGroups, extents_of};
 use namespaces::Namespace;
 use nfit_reader::Nfit;
 use nvd_words::Items;
@@ -44,6 +48,8 @@ impl From<AllocError> for OpenFault {
 pub struct Registry {
     sets: Items<InterleaveSet>,
     areas: Items<Area>,
+    // The labels of all areas by UUID.
+    groups: LabelGroups,
 }
 
 impl Model for Registry {
@@ -55,7 +61,7 @@ impl Model for Registry {
 
     ghost view = { λ registry. record { sets = registry.sets; areas = registry.areas } };
 
-    ghost invariant = { λ registry. IsOpen registry.sets registry.areas };
+    ghost invariant = { λ registry. IsOpen registry.sets registry.areas registry.groups };
 }
 
 /// The fault of a region that is no interleave set.
@@ -133,10 +139,13 @@ impl Registry {
         requires few { length areas < 2 ^ 32 }
         ensures { Answers OpenFault.OutOfMemory result (value_unless (record { sets = sets; areas = areas }) (overlap_fault (labels_of areas))) }
     {
-        match check_overlap(alloc, areas.as_slice()) {
-            Ok(()) => Ok(Registry { sets, areas }),
-            Err(fault) => Err(fault),
-        }
+        check_overlap(alloc, areas.as_slice())?;
+        let groups = LabelGroups::of(alloc, areas.as_slice())?;
+        Ok(Registry {
+            sets,
+            areas,
+            groups,
+        })
     }
 
     /// Opens the namespaces of an image set.
@@ -168,6 +177,26 @@ impl Registry {
     {
         let labels = gathered(alloc, self.areas.as_slice())?;
         listed(alloc, self.sets.as_slice(), &labels)
+    }
+
+    /// Finds the complete sector namespace of a UUID. It takes no memory.
+    ///
+    /// Refusals, of which the first that holds is answered: NoSuch, no label has the UUID; NotComplete, its labels make no
+    /// complete namespace; NotSector, its mode isn't Sector. What is found lies in its region's set in whole units.
+    pub fn find(&self, uuid: &Uuid) -> Result<Found, OpRefused>
+        ensures found { result ≡ finding self.now uuid.now }
+        ensures lies { IfOk result (LiesIn self.now.sets) }
+        ensures sector { IfOk result (λ found. found.mode ≡ Mode.Sector) }
+    {
+        find(self.sets.as_slice(), &self.groups, uuid)
+    }
+
+    /// The interleave set of a region that is there.
+    pub fn set(&self, region: u32) -> &InterleaveSet
+        requires { region < length self.now.sets }
+        ensures { result.now ≡ set_at self.now.sets region }
+    {
+        &self.sets.as_slice()[region as usize]
     }
 
     /// The label areas, by the modules' numbers.
