@@ -1,0 +1,61 @@
+ghost use Rattle.std.specs.Prelude.{◌≡◌, ◌*◌, ◌+◌, ◌≤◌, ◌%◌, length};
+ghost use Rattle.std.specs.List.{All};
+ghost use Rattle.arena_chain.specs.Chain.{HasMemory};
+ghost use Rattle.image_set.specs.Sound.{IsContents};
+ghost use Rattle.namespace_finding.specs.Finding.{LiesIn};
+ghost use Rattle.sector_views.specs.View.{AreUsable, opened_view, view_words};
+
+use arena_chain::{Chain, ChainRefused, open_chain};
+use arena_layout::InfoFault;
+use arena_open::OpenRefused;
+use cut_words::{CutWords, Fuse, WordSpace};
+use label_codec::Mode;
+use namespace_finding::{Found, first_arena};
+use namespace_ops::Registry;
+use nvd_words::Items;
+use power_cut::SetWords;
+use std::alloc::Global;
+use uuid::Uuid;
+
+/// A namespace without words has no info block.
+fn no_block() -> ChainRefused
+    ensures { result ≡ record { arena = 0; fault = OpenRefused.Info InfoFault.Signature } }
+{
+    ChainRefused {
+        arena: 0,
+        fault: OpenRefused::Info(InfoFault::Signature),
+    }
+}
+
+/// Opens the arenas of a sector namespace that was found, with power that stays on. What is stored for pending moves is
+/// dropped with the contents.
+///
+/// The registry is the one in which the namespace was found, `contents` are those of all modules by number, and the UUID is
+/// the namespace's. Refusals name the first arena that isn't opened; OutOfMemory may come in place of any answer.
+pub fn open_sectors(
+    alloc: Global,
+    registry: &Registry,
+    found: &Found,
+    contents: Items<CutWords>,
+    uuid: &Uuid,
+) -> Result<Chain, ChainRefused>
+    requires lies { LiesIn registry.now.sets found.now }
+    requires sector { found.now.mode ≡ Mode.Sector }
+    requires rows { All IsContents contents }
+    requires usable { AreUsable registry.now.sets contents }
+    ensures { HasMemory result → result ≡ opened_view (view_words registry.now.sets found.now contents) uuid.now }
+{
+    let set = registry.set(found.region);
+    let _few = set.ways();
+    let mut space = SetWords::of(set, found.offset, found.raw, contents.into_vec());
+    if space.count() == 0 {
+        return Err(no_block());
+    }
+    open_chain(
+        alloc,
+        &mut space,
+        &mut Fuse::none(),
+        first_arena(&found.mode),
+        uuid,
+    )
+}
