@@ -3,3 +3,4 @@ pub mod Digits
 pub mod Rows
 pub mod Simple
 pub mod Taken
+pub mod Unread

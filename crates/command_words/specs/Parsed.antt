@@ -6,6 +6,7 @@ use Rattle.clap.specs.Words.{App, Kinds, Row, Text, fault_of, first_of, found_of
 use Rattle.command_words.specs.declared.values.Parsed.{Parsed}
 use Rattle.command_words.specs.App.{Described, app_for}
 use Rattle.command_words.specs.Numbers.{number_within}
+use Rattle.uuid.specs.Text as uuid
 
 -- the rows of clap's matches: for each argument that was given, or has a value without that, its name and its values
 abbrev pub rows : Parsed → List Row
@@ -37,6 +38,10 @@ optional_number least most (Some word) = option_map (λ n. Some n) (number_withi
 
 abbrev pub optional_number_in : ℕ → ℕ → Text → List Row → Option (Option ℕ)
 optional_number_in least most name rows = optional_number least most (first_of name rows)
+
+-- the UUID of an argument that must be there
+abbrev pub uuid_in : Text → List Row → Option (List ℕ)
+uuid_in name rows = option_and_then uuid.parsed (first_of name rows)
 
 -- whether a flag was given: clap gives a flag the value `true` where it was, and `false` where it wasn't
 abbrev pub flag_in : Text → List Row → Bool

@@ -25,8 +25,10 @@ mod argument;
 mod numbers;
 #[cfg(test)]
 mod tests;
+mod uuids;
 mod values;
 
 pub use argument::{Argument, Form};
 pub use numbers::number_from;
+pub use uuids::uuid_from;
 pub use values::{Parsed, WordsFault, parse};

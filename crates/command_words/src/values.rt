@@ -5,9 +5,11 @@ ghost use Rattle.command_words.specs.Parsed.{rows, parsed};
 
 use crate::argument::{Argument, clap_argument};
 use crate::numbers::number_from;
+use crate::uuids::uuid_from;
 use clap::error::ErrorKind;
 use clap::{ArgMatches, Command, Error};
 use std::alloc::{AllocError, Global};
+use uuid::Uuid;
 
 /// Why words give no values.
 #[derive(Clone, Copy, Debug, PartialEq, Eq)]
@@ -75,7 +77,7 @@ pub fn parse<'a>(
 impl<'a> Parsed<'a> {
     ghost use Rattle.std.specs.Prelude.{◌≡◌, option_map};
     ghost use Rattle.clap.specs.Words.{first_of};
-    ghost use Rattle.command_words.specs.Parsed.{rows, number_in, optional_number_in, flag_in};
+    ghost use Rattle.command_words.specs.Parsed.{rows, number_in, optional_number_in, uuid_in, flag_in};
 
     /// The value of the argument of this name, `None` where it was left out. A flag has the value `true`
     /// or `false`.
@@ -102,6 +104,14 @@ impl<'a> Parsed<'a> {
             Some(word) => Some(Some(number_from(word, least, most)?)),
             None => Some(None),
         }
+    }
+
+    /// The UUID that the value of an argument spells, one that must be there, in any form that [`uuid_from`] reads.
+    /// `None` where the value is none, or there is none.
+    pub fn uuid(&self, name: &str) -> Option<Uuid>
+        ensures { result ≡ uuid_in name.now (rows self.now) }
+    {
+        uuid_from(self.value(name)?)
     }
 
     /// Whether a flag was given.
