@@ -10,7 +10,9 @@ use Rattle.cut_words.proofs.Guarded.{seen_is}
 use Rattle.label_codec.specs.declared.label.Label.{Label}
 use Rattle.label_codec.specs.Label.{label_reading}
 use Rattle.label_codec.specs.Grammar.{StandsFor}
+use Rattle.label_codec.specs.Writable.{IsSound}
 use Rattle.label_codec.proofs.Grammar.{reads_grammar}
+use Rattle.label_codec.proofs.Laws.{sound_if_read}
 use Rattle.label_index.specs.declared.index.IndexBlock.{IndexBlock}
 use Rattle.label_index.specs.Area.{IsAreaSize}
 use Rattle.label_area.specs.declared.fault.AreaFault.{AreaFault}
@@ -83,17 +85,23 @@ pub seen_free : (area : AreaState) → free_in (ready_seen area).slots ≡ count
 seen_free area = count_is (bytes_of area.words.kept) area.block.size 0 area.block.free
 
 -- each label is one that was read from its slot
-label_stands : (areas : List Area) (m s : ℕ) (l : Label) → slice_get (slots_on (areas_seen areas) m) s ≡ Some (Some (Some l)) → (bytes : List ℕ) × StandsFor bytes s l
-label_stands [] m s l e = absurd (none-some (Some (Some l)) e)
-label_stands (Absent ∷ areas) zero s l e = absurd (none-some (Some (Some l)) e)
-label_stands (Refused r ∷ areas) zero s l e = absurd (none-some (Some (Some l)) e)
-label_stands (Ready a ∷ areas) zero s l e =
+label_reads : (areas : List Area) (m s : ℕ) (l : Label) → slice_get (slots_on (areas_seen areas) m) s ≡ Some (Some (Some l)) → (bytes : List ℕ) × (label_reading bytes s ≡ Ok l)
+label_reads [] m s l e = absurd (none-some (Some (Some l)) e)
+label_reads (Absent ∷ areas) zero s l e = absurd (none-some (Some (Some l)) e)
+label_reads (Refused r ∷ areas) zero s l e = absurd (none-some (Some (Some l)) e)
+label_reads (Ready a ∷ areas) zero s l e =
     let bytes : List ℕ = bytes_of a.words.kept in
     let at : 0 + s ≡ s = omega arith in
     let read : label_reading (slot_bytes bytes a.block.size s) s ≡ Ok l =
     subst (λ (n : ℕ). label_reading (slot_bytes bytes a.block.size n) n ≡ Ok l) at (label_read bytes a.block.size 0 a.block.free s l e) in
-    (slot_bytes bytes a.block.size s, reads_grammar (slot_bytes bytes a.block.size s) s l read)
-label_stands (a ∷ areas) (suc m) s l e = label_stands areas m s l e
+    (slot_bytes bytes a.block.size s, read)
+label_reads (a ∷ areas) (suc m) s l e = label_reads areas m s l e
+
+label_stands : (areas : List Area) (m s : ℕ) (l : Label) → slice_get (slots_on (areas_seen areas) m) s ≡ Some (Some (Some l)) → (bytes : List ℕ) × StandsFor bytes s l
+label_stands areas m s l e = let (bytes, read) = label_reads areas m s l e in (bytes, reads_grammar bytes s l read)
+
+pub label_sound : (areas : List Area) (m s : ℕ) (l : Label) → slice_get (slots_on (areas_seen areas) m) s ≡ Some (Some (Some l)) → IsSound l
+label_sound areas m s l e = let (bytes, read) = label_reads areas m s l e in sound_if_read bytes s l read
 
 pub seen_read : (areas : List Area) → AreRead (areas_seen areas)
 seen_read areas = record {

@@ -1,14 +1,15 @@
 -- What becomes of label areas by a list of changes, made one after another under a fuse.
-use Rattle.std.specs.Prelude.{◌≡◌, ◌⊎◌, ⊤, ℕ, ◌+◌, ◌<◌, ◌≤◌, Bool, true, List, length, map, Option, Some, None}
+use Rattle.std.specs.Prelude.{◌≡◌, ◌⊎◌, ⊤, ℕ, ◌+◌, ◌<◌, ◌≤◌, Bool, true, List, [], ◌∷◌, length, map, Option, Some, None, IsSome}
 use Rattle.cut_words.specs.Words.{IsLeft}
 use Rattle.cut_words.specs.Fuses.{burnt, lasts}
 use Rattle.label_codec.specs.declared.label.Label.{Label}
+use Rattle.label_codec.specs.Writable.{IsSound}
 use Rattle.label_area.specs.Change.{count_of_steps}
 use Rattle.label_area.specs.State.{AreaState}
 use Rattle.label_area.specs.Opened.{IsReady}
 use Rattle.module_areas.specs.declared.area.Area.{Area}
 use Rattle.module_areas.specs.declared.area.Area.TheVariants.{Absent, Refused, Ready}
-use Rattle.namespace_changes.specs.Areas.{Area as SeenArea, Change, slots_of, free_in, slot_of, replaced, all_changed, steps_of_all, IsLeftBy}
+use Rattle.namespace_changes.specs.Areas.{Area as SeenArea, Change, slots_of, free_in, slot_of, area_at, replaced, changed, all_changed, steps_of_all, IsLeftBy}
 use Rattle.area_changes.specs.Seen.{AreHeld, ready_seen, areas_seen, AreLeft, area_shown, areas_shown}
 
 -- ---- one area
@@ -66,3 +67,14 @@ pub record Went (old new : List Area) (fuse left : Option ℕ) (changes : List C
   -- an area that isn't ready stays as it is, and each keeps its size
   pub beside : map unready new ≡ map unready old
   pub sizes : map size_of new ≡ map size_of old
+
+-- ---- conditions of a list of changes
+
+-- each can be made when its turn comes: its module's area is ready, and a label that is put finds a free slot
+abbrev pub CanMake : List (Option SeenArea) → List Change → Type 0
+CanMake areas [] = ⊤
+CanMake areas (c ∷ cs) = IsSome (area_at areas c.number) × HasRoom (area_at areas c.number) c.label × CanMake (changed areas c) cs
+
+-- a label that is put can be written
+abbrev pub PutsSound : Change → Type 0
+PutsSound c = (label : Label) → c.label ≡ Some label → IsSound label

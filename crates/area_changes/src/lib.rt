@@ -15,6 +15,8 @@
 //! | promise | call | definition |
 //! |---|---|---|
 //! | what became of areas and a fuse by a list of changes | [`change_label`] | `Went` of `specs/Went.antt` |
+//! | so for a list of them, of which each can be made when its turn comes | [`make_changes`] | `CanMake` of `specs/Went.antt` |
+//! | so for a list of them, of which each can be made when its turn comes | [`make_changes`] | `CanMake` of `specs/Went.antt` |
 //! | what a cut leaves of the areas' words | [`into_words`] | `words_of`, `AreLeft` of `specs/Seen.antt` |
 //! | areas are opened as their words show them | [`open_areas`] | `opened_as` of `specs/Opening.antt` |
 //! | no changes; lists of changes one after another; a cut in the first of them | - | `went_none`, `went_both`, `went_cut` of `proofs/Went.antt` |
@@ -22,9 +24,11 @@
 #![tactic(auto)]
 
 mod change;
+mod changes;
 mod open;
 mod words;
 
 pub use change::change_label;
+pub use changes::{Change, make_changes};
 pub use open::open_areas;
 pub use words::into_words;

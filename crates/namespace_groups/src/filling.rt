@@ -1,5 +1,5 @@
 //! The labels of all modules, put into room that is there.
-ghost use Rattle.std.specs.Prelude.{◌≡◌, ◌+◌, ◌<◌, ◌≤◌, ◌^◌, ◌++◌, ◌∷◌, [], Some, length, vec_len};
+ghost use Rattle.std.specs.Prelude.{◌≡◌, ◌+◌, ◌*◌, ◌<◌, ◌≤◌, ◌^◌, ◌++◌, ◌∷◌, [], Some, length, vec_len};
 ghost use Rattle.std.specs.Option.{option_to_list};
 ghost use Rattle.std.specs.Vec.{vec_capacity};
 ghost use Rattle.namespaces.specs.Namespaces.{placed_in, placed_on};
@@ -73,6 +73,7 @@ pub(crate) fn fill(room: &mut Vec<Placed>, areas: &[Area])
     requires few { length areas.now < 2 ^ 32 }
     requires room { slots_in areas.now ≤ vec_capacity room.old }
     ensures items { room.new.items ≡ labels_of areas.now }
+    ensures few { vec_len room.new ≤ slots_in areas.now }
     ensures capacity { vec_capacity room.old ≤ vec_capacity room.new }
 {
     room.clear();
@@ -93,11 +94,12 @@ fn slot_count(area: &Area) -> usize
     }
 }
 
-/// The slots of all areas.
-pub(crate) fn slots_in(areas: &[Area]) -> usize
+/// The slots of all areas. No area was stopped by a power cut.
+pub fn slots_in(areas: &[Area]) -> usize
     requires running { AreRunning areas.now }
     requires few { length areas.now < 2 ^ 32 }
-    ensures { result ≡ slots_in areas.now }
+    ensures count { result ≡ slots_in areas.now }
+    ensures bound { result ≤ 4096 * length areas.now }
 {
     let mut count = 0;
     for area in areas {

@@ -26,6 +26,7 @@ mod filling;
 mod groups;
 mod seen;
 
+pub use filling::slots_in;
 pub use groups::LabelGroups;
 pub use seen::{
     add_namespace, extent_of, extents_of, namespace_with, number_of, region_of, shown_name,

@@ -199,6 +199,14 @@ impl Registry {
         &self.sets.as_slice()[region as usize]
     }
 
+    /// The interleave sets by the regions' numbers, and the label areas by the modules' numbers.
+    pub fn into_parts(self) -> (Items<InterleaveSet>, Items<Area>)
+        ensures sets { result.0 ≡ self.sets }
+        ensures areas { result.1 ≡ self.areas }
+    {
+        (self.sets, self.areas)
+    }
+
     /// The label areas, by the modules' numbers.
     pub fn into_areas(self) -> Items<Area>
         ensures { result ≡ self.areas }

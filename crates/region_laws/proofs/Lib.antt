@@ -1,1 +1,1 @@
-mod Regions
+pub mod Regions

@@ -14,8 +14,8 @@ use nvd_words::Items;
 use std::alloc::{AllocError, Global};
 use std::marker::Model;
 
-/// What is reserved: extents of which no two of different owners on one module meet. Contracts see
-/// it as their list.
+/// What is reserved: extents of which, made by [`Space::of`], no two of different owners on one module
+/// meet. Contracts see it as their list.
 #[derive(Debug, Drop)]
 pub struct Space {
     extents: Items<Extent>,
@@ -61,8 +61,10 @@ impl Space {
         }
     }
 
-    /// The extents, whether they meet or not.
-    fn gather(alloc: Global, extents: &[Extent]) -> Result<Space, AllocError>
+    /// The space that extents leave, whether they meet or not, in whatever order they stand.
+    ///
+    /// The one error is want of memory. Of n extents it takes time in proportion to n log n.
+    pub fn gather(alloc: Global, extents: &[Extent]) -> Result<Space, AllocError>
         ensures { IfOk result (λ space. space ≡ extents.now) }
     {
         let ordered = Ordered::of(alloc, extents)?;

@@ -11,5 +11,5 @@ unfolding finding
 returns-clause-found c =
     c.find.ensures.found
     ∙ (λ i. found_of (c.as_slice.ensures i)
-        (option_map (entry_with (c.as_slice.ensures i) (c.self.invariant.grouped c.args.uuid.now i)) (slice_get (c.self.invariant.grouped c.args.uuid.now i) 0)))
+    (option_map (entry_with (c.as_slice.ensures i) (c.self.invariant.grouped c.args.uuid.now i)) (slice_get (c.self.invariant.grouped c.args.uuid.now i) 0)))
     ∙ ap (λ (o : Opened). finding o c.args.uuid.now) c.self.view_is

@@ -1,0 +1,12 @@
+pub mod Ordered
+pub mod Planned
+pub mod CanPlan
+pub mod Rounds
+pub mod Counts
+pub mod Recovered
+pub mod Agreed
+pub mod Claimed
+pub mod NewOnes
+pub mod CanCreate
+pub mod Creates
+pub mod NeverCut

@@ -1,0 +1,4 @@
+pub mod Plans
+pub mod Carried
+pub mod Held
+pub mod Created

@@ -1,0 +1,5 @@
+pub mod Firsts
+pub mod Room
+pub mod Changing
+pub mod Fit
+pub mod InSet
