@@ -7,11 +7,11 @@ top=$(cd "$(dirname "$0")/.." && pwd)
 copy=$(mktemp -d)
 trap 'rm -rf "$copy"' EXIT
 mkdir -p "$copy/crates"
-for crate in nvd_words nvd_media cut_words nfit_reader label_index image_set; do
+for crate in nvd_words nvd_media cut_words nfit_reader interleave power_cut label_index image_set; do
     mkdir "$copy/crates/$crate"
     (cd "$top/crates/$crate" && cp -r src specs proofs "$copy/crates/$crate/")
 done
-grep -E '^(nvd_words|nvd_media|cut_words|nfit_reader|label_index|image_set):' "$top/crates.txt" > "$copy/crates.txt"
+grep -E '^(nvd_words|nvd_media|cut_words|nfit_reader|interleave|power_cut|label_index|image_set):' "$top/crates.txt" > "$copy/crates.txt"
 echo 'load_bench: nvd_words nvd_media cut_words image_set' >> "$copy/crates.txt"
 mkdir -p "$copy/crates/load_bench/src"
 cp "$top/bench/image_set.rt.txt" "$copy/crates/load_bench/src/main.rt"

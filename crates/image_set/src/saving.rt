@@ -1,6 +1,7 @@
 //! An image set is saved: the firmware's table, the objects of the modules, and the mark last.
 ghost use Rattle.std.specs.Prelude.{◌≡◌, ◌^◌, ◌<◌, ◌≤◌, length, vec_len, MatchResult, OnOk, Err};
 ghost use Rattle.std.specs.Option.{ForSome};
+ghost use Rattle.std.specs.Vec.{vec_capacity};
 ghost use Rattle.nvd_media.specs.Causes.{HasCause, Rose};
 ghost use Rattle.nvd_media.specs.Images.{IsEmptySet, IsSameSet, IsUnfinished, Becomes, Keeps};
 ghost use Rattle.image_set.specs.Save.{HasModules, front_of, set_of};
@@ -23,7 +24,7 @@ fn write_objects<K: ImageSink>(
     requires empty { ForSome (K.made out.old) IsEmptySet }
     requires modules { HasModules images.now bad.now }
     requires few { length images.now.contents < 2 ^ 32 }
-    requires room { vec_len room.old ≡ 1048576 }
+    requires room { 4194304 ≤ vec_capacity room.old }
     ensures told { Becomes (K.made out.old) (K.made out.new) (λ set now. IsUnfinished set now
         × OnOk result (IsSameSet now (front_of (set_of nfit.now images.now bad.now) (length images.now.contents)))) }
     ensures kept { OnOk result (Keeps (K.kept out.old) (K.kept out.new) (λ set now. IsEmptySet set
@@ -59,7 +60,7 @@ fn write_objects<K: ImageSink>(
 /// - `failed`, `later`: `WriteFault` comes only where the sink's count of faults rose in this call; the
 ///   count never falls.
 /// - `untouched`: `OutOfMemory` comes before the sink is asked anything. Words are turned into bytes in
-///   pieces of 8 MiB, so it is want of memory for one piece.
+///   pieces of 32 MiB, so it is want of memory for one piece.
 pub fn save<K: ImageSink>(
     alloc: Global,
     nfit: &[u8],

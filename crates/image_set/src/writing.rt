@@ -2,6 +2,7 @@
 ghost use Rattle.std.specs.Prelude.{◌≡◌, ◌≢◌, ◌+◌, ◌-◌, ◌*◌, ◌<◌, ◌≤◌, ◌++◌, Some, None, min, take, drop, length, map, vec_len, IfOk};
 ghost use Rattle.std.specs.Option.{ForSome, option_map};
 ghost use Rattle.std.specs.Int.{w64, to_le_bytes};
+ghost use Rattle.std.specs.Vec.{vec_capacity};
 ghost use Rattle.nvd_media.specs.Images.{with_more, bytes_of as bytes_in};
 ghost use Rattle.cut_words.specs.WordBytes.{bytes_of};
 ghost use Rattle.image_set.specs.Save.{Adds, HasNone, with_some, with_module};
@@ -12,16 +13,26 @@ use std::alloc::{AllocError, Global};
 
 /// How many words are written at a time. A sink may wait for each write until it is on the disk, so a
 /// piece is large.
-const PIECE_WORDS: usize = 1 << 20;
+const PIECE_WORDS: usize = 4 << 20;
 
 /// How many bytes a word has.
 const WORD: usize = 8;
 
 /// The room for the bytes of a piece.
 pub(crate) fn spelling_room(alloc: Global) -> Result<Vec<[u8; WORD]>, AllocError>
-    ensures { IfOk result (λ room. vec_len room ≡ 1048576) }
+    ensures { IfOk result (λ room. 4194304 ≤ vec_capacity room) }
 {
-    vec![in alloc; [0; WORD]; PIECE_WORDS]
+    Vec::with_capacity(alloc, PIECE_WORDS)
+}
+
+/// Makes the room as long as so many words, for which it has the capacity.
+fn resize(room: &mut Vec<[u8; WORD]>, count: usize)
+    requires { count ≤ vec_capacity room.old }
+    ensures len { vec_len room.new ≡ count }
+    ensures capacity { vec_capacity room.old ≤ vec_capacity room.new }
+{
+    let resized = room.resize(count, [0; WORD]);
+    prove!(resized.is_ok());
 }
 
 /// The bytes of words, the low byte first, in a room for as many words.
@@ -46,15 +57,16 @@ fn write_piece<K: ImageSink>(
 ) -> Result<usize, Failed>
     requires not_mark { object ≢ Object.Mark }
     requires within { at ≤ length words.now }
-    requires room { vec_len room.old ≡ 1048576 }
+    requires room { 4194304 ≤ vec_capacity room.old }
     requires end { ForSome (K.made out.old) (λ set. 8 * at ≡ length (bytes_in set object)) }
     ensures adds { Adds (K.made out.old) (K.made out.new) (K.kept out.old) (K.kept out.new) (K.faults out.old) (K.faults out.new) result
-        (λ set. with_more set object (bytes_of (take (min 1048576 (length words.now - at)) (drop at words.now)))) }
-    ensures next { IfOk result (λ next. next ≡ at + min 1048576 (length words.now - at)) }
-    ensures room { vec_len room.new ≡ 1048576 }
+        (λ set. with_more set object (bytes_of (take (min 4194304 (length words.now - at)) (drop at words.now)))) }
+    ensures next { IfOk result (λ next. next ≡ at + min 4194304 (length words.now - at)) }
+    ensures room { 4194304 ≤ vec_capacity room.new }
 {
     let count = (words.len() - at).min(PIECE_WORDS);
-    let bytes = spell(&mut room[..count], &words[at..at + count]);
+    resize(room, count);
+    let bytes = spell(room, &words[at..at + count]);
     out.write(object, (WORD * at) as u64, bytes)?;
     Ok(at + count)
 }
@@ -67,11 +79,11 @@ pub(crate) fn write_words<K: ImageSink>(
     room: &mut Vec<[u8; WORD]>,
 ) -> Result<(), Failed>
     requires not_mark { object ≢ Object.Mark }
-    requires room { vec_len room.old ≡ 1048576 }
+    requires room { 4194304 ≤ vec_capacity room.old }
     requires absent { ForSome (K.made out.old) (λ set. set object ≡ None) }
     ensures adds { Adds (K.made out.old) (K.made out.new) (K.kept out.old) (K.kept out.new) (K.faults out.old) (K.faults out.new) result
         (λ set. with_more set object (bytes_of words.now)) }
-    ensures room { vec_len room.new ≡ 1048576 }
+    ensures room { 4194304 ≤ vec_capacity room.new }
 {
     let mut at = write_piece(out, object, words, 0, room)?;
     while at < words.len() {
@@ -87,11 +99,11 @@ fn write_area<K: ImageSink>(
     area: &Option<Items<u64>>,
     room: &mut Vec<[u8; WORD]>,
 ) -> Result<(), Failed>
-    requires room { vec_len room.old ≡ 1048576 }
+    requires room { 4194304 ≤ vec_capacity room.old }
     requires absent { ForSome (K.made out.old) (λ set. set (Object.Labels «module») ≡ None) }
     ensures adds { Adds (K.made out.old) (K.made out.new) (K.kept out.old) (K.kept out.new) (K.faults out.old) (K.faults out.new) result
         (λ set. with_some set (Object.Labels «module») (option_map bytes_of area.now)) }
-    ensures room { vec_len room.new ≡ 1048576 }
+    ensures room { 4194304 ≤ vec_capacity room.new }
 {
     match area {
         Some(words) => write_words(out, Object::Labels(module), words.as_slice(), room),
@@ -125,11 +137,11 @@ pub(crate) fn write_module<K: ImageSink>(
     ranges: &Option<Items<u8>>,
     room: &mut Vec<[u8; WORD]>,
 ) -> Result<(), Failed>
-    requires room { vec_len room.old ≡ 1048576 }
+    requires room { 4194304 ≤ vec_capacity room.old }
     requires absent { ForSome (K.made out.old) (HasNone «module») }
     ensures adds { Adds (K.made out.old) (K.made out.new) (K.kept out.old) (K.kept out.new) (K.faults out.old) (K.faults out.new) result
         (with_module «module» (option_map bytes_of area.now) (bytes_of contents.now) ranges.now) }
-    ensures room { vec_len room.new ≡ 1048576 }
+    ensures room { 4194304 ≤ vec_capacity room.new }
 {
     write_area(out, module, area, room)?;
     write_words(out, Object::Contents(module), contents, room)?;

@@ -12,6 +12,8 @@
 //! `specs/View.antt` defines these words (`view_words`) and what they open as (`opened_view`); [`open_sectors`] opens them.
 #![tactic(auto)]
 
+mod law;
 mod view;
 
+pub use law::loaded_sets_are_usable;
 pub use view::open_sectors;

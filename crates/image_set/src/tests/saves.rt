@@ -81,7 +81,7 @@ fn a_set_is_not_finished_after_a_failure(rt: HostRuntime) -> Result<(), AllocErr
 fn pieces_follow_one_another(rt: HostRuntime) -> Result<(), AllocError> {
     let alloc = rt.alloc();
     let mut words = Vec::new(alloc);
-    for i in 0..1048577 {
+    for i in 0..4194305 {
         words.push(i)?;
     }
     let images = Images {
@@ -92,10 +92,10 @@ fn pieces_follow_one_another(rt: HostRuntime) -> Result<(), AllocError> {
     let mut out = MemImages::new(alloc, Vec::new(alloc), Vec::new(alloc));
     assert_eq!(rt; save(alloc, &TABLE, &images, &bad, &mut out), Ok(()));
     let bytes = out.bytes(Object::Contents(0)).unwrap_or(&[]);
-    assert_eq!(rt; bytes.len(), 8388616);
+    assert_eq!(rt; bytes.len(), 33554440);
     assert_eq!(rt;
-        bytes.get(8388600..8388616),
-        Some([255, 255, 15, 0, 0, 0, 0, 0, 0, 0, 16, 0, 0, 0, 0, 0].as_slice())
+        bytes.get(33554424..33554440),
+        Some([255, 255, 63, 0, 0, 0, 0, 0, 0, 0, 64, 0, 0, 0, 0, 0].as_slice())
     );
     Ok(())
 }

@@ -1,0 +1,4 @@
+pub mod Faults
+pub mod Sectors
+pub mod Gives
+pub mod Causes

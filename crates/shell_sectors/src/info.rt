@@ -1,0 +1,57 @@
+//! The command `info`: a line for each arena of a namespace.
+ghost use Rattle.std.specs.Prelude.{◌≡◌, IfOk, string_bytes};
+ghost use Rattle.image_set.specs.Load.{image_set_in};
+ghost use Rattle.image_set.specs.Sound.{IsSound};
+ghost use Rattle.shell_answers.specs.Outcome.{printed};
+ghost use Rattle.shell_answers.specs.Saved.{outcome_of};
+ghost use Rattle.shell_sectors.specs.Sectors.{arena_facts, arena_line, arena_lines, info_outcome};
+
+use crate::opening::{Sectors, open};
+use arena_layout::Layout;
+use arena_open::ArenaState;
+use image_set::Loaded;
+use shell_answers::{Answer, printed_answer};
+use std::alloc::{AllocError, Global};
+use uuid::Uuid;
+
+/// What an arena's line says after its number.
+fn arena_facts(alloc: Global, layout: &Layout, moves: u32) -> Result<String, AllocError>
+    ensures { IfOk result (λ text. string_bytes text ≡ arena_facts layout.now moves) }
+{
+    format!(in alloc;
+        "sector {} sectors {} blocks {} lanes {} moves {}",
+        layout.sector, layout.external, layout.internal, layout.lanes, moves
+    )
+}
+
+/// The line of arena k.
+fn arena_line(alloc: Global, k: usize, arena: &ArenaState) -> Result<String, AllocError>
+    ensures { IfOk result (λ text. string_bytes text ≡ arena_line k arena.now) }
+{
+    let facts = arena_facts(alloc, &arena.info.layout, arena.moves())?;
+    format!(in alloc; "arena {} {}\n", k, facts)
+}
+
+/// The lines of arenas.
+fn arena_lines(alloc: Global, arenas: &[ArenaState]) -> Result<Vec<u8>, AllocError>
+    ensures { IfOk result (λ text. text.items ≡ arena_lines 0 arenas.now) }
+{
+    let mut text = Vec::new(alloc);
+    for (k, arena) in arenas.iter().enumerate() {
+        text.extend_from_slice(arena_line(alloc, k, arena)?.as_bytes())?;
+    }
+    Ok(text)
+}
+
+/// The answer of `info` on an image set: a line for each arena of a sector namespace, in order; or the first region that is
+/// no interleave set, or the first two UUIDs of which extents meet; or why the namespace isn't found; or the first of its
+/// arenas that breaks the format. Pending moves are made good in memory alone: no image set is written.
+pub fn info_answer(alloc: Global, uuid: &Uuid, loaded: Loaded) -> Result<Answer, AllocError>
+    requires { IsSound loaded }
+    ensures { IfOk result (λ answer. outcome_of answer ≡ info_outcome uuid.now (image_set_in loaded)) }
+{
+    match open(alloc, loaded, uuid)? {
+        Sectors::Open(chain) => Ok(printed_answer(arena_lines(alloc, chain.arenas())?)),
+        Sectors::Told(answer) => Ok(answer),
+    }
+}
