@@ -1,10 +1,8 @@
 -- What `init` leaves of an image set.
-use Rattle.std.proofs.Common.{◌≡◌, ◌≢◌, ℕ, ◌*◌, ◌/◌, Bool, true, false, List, length, replicate, Option, Some, None, Result, Ok, Err, refl, sym, ap, ◌∙◌, subst, inl, arith}
-use Rattle.std.specs.Prelude.{if◌then◌else◌}
+use Rattle.std.proofs.Common.{◌≡◌, ℕ, ◌*◌, Bool, true, false, List, length, Option, Some, None, Result, Ok, Err, refl, sym, ap, ◌∙◌, subst, inl}
 use Rattle.nvd_media.specs.Images.{Images, IsSameSet}
 use Rattle.cut_words.specs.Words.{Words, Step, after, settled, IsLeft}
 use Rattle.cut_words.specs.Fuses.{Makes, allowed, lasts, burnt}
-use Rattle.cut_words.specs.Leaving.{LeavesFrom}
 use Rattle.cut_words.specs.WordBytes.{bytes_of}
 use Rattle.cut_words.proofs.Bytes.{length_bytes}
 use Rattle.cut_words.proofs.ByWord.{is_left}
@@ -16,7 +14,7 @@ use Rattle.label_area.specs.declared.fault.AreaFault.{AreaFault}
 use Rattle.label_area.specs.declared.fault.AreaFault.TheVariants.{Unsupported, NoIndex, OutOfMemory, AlreadyInitialised, PowerCut}
 use Rattle.label_area.specs.Area.{block_in}
 use Rattle.label_area.specs.Init.{IsInit, IsInitCut, init_steps, full_words}
-use Rattle.label_area.specs.Initialise.{initialised, initialised_by, init_count, size_for, slots_for}
+use Rattle.label_area.specs.Initialise.{initialised_by, init_count, size_for, slots_for}
 use Rattle.label_area.specs.Whole.{steps_under}
 use Rattle.label_area.proofs.Blocks.{both_done, both_last, both_whole, is_init, read_fault}
 use Rattle.image_set.specs.Load.{ImageSet, area_of}
@@ -25,7 +23,7 @@ use Rattle.shell_answers.specs.declared.status.Ending.{Ending}
 use Rattle.shell_answers.specs.declared.power.Power.{Power}
 use Rattle.shell_answers.specs.Outcome.{Outcome}
 use Rattle.shell_answers.specs.Saved.{IsSaving}
-use Rattle.shell_changes.specs.Init.{InitArea, InitComes, InitModule, not_initialised}
+use Rattle.shell_changes.specs.Init.{InitArea, InitModule, not_initialised}
 use Rattle.shell_answers.specs.Cut.{LeavesBy}
 use Rattle.nvdimm_shell.specs.Laws.{IsLeftByInit, InitLeavesWhole}
 use Rattle.nvdimm_shell.proofs.Causes.{words_in_area}

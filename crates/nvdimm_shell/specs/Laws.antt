@@ -19,8 +19,11 @@ use Rattle.image_set.specs.Load.{ImageSet, area_of, loading}
 use Rattle.image_set.specs.Changed.{objects_of, with_area}
 use Rattle.shell_answers.specs.declared.status.Status.{Status}
 use Rattle.shell_answers.specs.declared.status.Status.TheVariants as status
+use Rattle.nfit_reader.specs.declared.table.Mapping.{Mapping}
+use Rattle.shell_namespaces.specs.Namespaces as namespaces
+use Rattle.shell_namespaces.specs.Namespaces.{sets_in, refuses}
 use Rattle.nvdimm_shell.specs.declared.words.Command.{Command}
-use Rattle.nvdimm_shell.specs.declared.words.Command.TheVariants.{Labels, Nfit, Init}
+use Rattle.nvdimm_shell.specs.declared.words.Command.TheVariants.{Labels, Nfit, Init, Change, Info, Read}
 use Rattle.nvdimm_shell.specs.declared.words.Command.TheVariants as command
 use Rattle.shell_answers.specs.declared.power.Power.{Power}
 use Rattle.nvdimm_shell.specs.Words.{command_of}
@@ -28,6 +31,7 @@ use Rattle.shell_answers.specs.Outcome.{Outcome}
 use Rattle.shell_changes.specs.Init.{InitComes}
 use Rattle.shell_answers.specs.Cut.{LeavesBy}
 use Rattle.shell_listings.specs.List.{listed_of}
+use Rattle.shell_sectors.specs.Causes.{IsBroken, IsReadable, refuses_info, refuses_read}
 use Rattle.nvdimm_shell.specs.Run.{IsDue, Ends}
 
 -- a module's label area that is refused: there is none, or it has no valid index block
@@ -53,6 +57,9 @@ IsRefusedFor (Labels m) (Ok loaded) = IsRefusedArea (area_of loaded m)
 IsRefusedFor Nfit (Ok loaded) = ⊥
 IsRefusedFor command.List (Ok loaded) = (fault : OpenFault) × (listed_of loaded ≡ Err fault)
 IsRefusedFor (Init m power) (Ok loaded) = IsKeptArea (area_of loaded m)
+IsRefusedFor (Change c power) (Ok loaded) = (fault : OpenFault) × (sets_in loaded ≡ Err fault)
+IsRefusedFor (Info uuid) (Ok loaded) = IsBroken loaded uuid
+IsRefusedFor (Read uuid sector) (Ok loaded) = IsBroken loaded uuid
 
 -- the images are accepted for a command: the set is loaded, and so is the module's label area, or the namespaces are listed
 abbrev pub IsAcceptedFor : Command → Result ImageSet LoadFault → Type 0
@@ -61,23 +68,36 @@ IsAcceptedFor (Labels m) (Ok loaded) = IsAcceptedArea (area_of loaded m)
 IsAcceptedFor Nfit (Ok loaded) = ⊤
 IsAcceptedFor command.List (Ok loaded) = (namespaces : List Namespace) × (listed_of loaded ≡ Ok namespaces)
 IsAcceptedFor (Init m power) (Ok loaded) = IsBlankArea (area_of loaded m)
+IsAcceptedFor (Change c power) (Ok loaded) = (sets : List (List Mapping)) × (sets_in loaded ≡ Ok sets)
+IsAcceptedFor (Info uuid) (Ok loaded) = IsReadable loaded uuid
+IsAcceptedFor (Read uuid sector) (Ok loaded) = IsReadable loaded uuid
 
 -- the steps that a label area's first two blocks take are more than power lasts for
 abbrev pub is_short : Option ℕ → Option (List ℕ) → Bool
 is_short steps None = false
 is_short steps (Some area) = not (lasts steps (init_count (length area / 8)))
 
+-- a command is refused by its own rules, on images that are accepted for it
+abbrev pub is_barred : Command → Result ImageSet LoadFault → Bool
+is_barred (Change c power) (Ok loaded) = refuses loaded c
+is_barred (Info uuid) (Ok loaded) = refuses_info loaded uuid
+is_barred (Read uuid sector) (Ok loaded) = refuses_read loaded uuid sector
+is_barred command found = false
+
 -- a command takes more steps than power lasts for
 abbrev pub is_cut : Command → Result ImageSet LoadFault → Bool
 is_cut (Init m power) (Ok loaded) = is_short power.steps (area_of loaded m)
+is_cut (Change c power) (Ok loaded) = namespaces.is_short loaded c power.steps
 is_cut command found = false
 
 -- the cause that the table gives a status; those of faults and of want of memory stand on the run itself
 abbrev pub HasTableCause : List (List ℕ) → Images → Status → Type 0
-HasTableCause words set status.Ok = (command : Command) × (command_of words ≡ Some command) × IsAcceptedFor command (loading set) × (is_cut command (loading set) ≡ false)
+HasTableCause words set status.Ok = (command : Command) × (command_of words ≡ Some command) × IsAcceptedFor command (loading set)
+    × (is_cut command (loading set) ≡ false) × (is_barred command (loading set) ≡ false)
 HasTableCause words set status.Usage = command_of words ≡ None
 HasTableCause words set status.Image = (command : Command) × (command_of words ≡ Some command) × IsRefusedFor command (loading set)
-HasTableCause words set status.Refused = ⊥
+HasTableCause words set status.Refused = (command : Command) × (command_of words ≡ Some command) × IsAcceptedFor command (loading set)
+    × (is_cut command (loading set) ≡ false) × (is_barred command (loading set) ≡ true)
 HasTableCause words set status.PowerCut = (command : Command) × (command_of words ≡ Some command) × IsAcceptedFor command (loading set) × (is_cut command (loading set) ≡ true)
 HasTableCause words set other = ⊤
 
@@ -93,11 +113,11 @@ IsFromOutside status.WriteFault = ⊤
 IsFromOutside status.OutOfMemory = ⊤
 IsFromOutside other = ⊥
 
--- where the words are a command line, the images are accepted for the command and power lasts, the status is Ok, or it comes
+-- where the words are a command line, the images are accepted for the command, it isn't refused and power lasts, the status is Ok, or it comes
 -- from outside
 abbrev pub AcceptedIsOk : (ℕ → Words → List ℕ → Type 0) → Type 0
 AcceptedIsOk leaves = (words : List (List ℕ)) (command : Command) (set : Images) (left : Option (List ℕ)) (made made' : Option Images) (text text' : Option (List ℕ)) (s : Status)
-    → command_of words ≡ Some command → IsAcceptedFor command (loading set) → is_cut command (loading set) ≡ false
+    → command_of words ≡ Some command → IsAcceptedFor command (loading set) → is_cut command (loading set) ≡ false → is_barred command (loading set) ≡ false
     → Ends (IsDue leaves words (Some set) left) made made' text text' s → (s ≡ status.Ok) ⊎ IsFromOutside s
 
 -- ---- what `init` leaves

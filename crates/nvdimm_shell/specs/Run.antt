@@ -1,14 +1,14 @@
 -- What a run does, seen from outside.
-use Rattle.std.specs.Prelude.{◌≡◌, ◌⊎◌, ℕ, Bool, false, IsTrue, IsSome, List, ◌++◌, Option, Some, None, Result, Ok, Err, MatchOption, codes, take}
+use Rattle.std.specs.Prelude.{◌≡◌, ◌⊎◌, ℕ, Bool, false, IsTrue, IsSome, List, ◌++◌, Option, Some, Result, Ok, Err, MatchOption, codes, take}
 use Rattle.std.specs.Io.KnownBytes.{Keeps, Appends}
-use Rattle.nvd_media.specs.Images.{Images, IsSameSet, Becomes, IsUnfinished}
+use Rattle.nvd_media.specs.Images.{Images, Becomes, IsUnfinished}
 use Rattle.cut_words.specs.Words.{Words}
 use Rattle.image_set.specs.declared.fault.LoadFault.{LoadFault}
 use Rattle.image_set.specs.Load.{ImageSet, loading}
 use Rattle.shell_answers.specs.declared.status.Status.{Status}
 use Rattle.shell_answers.specs.declared.status.Status.TheVariants as status
 use Rattle.nvdimm_shell.specs.declared.words.Command.{Command}
-use Rattle.nvdimm_shell.specs.declared.words.Command.TheVariants.{Labels, Nfit, Init}
+use Rattle.nvdimm_shell.specs.declared.words.Command.TheVariants.{Labels, Nfit, Init, Change, Info, Read}
 use Rattle.nvdimm_shell.specs.declared.words.Command.TheVariants as command
 use Rattle.nvdimm_shell.specs.Words.{command_of}
 use Rattle.shell_answers.specs.Outcome.{Outcome, usage, lf, status_of}
@@ -17,7 +17,9 @@ use Rattle.shell_listings.specs.Labels.{labels_outcome}
 use Rattle.shell_listings.specs.Nfit.{nfit_outcome}
 use Rattle.shell_answers.specs.Saved.{Saves}
 use Rattle.shell_changes.specs.Init.{InitComes}
+use Rattle.shell_namespaces.specs.Namespaces.{CommandComes}
 use Rattle.shell_listings.specs.List.{list_outcome}
+use Rattle.shell_sectors.specs.Sectors.{info_outcome, read_outcome}
 
 -- ---- a case for each command
 
@@ -28,6 +30,9 @@ LoadedComes leaves (Labels m) loaded outcome = outcome ≡ labels_outcome m load
 LoadedComes leaves Nfit loaded outcome = outcome ≡ nfit_outcome loaded
 LoadedComes leaves command.List loaded outcome = outcome ≡ list_outcome loaded
 LoadedComes leaves (Init m power) loaded outcome = InitComes leaves m power loaded outcome
+LoadedComes leaves (Change c power) loaded outcome = CommandComes c power loaded outcome
+LoadedComes leaves (Info uuid) loaded outcome = outcome ≡ info_outcome uuid loaded
+LoadedComes leaves (Read uuid sector) loaded outcome = outcome ≡ read_outcome uuid sector loaded
 
 -- by the set that is loaded, or by why none is
 abbrev pub OnLoaded : (ImageSet → Outcome → Type 0) → Result ImageSet LoadFault → Outcome → Type 0
@@ -44,6 +49,9 @@ reads_script (Labels m) = false
 reads_script Nfit = false
 reads_script command.List = false
 reads_script (Init m power) = false
+reads_script (Change c power) = false
+reads_script (Info uuid) = false
+reads_script (Read uuid sector) = false
 
 -- ---- once for all commands
 

@@ -1,14 +1,16 @@
 -- The words of a command line: a name, and the words after it.
-use Rattle.std.specs.Prelude.{List, [], ◌∷◌, ℕ, Option, Some, None, unwrap_or, codes}
+use Rattle.std.specs.Prelude.{⊤, List, [], ◌∷◌, ℕ, Option, Some, None, unwrap_or, codes}
 use Rattle.std.specs.Option.{option_map, option_and_then}
 use Rattle.clap.specs.Words.{Row}
-use Rattle.command_words.specs.Parsed.{parsed, number_in, optional_number_in}
+use Rattle.command_words.specs.Parsed.{parsed, number_in, optional_number_in, uuid_in}
 use Rattle.nvdimm_shell.specs.declared.commands.Kind.{Kind}
 use Rattle.nvdimm_shell.specs.declared.commands.Kind.TheVariants as kind
 use Rattle.nvdimm_shell.specs.declared.words.Command.{Command}
-use Rattle.nvdimm_shell.specs.declared.words.Command.TheVariants.{Labels, Nfit, Init}
+use Rattle.nvdimm_shell.specs.declared.words.Command.TheVariants.{Labels, Nfit, Init, Change, Info, Read}
 use Rattle.nvdimm_shell.specs.declared.words.Command.TheVariants as command
 use Rattle.shell_answers.specs.declared.power.Power.{Power}
+use Rattle.namespace_commands.specs.Carried.{HasGoodName}
+use Rattle.shell_namespaces.specs.Words.{create_in, delete_in, rename_in}
 use Rattle.nvdimm_shell.specs.Commands.{kind_of, arguments_of}
 
 -- the greatest number of an option
@@ -27,6 +29,11 @@ abbrev pub command_in : Kind → List Row → Option Command
 command_in kind.Labels values = option_map (λ m. Labels m) (number_in 0 63 (codes "module") values)
 command_in kind.Nfit values = Some Nfit
 command_in kind.List values = Some command.List
+command_in kind.Create values = option_and_then (λ c. option_map (λ power. Change c power) (power_in values)) (create_in values)
+command_in kind.Delete values = option_and_then (λ c. option_map (λ power. Change c power) (power_in values)) (delete_in values)
+command_in kind.Rename values = option_and_then (λ c. option_map (λ power. Change c power) (power_in values)) (rename_in values)
+command_in kind.Info values = option_map (λ uuid. Info uuid) (uuid_in (codes "uuid") values)
+command_in kind.Read values = option_and_then (λ uuid. option_map (λ sector. Read uuid sector) (number_in 0 most (codes "sector") values)) (uuid_in (codes "uuid") values)
 command_in kind.Init values = option_and_then (λ m. option_map (λ power. Init m power) (power_in values)) (number_in 0 63 (codes "module") values)
 
 -- the command of a name with the words after it
@@ -37,3 +44,13 @@ command_with kind words = option_and_then (command_in kind) (parsed (arguments_o
 abbrev pub command_of : List (List ℕ) → Option Command
 command_of [] = None
 command_of (name ∷ words) = option_and_then (λ kind. command_with kind words) (kind_of name)
+
+-- a name that a command gives has no zero byte
+abbrev pub GivesGoodName : Command → Type 0
+GivesGoodName (Labels m) = ⊤
+GivesGoodName Nfit = ⊤
+GivesGoodName command.List = ⊤
+GivesGoodName (Init m power) = ⊤
+GivesGoodName (Change c power) = HasGoodName c
+GivesGoodName (Info uuid) = ⊤
+GivesGoodName (Read uuid sector) = ⊤

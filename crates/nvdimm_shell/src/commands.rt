@@ -12,12 +12,70 @@ pub enum Kind {
     List,
     /// Writes fresh index blocks into the label area of a module.
     Init,
+    /// Makes a namespace.
+    Create,
+    /// Removes a namespace.
+    Delete,
+    /// Gives a namespace another name.
+    Rename,
+    /// Prints the arenas of a namespace.
+    Info,
+    /// Prints a sector of a namespace.
+    Read,
 }
 
 /// The number of a module.
 const MODULE: Argument = Argument {
     name: "module",
     form: Form::Place,
+};
+
+/// The UUID of a namespace, at its place among the words.
+const UUID: Argument = Argument {
+    name: "uuid",
+    form: Form::Place,
+};
+
+/// The number of a sector.
+const SECTOR: Argument = Argument {
+    name: "sector",
+    form: Form::Place,
+};
+
+/// The other name of a namespace.
+const NAME: Argument = Argument {
+    name: "name",
+    form: Form::Place,
+};
+
+/// The UUID of a namespace that is made.
+const CREATED_UUID: Argument = Argument {
+    name: "uuid",
+    form: Form::Required,
+};
+
+/// Its name.
+const CREATED_NAME: Argument = Argument {
+    name: "name",
+    form: Form::Required,
+};
+
+/// The number of its region.
+const REGION: Argument = Argument {
+    name: "region",
+    form: Form::Required,
+};
+
+/// Its bytes, those of all modules together.
+const SIZE: Argument = Argument {
+    name: "size",
+    form: Form::Required,
+};
+
+/// What it is made as.
+const MODE: Argument = Argument {
+    name: "mode",
+    form: Form::Required,
 };
 
 /// After how many steps power is cut.
@@ -54,6 +112,21 @@ impl Kind {
         if name == "init" {
             return Some(Kind::Init);
         }
+        if name == "create" {
+            return Some(Kind::Create);
+        }
+        if name == "delete" {
+            return Some(Kind::Delete);
+        }
+        if name == "rename" {
+            return Some(Kind::Rename);
+        }
+        if name == "info" {
+            return Some(Kind::Info);
+        }
+        if name == "read" {
+            return Some(Kind::Read);
+        }
         None
     }
 
@@ -66,6 +139,11 @@ impl Kind {
             Kind::Nfit => &[],
             Kind::List => &[],
             Kind::Init => &[MODULE, CUT, EVICT],
+            Kind::Create => &[CREATED_UUID, CREATED_NAME, REGION, SIZE, MODE, CUT, EVICT],
+            Kind::Delete => &[UUID, CUT, EVICT],
+            Kind::Rename => &[UUID, NAME, CUT, EVICT],
+            Kind::Info => &[UUID],
+            Kind::Read => &[UUID, SECTOR],
         }
     }
 }

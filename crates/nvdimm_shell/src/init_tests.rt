@@ -12,14 +12,14 @@ use std::thread::Threads;
 
 /// A run that may save an image set: its status, its text and what it made.
 #[derive(Drop)]
-struct Made {
-    status: Status,
-    text: String,
-    set: MemImages,
+pub struct Made {
+    pub status: Status,
+    pub text: String,
+    pub set: MemImages,
 }
 
 /// A run on these objects, of which the calls with these numbers on the sink fail.
-fn saved<R: Threads + Wait + Sync, C: Chooser>(
+pub fn saved<R: Threads + Wait + Sync, C: Chooser>(
     rt: &R,
     alloc: Global,
     words: &[&str],

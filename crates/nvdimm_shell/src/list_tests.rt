@@ -29,7 +29,7 @@ fn add_area(
 }
 
 /// The pair under a table, with the areas of [`AGREED`] as far as they are there.
-fn with_areas(
+pub(crate) fn with_areas(
     alloc: Global,
     table: &[u8],
     first: Option<&[Patch]>,

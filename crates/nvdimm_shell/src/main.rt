@@ -23,6 +23,8 @@
 
 #[cfg(test)]
 mod areas;
+#[cfg(test)]
+mod change_tests;
 mod commands;
 #[cfg(test)]
 mod init_tests;
@@ -33,6 +35,8 @@ mod list_areas;
 mod list_rules;
 #[cfg(test)]
 mod list_tests;
+#[cfg(test)]
+mod sector_tests;
 #[cfg(test)]
 mod sets;
 #[cfg(test)]

@@ -1,5 +1,4 @@
 use crate::areas::{AREA, AREA_SIZE, CASES, LINUX, LINUX_SIZE, LINUX_TEXT};
-use crate::nfit::nfit_answer;
 use crate::sets::{
     SMALL_TEXT, UNLOADED, area_of, changed, pair, patch, table_of, with_area, without,
 };
@@ -8,6 +7,7 @@ use crate::top::run;
 use nfit_reader::{NfitFault, read_nfit};
 use nvd_media::{ListChooser, MemImages, MemText, NoGate, Object, Stored};
 use shell_answers::Status;
+use shell_listings::nfit_answer;
 use std::alloc::{AllocError, Global};
 use std::sync::Wait;
 use std::thread::Threads;

@@ -10,8 +10,8 @@ ghost use Rattle.shell_answers.specs.Outcome.{lf, status_of};
 ghost use Rattle.shell_answers.specs.LoadFaults.{load_outcome};
 ghost use Rattle.shell_answers.specs.Cut.{LeavesBy};
 ghost use Rattle.nvdimm_shell.specs.Run.{LoadedComes, ComesTold, reads_script, IsDue, LeavesScript, Ends, AppendsPart};
-ghost use Rattle.shell_answers.specs.Saved.{Saves};
-ghost use Rattle.shell_answers.specs.Saved.{outcome_of};
+ghost use Rattle.nvdimm_shell.specs.Words.{GivesGoodName};
+ghost use Rattle.shell_answers.specs.Saved.{Saves, outcome_of};
 
 use crate::words::{Command, command_from};
 use command_words::WordsFault;
@@ -20,6 +20,8 @@ use nvd_media::{Chooser, Gate, ImageSink, ImageSource, TextSink, TextSource};
 use shell_answers::{Answer, Ending, SavedSet, Status, Stop, load_answer, usage_answer};
 use shell_changes::init_answer;
 use shell_listings::{labels_answer, list_answer, nfit_answer};
+use shell_namespaces::change_answer;
+use shell_sectors::{info_answer, read_answer};
 use std::alloc::{AllocError, Global};
 use std::sync::Wait;
 use std::thread::Threads;
@@ -43,7 +45,8 @@ fn loaded_answer<C: Chooser>(
     loaded: Loaded,
     choose: &mut C,
 ) -> Result<Answer, AllocError>
-    requires { IsSound loaded }
+    requires sound { IsSound loaded }
+    requires name { GivesGoodName command }
     ensures { IfOk result (λ answer. LoadedComes (LeavesBy C.begins C.picks choose.old) command (image_set_in loaded) (outcome_of answer)) }
 {
     match command {
@@ -51,6 +54,9 @@ fn loaded_answer<C: Chooser>(
         Command::Nfit => nfit_answer(alloc, &loaded.nfit),
         Command::List => list_answer(alloc, loaded),
         Command::Init(module, power) => init_answer(alloc, module, power, loaded, choose),
+        Command::Change(change, power) => change_answer(alloc, &change, power, loaded, choose),
+        Command::Info(uuid) => info_answer(alloc, &uuid, loaded),
+        Command::Read(uuid, sector) => read_answer(alloc, &uuid, sector, loaded),
     }
 }
 
@@ -77,6 +83,7 @@ fn perform<S: ImageSource, T: TextSource, C: Chooser>(
     _script: &mut T,
     choose: &mut C,
 ) -> Result<Answer, Stop>
+    requires name { GivesGoodName command }
     ensures told { IfOk result (λ answer. ComesTold (LeavesBy C.begins C.picks choose.old) command (S.held images.old) (T.left _script.old) (outcome_of answer)) }
     ensures same { S.held images.new ≡ S.held images.old }
     ensures unread { reads_script command ≡ false → T.left _script.new ≡ T.left _script.old }

@@ -1,15 +1,17 @@
 //! What the words of a command line ask for.
-ghost use Rattle.std.specs.Prelude.{◌≡◌, IfOk, Some, None, Err, map, string_bytes};
+ghost use Rattle.std.specs.Prelude.{◌≡◌, ◌≢◌, IfOk, IfSome, Some, None, Err, map, string_bytes};
 ghost use Rattle.command_words.specs.Parsed.{rows};
-ghost use Rattle.nvdimm_shell.specs.Words.{command_of, command_with, command_in, power_in};
+ghost use Rattle.nvdimm_shell.specs.Words.{command_of, command_with, command_in, power_in, GivesGoodName};
 
 use crate::commands::Kind;
 use command_words::{Parsed, WordsFault, parse};
 use shell_answers::Power;
+use shell_namespaces::{create_in, delete_in, rename_in};
 use std::alloc::Global;
+use uuid::Uuid;
 
 /// What the words ask for.
-#[derive(Clone, Copy, Debug, PartialEq, Eq)]
+#[derive(Clone, Copy, Debug)]
 pub enum Command {
     /// Print the current index block and the labels of a module.
     Labels(u32),
@@ -19,6 +21,12 @@ pub enum Command {
     List,
     /// Write fresh index blocks into the label area of a module.
     Init(u32, Power),
+    /// Make, remove or rename a namespace.
+    Change(namespace_changes::Command, Power),
+    /// Print the arenas of a namespace.
+    Info(Uuid),
+    /// Print a sector of a namespace.
+    Read(Uuid, u64),
 }
 
 /// The greatest number of a module.
@@ -38,7 +46,8 @@ fn power_in(values: &Parsed<'_>) -> Option<Power>
 
 /// The command that the values of its arguments make.
 fn command_in(kind: Kind, values: &Parsed<'_>) -> Option<Command>
-    ensures { result ≡ command_in kind (rows values.now) }
+    ensures command { result ≡ command_in kind (rows values.now) }
+    ensures name { IfSome result GivesGoodName }
 {
     match kind {
         Kind::Labels => {
@@ -52,6 +61,37 @@ fn command_in(kind: Kind, values: &Parsed<'_>) -> Option<Command>
             let power = power_in(values)?;
             Some(Command::Init(module as u32, power))
         }
+        Kind::Create => {
+            let change = create_in(values)?;
+            Some(Command::Change(change, power_in(values)?))
+        }
+        Kind::Delete => {
+            let change = delete_in(values)?;
+            Some(Command::Change(change, power_in(values)?))
+        }
+        Kind::Rename => {
+            let change = rename_in(values)?;
+            Some(Command::Change(change, power_in(values)?))
+        }
+        Kind::Info => Some(Command::Info(values.uuid("uuid")?)),
+        Kind::Read => {
+            let uuid = values.uuid("uuid")?;
+            Some(Command::Read(uuid, values.number("sector", 0, u64::MAX)?))
+        }
+    }
+}
+
+/// A command, or that the words say none.
+fn command_or_usage(command: Option<Command>) -> Result<Command, WordsFault>
+    requires name { IfSome command GivesGoodName }
+    ensures name { IfOk result GivesGoodName }
+    ensures said { IfOk result (λ found. command ≡ Some found) }
+    ensures none { result ≡ Err WordsFault.Usage → command ≡ None }
+    ensures words { result ≢ Err WordsFault.OutOfMemory }
+{
+    match command {
+        Some(command) => Ok(command),
+        None => Err(WordsFault::Usage),
     }
 }
 
@@ -59,9 +99,10 @@ fn command_in(kind: Kind, values: &Parsed<'_>) -> Option<Command>
 fn command_with(alloc: Global, kind: Kind, words: &[String]) -> Result<Command, WordsFault>
     ensures command { IfOk result (λ command. command_with kind (map string_bytes words.now) ≡ Some command) }
     ensures usage { result ≡ Err WordsFault.Usage → command_with kind (map string_bytes words.now) ≡ None }
+    ensures name { IfOk result GivesGoodName }
 {
     match parse(alloc, kind.arguments(), words) {
-        Ok(values) => command_in(kind, &values).ok_or(WordsFault::Usage),
+        Ok(values) => command_or_usage(command_in(kind, &values)),
         Err(fault) => Err(fault),
     }
 }
@@ -71,6 +112,7 @@ fn command_with(alloc: Global, kind: Kind, words: &[String]) -> Result<Command, 
 pub fn command_from(alloc: Global, words: &[String]) -> Result<Command, WordsFault>
     ensures command { IfOk result (λ command. command_of (map string_bytes words.now) ≡ Some command) }
     ensures usage { result ≡ Err WordsFault.Usage → command_of (map string_bytes words.now) ≡ None }
+    ensures name { IfOk result GivesGoodName }
 {
     let [name, others @ ..] = words else {
         return Err(WordsFault::Usage);

@@ -1,0 +1,6 @@
+pub mod Left
+pub mod Areas
+pub mod Ends
+pub mod Regions
+pub mod Goes
+pub mod Carried
