@@ -4,7 +4,7 @@
 usage: changes.py NAME SET PROGRAM   (the set is unpacked in the folder SET)
 
 What is listed of each set that is made has to be what was listed before but for the namespace that was changed; no byte of
-the contents, of the firmware's table or of the lists of bad ranges may change.
+the contents, of the firmware's table or of the lists of bad ranges may change. A set without complete namespaces is passed over.
 """
 import os
 import subprocess
@@ -50,7 +50,6 @@ def main():
 
     before = listed(folder)
     whole = [who for who, lines in before.items() if lines[0].endswith(" complete")]
-    report("has complete namespaces", bool(whole), True)
     for who in whole:
         head = before[who][0]
         shown = head[: head.rindex('"')].split('"', 1)[1]

@@ -1,0 +1,67 @@
+"""Image sets of 64 modules, each with a label area of 1 MiB and 4,000 labels, for the measurements of this folder."""
+import os
+import random
+import struct
+import sys
+import uuid
+
+sys.dont_write_bytecode = True
+sys.path.insert(0, os.path.join(os.path.dirname(os.path.abspath(__file__)), "..", "samples"))
+from make_small import PERSISTENT_MEMORY, fletcher64, index_block, interleave_cookie, label  # noqa: E402
+
+MODULES, LABELS, BLOCK, SLOTS, UNIT = 64, 4000, 768, 4090, 4096
+# The contents of a set have at most 512 MiB, so half of the labels lie past the end of their module.
+SPAN = LABELS // 2 * UNIT
+
+
+def cookie_of_all():
+    return fletcher64(b"".join(struct.pack("<QIHHB31x", UNIT * m, m + 1, 0x1234, 0, 0) for m in range(MODULES)))
+
+
+def nfit(shared):
+    ranges = [MODULES * SPAN] if shared else [SPAN] * MODULES
+    table = bytearray(struct.pack("<4sIBB6s8sI4sI4x", b"NFIT", 0, 1, 0, b"NVDBCH", b"LISTSETS", 1, b"NVDM", 1))
+    for i, size in enumerate(ranges):
+        table += struct.pack("<HHHHII16sQQQ", 0, 56, i + 1, 0, 0, 0, PERSISTENT_MEMORY.bytes_le, (i + 1) << 32, size, 0)
+    for m in range(MODULES):
+        place = (1, UNIT * m, 1, MODULES) if shared else (m + 1, 0, 0, 1)
+        table += struct.pack("<HHIHHHHQQQHHHH", 1, 48, m + 1, m, 0, place[0], m + 1, SPAN, place[1], 0, place[2], place[3], 0, 0)
+    if shared:
+        table += struct.pack("<HHHHIII", 2, 20, 1, 0, 1, UNIT, 0)
+    for m in range(MODULES):
+        table += struct.pack("<HHHHHHHHHBBHHIHH", 4, 32, m + 1, 0x1234, 0, 0, 0, 0, 0, 0, 0, 0, 0, m + 1, 0x301, 0)
+    table[4:8] = struct.pack("<I", len(table))
+    table[9] = -sum(table) & 0xFF
+    return bytes(table)
+
+
+def make(folder, shared, free=0, blank=()):
+    """Makes a set and answers how many UUIDs it has.
+
+    With `shared` all modules are one interleave set, and each UUID has a label on each module; else each module is a
+    region, and each label has a UUID of its own. The last `free` units of each module have no label, and the label
+    areas of the modules in `blank` are empty.
+    """
+    os.mkdir(folder)
+    drawn = random.Random(1)
+    own = [uuid.UUID(int=drawn.getrandbits(128)) for _ in range(LABELS if shared else LABELS * MODULES)]
+    cookie = cookie_of_all()
+    files = {"nfit.bin": nfit(shared), "complete": b""}
+    for m in range(MODULES):
+        area = bytearray(index_block(0, 2, BLOCK, SLOTS, range(LABELS, SLOTS)) + index_block(1, 1, BLOCK, SLOTS, range(LABELS, SLOTS)))
+        for slot in range(LABELS):
+            if shared:
+                place = {"count": MODULES, "position": m, "cookie": cookie}
+            else:
+                place = {"cookie": interleave_cookie(m + 1)}
+            who = own[slot if shared else m * LABELS + slot]
+            unit = slot if slot < SPAN // UNIT - free else slot + free
+            area += label(who, b"namespace %d" % slot, slot, UNIT, dpa=UNIT * unit, **place)
+        files[f"labels-{m}.bin"] = bytes(1 << 20) if m in blank else bytes(area.ljust(1 << 20, b"\0"))
+    for name, data in files.items():
+        with open(os.path.join(folder, name), "wb") as file:
+            file.write(data)
+    for m in range(MODULES):
+        with open(os.path.join(folder, f"contents-{m}.bin"), "wb") as file:
+            file.truncate(SPAN)
+    return len(own)
