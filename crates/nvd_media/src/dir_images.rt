@@ -40,13 +40,15 @@ enum Progress {
 /// the system refuses, a link whose target isn't there, a file that is no regular one, and a file that
 /// ends too early are counted failures. As a sink: the first write makes the directory, and one that is there already is a counted
 /// failure, as is the directory `-`, which stands for none; once a call failed, all later ones do, so a
-/// half-written directory never gets its mark. Each write is on the disk when it is done, as far as the
-/// system's sync calls say so, and `finish` makes the mark last.
+/// half-written directory never gets its mark. What was written of an object is on the disk, as far as the
+/// system's sync calls say so, before another object is written, and all of it before `finish` makes the mark.
 #[derive(Drop)]
 pub struct DirImages<'a, R: Files + AllocGlobal> {
     rt: &'a R,
     directory: &'a str,
     progress: Progress,
+    /// The object that was written last.
+    last: Option<Object>,
     faults: u64,
 }
 
@@ -57,6 +59,7 @@ impl<'a, R: Files + AllocGlobal> DirImages<'a, R> {
             rt,
             directory,
             progress: Progress::Untouched,
+            last: None,
             faults: 0,
         }
     }
@@ -144,16 +147,36 @@ impl<R: Files + AllocGlobal> DirImages<'_, R> {
             .append(true)
             .create(true)
             .open(self.rt, &self.path(object)?)?;
-        file.write_all(bytes)?;
-        file.sync_all()
+        file.write_all(bytes)
+    }
+
+    /// Puts what was written of the last object on the disk.
+    fn settle(&self) -> io::Result<()> {
+        match self.last {
+            Some(object) => fs::open(self.rt, &self.path(object)?)?.sync_all(),
+            None => Ok(()),
+        }
+    }
+
+    /// Writes behind what an object has so far. One sync call stands for all pieces of an object.
+    fn put(&mut self, object: Object, bytes: &[u8]) -> io::Result<()>
+        ensures { self.new.faults ≡ self.old.faults }
+    {
+        self.begin()?;
+        if self.last != Some(object) {
+            self.settle()?;
+        }
+        self.last = Some(object);
+        self.append(object, bytes)
     }
 
     fn sync_directory(&self) -> io::Result<()> {
         fs::open(self.rt, self.directory)?.sync_all()
     }
 
-    /// The files are known to the directory before the mark is made.
+    /// The files are on the disk, and known to the directory, before the mark is made.
     fn mark(&self) -> io::Result<()> {
+        self.settle()?;
         self.sync_directory()?;
         self.append(Object::Mark, &[])?;
         self.sync_directory()
@@ -177,7 +200,7 @@ impl<R: Files + AllocGlobal> ImageSink for DirImages<'_, R> {
     ghost faults = { λ images. images.faults };
 
     fn write(&mut self, object: Object, _at: u64, bytes: &[u8]) -> Result<(), Failed> {
-        if self.begin().is_err() || self.append(object, bytes).is_err() {
+        if self.put(object, bytes).is_err() {
             return Err(self.break_off());
         }
         Ok(())

@@ -36,6 +36,8 @@ mod list_rules;
 #[cfg(test)]
 mod list_tests;
 #[cfg(test)]
+mod refusal_tests;
+#[cfg(test)]
 mod sector_tests;
 #[cfg(test)]
 mod sets;
