@@ -1,0 +1,129 @@
+#!/bin/sh
+# Shows what nvdimm_shell does: `nvd demo` runs this.
+#
+# In a temporary directory an image set of two blank modules is made; then it is initialised, namespaces are made, renamed
+# and deleted there, power is cut in the midst of it, and what the cut leaves is listed and recovered; where xz is there a
+# sector namespace that Linux wrote is read. Each command is shown with its output and its exit status. Nothing is left
+# behind. The exit status is 0 only if every command ended with the status that it had to end with.
+#
+# Colours come on a terminal alone, and not where NO_COLOR is set.
+set -eu
+top=$(CDPATH='' cd -- "$(dirname -- "$0")/.." && pwd)
+work=$(mktemp -d)
+trap 'rm -rf "$work"' EXIT
+trap 'exit 130' INT
+trap 'exit 143' TERM
+export NVD_QUIET=1
+
+plain='' bold='' green='' red='' blue=''
+if [ -t 1 ] && [ -z "${NO_COLOR:-}" ] && [ "${TERM:-dumb}" != dumb ]; then
+    plain=$(printf '\033[0m') bold=$(printf '\033[1m') green=$(printf '\033[32m') red=$(printf '\033[31m') blue=$(printf '\033[34m')
+fi
+wrong=0
+steps=0
+
+tell() {
+    printf '\n%s# %s%s\n' "$blue" "$1" "$plain"
+}
+
+# shows a command line with the words quoted where they need it
+show() {
+    printf '%s$ nvd' "$bold"
+    for word in "$@"; do
+        case $word in
+        *[!a-zA-Z0-9./_:-]* | '') printf " '%s'" "$word" ;;
+        *) printf ' %s' "$word" ;;
+        esac
+    done
+    printf '%s\n' "$plain"
+}
+
+# step STATUS WORDS ..: runs nvd, shows what came and whether the status is this one
+step() {
+    due=$1
+    shift
+    show "$@"
+    status=0
+    "$top/nvd" "$@" >said 2>noted || status=$?
+    # a line of a sector of 512 bytes is longer than a screen
+    cut -c 1-160 said
+    grep '^nvd: ' noted || true
+    steps=$((steps + 1))
+    if [ "$status" -eq "$due" ]; then
+        printf '%sexit status %s%s\n' "$green" "$status" "$plain"
+    else
+        printf '%sexit status %s, and it has to be %s%s\n' "$red" "$status" "$due" "$plain"
+        wrong=$((wrong + 1))
+    fi
+}
+
+if ! command -v python3 >/dev/null 2>&1; then
+    echo 'nvd demo: wants python3, which makes the first image set: install it' >&2
+    exit 1
+fi
+cd "$work"
+if ! NVD_BUILD=kept "$top/nvd" "$top/samples/small" - nfit >said 2>noted && grep -q 'no proved build' noted; then
+    echo 'There is no proved build of these sources, so each step takes half a minute or so; NVD_BUILD=proved makes one first.'
+fi
+
+first=11111111-1111-4111-8111-111111111111
+second=22222222-2222-4222-8222-222222222222
+
+tell 'An image set of two modules to which nothing was written yet: one region, lines of 4,096 bytes in turn.'
+python3 "$top/samples/make_blank.py" blank --size 65536 --labels 4096
+step 0 blank - nfit
+step 3 blank - labels 0
+
+tell 'init writes the first index blocks of a label area, into a new set. A cut before the first block stands leaves none:'
+step 8 blank torn0 init 0 --cut 40
+step 3 torn0 - labels 0
+
+tell 'What a cut left is taken like any other set.'
+step 0 torn0 one init 0
+step 0 one ready init 1
+step 0 ready - labels 0
+
+tell 'A namespace of 16 KiB over both modules:'
+step 0 ready made create --uuid $first --name data --region 0 --size 16384 --mode raw
+step 0 made - list
+
+tell 'A second one, and power is cut after 200 steps, with its label on one module alone:'
+step 8 made torn1 create --uuid $second --name logs --region 0 --size 8192 --mode raw --cut 200
+step 0 torn1 - list
+
+tell 'The next command that changes something recovers first: the half-made namespace is taken back.'
+step 0 torn1 renamed rename $first records
+step 0 renamed - list
+
+tell 'A rename that is cut stays pending until it is recovered, by its old name or its new one:'
+step 8 renamed torn2 rename $first 'Größe "q"' --cut 300
+step 0 torn2 - list
+step 0 torn2 both create --uuid $second --name logs --region 0 --size 8192 --mode raw
+step 0 both - list
+
+tell 'A command that is refused says why, and makes no set.'
+step 4 both none create --uuid $second --name again --region 0 --size 8192 --mode raw
+step 4 both none create --uuid 33333333-3333-4333-8333-333333333333 --name big --region 0 --size 1048576 --mode raw
+
+tell 'The space of a deleted namespace is free again.'
+step 0 both last delete $first
+step 0 last - list
+
+if command -v xz >/dev/null 2>&1; then
+    tell 'A set that Linux wrote, samples/linux/ns12: the arenas of a sector namespace, a sector, and one past the end.'
+    mkdir linux
+    for packed in "$top"/samples/linux/ns12/*.bin.xz; do
+        xz -dc "$packed" >"linux/$(basename "$packed" .xz)"
+    done
+    cp "$top"/samples/linux/ns12/nfit.bin "$top"/samples/linux/ns12/complete linux
+    sectors=20000000-0000-4000-8000-000000000002
+    step 0 linux - list
+    step 0 linux - info $sectors
+    step 0 linux - read $sectors 5000
+    step 4 linux - read $sectors 4000000000
+else
+    tell 'There is no xz here, so samples/linux/ns12 is left out: a set that Linux wrote, with a sector namespace.'
+fi
+
+tell "$steps commands, $wrong with another exit status than they had to have."
+[ "$wrong" -eq 0 ]
