@@ -1,0 +1,118 @@
+# Bash completion for nvd:  . completions/nvd.bash
+# For each new shell: copy it to ~/.local/share/bash-completion/completions/nvd.
+#
+# It offers directories that have image sets for IN, `-` or a name for OUT, the commands, the options of the command that aren't
+# given yet, and what follows an option where that is a short list: a mode, the modules of IN, a region. UUIDs come from the
+# labels of IN, by `nvd IN - list`, only where NVD_COMPLETE_UUIDS=1 is set and a proved build is there: that runs the program.
+
+# the options of a command that the line doesn't have yet
+_nvd_options() {
+    local options='' option
+    case $1 in
+    create) options='--uuid --name --region --size --mode --cut --evict' ;;
+    init | delete | rename) options='--cut --evict' ;;
+    esac
+    for option in $options; do
+        case " ${COMP_WORDS[*]:0:COMP_CWORD} " in
+        *" $option "* | *" $option="*) ;;
+        *) printf '%s\n' "$option" ;;
+        esac
+    done
+}
+
+# the numbers of the modules that have a label area in a directory
+_nvd_modules() {
+    local file
+    for file in "$1"/labels-*.bin; do
+        [ -e "$file" ] || continue
+        file=${file##*/labels-}
+        printf '%s\n' "${file%.bin}"
+    done
+}
+
+# the UUIDs that are listed of a directory
+_nvd_uuids() {
+    [ "${NVD_COMPLETE_UUIDS:-}" = 1 ] || return 0
+    NVD_BUILD=kept "${COMP_WORDS[0]}" "$1" - list 2>/dev/null | awk '$1 == "ns" { print $2 }'
+}
+
+# how many of the words before the cursor are a command's own places, and no options or their values
+_nvd_place() {
+    local i count=0
+    for ((i = 4; i < COMP_CWORD; i++)); do
+        case ${COMP_WORDS[i]} in
+        --*) ((i++)) ;;
+        =) ((i++)) ;;
+        *) ((++count)) ;;
+        esac
+    done
+    printf '%s\n' "$count"
+}
+
+_nvd_directories() {
+    local found
+    while IFS= read -r found; do
+        COMPREPLY+=("$found")
+    done < <(compgen -d -- "$1")
+}
+
+_nvd_words() {
+    local word
+    while IFS= read -r word; do
+        COMPREPLY+=("$word")
+    done < <(compgen -W "$1" -- "$2")
+}
+
+_nvd() {
+    local commands='labels nfit list init create delete rename info read'
+    local current=${COMP_WORDS[COMP_CWORD]} before='' command=${COMP_WORDS[3]:-} set=${COMP_WORDS[1]:-}
+    [ "$COMP_CWORD" -lt 1 ] || before=${COMP_WORDS[COMP_CWORD - 1]}
+    # bash parts a word at `=`: `--mode=r` comes as three words
+    if [ "$current" = = ]; then
+        current=''
+    elif [ "$before" = = ] && [ "$COMP_CWORD" -ge 2 ]; then
+        before=${COMP_WORDS[COMP_CWORD - 2]}
+    fi
+    COMPREPLY=()
+    case $COMP_CWORD in
+    1)
+        _nvd_words 'demo help' "$current"
+        _nvd_directories "$current"
+        compopt -o filenames 2>/dev/null || true
+        return
+        ;;
+    2)
+        if [ "$set" = help ]; then
+            _nvd_words "$commands" "$current"
+        elif [ "$set" != demo ]; then
+            _nvd_words - "$current"
+            _nvd_directories "$current"
+            compopt -o filenames 2>/dev/null || true
+        fi
+        return
+        ;;
+    3)
+        # a command that writes has an OUT, one that prints has `-`
+        case ${COMP_WORDS[2]} in
+        -) _nvd_words 'labels nfit list info read' "$current" ;;
+        *) _nvd_words 'init create delete rename' "$current" ;;
+        esac
+        return
+        ;;
+    esac
+    case $before in
+    --mode) _nvd_words raw "$current" ;;
+    --region) _nvd_words 0 "$current" ;;
+    --uuid | --name | --size | --cut | --evict) ;;
+    *)
+        case $command,$(_nvd_place),$current in
+        *,*,-*) _nvd_words "$(_nvd_options "$command")" "$current" ;;
+        labels,0,* | init,0,*) _nvd_words "$(_nvd_modules "$set")" "$current" ;;
+        delete,0,* | rename,0,* | info,0,* | read,0,*) _nvd_words "$(_nvd_uuids "$set")" "$current" ;;
+        *) _nvd_words "$(_nvd_options "$command")" "$current" ;;
+        esac
+        ;;
+    esac
+}
+
+complete -F _nvd nvd ./nvd
