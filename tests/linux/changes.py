@@ -1,22 +1,22 @@
 #!/usr/bin/env python3
 """Renames and deletes the namespaces of one image set that Linux wrote, and creates another beside them.
 
-usage: changes.py NAME SET PROGRAM   (the set is unpacked in the folder SET)
+usage: changes.py NAME SET PROGRAM WORK   (the set is unpacked in the folder SET; WORK is made, and has the sets that are)
 
 What is listed of each set that is made has to be what was listed before but for the namespace that was changed; no byte of
 the contents, of the firmware's table or of the lists of bad ranges may change. A set without complete namespaces is passed over.
 """
 import os
+import shutil
 import subprocess
 import sys
-import tempfile
 
 MADE = "33333333-3333-4333-8333-333333333333"
 
 
 def main():
-    name, folder, program = sys.argv[1:]
-    work = tempfile.mkdtemp()
+    name, folder, program, work = sys.argv[1:]
+    os.mkdir(work)
     count = 0
 
     def report(what, got, want):
@@ -32,7 +32,7 @@ def main():
         count += 1
         out = os.path.join(work, str(count))
         report(what, run(source, out, *words), (0, "ok\n"))
-        for entry in sorted(os.listdir(source)):
+        for entry in sorted(os.listdir(source)) if os.path.isdir(out) else []:
             if not entry.startswith("labels-"):
                 with open(os.path.join(source, entry), "rb") as one, open(os.path.join(out, entry), "rb") as other:
                     if one.read() != other.read():
@@ -66,6 +66,8 @@ def main():
         report(f"others after create in place of {who}", {k: v for k, v in again.items() if k != MADE}, after)
         line = f'ns {MADE} "made here" region {region} mode raw lba 512 size {size} complete'
         report(f"create in place of {who} is listed", again.get(MADE, [""])[0], line)
+        shutil.rmtree(work)
+        os.mkdir(work)
 
 
 main()
