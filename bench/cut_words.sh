@@ -1,22 +1,19 @@
 #!/bin/sh
 # Times load, store and keep on 512 MiB of words, and tells how much memory they take.
-set -e
-top=$(cd "$(dirname "$0")/.." && pwd)
-copy=$(mktemp -d)
-trap 'rm -rf "$copy"' EXIT
-mkdir -p "$copy/crates"
-for crate in nvd_words nvd_media cut_words; do
-    mkdir "$copy/crates/$crate"
-    (cd "$top/crates/$crate" && cp -r src specs proofs "$copy/crates/$crate/")
-done
-grep -E '^(nvd_words|nvd_media|cut_words):' "$top/crates.txt" > "$copy/crates.txt"
-echo 'cut_bench: cut_words' >> "$copy/crates.txt"
-mkdir -p "$copy/crates/cut_bench/src"
-cp "$top/bench/cut_words.rt.txt" "$copy/crates/cut_bench/src/main.rt"
-cd "$copy/crates/cut_bench"
-rt run >"$copy/log" 2>&1 || { cat "$copy/log"; exit 1; }
-python3 - <<'PY'
-import resource, subprocess
-print(subprocess.run(["out/cut_bench"], stdout=subprocess.PIPE, text=True, check=True).stdout, end="")
-print(f"memory: {resource.getrusage(resource.RUSAGE_CHILDREN).ru_maxrss / 1024 / 512:.2f} times 512 MiB")
+# usage: bench/cut_words.sh   (proves and builds a program over cut_words in a scratch copy)
+# shellcheck source=bench/lib.sh
+. "$(dirname -- "$0")/lib.sh"
+want python3
+scratch cut_bench cut_words
+build
+python3 - out/cut_bench <<'PY'
+import re, sys
+from rows import row, timed
+
+_, memory, text = timed([sys.argv[1]])
+near, far, pairs = (int(it) for it in re.findall(r"(\d+) ns", text.decode()))
+row("load of a word that was loaded just now", "at most 10 ns", f"{near} ns", near <= 10)
+row("load of a word that misses the caches", "none", f"{far} ns")
+row("pending, store and keep of a word together", "at most 10 ns each", f"{pairs} ns", pairs <= 30)
+row("memory of 512 MiB of words, the last one stored", "at most 2.1 times", f"{memory / 512:.2f} times", memory / 512 <= 2.1)
 PY

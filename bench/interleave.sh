@@ -2,21 +2,30 @@
 # Times place and offset_of on a two-way set and on a set of four modules with sixteen lines each: nanoseconds a call, best of
 # five rounds of ten million random places. Then read_nfit on a table of 1 MiB in which 64 modules share one interleave structure
 # of 8,192 lines in as many regions as there is room for, and interleave_set on each region: milliseconds for all, each refused
-# by Cover. Runs the program three times, with the most memory that it held: on a busy machine the least of the times counts.
-set -e
-top=$(cd "$(dirname "$0")/.." && pwd)
-copy=$(mktemp -d)
-trap 'rm -rf "$copy"' EXIT
-mkdir -p "$copy/crates"
-for crate in nvd_words nfit_reader interleave; do
-    mkdir "$copy/crates/$crate"
-    (cd "$top/crates/$crate" && cp -r src specs proofs "$copy/crates/$crate/")
-done
-printf 'nvd_words: uuid\nnfit_reader: nvd_words byteorder\ninterleave: nvd_words nfit_reader\nset_bench: nfit_reader interleave\n' > "$copy/crates.txt"
-mkdir -p "$copy/crates/set_bench/src"
-cp "$top/bench/interleave.rt.txt" "$copy/crates/set_bench/src/main.rt"
-cd "$copy/crates/set_bench"
-rt run
-for round in 2 3; do
-    /usr/bin/time -f "most memory: %M KiB" out/set_bench
-done
+# by Cover. Runs the program three times, and takes the least of each time.
+# usage: bench/interleave.sh   (proves and builds a program over interleave in a scratch copy)
+# shellcheck source=bench/lib.sh
+. "$(dirname -- "$0")/lib.sh"
+want python3
+scratch set_bench nfit_reader interleave
+build
+python3 - out/set_bench <<'PY'
+import re, sys
+from rows import row, timed
+
+runs = [timed([sys.argv[1]]) for _ in range(3)]
+memory = max(it[1] for it in runs)
+least = {}
+for _, _, text in runs:
+    for line in text.decode().splitlines():
+        numbers = [int(it) for it in re.findall(r"\b(?:place|offset_of|in) (\d+)", line)]
+        name = re.sub(r"\b(?:tenths|in) .*", "", line).strip()
+        least[name] = [min(pair) for pair in zip(numbers, least.get(name, numbers))]
+for name, numbers in least.items():
+    if len(numbers) == 2:
+        there, back = numbers[0] / 10, (numbers[1] - numbers[0]) / 10
+        row(f"place, {name}", "at most 15 ns", f"{there:.1f} ns", there <= 15)
+        row(f"offset_of, {name}", "at most 15 ns", f"{back:.1f} ns", back <= 15)
+    else:
+        row(name, "under 2 s and 600 MiB" if "Cover" in name else "none", f"{numbers[0]} ms, {memory:.1f} MiB", numbers[0] < 2000 and memory < 600)
+PY

@@ -1,0 +1,57 @@
+"""What the Python parts of this folder's scripts share: rows of figures, and runs that are timed."""
+import os
+import struct
+import subprocess
+import time
+import uuid
+
+
+def row(figure, asked, measured, met=True):
+    """Prints a figure's row; `met` is whether it is what was asked."""
+    print(f"| {figure} | {asked} | {measured}{'' if met else ' (NOT MET)'} |", flush=True)
+
+
+def timed(words, check=lambda text: True, status=0):
+    """The seconds, the peak memory in MiB and the text of a run, which has to end with a status and a text that passes a check."""
+    start = time.perf_counter()
+    child = subprocess.Popen(words, stdout=subprocess.PIPE)
+    text = child.stdout.read()
+    _, ended, usage = os.wait4(child.pid, 0)
+    took = time.perf_counter() - start
+    assert ended == status << 8 and check(text), (words, ended, text[:200])
+    return took, usage.ru_maxrss / 1024, text
+
+
+def median(words, runs, check=lambda text: True):
+    """The median time of so many runs, and the memory and text of the last."""
+    times = []
+    for _ in range(runs):
+        took, memory, text = timed(words, check)
+        times.append(took)
+    return sorted(times)[runs // 2], memory, text
+
+
+def one_region(size):
+    """A firmware's table of one region of one module (ACPI 6.5, section 5.2.25)."""
+    persistent = uuid.UUID("66f0d379-b4f3-4074-ac43-0d3318b78cdb").bytes_le
+    body = struct.pack("<HHHHII16sQQQ", 0, 56, 1, 0, 0, 0, persistent, 1 << 32, size, 0)
+    body += struct.pack("<HHIHHHHQQQHHHH", 1, 48, 1, 0, 0, 1, 1, size, 0, 0, 0, 1, 0, 0)
+    body += struct.pack("<HHH26x", 4, 32, 1)
+    head = bytearray(struct.pack("<4sIBB30x", b"NFIT", 40 + len(body), 1, 0))
+    head[9] = -(sum(head) + sum(body)) & 0xFF
+    return bytes(head) + body
+
+
+def one_module(folder, size, word_each=None, filled=False):
+    """An image set of one module: sparse, or with a word in each MiB of the contents, or filled throughout."""
+    os.makedirs(folder)
+    for name, length in [("contents-0.bin", size), ("labels-0.bin", 131072), ("complete", 0)]:
+        with open(os.path.join(folder, name), "wb") as file:
+            file.truncate(length)
+    with open(os.path.join(folder, "nfit.bin"), "wb") as file:
+        file.write(one_region(size))
+    block = os.urandom(1 << 20) if filled else None
+    with open(os.path.join(folder, "contents-0.bin"), "r+b") as file:
+        for at in range(0, size, 1 << 20) if filled or word_each else []:
+            file.seek(at)
+            file.write(block or struct.pack("<Q", at + 1))
