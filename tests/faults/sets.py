@@ -1,0 +1,130 @@
+"""Image sets with one fault each, written from the fields of UEFI 2.10 and ACPI 6.5, by nothing of the program."""
+import os
+import struct
+import sys
+import uuid
+
+TOP = os.path.dirname(os.path.dirname(os.path.dirname(os.path.abspath(__file__))))
+sys.path.insert(0, os.path.join(TOP, "samples"))
+from make_small import BTT_2_0, PERSISTENT_MEMORY, fletcher64, index_block, label  # noqa: E402
+
+SIZE, LINE, SLOTS, BLOCK = 65536, 4096, 14, 256
+FIRST, SECOND = uuid.UUID("11111111-1111-4111-8111-111111111111"), uuid.UUID("22222222-2222-4222-8222-222222222222")
+THIRD = uuid.UUID("33333333-3333-4333-8333-333333333333")
+
+
+def checked(table):
+    """A firmware's table with its Length and Checksum."""
+    table = bytearray(table)
+    table[4:8] = struct.pack("<I", len(table))
+    table[9] = 0
+    table[9] = -sum(table) & 0xFF
+    return bytes(table)
+
+
+def spa(index=1, length=2 * SIZE, base=1 << 32):
+    return struct.pack("<HHHHII16sQQQ", 0, 56, index, 0, 0, 0, PERSISTENT_MEMORY.bytes_le, base, length, 0)
+
+
+def mapping(module, region=1, control=None, size=SIZE, offset=None, start=0, lines=1, ways=2):
+    offset = LINE * module if offset is None else offset
+    control = module + 1 if control is None else control
+    return struct.pack("<HHIHHHHQQQHHHH", 1, 48, module + 1, module, 0, region, control, size, offset, start, lines, ways, 0, 0)
+
+
+def interleave(offsets=(0,), line=LINE, index=1):
+    return struct.pack("<HHHHII", 2, 16 + 4 * len(offsets), index, 0, len(offsets), line) + struct.pack(f"<{len(offsets)}I", *offsets)
+
+
+def control(module):
+    return struct.pack("<HHHHHHHHHBBHHIHH", 4, 32, module + 1, 0x1234, 0, 0, 0, 0, 0, 0, 0, 0, 0, module + 1, 0x301, 0)
+
+
+def table(*structures):
+    return checked(struct.pack("<4sIBB6s8sI4sI4x", b"NFIT", 0, 1, 0, b"NVDTST", b"FAULTSET", 1, b"NVDM", 1) + b"".join(structures))
+
+
+def two(*structures):
+    """A table of two modules with these structures, or an interleave set of both."""
+    return table(*(structures or (spa(), mapping(0), mapping(1), interleave())), control(0), control(1))
+
+
+def cookie(modules=2, line=LINE):
+    return fletcher64(b"".join(struct.pack("<QIHHB31x", line * m, m + 1, 0x1234, 0, 0) for m in range(modules)))
+
+
+def area(labels=(), used=None):
+    """A label area of 4,096 bytes with labels from slot 0 on; `used` slots are used, as many as there are labels if not given."""
+    free = range(len(labels) if used is None else used, SLOTS)
+    text = index_block(0, 1, BLOCK, SLOTS, free) + index_block(1, 2, BLOCK, SLOTS, free) + b"".join(labels)
+    return text.ljust(4096, b"\0")
+
+
+def part(module, who=FIRST, slot=0, name=b"a", raw=8192, dpa=0, **fields):
+    """A module's label of a namespace on both modules."""
+    return label(who, name, slot, raw, dpa=dpa, **{"count": 2, "position": module, "cookie": cookie(), **fields})
+
+
+def of_version(block, major, minor):
+    block = bytearray(block)
+    block[60:64] = struct.pack("<HH", major, minor)
+    block[64:72] = bytes(8)
+    block[64:72] = struct.pack("<Q", fletcher64(bytes(block)))
+    return bytes(block)
+
+
+def pair(labels0=None, labels1=None, nfit=None, **other):
+    """A set of two modules, with these label areas (two empty ones, if not given)."""
+    return {"nfit.bin": two() if nfit is None else nfit, "labels-0.bin": area() if labels0 is None else labels0,
+            "labels-1.bin": area() if labels1 is None else labels1, "contents-0.bin": SIZE, "contents-1.bin": SIZE, "complete": b"", **other}
+
+
+ARENA = 16 << 20
+SECTOR, LANES = 4096, 256
+INNER = (ARENA - 8192 - 64 * LANES - 4096) // (SECTOR + 4)
+OUTER = INNER - LANES
+MAP_SIZE = -(-4 * OUTER // 4096) * 4096
+MAP_AT = ARENA - 4096 - 64 * LANES - MAP_SIZE
+LOG_AT = MAP_AT + MAP_SIZE
+INFO_AT = LOG_AT + 64 * LANES
+
+
+def info(seal=True, **fields):
+    """An info block, with these fields as they stand here."""
+    it = {"signature": b"BTT_ARENA_INFO\0\0", "parent": FIRST.bytes, "flags": 0, "major": 2, "minor": 0, "sector": SECTOR, "outer": OUTER, "block": SECTOR,
+          "inner": INNER, "lanes": LANES, "info": 4096, "next": 0, "data": 4096, "map": MAP_AT, "log": LOG_AT, "backup": INFO_AT, **fields}
+    text = it["signature"] + SECOND.bytes + it["parent"] + struct.pack("<IHHIIIIIIQQQQQ", it["flags"], it["major"], it["minor"], it["sector"], it["outer"],
+                                                                       it["block"], it["inner"], it["lanes"], it["info"], it["next"], it["data"], it["map"], it["log"], it["backup"])
+    text = text.ljust(4088, b"\0")
+    return text + struct.pack("<Q", fletcher64(text + bytes(8)) if seal else 1)
+
+
+def sectors(first=None, entries=(), halves=(), mode=BTT_2_0):
+    """A set of one module with a sector namespace of 16 MiB, of which these map entries and log halves are others."""
+    entry = dict(entries)
+    half = dict(halves)
+    backup = info()
+    pieces = {0: backup if first is None else first, INFO_AT: backup,
+              MAP_AT: b"".join(struct.pack("<I", entry.get(i, 1 << 31 | i)) for i in range(OUTER)),
+              LOG_AT: b"".join(half.get(lane, struct.pack("<IIII48x", lane, OUTER + lane, OUTER + lane, 1)) for lane in range(LANES))}
+    labels = area([label(FIRST, b"a", 0, ARENA, count=1, position=0, cookie=cookie(1), lba=SECTOR, abstraction=mode)])
+    return {"nfit.bin": table(spa(length=ARENA), mapping(0, size=ARENA, lines=0, ways=1), control(0)), "labels-0.bin": labels, "contents-0.bin": (ARENA, pieces), "complete": b""}
+
+
+def write(folder, files):
+    """Writes a set: a file is its bytes, its length, or its length with bytes at some places; None is a directory in its place."""
+    os.mkdir(folder)
+    for name, data in files.items():
+        path = os.path.join(folder, name)
+        if data is None:
+            os.mkdir(path)
+            continue
+        with open(path, "wb") as file:
+            if isinstance(data, bytes):
+                file.write(data)
+            else:
+                size, pieces = data if isinstance(data, tuple) else (data, {})
+                file.truncate(size)
+                for at, piece in pieces.items():
+                    file.seek(at)
+                    file.write(piece)
