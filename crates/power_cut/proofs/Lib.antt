@@ -2,4 +2,5 @@ mod InTurn
 mod Places
 mod Spread
 mod Beside
+mod AtPlaces
 mod Rows

@@ -1,9 +1,11 @@
 -- Worked rows, computed on the definitions.
-use Rattle.std.proofs.Common.{◌≡◌, ◌≢◌, ℕ, Bool, true, false, List, [], ◌∷◌, Option, Some, None, refl, inl, inr}
+use Rattle.std.proofs.Common.{◌≡◌, ℕ, Bool, true, false, List, [], ◌∷◌, Some, None, refl, arith}
 use Rattle.nfit_reader.specs.declared.table.Mapping.{Mapping}
-use Rattle.cut_words.specs.Words.{Words, store, stepped}
-use Rattle.power_cut.specs.Namespace.{Namespace, beside_of, count_of, is_inside, over, place_of, words_of}
-use Rattle.power_cut.specs.Left.{InTurn, LeavesOption, LeavesWords}
+use Rattle.cut_words.specs.Words.{Words}
+use Rattle.power_cut.specs.Namespace.{Namespace, beside_of, over, place_of, words_of}
+use Rattle.power_cut.specs.declared.leaving.Images.{Images}
+use Rattle.power_cut.specs.Example.{at, eights, ones}
+use Rattle.power_cut.specs.Left.{BelongsTo, InTurn, LeavesOption, arena_word, with_arenas}
 
 -- a mapping of two lines of 8 bytes, with a line of another module after each
 abbrev striped : ℕ → ℕ → ℕ → Mapping
@@ -67,3 +69,32 @@ areas = (
     (refl, refl),
   ),
 )
+
+-- ---- arenas
+
+-- thirteen words of each module, and a label area
+abbrev left : Images
+left = record {
+  labels = None ∷ Some (5 ∷ []) ∷ [];
+  contents = (10 ∷ 11 ∷ 12 ∷ 13 ∷ 14 ∷ 15 ∷ 16 ∷ 17 ∷ 18 ∷ 19 ∷ 20 ∷ 21 ∷ 22 ∷ []) ∷ (30 ∷ 31 ∷ 32 ∷ 33 ∷ 34 ∷ 35 ∷ 36 ∷ 37 ∷ 38 ∷ 39 ∷ 40 ∷ 41 ∷ 42 ∷ []) ∷ [];
+}
+
+with_both : with_arenas (eights ∷ ones ∷ []) left
+    ≡ record {
+      labels = None ∷ Some (5 ∷ []) ∷ [];
+      contents = (200 ∷ 11 ∷ 12 ∷ 13 ∷ 108 ∷ 109 ∷ 110 ∷ 111 ∷ 112 ∷ 113 ∷ 114 ∷ 115 ∷ 22 ∷ []) ∷ (30 ∷ 100 ∷ 101 ∷ 102 ∷ 103 ∷ 104 ∷ 105 ∷ 106 ∷ 107 ∷ 39 ∷ 40 ∷ 41 ∷ 201 ∷ []) ∷ [];
+    }
+unfolding with_arenas
+with_both = refl
+
+with_none : with_arenas [] left ≡ left
+unfolding with_arenas
+with_none = refl
+
+-- word 2 of module 1 is the second of a run, words 3 of module 0 and 9 of module 1 have no place
+words_at : (arena_word (eights ∷ ones ∷ []) 1 2 ≡ Some 101) × (arena_word (eights ∷ ones ∷ []) 0 3 ≡ None) × (arena_word (eights ∷ ones ∷ []) 1 9 ≡ None)
+words_at = (refl, refl, refl)
+
+-- word 2 of module 1 belongs to the first place of its arena
+second_of_run : BelongsTo eights 0 1 2
+second_of_run = record { place = at 1 8; is = refl; inside = record { here = refl; from = omega arith; to = omega arith } }

@@ -1,8 +1,12 @@
 -- What a power cut leaves of all parts of an image set: this project's model.
-use Rattle.std.specs.Prelude.{◌≡◌, ℕ, Bool, List, [], ◌∷◌, Option, Some, None}
+use Rattle.std.specs.Prelude.{◌≡◌, ℕ, ◌+◌, ◌-◌, ◌*◌, ◌/◌, ◌%◌, ◌<◌, ◌≤◌, ◌==◌, nat_le, nat_lt, Bool, ◌&&◌, if◌then◌else◌, List, [], ◌∷◌, length, map, drop, slice_get, slice_index, slice_index_or, Option, Some, None, unwrap_or}
+use Rattle.std.specs.List.{All, range_with_len}
 use Rattle.cut_words.specs.Words.{Words, IsLeft}
 use Rattle.cut_words.specs.Leaving.{LeavesFrom}
+use Rattle.power_cut.specs.declared.leaving.ArenaLeft.{ArenaLeft}
 use Rattle.power_cut.specs.declared.leaving.Images.{Images}
+use Rattle.power_cut.specs.declared.leaving.Place.{Place}
+use Rattle.power_cut.specs.Namespace.{HasBytes, row_of}
 
 -- ---- in turn
 
@@ -42,3 +46,85 @@ IsLeftOf (Some words) left = (row : List ℕ) × (left ≡ Some row) × IsLeft w
 pub record IsLeftOfAll (areas : List (Option Words)) (rows : List Words) (left : Images) : Type 0 where
   pub labels : Each IsLeftOf areas left.labels
   pub contents : Each IsLeft rows left.contents
+
+-- ---- arenas
+
+-- word k of a module is one of the run of words that stands from a place on
+abbrev pub has_word : ℕ → Place → ℕ → ℕ → Bool
+has_word run place which k = (place.«module» == which) && nat_le (place.address / 8) k && nat_lt k (place.address / 8 + run)
+
+-- the word, of these that stand in runs at these places, that has its place at word k of a module
+abbrev pub word_in : ℕ → List ℕ → List Place → ℕ → ℕ → Option ℕ
+word_in run words [] which k = None
+word_in run words (place ∷ places) which k =
+    if has_word run place which k then Some (slice_index words (k - place.address / 8)) else word_in run (drop run words) places which k
+
+abbrev pub or_word : Option ℕ → Option ℕ → Option ℕ
+or_word (Some word) other = Some word
+or_word None other = other
+
+-- the word of an arena that has its place at word k of a module
+abbrev pub arena_word : List ArenaLeft → ℕ → ℕ → Option ℕ
+arena_word [] which k = None
+arena_word (arena ∷ arenas) which k = or_word (word_in arena.run arena.words arena.places which k) (arena_word arenas which k)
+
+-- what stands at word k of a module: the word of the arena that has its place here, else what was left
+abbrev pub word_with : List ArenaLeft → ℕ → ℕ → ℕ → ℕ
+word_with arenas which k left = unwrap_or (arena_word arenas which k) left
+
+abbrev pub row_with : List ArenaLeft → ℕ → List ℕ → List ℕ
+row_with arenas which left = map (λ k. word_with arenas which k (slice_index left k)) (range_with_len 0 (length left))
+
+-- what was left, with the words of arenas at their places in the contents
+unfoldable pub with_arenas : List ArenaLeft → Images → Images
+with_arenas arenas left = record {
+  labels = left.labels;
+  contents = map (λ which. row_with arenas which (slice_index_or left.contents which [])) (range_with_len 0 (length left.contents));
+}
+
+-- Parts of which something is left, in whose contents the words of arenas then stand at their places.
+pub record LeavesWith {C : Type 0} (picks : C → ℕ → Bool → C → Type 0) (areas : List (Option Words)) (rows : List Words) (arenas : List ArenaLeft) (images : Images) (before after : C) : Type 0 where
+  pub left : Images
+  pub asked : LeavesAll picks areas rows left before after
+  pub each : IsLeftOfAll areas rows left
+  pub over : images ≡ with_arenas arenas left
+
+-- ---- conditions on arenas
+
+-- word k of a module belongs to a place
+pub record IsInRun (run : ℕ) (place : Place) (which k : ℕ) : Type 0 where
+  pub here : place.«module» ≡ which
+  pub from : place.address / 8 ≤ k
+  pub to : k < place.address / 8 + run
+
+-- it belongs to place j of an arena
+pub record BelongsTo (arena : ArenaLeft) (j which k : ℕ) : Type 0 where
+  pub place : Place
+  pub is : slice_get arena.places j ≡ Some place
+  pub inside : IsInRun arena.run place which k
+
+-- no word belongs to two places, of one arena or of two
+abbrev pub AreRunsApart : List ArenaLeft → Type 0
+AreRunsApart arenas = (m n : ℕ) (a b : ArenaLeft) (i j which k : ℕ) → slice_get arenas m ≡ Some a → slice_get arenas n ≡ Some b → BelongsTo a i which k → BelongsTo b j which k → (m ≡ n) × (i ≡ j)
+
+-- none of these words of a row is pending
+abbrev pub IsKept : List Words → ℕ → Place → Type 0
+IsKept rows run place = (k : ℕ) → IsInRun run place place.«module» k → slice_index_or (row_of rows place.«module»).stored k None ≡ None
+
+-- the conditions on one arena, by the contents of the modules
+pub record IsPlaced (rows : List Words) (arena : ArenaLeft) : Type 0 where
+  -- a run has a word
+  pub runs : 1 ≤ arena.run
+  -- there is one place for each run of words
+  pub counts : length arena.words ≡ arena.run * length arena.places
+  -- a place is the address of a word
+  pub eights : All (λ place. place.address % 8 ≡ 0) arena.places
+  -- its words lie in the contents of a module that is there
+  pub inside : All (λ place. HasBytes rows place.«module» place.address (8 * arena.run)) arena.places
+  -- no value was stored into them since the last keep
+  pub kept : All (IsKept rows arena.run) arena.places
+
+-- the words of the arenas stand at their places: that of place j in order of its run
+abbrev pub AreAtPlaces : List ArenaLeft → List (List ℕ) → Type 0
+AreAtPlaces arenas contents = (n : ℕ) (arena : ArenaLeft) (j which k : ℕ) → slice_get arenas n ≡ Some arena → (belongs : BelongsTo arena j which k)
+    → slice_index (slice_index_or contents which []) k ≡ slice_index arena.words (arena.run * j + (k - belongs.place.address / 8))

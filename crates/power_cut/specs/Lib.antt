@@ -1,2 +1,4 @@
 pub mod Left
 pub mod Namespace
+pub mod Placing
+pub mod Example

@@ -1,8 +1,10 @@
 //! What a cut leaves of label areas and contents.
 ghost use Rattle.std.specs.Prelude.{◌≡◌, [], IfOk};
+ghost use Rattle.std.specs.List.{All};
 ghost use Rattle.cut_words.specs.Words.{IsLeft};
-ghost use Rattle.power_cut.specs.Left.{Each, InTurn, IsLeftOf, LeavesAll, LeavesOption, LeavesWords, IsLeftOfAll};
+ghost use Rattle.power_cut.specs.Left.{Each, InTurn, IsLeftOf, LeavesAll, LeavesOption, LeavesWith, LeavesWords, IsLeftOfAll, AreAtPlaces, AreRunsApart, IsPlaced};
 
+use crate::placing::put_arenas;
 use cut_words::CutWords;
 use nvd_media::Chooser;
 use nvd_words::Items;
@@ -87,28 +89,42 @@ fn leave_contents<C: Chooser>(
     Ok(left)
 }
 
-/// What a power cut leaves of the label areas and the contents of all modules.
+/// What a power cut leaves of the label areas and the contents of all modules, with the words of arenas,
+/// of which a cut has already left what it leaves, in place of those that stand at their places.
+///
+/// Conditions: each arena has one place for each `run` of its words, and `run` is at least 1 (`runs`,
+/// `counts`). A place is a multiple of 8 bytes (`eights`), and the run that begins there lies in the
+/// contents of a module that is there (`inside`). No value was stored into these words of the contents
+/// since the last keep (`kept`): whoever holds the words of an arena alone stores into them. No word of the
+/// contents belongs to two places, of one arena or of two (`apart`).
 ///
 /// - `asked`: the chooser is asked for the label areas in order of the modules, then for the contents in
 ///   order of the modules, once for each word of a row that has a value stored since, in rising order;
-///   its answers are what is left.
-/// - `left`: what is left of each part is, for each word by itself, its kept value or the one that a load
-///   gives, and nothing is left of a label area that isn't there.
+///   its answers are what is left. At each word of the contents then stands the word of the arena that has
+///   its place there, else what was left.
+/// - `each`, in the same clause: what is left of each part is, for each word by itself, its kept value or
+///   the one that a load gives, and nothing is left of a label area that isn't there.
+/// - `at_places`: word by word, each arena stands at its places.
+/// - `alone`: without arenas the images are what was left.
 ///
-/// No arenas are taken yet: their list is empty. The one error is want of memory, of a few bytes for
-/// each module: the words stay where they are. After it nothing is left.
+/// The one error is want of memory, of a few bytes for each module: the words stay where they are. After it
+/// nothing is left.
 pub fn leave_all<C: Chooser>(
     alloc: Global,
     labels: Items<Option<CutWords>>,
     contents: Items<CutWords>,
-    _arenas: Vec<ArenaLeft>,
+    arenas: Vec<ArenaLeft>,
     choose: &mut C,
 ) -> Result<Images, AllocError>
-    requires none { _arenas.items ≡ [] }
-    ensures asked { IfOk result (λ images. LeavesAll C.picks labels contents images choose.old choose.new) }
-    ensures left { IfOk result (IsLeftOfAll labels contents) }
+    requires placed { All (IsPlaced contents) arenas.items }
+    requires apart { AreRunsApart arenas.items }
+    ensures asked { IfOk result (λ images. LeavesWith C.picks labels contents arenas.items images choose.old choose.new) }
+    ensures at_places { IfOk result (λ images. AreAtPlaces arenas.items images.contents) }
+    ensures alone { IfOk result (λ images. arenas.items ≡ []
+        → LeavesAll C.picks labels contents images choose.old choose.new × IsLeftOfAll labels contents images) }
 {
     let labels = leave_areas(alloc, labels, choose)?;
     let contents = leave_contents(alloc, contents, choose)?;
+    let contents = put_arenas(alloc, contents, arenas);
     Ok(Images { labels, contents })
 }

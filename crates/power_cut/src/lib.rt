@@ -28,10 +28,21 @@
 //!
 //! `specs/Left.antt` says so: `LeavesAll` is the order of the questions and what each answer leaves, and
 //! `IsLeftOfAll` what holds of the images whatever the answers are. Both are this project's rules.
+//!
+//! The words of an arena that is being served are held apart from the contents, and a cut leaves of them
+//! what their holder says. They come as an [`ArenaLeft`], and stand then at their places in the contents
+//! (`with_arenas`), here in runs of two words over two modules:
+//!
+//! ```text
+//! arena     |  0  1 |  2  3 |                     places: module 1 word 0, module 0 word 2
+//! module 0  |  .  . | [2][3]| .  .                a dot is what the cut left of the contents
+//! module 1  | [0][1]|  .  . | .  .
+//! ```
 #![tactic(auto)]
 
 mod leaving;
 mod namespace;
+mod placing;
 #[cfg(test)]
 mod tests;
 

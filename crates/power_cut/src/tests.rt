@@ -1,3 +1,4 @@
+mod arenas;
 mod namespaces;
 
 use crate::{Images, leave_all};

@@ -13,7 +13,7 @@ pub new-requires-2 : goal.new-requires-2
 new-requires-2 g c =
     let labels = c.in_ok-labels.labels in
     let is : labels ≡ map words_of c.args.areas = c.in_ok-labels.ensures ∙ ap (map words_of) c.into_vec.ensures in
-    can_be_saved g.C.Chooser.picks c.args.rest c.requires.rest labels c.in_ok-images.images c.args.choose.now c.leave_all.new.choose c.in_ok-images.ensures.asked c.in_ok-images.ensures.left
+    can_be_saved g.C.Chooser.picks c.args.rest c.requires.rest labels c.in_ok-images.images c.args.choose.now c.leave_all.new.choose (c.in_ok-images.ensures.alone c.new.ensures.items).0 (c.in_ok-images.ensures.alone c.new.ensures.items).1
     (ap length is ∙ length-map c.args.areas words_of ∙ c.requires.count)
 
 pub returns : goal.returns
@@ -21,9 +21,9 @@ returns g c =
     let labels = c.in_ok-labels.labels in
     let images = c.in_ok-images.images in
     let is : labels ≡ map words_of c.args.areas = c.in_ok-labels.ensures ∙ ap (map words_of) c.into_vec.ensures in
-    let same = same_objects g.C.Chooser.picks c.args.rest c.requires.rest labels images c.args.choose.now c.leave_all.new.choose c.in_ok-images.ensures.asked c.in_ok-images.ensures.left in (
+    let same = same_objects g.C.Chooser.picks c.args.rest c.requires.rest labels images c.args.choose.now c.leave_all.new.choose (c.in_ok-images.ensures.alone c.new.ensures.items).0 (c.in_ok-images.ensures.alone c.new.ensures.items).1 in (
       images.labels,
-      subst (λ ls. Each IsLeftOf ls images.labels) is c.in_ok-images.ensures.left.labels,
+      subst (λ ls. Each IsLeftOf ls images.labels) is (c.in_ok-images.ensures.alone c.new.ensures.items).1.labels,
       record {
         ends = refl;
         says = refl;
