@@ -1,0 +1,4 @@
+mod Places
+pub mod Spread
+pub mod Beside
+pub mod Stays

@@ -1,0 +1,4 @@
+mod Good
+mod Formats
+mod Making
+mod Rows

@@ -1,0 +1,27 @@
+//! A sector namespace is created: its arena is formatted in its words, and only then do labels name it.
+//!
+//! ```text
+//! words of the namespace    map | log | backup | info        each word stored, then kept
+//! labels                                            | put with UPDATING .. | without it ..
+//! one fuse                  ------------------------------------------------------------>
+//! a cut here leaves         no label: no namespace    unfinished, pending, or complete
+//! ```
+//!
+//! So what a cut leaves of a namespace that is found has its whole arena, all of whose sectors read as zeros. That the labels
+//! come last, and that one fuse counts the steps of both, is this project's rule; the arena is that of UEFI 2.10, section 6.2,
+//! the labels those of section 13.19.
+//!
+//! | definition | stands in |
+//! |---|---|
+//! | what is asked, where the namespace lies, its arena's layout | `command_for`, `place_for`, `layout_for` of `specs/Creation.antt` |
+//! | what the format makes of the namespace's words, cut or not | `IsFormatted` |
+//! | what becomes of label areas, words and fuse | `Creates`, `IsMade` |
+//! | what stands where memory ran out | `LacksMemory` |
+#![tactic(auto)]
+
+mod creating;
+mod formatting;
+mod new_sectors;
+
+pub use creating::create_sectors;
+pub use new_sectors::NewSectors;
