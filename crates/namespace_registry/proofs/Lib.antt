@@ -1,0 +1,10 @@
+pub mod Sums
+pub mod Busy
+pub mod NeverMemory
+pub mod Counts
+pub mod Answers
+pub mod Replays
+pub mod Journaled
+pub mod Kept
+pub mod Shown
+pub mod Rows

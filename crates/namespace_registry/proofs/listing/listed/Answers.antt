@@ -1,0 +1,11 @@
+use Rattle.std.proofs.Common.{◌≡◌, ◌≤◌, List, length, ap, arith}
+use Rattle.namespaces.specs.Namespaces.{Entry, namespace_of}
+use Rattle.namespace_registry.specs.Claims.{count_of}
+use Rattle.namespace_registry.proofs.Shown.{listed_all}
+use Rattle.namespace_registry.proofs.listing.listed.Goals as goal
+
+pub returns : goal.returns
+returns c =
+    let sorted = c.args.groups.now.sorted in
+    let past : length sorted ≤ c.loop-at.at = omega (arith, ap length c.labels.ensures.labels) in
+    listed_all c.args.sets.now sorted c.loop-at.at (λ (e : Entry). namespace_of e (count_of c.args.claims.now.counts e.uuid)) c.loop-at.listed _ past c.loop-at.invariant.items
