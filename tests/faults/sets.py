@@ -93,8 +93,8 @@ def info(seal=True, **fields):
     """An info block, with these fields as they stand here."""
     it = {"signature": b"BTT_ARENA_INFO\0\0", "parent": FIRST.bytes, "flags": 0, "major": 2, "minor": 0, "sector": SECTOR, "outer": OUTER, "block": SECTOR,
           "inner": INNER, "lanes": LANES, "info": 4096, "next": 0, "data": 4096, "map": MAP_AT, "log": LOG_AT, "backup": INFO_AT, **fields}
-    text = it["signature"] + SECOND.bytes + it["parent"] + struct.pack("<IHHIIIIIIQQQQQ", it["flags"], it["major"], it["minor"], it["sector"], it["outer"],
-                                                                       it["block"], it["inner"], it["lanes"], it["info"], it["next"], it["data"], it["map"], it["log"], it["backup"])
+    numbers = ["flags", "major", "minor", "sector", "outer", "block", "inner", "lanes", "info", "next", "data", "map", "log", "backup"]
+    text = it["signature"] + SECOND.bytes + it["parent"] + struct.pack("<IHHIIIIIIQQQQQ", *(it[name] for name in numbers))
     text = text.ljust(4088, b"\0")
     return text + struct.pack("<Q", fletcher64(text + bytes(8)) if seal else 1)
 
@@ -108,7 +108,8 @@ def sectors(first=None, entries=(), halves=(), mode=BTT_2_0):
               MAP_AT: b"".join(struct.pack("<I", entry.get(i, 1 << 31 | i)) for i in range(OUTER)),
               LOG_AT: b"".join(half.get(lane, struct.pack("<IIII48x", lane, OUTER + lane, OUTER + lane, 1)) for lane in range(LANES))}
     labels = area([label(FIRST, b"a", 0, ARENA, count=1, position=0, cookie=cookie(1), lba=SECTOR, abstraction=mode)])
-    return {"nfit.bin": table(spa(length=ARENA), mapping(0, size=ARENA, lines=0, ways=1), control(0)), "labels-0.bin": labels, "contents-0.bin": (ARENA, pieces), "complete": b""}
+    nfit = table(spa(length=ARENA), mapping(0, size=ARENA, lines=0, ways=1), control(0))
+    return {"nfit.bin": nfit, "labels-0.bin": labels, "contents-0.bin": (ARENA, pieces), "complete": b""}
 
 
 def write(folder, files):

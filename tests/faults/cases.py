@@ -1,0 +1,182 @@
+"""The cases of tests/faults/run: each is an image set with one fault, the words behind it, the exit status, the text (of `list`, `nfit` and
+`labels` with status 0 the end of a line), and a word of what nvd then says, if it has to say something."""
+import struct
+
+from sets import FIRST, INNER, LINE, OUTER, SECOND, SIZE, SLOTS, THIRD, area, checked, control, info, interleave, mapping, of_version, pair, part
+from sets import sectors, spa, table, two
+
+CREATE = ["OUT", "create", "--uuid", str(THIRD), "--name", "c", "--region", "0", "--size", "8192", "--mode", "raw"]
+LIST, NFIT, LABELS, INFO, READ = ["-", "list"], ["-", "nfit"], ["-", "labels", "0"], ["-", "info", str(FIRST)], ["-", "read", str(FIRST), "0"]
+RENAME, DELETE, INIT = ["OUT", "rename", str(FIRST), "b"], ["OUT", "delete", str(FIRST)], ["OUT", "init", "0"]
+
+
+def changed(data, at, text):
+    return data[:at] + text + data[at + len(text) :]
+
+
+def create(name, value):
+    """The words of a create with another value of an option."""
+    at = CREATE.index(name)
+    return [*CREATE[: at + 1], value, *CREATE[at + 2 :]]
+
+
+def whole():
+    return pair(area([part(0)]), area([part(1)]))
+
+
+def blank():
+    return pair(bytes(4096), bytes(4096))
+
+
+def without(name):
+    return {it: data for it, data in whole().items() if it != name}
+
+
+def image(text, files, words, hint="FAULTS"):
+    return files, words, 3, f"image {text}", hint
+
+
+def refused(text, files, words):
+    return files, words, 4, f"refused {text}", "FAULTS"
+
+
+def usage():
+    yield whole(), ["-"], 2, "usage", "nvd IN OUT COMMAND"
+    for words in (["-", "lsit"], ["-", "--help", "list"]):
+        yield whole(), words, 2, "usage", "they are labels"
+    for words in (["-", "labels"], ["-", "labels", "64"], ["-", "labels", "007"], ["-", "nfit", "x"], create("--mode", "fsdax"), CREATE[:-2],
+                  ["OUT", "delete", "no-uuid"], [*DELETE, "--cut", "-1"], [*DELETE, "--cut", "1", "--cut", "2"], [*INIT, "--force"]):
+        yield whole(), words, 2, "usage", f"nvd help {words[1]}"
+
+
+def tables():
+    """Firmware's tables that aren't read."""
+    good = two()
+    many = [piece for m in range(65) for piece in (mapping(m, ways=65), control(m))]
+    alone = {"lines": 0, "ways": 1, "offset": 0}
+    for text, nfit in (
+            ("Size 1048577", bytes(1048577)),
+            ("Signature", b"X" + good[1:]),
+            (f"Length {len(good)} 100", good[:100]),
+            ("Checksum 1", changed(good, 9, bytes([good[9] + 1 & 0xFF]))),
+            ("Structure 40", checked(changed(good, 42, struct.pack("<H", 2)))),
+            ("TwiceIndex 4 1", two(spa(), mapping(0), mapping(1), interleave(), control(0))),
+            ("MissingIndex 4 9", two(spa(), mapping(0, control=9), mapping(1), interleave())),
+            ("TooLarge 65", table(spa(length=65 * SIZE), interleave(), *many)),
+            ("Alias 0 0 1", two(spa(1, SIZE), spa(2, SIZE, 2 << 32), mapping(0, 1, **alone), mapping(0, 2, **alone)))):
+        yield image(f"nfit {text}", pair(nfit=nfit), NFIT)
+
+
+def objects():
+    """Objects that are missing or outside their limits."""
+    yield image("mark Missing", without("complete"), LIST, "no file 'complete'")
+    yield image("mark Missing", None, LIST, "isn't there")
+    yield image("nfit Missing", without("nfit.bin"), NFIT)
+    yield from tables()
+    yield image("labels 0 Size 1000", pair(labels0=bytes(1000)), LIST)
+    yield image("contents 1 Missing", without("contents-1.bin"), LIST)
+    yield image("contents 0 Size 100", {**whole(), "contents-0.bin": 100}, LIST)
+    yield image("contents 0 Size 4096", {**whole(), "contents-0.bin": 4096}, LIST)
+    yield image(f"contents 1 Size {300 << 20}", {**whole(), "contents-0.bin": 300 << 20, "contents-1.bin": 300 << 20}, LIST)
+    yield image("badranges 0 Size 15", {**whole(), "badranges-0.bin": bytes(15)}, LIST)
+    yield {**whole(), "contents-0.bin": None}, LIST, 5, "read fault", "no regular file"
+
+
+def areas():
+    """Label areas that are refused, and labels that are bad."""
+    yield image("labels 7 Missing", whole(), ["-", "labels", "7"])
+    yield image("labels 0 NoIndex", blank(), LABELS)
+    old = area()
+    old = of_version(old[:256], 1, 1) + of_version(old[256:512], 1, 1) + old[512:]
+    yield image("labels 0 Unsupported 1 1", pair(labels0=old), LABELS)
+    yield image("labels 0 Unsupported 1 1", pair(labels0=old), INIT)
+    yield image("labels 0 AlreadyInitialised 2", whole(), INIT)
+    for text, bad in (("Checksum", changed(part(0), 20, b"x")), ("Slot 3", part(0, slot=3)), ("OddSize Dpa", part(0, dpa=512)),
+                      ("OddSize RawSize", part(0, raw=0))):
+        yield pair(labels0=area([bad])), LABELS, 0, f"bad 0 {text}", None
+
+
+def regions():
+    """Regions that are no interleave sets, and namespaces that meet."""
+    for text, nfit in (
+            ("Ways 3 2", two(spa(), mapping(0, ways=3), mapping(1, ways=3), interleave())),
+            ("Twice 0", two(spa(), mapping(0), mapping(0, offset=LINE, start=SIZE), interleave())),
+            ("Offsets 0 1", two(spa(), mapping(0), mapping(1, offset=0), interleave())),
+            ("Line 0", two(spa(), mapping(0, lines=0), mapping(1, lines=0))),
+            ("Share 12288", two(spa(), mapping(0), mapping(1), interleave((0, 2, 4)))),
+            (f"Size {4 * SIZE} {2 * SIZE}", two(spa(length=4 * SIZE), mapping(0), mapping(1), interleave())),
+            ("Cover 0", two(spa(), mapping(0), mapping(1), interleave((0, 0))))):
+        files = {**pair(nfit=nfit), "contents-0.bin": 2 * SIZE}
+        yield files, NFIT, 0, f"fault {text}", None
+        yield image(f"region 0 {text}", files, LIST)
+        yield image(f"region 0 {text}", files, CREATE)
+    yield image(f"labels Overlap {FIRST} {SECOND}", pair(area([part(0), part(0, SECOND, 1)]), area([part(1)])), LIST)
+
+
+def statuses():
+    """What `list` says of the labels of one UUID."""
+    wide = two(spa(), mapping(0), mapping(1, offset=LINE), interleave((0, 2)))
+    for text, first, second, nfit in (
+            ("complete", [part(0)], [part(1)], None),
+            ("complete pending", [part(0, flags=8)], [part(1)], None),
+            ("unfinished", [part(0, flags=8)], [], None),
+            ("local", [part(0, flags=2)], [part(1)], None),
+            ("incomplete Twice 0", [part(0), part(0, slot=1, dpa=16384)], [part(1)], None),
+            ("incomplete Outside 1", [part(0)], [part(1, dpa=1 << 20)], None),
+            ("incomplete Cookie 1 5", [part(0)], [part(1, cookie=5)], None),
+            ("incomplete Differs Count", [part(0)], [part(1, count=3)], None),
+            ("incomplete Position 1 0", [part(0)], [part(1, position=0)], None),
+            ("incomplete Differs Dpa", [part(0)], [part(1, dpa=8192)], None),
+            ("incomplete Differs RawSize", [part(0)], [part(1, raw=4096)], None),
+            ("incomplete Differs LbaSize", [part(0)], [part(1, lba=4096)], None),
+            ("incomplete Differs Guids", [part(0)], [part(1, abstraction=SECOND)], None),
+            ("incomplete Unaligned 0", [part(0, dpa=4096)], [part(1, dpa=4096)], wide),
+            ("incomplete Missing 1", [part(0)], [], None),
+            ("incomplete Differs Names", [part(0)], [part(1, name=b"b")], None)):
+        yield pair(area(first), area(second), nfit), LIST, 0, text, None
+
+
+def refusals():
+    long = "n" * 64
+    full = pair(area([part(0)], used=SLOTS), area([part(1)], used=SLOTS))
+    half = pair(area([part(0)]))
+    locked = pair(area([part(0)]), area([part(1, flags=1)]))
+    for text, files, words in (
+            ("BadName 64", whole(), create("--name", long)), ("BadName 64", whole(), [*RENAME[:-1], long]),
+            ("NoRegion 7", whole(), create("--region", "7")), ("ModuleLabels 0", blank(), CREATE),
+            ("Exists", whole(), create("--uuid", str(FIRST))), ("BadSize 0", whole(), create("--size", "0")),
+            ("BadSize 4096", whole(), create("--size", "4096")), (f"NoSpace {SIZE}", whole(), create("--size", str(2 * SIZE))),
+            ("NoSlot 0", full, CREATE), ("NoSlot 0", full, RENAME), ("NoSlot 0", full, DELETE),
+            ("NoSuch", pair(), DELETE), ("NoSuch", pair(), RENAME), ("NoSuch", pair(), INFO), ("NoSuch", pair(), READ),
+            ("NotComplete", half, DELETE), ("NotComplete", half, RENAME), ("NotComplete", half, INFO), ("NotComplete", half, READ),
+            ("ReadOnlyLabel 1", locked, DELETE), ("ReadOnlyLabel 1", locked, RENAME),
+            ("NotSector", whole(), INFO), ("NotSector", whole(), READ),
+            (f"Range {OUTER}", sectors(), [*READ[:-1], str(OUTER)])):
+        yield refused(text, files, words)
+
+
+def group(old, new, seq, padding=bytes(32)):
+    """A lane's log group, of which the first half alone was written."""
+    return struct.pack("<IIII16x", 0, old, new, seq) + padding
+
+
+def arenas():
+    yield sectors(), INFO, 0, "lanes 256 moves 0", None
+    yield sectors(), READ, 0, "ok fill:00", None
+    yield sectors(entries={0: 1 << 30}), READ, 0, "bad", None
+    for text, fields in (
+            ("Signature", {"signature": bytes(16)}), ("Checksum", {"seal": False}), ("Version 3 0", {"major": 3}), ("Parent", {"parent": SECOND.bytes}),
+            ("ErrorState", {"flags": 1}), ("Layout Sector", {"sector": 100}), ("Layout Inner", {"block": 4100}), ("Layout Free", {"lanes": 257}),
+            ("Layout Blocks", {"inner": INNER + 1}), ("Layout Areas", {"info": 8192}), ("Layout Size", {"backup": 4096 + (16 << 20)}),
+            ("Layout Next", {"next": 4096})):
+        yield image(f"arena {FIRST} 0 Info {text}", sectors(info(**fields)), INFO)
+    for text, other in (
+            ("Flog 0 Padding", {"halves": {0: group(OUTER, OUTER, 1, b"x" + bytes(31))}}), ("Flog 0 Sequences 0 0", {"halves": {0: group(OUTER, OUTER, 0)}}),
+            (f"Flog 0 Range {INNER}", {"halves": {0: group(INNER, INNER, 1)}}), (f"Block Range {INNER}", {"entries": {0: 1 << 31 | INNER}}),
+            ("Block Twice 1", {"entries": {0: 1 << 31 | 1}})):
+        yield image(f"arena {FIRST} 0 {text}", sectors(**other), INFO)
+
+
+def cases():
+    for some in (usage, objects, areas, regions, statuses, refusals, arenas):
+        yield from some()
