@@ -1,15 +1,13 @@
 -- What a chain answers, arena by arena, and under a fuse.
-use Rattle.std.proofs.Common.{◌≡◌, ◌≢◌, ℕ, zero, suc, ◌+◌, ◌-◌, ◌*◌, ◌≤◌, leb, Bool, true, false, List, [], ◌∷◌, ◌++◌, length, map, drop, Option, Some, None, Result, Ok, Err, refl, sym, ap, ◌∙◌, subst, arith}
-use Rattle.std.specs.List.{flat_map}
+use Rattle.std.proofs.Common.{◌≡◌, ℕ, suc, ◌+◌, ◌-◌, ◌*◌, Bool, true, false, List, [], ◌∷◌, ◌++◌, length, map, drop, Option, Some, None, Result, Ok, Err, refl, sym, ap, ◌∙◌, arith}
 use Rattle.std.proofs.lemmas.Bool.{leb-true, le-leb}
 use Rattle.std.proofs.lemmas.List.{length-append}
-use Rattle.cut_words.specs.Words.{Step}
 use Rattle.cut_words.specs.Fuses.{burnt, lasts}
 use Rattle.arena_open.specs.declared.opened.Opened.{Opened}
 use Rattle.arena_open.specs.declared.state.ArenaState.{ArenaState}
 use Rattle.arena_open.specs.declared.refused.OpenRefused.{OpenRefused}
 use Rattle.arena_open.specs.declared.refused.OpenRefused.TheVariants as open_refused
-use Rattle.arena_open.specs.Moves.{opened_steps, move_writes, shifted, state_of, state_if, answer_of}
+use Rattle.arena_open.specs.Moves.{move_writes, shifted, state_of, state_if, answer_of}
 use Rattle.arena_open.proofs.Written.{length_steps}
 use Rattle.arena_open.proofs.Turns.{length_moves, length_shifted}
 use Rattle.arena_chain.specs.declared.refused.ChainRefused.{ChainRefused}

@@ -4,3 +4,4 @@ pub mod Joined
 pub mod Answering
 pub mod SoFar
 pub mod Sectors
+pub mod InPlace

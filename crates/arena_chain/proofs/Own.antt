@@ -1,8 +1,8 @@
 -- What an arena opens as depends on its own words alone, and on how many words there are.
-use Rattle.std.proofs.Common.{◌≡◌, ◌≢◌, ℕ, ◌+◌, ◌-◌, ◌*◌, ◌/◌, ◌%◌, ◌<◌, ◌≤◌, Bool, true, false, List, length, take, drop, Ok, Err, refl, sym, ap, ◌∙◌, subst, inl, inr, arith}
+use Rattle.std.proofs.Common.{◌≡◌, ◌≢◌, ℕ, ◌+◌, ◌-◌, ◌*◌, ◌/◌, ◌%◌, ◌<◌, ◌≤◌, List, length, take, drop, Ok, sym, ap, ◌∙◌, inl, inr, arith}
 use Rattle.std.specs.Prelude.{IsTrue, ◌==◌, ◌||◌}
 use Rattle.std.proofs.lemmas.Bool.{cases_eq, ne_eqb}
-use Rattle.std.proofs.lemmas.List.{length-drop, drop-take}
+use Rattle.std.proofs.lemmas.List.{length-drop}
 use Rattle.arena_layout.specs.declared.layout.Layout.{Layout}
 use Rattle.arena_layout.specs.Layout.{IsLayout}
 use Rattle.arena_layout.specs.Info.{IsArenaOf, info_reading}

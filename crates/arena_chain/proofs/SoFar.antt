@@ -1,8 +1,8 @@
 -- Opening, after some arenas.
-use Rattle.std.proofs.Common.{◌≡◌, ◌≢◌, ℕ, zero, suc, ◌+◌, ◌*◌, ◌/◌, ◌%◌, ◌^◌, ◌<◌, ◌≤◌, Bool, true, false, List, [], ◌∷◌, ◌++◌, length, map, take, drop, Option, Some, None, Result, Ok, Err, refl, sym, ap, ◌∙◌, subst, arith}
-use Rattle.std.specs.List.{All, flat_map}
+use Rattle.std.proofs.Common.{◌≡◌, ◌≢◌, ℕ, ◌+◌, ◌*◌, ◌/◌, ◌%◌, ◌<◌, ◌≤◌, Bool, true, false, List, [], ◌∷◌, ◌++◌, length, map, take, drop, Option, Some, None, Result, Ok, Err, refl, sym, ap, ◌∙◌, subst, arith}
+use Rattle.std.specs.List.{All}
 use Rattle.std.proofs.lemmas.Grind.{flat_map-append}
-use Rattle.std.proofs.lemmas.List.{append-nil, append_assoc, map-append, drop-drop, length-map, length-append, take-append-le, take_all}
+use Rattle.std.proofs.lemmas.List.{append-nil, append_assoc, map-append, drop-drop, length-map, take-append-le, take_all}
 use Rattle.std.proofs.lemmas.List.Elements.{All-nil, All-cons, All-append}
 use Rattle.cut_words.specs.Words.{Words, Step}
 use Rattle.cut_words.specs.Fuses.{Makes, burnt, lasts}
@@ -15,15 +15,14 @@ use Rattle.arena_open.specs.Moves.{IsOpenState, open_answer}
 use Rattle.arena_open.specs.Moves as arena
 use Rattle.arena_chain.specs.Chain.{Link, Links, chain_of, chain_steps, state_at, link_made, chain_answer, Recovers, RecoversFirst, OpensAgain}
 use Rattle.cut_words.proofs.Making.{makes_none, makes_both, makes_cut, makes_length}
-use Rattle.arena_open.specs.Writes.{Write, written_over, write_steps}
+use Rattle.arena_open.specs.Writes.{written_over}
 use Rattle.arena_open.specs.declared.refused.OpenRefused.TheVariants as open_refused
 use Rattle.arena_open.specs.Moves.{opened_steps, steps_if, state_of, with_all_made}
 use Rattle.arena_open.proofs.Written.{made_settled}
-use Rattle.arena_chain.specs.declared.refused.ChainRefused.{ChainRefused}
-use Rattle.arena_chain.specs.Chain.{link_steps, states_from, end_of, with_state, chain_within}
+use Rattle.arena_chain.specs.Chain.{link_steps, states_from, chain_within}
 use Rattle.arena_chain.proofs.Own.{Lies, lies}
 use Rattle.arena_chain.proofs.Outside.{take_over, drop_over, writes_of, writes_in}
-use Rattle.arena_chain.proofs.Joined.{Joined, Far, far, joined_same, joined_more, with_links, Reached, reached, chain_last, chain_refused, Behind, chain_some}
+use Rattle.arena_chain.proofs.Joined.{Joined, Far, far, joined_same, joined_more, Reached, reached, chain_last, chain_refused, Behind, chain_some}
 use Rattle.arena_chain.proofs.Answering.{count_steps, with_states, with_ok, with_err, one_state, one_cut, states_on, Answered, answered, Refusal, broken, cut, refusal}
 
 -- what became of the words and of the fuse after the arenas before a word were opened

@@ -1,6 +1,6 @@
 -- The arenas of a namespace: UEFI 2.10, section 6.2 (NextOff of the BTT Info Block) and section 6.3 (BTT theory of operation). That all
 -- arenas are opened in order, each one's pending moves made good before the next is read, is this project's rule.
-use Rattle.std.specs.Prelude.{◌≡◌, ◌≢◌, ℕ, zero, suc, ◌+◌, ◌*◌, ◌/◌, ◌<◌, ◌==◌, Bool, true, if◌then◌else◌, List, [], ◌∷◌, length, take, drop, map, Option, Some, None, Result, Ok, Err}
+use Rattle.std.specs.Prelude.{◌≡◌, ◌≢◌, ℕ, zero, suc, ◌+◌, ◌*◌, ◌/◌, ◌==◌, true, if◌then◌else◌, List, [], ◌∷◌, length, take, drop, map, Option, Some, None, Result, Ok, Err}
 use Rattle.std.specs.List.{flat_map}
 use Rattle.cut_words.specs.Words.{Words, Step}
 use Rattle.cut_words.specs.Fuses.{Makes, burnt, lasts}

@@ -16,14 +16,20 @@
 //! first that breaks the format. [`open_chain`] opens all of them in order, makes their pending moves good, and answers
 //! their states or the first that is refused (`chain_answer`). Sectors run on from arena to arena: `specs/Cells.antt`
 //! defines the namespace's contents as the list of all cells (`contents_of`), of which [`Chain::read`] gives one.
+//!
+//! Who only reads takes [`read_chain`] instead: the same states, with the words left where they lie.
 #![tactic(auto)]
 
 mod chain;
+mod in_place;
+#[cfg(test)]
+mod in_place_tests;
 mod open;
 mod refused;
 #[cfg(test)]
 mod tests;
 
 pub use chain::Chain;
+pub use in_place::{ReadChain, read_chain};
 pub use open::open_chain;
 pub use refused::ChainRefused;

@@ -13,10 +13,10 @@ use std::test::Fail;
 use uuid::Uuid;
 
 /// Where the arenas begin: 512 words stand before the first.
-const FIRST: [u64; 2] = [512, 512 + 2_097_152];
+pub(crate) const FIRST: [u64; 2] = [512, 512 + 2_097_152];
 
 /// The UUID of the namespace, in every test.
-fn parent() -> Uuid {
+pub(crate) fn parent() -> Uuid {
     Uuid::from_u128(2)
 }
 
@@ -65,7 +65,7 @@ fn set_word(words: &mut Vec<u64>, place: u64, value: u64) {
 }
 
 /// A change of a word: the arena, the place in it, and the value.
-type Change = (usize, u64, u64);
+pub(crate) type Change = (usize, u64, u64);
 
 fn change(words: &mut Vec<u64>, change: &Change) {
     let (arena, place, value) = change;
@@ -74,7 +74,7 @@ fn change(words: &mut Vec<u64>, change: &Change) {
 }
 
 /// The words of two arenas, changed.
-fn chained(alloc: Global, changes: &[Change]) -> Result<Vec<u64>, Fail> {
+pub(crate) fn chained(alloc: Global, changes: &[Change]) -> Result<Vec<u64>, Fail> {
     let layout = plan(16 << 20, 512, 256)?;
     let mut words = vec![in alloc; 0; 4_194_816]?;
     for at in FIRST {

@@ -18,4 +18,5 @@ pub mod Rewritten
 pub mod Again
 pub mod States
 pub mod Sectors
+pub mod InPlace
 mod Rows

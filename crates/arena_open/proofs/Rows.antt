@@ -1,11 +1,10 @@
 -- Worked rows, computed.
-use Rattle.std.proofs.Common.{◌≡◌, ℕ, ◌+◌, ◌*◌, ◌^◌, Bool, true, false, List, [], ◌∷◌, ◌++◌, take, refl}
-use Rattle.cut_words.specs.Words.{after, settled}
+use Rattle.std.proofs.Common.{◌≡◌, ℕ, ◌+◌, ◌*◌, ◌^◌, true, false, List, [], ◌∷◌, ◌++◌, take, refl}
 use Rattle.arena_layout.specs.declared.layout.Layout.{Layout}
 use Rattle.arena_layout.specs.Plan.{plan_of, available_of, whole_size, log_size, inner_of, internal_of, map_size}
 use Rattle.flog.specs.declared.half.Half.{Half}
 use Rattle.flog.specs.declared.group.Group.{Group}
-use Rattle.map_table.specs.Entry.{entry_of, entry_in, with_entry, normal_of}
+use Rattle.map_table.specs.Entry.{entry_of, normal_of}
 use Rattle.map_table.specs.Blocks.{blocks_of}
 use Rattle.arena_open.specs.Places.{map_word, log_word, block_word, word_of}
 use Rattle.arena_open.specs.Areas.{new_map, new_log}

@@ -75,6 +75,10 @@ state_of words opened = record {
   made = length opened.moves;
 }
 
+-- the words from an arena's first one on stand for this, in some namespace
+abbrev pub IsOpened : List ℕ → Opened → Type 0
+IsOpened words opened = (parent : List ℕ) × (opening words parent ≡ Ok opened)
+
 -- how many pending moves were made good
 abbrev pub moves_made : ArenaState → ℕ
 moves_made state = state.made

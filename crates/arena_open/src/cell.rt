@@ -40,7 +40,7 @@ fn sector_entry(words: &[u64], layout: &Layout, sector: u32) -> Entry
     entry(entry_in(word, sector), sector)
 }
 
-fn put_zeros(into: &mut [u64])
+pub(crate) fn put_zeros(into: &mut [u64])
     ensures { into.new ≡ replicate (length into.old) 0 }
 {
     into.fill(0);

@@ -13,11 +13,19 @@
 //! **Formatting** writes the map, the log, the backup and at last the info block, each word stored and kept before the
 //! next one ([`format_arena`], `specs/Format.antt`). Then each sector has the block of its own number and reads as zeros,
 //! and each lane owns one of the blocks behind these.
+//!
+//! **Opening** reads the info block, the log and the map, and finds the moves that are pending in them ([`read_arena`],
+//! `specs/Reading.antt`). [`open_arena`] then makes these good in the space and takes the arena's words into memory
+//! ([`ArenaState`], `specs/Moves.antt`), of which [`cell_of`] reads a sector. Who only reads needs neither:
+//! [`cell_in_place`] reads the same cell by the map in memory, which has the moves, from the words where they lie.
 #![tactic(auto)]
 
 mod area;
 mod cell;
 mod format;
+mod in_place;
+#[cfg(test)]
+mod in_place_tests;
 mod law;
 mod moves;
 mod open;
@@ -32,6 +40,7 @@ mod tests;
 
 pub use cell::{Cell, CellKind, cell_of};
 pub use format::format_arena;
+pub use in_place::cell_in_place;
 pub use law::{
     format_takes_two_steps_a_word, places_are_apart, places_are_inside, recovery_runs_again,
     writes_are_cut, writes_settle,

@@ -15,7 +15,7 @@ use uuid::Uuid;
 const OLD: u64 = 0x5555_5555_5555_5555;
 
 /// The UUID of the namespace, in every test.
-fn parent() -> Uuid {
+pub(crate) fn parent() -> Uuid {
     Uuid::from_u128(2)
 }
 

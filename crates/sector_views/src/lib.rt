@@ -9,7 +9,8 @@
 //! contents of module 1  | line 1 | line 3 | ..  ┘──>  words 0, 1, 2, ..  ──>  arena 0, arena 1, ..
 //! ```
 //!
-//! `specs/View.antt` defines these words (`view_words`) and what they open as (`opened_view`); [`open_sectors`] opens them.
+//! `specs/View.antt` defines these words (`view_words`) and what they open as (`opened_view`); [`open_sectors`] opens them
+//! where they lie.
 #![tactic(auto)]
 
 mod law;

@@ -5,10 +5,10 @@ ghost use Rattle.image_set.specs.Sound.{IsContents};
 ghost use Rattle.namespace_finding.specs.Finding.{LiesIn};
 ghost use Rattle.sector_views.specs.View.{AreUsable, opened_view, view_words};
 
-use arena_chain::{Chain, ChainRefused, open_chain};
+use arena_chain::{ChainRefused, ReadChain, read_chain};
 use arena_layout::InfoFault;
 use arena_open::OpenRefused;
-use cut_words::{CutWords, Fuse, WordSpace};
+use cut_words::{CutWords, WordSpace};
 use label_codec::Mode;
 use namespace_finding::{Found, first_arena};
 use namespace_ops::Registry;
@@ -27,18 +27,18 @@ fn no_block() -> ChainRefused
     }
 }
 
-/// Opens the arenas of a sector namespace that was found, with power that stays on. What is stored for pending moves is
-/// dropped with the contents.
+/// Opens the arenas of a sector namespace that was found, with power that stays on, to read its sectors. They are read where
+/// they lie in the contents: what is pending is made good in the maps that are held in memory, and no word is copied.
 ///
 /// The registry is the one in which the namespace was found, `contents` are those of all modules by number, and the UUID is
 /// the namespace's. Refusals name the first arena that isn't opened; OutOfMemory may come in place of any answer.
-pub fn open_sectors(
+pub fn open_sectors<'a>(
     alloc: Global,
-    registry: &Registry,
+    registry: &'a Registry,
     found: &Found,
     contents: Items<CutWords>,
     uuid: &Uuid,
-) -> Result<Chain, ChainRefused>
+) -> Result<ReadChain<SetWords<'a>>, ChainRefused>
     requires lies { LiesIn registry.now.sets found.now }
     requires sector { found.now.mode ≡ Mode.Sector }
     requires rows { All IsContents contents }
@@ -47,15 +47,9 @@ pub fn open_sectors(
 {
     let set = registry.set(found.region);
     let _few = set.ways();
-    let mut space = SetWords::of(set, found.offset, found.raw, contents.into_vec());
+    let space = SetWords::of(set, found.offset, found.raw, contents.into_vec());
     if space.count() == 0 {
         return Err(no_block());
     }
-    open_chain(
-        alloc,
-        &mut space,
-        &mut Fuse::none(),
-        first_arena(&found.mode),
-        uuid,
-    )
+    read_chain(alloc, space, first_arena(&found.mode), uuid)
 }

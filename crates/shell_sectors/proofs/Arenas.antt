@@ -1,11 +1,10 @@
 -- From the set that was loaded to a namespace's arenas.
-use Rattle.std.proofs.Common.{◌≡◌, ◌≢◌, ℕ, zero, suc, ◌+◌, ◌*◌, ◌^◌, ◌<◌, ◌≤◌, List, [], ◌∷◌, ◌++◌, length, map, get_or, Option, Some, None, Result, Ok, Err, refl, sym, ap, ◌∙◌, subst, arith}
+use Rattle.std.proofs.Common.{◌≡◌, ℕ, suc, List, [], ◌∷◌, map, Option, Some, None, Ok, Err, refl, sym, ap, ◌∙◌}
 use Rattle.std.specs.List.{All}
 use Rattle.std.specs.Option.{option_map}
-use Rattle.std.specs.Int.{w64, to_le_bytes, from_le_bytes}
 use Rattle.std.proofs.lemmas.Nat.{from_le_bytes-to_le_bytes_8}
 use Rattle.std.proofs.lemmas.List.Elements.{All-head, All-tail}
-use Rattle.nvd_words.specs.Checks.{first_fault, value_unless}
+use Rattle.nvd_words.specs.Checks.{value_unless}
 use Rattle.cut_words.specs.Words.{Words, settled}
 use Rattle.cut_words.specs.WordBytes.{bytes_of, words_in}
 use Rattle.nfit_reader.specs.declared.table.Nfit.{Nfit}
@@ -21,7 +20,7 @@ use Rattle.image_set.specs.declared.loading.Loaded.{Loaded}
 use Rattle.image_set.specs.Load.{bytes_kept, image_set_in}
 use Rattle.image_set.specs.Sound.{IsContents, AreWords}
 use Rattle.arena_open.specs.declared.state.ArenaState.{ArenaState}
-use Rattle.sector_views.specs.View.{rows_of, AreUsable}
+use Rattle.sector_views.specs.View.{rows_of}
 use Rattle.shell_answers.specs.Outcome.{Outcome}
 use Rattle.shell_listings.specs.List.{shown_by, open_outcome}
 use Rattle.shell_sectors.specs.Sectors.{on_found, on_sectors, registry_fault, unless_fault}

@@ -1,5 +1,5 @@
 -- The ways in which a command on the arenas of a namespace ends.
-use Rattle.std.proofs.Common.{◌≡◌, ℕ, List, Option, Some, None, Result, Ok, Err, refl, ap, ◌∙◌}
+use Rattle.std.proofs.Common.{◌≡◌, ℕ, List, Option, Some, None, Result, Ok, Err, refl}
 use Rattle.arena_open.specs.declared.state.ArenaState.{ArenaState}
 use Rattle.arena_chain.specs.declared.refused.ChainRefused.{ChainRefused}
 use Rattle.namespace_changes.specs.declared.refused.OpRefused.{OpRefused}

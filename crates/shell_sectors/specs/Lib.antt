@@ -1,4 +1,4 @@
 pub mod Faults
 pub mod Sectors
-pub mod Gives
+pub mod Asked
 pub mod Causes

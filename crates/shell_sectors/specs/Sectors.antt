@@ -1,5 +1,5 @@
 -- The commands `info` and `read`: the arenas of a sector namespace, and one of its sectors. UEFI 2.10, chapter 6.
-use Rattle.std.specs.Prelude.{◌≡◌, ℕ, ◌+◌, ◌==◌, nat_lt, Bool, if◌then◌else◌, List, [], ◌∷◌, ◌++◌, map, slice_index_or, Option, Some, None, Result, Ok, Err, codes}
+use Rattle.std.specs.Prelude.{ℕ, ◌+◌, ◌==◌, nat_lt, Bool, if◌then◌else◌, List, [], ◌∷◌, ◌++◌, slice_index_or, Option, Some, None, Result, Ok, Err, codes}
 use Rattle.std.specs.List.{list_all}
 use Rattle.std.specs.Fmt.{decimal}
 use Rattle.hex.specs.Hex.{encode_lower}
@@ -24,8 +24,6 @@ use Rattle.namespace_ops.specs.Opening.{set_fault_from, sets_of, overlap_fault}
 use Rattle.image_set.specs.Load.{ImageSet}
 use Rattle.sector_views.specs.View.{rows_of, view_words, opened_view}
 use Rattle.shell_answers.specs.Outcome.{Outcome, printed, joined, lf}
-use Rattle.shell_answers.specs.declared.outcome.Answer.{Answer}
-use Rattle.shell_answers.specs.Saved.{outcome_of}
 use Rattle.shell_listings.specs.List.{labels_in_set, open_outcome}
 use Rattle.shell_sectors.specs.Faults.{arena_outcome, find_refusal, refused_outcome}
 

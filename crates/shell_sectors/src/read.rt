@@ -11,9 +11,10 @@ ghost use Rattle.shell_answers.specs.Saved.{outcome_of};
 ghost use Rattle.shell_sectors.specs.Sectors.{cell_text, is_fill, read_outcome, sector_outcome, value_text};
 
 use crate::faults::refused_answer;
-use crate::opening::{Sectors, open};
-use arena_chain::Chain;
+use crate::opening::{Ask, set_answer};
+use arena_chain::ReadChain;
 use arena_open::CellKind;
+use cut_words::WordSpace;
 use image_set::Loaded;
 use shell_answers::{Answer, printed_answer};
 use std::alloc::{AllocError, Global};
@@ -79,7 +80,11 @@ fn words_line(alloc: Global, words: &[u64]) -> Result<String, AllocError>
 }
 
 /// The line of a sector that is there.
-fn cell_line(alloc: Global, chain: &Chain, sector: u64) -> Result<String, AllocError>
+fn cell_line<W: WordSpace>(
+    alloc: Global,
+    chain: &ReadChain<W>,
+    sector: u64,
+) -> Result<String, AllocError>
     requires { sector < sectors_of chain.now }
     ensures { IfOk result (λ text. string_bytes text ≡ cell_text (slice_index_or (contents_of chain.now) sector cell.Bad)) }
 {
@@ -92,7 +97,11 @@ fn cell_line(alloc: Global, chain: &Chain, sector: u64) -> Result<String, AllocE
 }
 
 /// The answer on the arenas of a namespace.
-fn sector_answer(alloc: Global, chain: &Chain, sector: u64) -> Result<Answer, AllocError>
+pub(crate) fn sector_answer<W: WordSpace>(
+    alloc: Global,
+    chain: &ReadChain<W>,
+    sector: u64,
+) -> Result<Answer, AllocError>
     ensures { IfOk result (λ answer. outcome_of answer ≡ sector_outcome sector chain.now) }
 {
     let sectors = chain.sectors();
@@ -115,8 +124,5 @@ pub fn read_answer(
     requires { IsSound loaded }
     ensures { IfOk result (λ answer. outcome_of answer ≡ read_outcome uuid.now sector (image_set_in loaded)) }
 {
-    match open(alloc, loaded, uuid)? {
-        Sectors::Open(chain) => sector_answer(alloc, &chain, sector),
-        Sectors::Told(answer) => Ok(answer),
-    }
+    set_answer(alloc, loaded, uuid, Ask::Sector(sector))
 }

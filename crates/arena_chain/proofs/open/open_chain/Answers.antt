@@ -1,11 +1,11 @@
-use Rattle.std.proofs.Common.{◌≡◌, ℕ, ◌+◌, ◌∙◌, ◌*◌, ◌/◌, ◌≤◌, List, [], ◌∷◌, ◌++◌, length, Result, Ok, Err, refl, ap, sym, subst, arith}
+use Rattle.std.proofs.Common.{◌≡◌, ℕ, ◌+◌, ◌∙◌, ◌/◌, List, [], ◌∷◌, ◌++◌, length, Result, Ok, Err, refl, ap, sym, subst, arith}
 use Rattle.std.proofs.lemmas.List.{length-append}
 use Rattle.arena_open.specs.declared.state.ArenaState.{ArenaState}
 use Rattle.arena_open.specs.declared.refused.OpenRefused.{OpenRefused}
 use Rattle.arena_open.specs.declared.refused.OpenRefused.TheVariants as open_refused
 use Rattle.arena_open.proofs.Groups.{pushed}
 use Rattle.arena_chain.specs.declared.refused.ChainRefused.{ChainRefused}
-use Rattle.arena_chain.specs.Chain.{HasMemory, RecoversFirst, wants_memory}
+use Rattle.arena_chain.specs.Chain.{RecoversFirst, wants_memory}
 use Rattle.arena_chain.specs.Cells.{AreOpen}
 use Rattle.arena_chain.proofs.SoFar.{SoFar, Opens, starts, few, goes_on, all_open, last_answer, last_made, last_again, refused_answer, refused_made, first_made}
 use Rattle.arena_chain.proofs.open.open_chain.Goals as goal

@@ -3,4 +3,4 @@ use Rattle.shell_sectors.specs.Sectors.{arena_lines}
 use Rattle.shell_sectors.proofs.info.arena_lines.Given as goal
 
 abbrev pub invariant-loop-k : goal.invariant-loop-k
-invariant-loop-k l = l.text.items ++ arena_lines l.k (drop l.k l.arenas) ≡ arena_lines 0 l.arenas
+invariant-loop-k g l = l.text.items ++ arena_lines l.k (drop l.k l.chain) ≡ arena_lines 0 l.chain

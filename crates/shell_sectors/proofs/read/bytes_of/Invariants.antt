@@ -1,4 +1,4 @@
-use Rattle.std.proofs.Common.{◌≡◌, ◌++◌, take}
+use Rattle.std.proofs.Common.{◌≡◌, take}
 use Rattle.cut_words.specs.WordBytes.{bytes_of}
 use Rattle.shell_sectors.proofs.read.bytes_of.Given as goal
 

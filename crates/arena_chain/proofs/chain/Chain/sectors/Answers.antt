@@ -1,6 +1,5 @@
-use Rattle.std.proofs.Common.{◌+◌, ◌*◌, ◌≤◌, ◌^◌, ◌∙◌, ap, sym, subst, ℕ, arith}
+use Rattle.std.proofs.Common.{ap, arith}
 use Rattle.std.proofs.lemmas.List.Sums.{sum_by_more}
-use Rattle.arena_open.specs.declared.state.ArenaState.{ArenaState}
 use Rattle.arena_chain.specs.Cells.{external_of}
 use Rattle.arena_chain.proofs.Sectors.{few_sectors}
 use Rattle.arena_chain.proofs.chain.Chain.sectors.Goals as goal

@@ -1,0 +1,103 @@
+//! A sector of an arena that is read where it lies: no word of the arena is copied, and none is stored to.
+ghost use Rattle.std.specs.Prelude.{◌≡◌, ℕ, ◌+◌, ◌*◌, ◌/◌, ◌^◌, ◌<◌, ◌≤◌, length, drop, slice_index};
+ghost use Rattle.arena_layout.specs.Layout.{IsLayout};
+ghost use Rattle.arena_open.specs.Places.{block_words};
+ghost use Rattle.arena_open.specs.Reading.{cell_at, cell_with};
+ghost use Rattle.arena_open.specs.Cells.{GivesCell};
+ghost use Rattle.arena_open.specs.Moves.{state_of, IsOpened};
+ghost use Rattle.arena_open.specs.Writes.{IsSettled};
+
+use crate::cell::{CellKind, put_zeros};
+use crate::opened::Opened;
+use arena_layout::Layout;
+use cut_words::WordSpace;
+use map_table::{Entry, Kind, entry};
+
+/// The words of a space from a place on.
+fn load_words<W: WordSpace>(space: &W, first: u64, into: &mut [u64])
+    requires inside { first + length into.old ≤ length (W.words space.now).kept }
+    requires small { length (W.words space.now).kept < 2 ^ 60 }
+    requires settled { IsSettled (W.words space.now) }
+    ensures count { length into.new ≡ length into.old }
+    ensures each { (k : ℕ) → k < length into.old
+        → slice_index into.new k ≡ slice_index (W.words space.now).kept (first + k) }
+{
+    for k in 0..into.len() {
+        into[k] = space.load(first + k as u64);
+    }
+}
+
+/// The first words of a block.
+fn load_block<W: WordSpace>(space: &W, at: u64, layout: &Layout, block: u32, into: &mut [u64])
+    requires layout { IsLayout layout.now }
+    requires block { block < layout.now.internal }
+    requires inside { at + layout.now.size / 8 ≤ length (W.words space.now).kept }
+    requires small { length (W.words space.now).kept < 2 ^ 60 }
+    requires settled { IsSettled (W.words space.now) }
+    requires room { length into.old ≡ layout.now.sector / 8 }
+    ensures { into.new ≡ block_words layout.now (drop at (W.words space.now).kept) block (layout.now.sector / 8) }
+{
+    let first = layout.data_off / 8 + u64::from(block) * (u64::from(layout.inner) / 8);
+    load_words(space, at + first, into);
+}
+
+/// What an entry gives.
+fn load_cell<W: WordSpace>(
+    space: &W,
+    at: u64,
+    layout: &Layout,
+    entry: Entry,
+    into: &mut [u64],
+) -> CellKind
+    requires layout { IsLayout layout.now }
+    requires block { entry.block < layout.now.internal }
+    requires inside { at + layout.now.size / 8 ≤ length (W.words space.now).kept }
+    requires small { length (W.words space.now).kept < 2 ^ 60 }
+    requires settled { IsSettled (W.words space.now) }
+    requires room { length into.old ≡ layout.now.sector / 8 }
+    ensures { GivesCell (cell_with layout.now (drop at (W.words space.now).kept) entry) result into.old into.new }
+{
+    match entry.kind {
+        Kind::Zero => {
+            put_zeros(into);
+            CellKind::Bytes
+        }
+        Kind::Bad => CellKind::Bad,
+        Kind::Initial => {
+            load_block(space, at, layout, entry.block, into);
+            CellKind::Bytes
+        }
+        Kind::Normal => {
+            load_block(space, at, layout, entry.block, into);
+            CellKind::Bytes
+        }
+    }
+}
+
+/// Reads a sector's cell in the words of the space in which [`read_arena`](crate::read_arena) read the arena: its words
+/// go into `into`, which is left as it was where the cell is bad.
+///
+/// It is the cell of the arena's state with all pending moves made good (`state_of`): the entries have these moves, and no
+/// move touches a block's words. So nothing need be stored, and no word of the arena is copied but the sector's.
+///
+/// Conditions: the arena whose first word is `at` was read as `opened` in this space, whose words are as they were then, of
+/// which there are fewer than 2^60 and none is pending; the sector is there, and `into` has as many words as a sector.
+pub fn cell_in_place<W: WordSpace>(
+    space: &W,
+    at: u64,
+    opened: &Opened,
+    sector: u32,
+    into: &mut [u64],
+) -> CellKind
+    requires opened { IsOpened (drop at (W.words space.now).kept) opened.now }
+    requires inside { at ≤ length (W.words space.now).kept }
+    requires small { length (W.words space.now).kept < 2 ^ 60 }
+    requires settled { IsSettled (W.words space.now) }
+    requires sector { sector < opened.now.info.layout.external }
+    requires room { length into.old ≡ opened.now.info.layout.sector / 8 }
+    ensures { GivesCell (cell_at opened.now.info.layout (state_of (drop at (W.words space.now).kept) opened.now).words sector) result into.old into.new }
+{
+    let entries = opened.entries.as_slice();
+    let found = entry(entries[sector as usize], sector);
+    load_cell(space, at, &opened.info.layout, found, into)
+}
