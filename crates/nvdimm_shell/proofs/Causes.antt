@@ -21,7 +21,7 @@ use Rattle.shell_answers.specs.declared.status.Ending.TheVariants as ending
 use Rattle.shell_answers.specs.declared.status.Status.{Status}
 use Rattle.shell_answers.specs.declared.status.Status.TheVariants as status
 use Rattle.nvdimm_shell.specs.declared.words.Command.{Command}
-use Rattle.nvdimm_shell.specs.declared.words.Command.TheVariants.{Labels, Nfit, Init, Change, Info, Read}
+use Rattle.nvdimm_shell.specs.declared.words.Command.TheVariants.{Labels, Nfit, Init, Change, CreateSectors, Info, Read}
 use Rattle.nvdimm_shell.specs.declared.words.Command.TheVariants as command
 use Rattle.shell_answers.specs.declared.power.Power.{Power}
 use Rattle.nfit_reader.specs.declared.table.Mapping.{Mapping}
@@ -31,6 +31,8 @@ use Rattle.namespace_changes.specs.Areas.{Area, steps_of_all}
 use Rattle.shell_namespaces.specs.Areas.{areas_in}
 use Rattle.shell_namespaces.specs.Refusals.{refused_outcome}
 use Rattle.shell_namespaces.specs.Namespaces as namespaces
+use Rattle.sector_creation.specs.declared.new_sectors.NewSectors.{NewSectors}
+use Rattle.shell_sector_creation.proofs.Causes.{CreateCase, barred, create_case, cut_off, faulty_set, made}
 use Rattle.shell_namespaces.specs.Namespaces.{sets_in, refusal_in, changes_in, refuses_by}
 use Rattle.nvdimm_shell.specs.Words.{command_of}
 use Rattle.shell_answers.specs.Outcome.{Outcome, usage, printed, status_of}
@@ -155,6 +157,14 @@ module _ (c : NamespaceCommand) (power : Power) (loaded : ImageSet) (outcome : O
   change_case (Ok sets) are comes = lasting_case sets are (lasts power.steps (steps_of_all seen (changes_in sets seen c))) refl comes
   change_case (Err fault) are comes = is_refused (fault, are) (ending_of outcome (open_outcome fault) comes)
 
+-- ---- a namespace of sectors that is made
+
+sectors_made : (new : NewSectors) (power : Power) (loaded : ImageSet) (outcome : Outcome) → CreateCase new power loaded outcome → CommandCase (CreateSectors new power) (Ok loaded) outcome.ending
+sectors_made new power loaded outcome (faulty_set fault are e) = is_refused (fault, are) e
+sectors_made new power loaded outcome (made sets are long allowed e) = is_done (sets, are) long allowed e
+sectors_made new power loaded outcome (barred sets are long refused e) = is_turned_down (sets, are) long refused e
+sectors_made new power loaded outcome (cut_off sets are short e) = is_cut_short (sets, are) short e
+
 -- ---- the arenas of a namespace
 
 info_case : (uuid : List ℕ) (loaded : ImageSet) (outcome : Outcome) → SectorsCase (λ states. printed (arena_lines 0 states)) loaded uuid outcome → CommandCase (Info uuid) (Ok loaded) outcome.ending
@@ -203,6 +213,7 @@ module _ (leaves : ℕ → Words → List ℕ → Type 0) where
       subst (λ (e : Ending). CommandCase command.List (Ok loaded) e) (sym (ending_of outcome _ comes)) (list_case loaded (listed_of loaded) refl)
   command_case (Init m power) (Ok loaded) outcome comes = init_command m power loaded outcome.ending (init_case leaves m power loaded outcome (area_of loaded m) comes)
   command_case (Change c power) (Ok loaded) outcome comes = change_case c power loaded outcome (sets_in loaded) refl comes
+  command_case (CreateSectors new power) (Ok loaded) outcome comes = sectors_made new power loaded outcome (create_case new power loaded outcome comes)
   command_case (Info uuid) (Ok loaded) outcome comes = info_case uuid loaded outcome (sectors_case (λ states. printed (arena_lines 0 states)) loaded uuid outcome comes)
   command_case (Read uuid sector) (Ok loaded) outcome comes = read_case uuid sector loaded outcome (sectors_case (sector_outcome sector) loaded uuid outcome comes)
 
@@ -214,6 +225,7 @@ module _ (leaves : ℕ → Words → List ℕ → Type 0) where
   command_due command.List set left outcome comes = comes set [] refl (λ reads. absurd (let e = reads in cc))
   command_due (Init m power) set left outcome comes = comes set [] refl (λ reads. absurd (let e = reads in cc))
   command_due (Change c power) set left outcome comes = comes set [] refl (λ reads. absurd (let e = reads in cc))
+  command_due (CreateSectors new power) set left outcome comes = comes set [] refl (λ reads. absurd (let e = reads in cc))
   command_due (Info uuid) set left outcome comes = comes set [] refl (λ reads. absurd (let e = reads in cc))
   command_due (Read uuid sector) set left outcome comes = comes set [] refl (λ reads. absurd (let e = reads in cc))
 
@@ -270,6 +282,7 @@ module _ (leaves : ℕ → Words → List ℕ → Type 0) where
   apart command.List (Ok loaded) (fault, refused) (namespaces, accepted) = let e = sym refused ∙ accepted in cc
   apart (Init m power) (Ok loaded) refused accepted = not_both_blank (area_of loaded m) refused accepted
   apart (Change c power) (Ok loaded) (fault, refused) (sets, accepted) = let e = sym refused ∙ accepted in cc
+  apart (CreateSectors new power) (Ok loaded) (fault, refused) (sets, accepted) = let e = sym refused ∙ accepted in cc
   apart (Info uuid) (Ok loaded) refused accepted = not_both_sectors uuid loaded refused accepted
   apart (Read uuid sector) (Ok loaded) refused accepted = not_both_sectors uuid loaded refused accepted
 

@@ -31,7 +31,8 @@ arguments_of kind.Nfit = []
 arguments_of kind.List = []
 arguments_of kind.Init = (codes "module", Place) ∷ power_arguments
 arguments_of kind.Create =
-    (codes "uuid", Required) ∷ (codes "name", Required) ∷ (codes "region", Required) ∷ (codes "size", Required) ∷ (codes "mode", Required) ∷ power_arguments
+    (codes "uuid", Required) ∷ (codes "name", Required) ∷ (codes "region", Required) ∷ (codes "size", Required) ∷ (codes "mode", Required)
+    ∷ (codes "sector", Optional) ∷ (codes "lanes", Optional) ∷ power_arguments
 arguments_of kind.Delete = (codes "uuid", Place) ∷ power_arguments
 arguments_of kind.Rename = (codes "uuid", Place) ∷ (codes "name", Place) ∷ power_arguments
 arguments_of kind.Info = (codes "uuid", Place) ∷ []

@@ -8,7 +8,7 @@ use Rattle.image_set.specs.Load.{ImageSet, loading}
 use Rattle.shell_answers.specs.declared.status.Status.{Status}
 use Rattle.shell_answers.specs.declared.status.Status.TheVariants as status
 use Rattle.nvdimm_shell.specs.declared.words.Command.{Command}
-use Rattle.nvdimm_shell.specs.declared.words.Command.TheVariants.{Labels, Nfit, Init, Change, Info, Read}
+use Rattle.nvdimm_shell.specs.declared.words.Command.TheVariants.{Labels, Nfit, Init, Change, CreateSectors, Info, Read}
 use Rattle.nvdimm_shell.specs.declared.words.Command.TheVariants as command
 use Rattle.nvdimm_shell.specs.Words.{command_of}
 use Rattle.shell_answers.specs.Outcome.{Outcome, usage, lf, status_of}
@@ -20,6 +20,7 @@ use Rattle.shell_changes.specs.Init.{InitComes}
 use Rattle.shell_namespaces.specs.Namespaces.{CommandComes}
 use Rattle.shell_listings.specs.List.{list_outcome}
 use Rattle.shell_sectors.specs.Sectors.{info_outcome, read_outcome}
+use Rattle.shell_sector_creation.specs.Sectors.{SectorsCome}
 
 -- ---- a case for each command
 
@@ -31,6 +32,7 @@ LoadedComes leaves Nfit loaded outcome = outcome ≡ nfit_outcome loaded
 LoadedComes leaves command.List loaded outcome = outcome ≡ list_outcome loaded
 LoadedComes leaves (Init m power) loaded outcome = InitComes leaves m power loaded outcome
 LoadedComes leaves (Change c power) loaded outcome = CommandComes c power loaded outcome
+LoadedComes leaves (CreateSectors new power) loaded outcome = SectorsCome new power loaded outcome
 LoadedComes leaves (Info uuid) loaded outcome = outcome ≡ info_outcome uuid loaded
 LoadedComes leaves (Read uuid sector) loaded outcome = outcome ≡ read_outcome uuid sector loaded
 
@@ -50,6 +52,7 @@ reads_script Nfit = false
 reads_script command.List = false
 reads_script (Init m power) = false
 reads_script (Change c power) = false
+reads_script (CreateSectors new power) = false
 reads_script (Info uuid) = false
 reads_script (Read uuid sector) = false
 

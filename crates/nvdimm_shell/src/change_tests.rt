@@ -15,7 +15,7 @@ const FOUR_SLOTS: usize = 1536;
 /// One with two.
 const TWO_SLOTS: usize = 1024;
 
-const FIRST: &str = "11111111-1111-4111-8111-111111111111";
+pub(crate) const FIRST: &str = "11111111-1111-4111-8111-111111111111";
 
 const SECOND: &str = "22222222-2222-4222-8222-222222222222";
 
@@ -34,7 +34,7 @@ const DELETE: [&str; 2] = ["delete", FIRST];
 const RENAME: [&str; 3] = ["rename", FIRST, "b"];
 
 /// The objects of a set that was made.
-fn objects_of(alloc: Global, set: &MemImages) -> Result<Vec<Stored>, AllocError> {
+pub(crate) fn objects_of(alloc: Global, set: &MemImages) -> Result<Vec<Stored>, AllocError> {
     let mut objects = Vec::new(alloc);
     for object in [
         Object::Mark,
@@ -55,7 +55,7 @@ fn objects_of(alloc: Global, set: &MemImages) -> Result<Vec<Stored>, AllocError>
 }
 
 /// The same objects again.
-fn copied(alloc: Global, objects: &[Stored]) -> Result<Vec<Stored>, AllocError> {
+pub(crate) fn copied(alloc: Global, objects: &[Stored]) -> Result<Vec<Stored>, AllocError> {
     let mut again = Vec::new(alloc);
     for stored in objects {
         again.push(Stored {
@@ -68,14 +68,14 @@ fn copied(alloc: Global, objects: &[Stored]) -> Result<Vec<Stored>, AllocError> 
 
 /// A run on these objects, and the objects that it saves.
 #[derive(Drop)]
-struct AfterRun {
-    status: Status,
-    text: String,
-    objects: Vec<Stored>,
+pub(crate) struct AfterRun {
+    pub status: Status,
+    pub text: String,
+    pub objects: Vec<Stored>,
 }
 
 /// A run with a chooser that always answers so.
-fn ran<R: Threads + Wait + Sync>(
+pub(crate) fn ran<R: Threads + Wait + Sync>(
     rt: &R,
     alloc: Global,
     words: &[&str],
@@ -115,7 +115,7 @@ fn fresh<R: Threads + Wait + Sync>(
     Ok(ran(rt, alloc, &["init", "1"], &objects, false)?.objects)
 }
 
-fn listed<R: Threads + Wait + Sync>(
+pub(crate) fn listed<R: Threads + Wait + Sync>(
     rt: &R,
     alloc: Global,
     objects: &[Stored],

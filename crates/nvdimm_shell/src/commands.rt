@@ -78,6 +78,18 @@ const MODE: Argument = Argument {
     form: Form::Required,
 };
 
+/// The bytes of a sector.
+const CREATED_SECTOR: Argument = Argument {
+    name: "sector",
+    form: Form::Optional,
+};
+
+/// For how many writers there is room.
+const LANES: Argument = Argument {
+    name: "lanes",
+    form: Form::Optional,
+};
+
 /// After how many steps power is cut.
 const CUT: Argument = Argument {
     name: "cut",
@@ -139,7 +151,17 @@ impl Kind {
             Kind::Nfit => &[],
             Kind::List => &[],
             Kind::Init => &[MODULE, CUT, EVICT],
-            Kind::Create => &[CREATED_UUID, CREATED_NAME, REGION, SIZE, MODE, CUT, EVICT],
+            Kind::Create => &[
+                CREATED_UUID,
+                CREATED_NAME,
+                REGION,
+                SIZE,
+                MODE,
+                CREATED_SECTOR,
+                LANES,
+                CUT,
+                EVICT,
+            ],
             Kind::Delete => &[UUID, CUT, EVICT],
             Kind::Rename => &[UUID, NAME, CUT, EVICT],
             Kind::Info => &[UUID],

@@ -38,6 +38,8 @@ mod list_tests;
 #[cfg(test)]
 mod refusal_tests;
 #[cfg(test)]
+mod sector_create_tests;
+#[cfg(test)]
 mod sector_tests;
 #[cfg(test)]
 mod sets;

@@ -21,6 +21,7 @@ use shell_answers::{Answer, Ending, SavedSet, Status, Stop, load_answer, usage_a
 use shell_changes::init_answer;
 use shell_listings::{labels_answer, list_answer, nfit_answer};
 use shell_namespaces::change_answer;
+use shell_sector_creation::sectors_answer;
 use shell_sectors::{info_answer, read_answer};
 use std::alloc::{AllocError, Global};
 use std::sync::Wait;
@@ -55,6 +56,7 @@ fn loaded_answer<C: Chooser>(
         Command::List => list_answer(alloc, loaded),
         Command::Init(module, power) => init_answer(alloc, module, power, loaded, choose),
         Command::Change(change, power) => change_answer(alloc, &change, power, loaded, choose),
+        Command::CreateSectors(new, power) => sectors_answer(alloc, &new, power, loaded, choose),
         Command::Info(uuid) => info_answer(alloc, &uuid, loaded),
         Command::Read(uuid, sector) => read_answer(alloc, &uuid, sector, loaded),
     }

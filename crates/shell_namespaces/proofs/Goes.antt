@@ -77,7 +77,7 @@ module _ (loaded : Loaded) (power : Power) (sets : List (List Mapping)) (c : Com
 pub are_whole : (labels : List (Option Words)) → All IsArea labels → AreWhole labels
 are_whole labels all = λ k d lt. let it = all k d lt in record { sized = it.sized; kept = it.kept }
 
-labels_are : (loaded : Loaded) → areas_seen (map opened_as loaded.labels) ≡ areas_in (image_set_in loaded).labels
+pub labels_are : (loaded : Loaded) → areas_seen (map opened_as loaded.labels) ≡ areas_in (image_set_in loaded).labels
 unfolding image_set_in
 labels_are loaded = opened_in loaded.labels
 
@@ -108,12 +108,22 @@ read_err : (nfit : Nfit) (areas : List Area) (f : OpenFault) → Err f ≡ openi
 unfolding reading opening
 read_err nfit areas f is = err_by (record { sets = sets_of nfit; areas = areas }) (sets_of nfit) (first_fault (set_fault_from 0 nfit.regions ∷ overlap_fault (labels_of areas) ∷ [])) f is
 
+-- so the sets are those of a registry that is opened
+pub sets_ok : (loaded : Loaded) (registry : Opened) → AreWhole loaded.labels → Ok registry ≡ opening loaded.nfit (map opened_as loaded.labels) → sets_in (image_set_in loaded) ≡ Ok registry.sets
+sets_ok loaded registry whole is =
+    let was = was_opened loaded.nfit (map opened_as loaded.labels) registry is in
+    sets_are loaded whole ∙ read_ok loaded.nfit (overlap_fault (labels_of (map opened_as loaded.labels))) was.sound was.clear ∙ ap (λ (s : List (List Mapping)). Ok s) was.sets
+
+-- and there are none where it isn't opened
+pub sets_err : (loaded : Loaded) (f : OpenFault) → AreWhole loaded.labels → Err f ≡ opening loaded.nfit (map opened_as loaded.labels) → sets_in (image_set_in loaded) ≡ Err f
+sets_err loaded f whole is = sets_are loaded whole ∙ read_err loaded.nfit (map opened_as loaded.labels) f is
+
 -- a registry that is opened, and a command on what it holds
 pub comes : (loaded : Loaded) (power : Power) (c : Command) (outcome : Outcome) (registry : Opened) → AreWhole loaded.labels → Ok registry ≡ opening loaded.nfit (map opened_as loaded.labels)
     → GoesFrom (rest_of loaded) power registry.sets registry.areas c outcome → CommandComes c power (image_set_in loaded) outcome
 comes loaded power c outcome registry whole is from =
     let was = was_opened loaded.nfit (map opened_as loaded.labels) registry is in
-    let sets : sets_in (image_set_in loaded) ≡ Ok registry.sets = sets_are loaded whole ∙ read_ok loaded.nfit (overlap_fault (labels_of (map opened_as loaded.labels))) was.sound was.clear ∙ ap (λ (s : List (List Mapping)). Ok s) was.sets in
+    let sets : sets_in (image_set_in loaded) ≡ Ok registry.sets = sets_ok loaded registry whole is in
     let from' : GoesFrom (rest_of loaded) power registry.sets (map opened_as loaded.labels) c outcome = subst (λ (xs : List Area). GoesFrom (rest_of loaded) power registry.sets xs c outcome) (sym was.areas_are) from in
     let it = goes loaded power registry.sets c outcome from' in
     subst (λ (r : Result (List (List Mapping)) OpenFault). OnSets (image_set_in loaded) c power r outcome) (sym sets)
@@ -123,5 +133,5 @@ comes loaded power c outcome registry whole is from =
 pub comes_not : (loaded : Loaded) (power : Power) (c : Command) (outcome : Outcome) (f : OpenFault) → AreWhole loaded.labels → Err f ≡ opening loaded.nfit (map opened_as loaded.labels)
     → outcome ≡ open_outcome f → CommandComes c power (image_set_in loaded) outcome
 comes_not loaded power c outcome f whole is said =
-    let sets : sets_in (image_set_in loaded) ≡ Err f = sets_are loaded whole ∙ read_err loaded.nfit (map opened_as loaded.labels) f is in
+    let sets : sets_in (image_set_in loaded) ≡ Err f = sets_err loaded f whole is in
     subst (λ (r : Result (List (List Mapping)) OpenFault). OnSets (image_set_in loaded) c power r outcome) (sym sets) said

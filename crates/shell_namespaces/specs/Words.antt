@@ -1,10 +1,10 @@
 -- The commands on namespaces that the words of a command line say.
-use Rattle.std.specs.Prelude.{ℕ, if◌then◌else◌, List, option_map, option_and_then, Option, Some, None, codes}
+use Rattle.std.specs.Prelude.{◌≡◌, ⊤, ℕ, if◌then◌else◌, List, option_map, option_and_then, Option, Some, None, codes}
 use Rattle.std.specs.Str.{bytes_eq}
 use Rattle.clap.specs.Words.{Row, first_of}
 use Rattle.command_words.specs.Parsed.{number_in, uuid_in}
 use Rattle.namespace_changes.specs.declared.commands.Command.{Command}
-use Rattle.namespace_changes.specs.declared.commands.Command.TheVariants.{Create, Delete, Rename}
+use Rattle.namespace_changes.specs.declared.commands.Command.TheVariants.{Create, Delete, Rename, Claim, Unclaim}
 use Rattle.namespace_changes.specs.declared.commands.Make.{Make}
 use Rattle.namespace_changes.specs.declared.commands.Make.TheVariants.{Raw}
 use Rattle.namespace_changes.specs.Commands.{named_of}
@@ -15,6 +15,14 @@ last_region = 4294967295
 
 abbrev pub most_bytes : ℕ
 most_bytes = 18446744073709551615
+
+-- a command that makes no sectors, whose arena would be formatted first
+abbrev pub IsPlain : Command → Type 0
+IsPlain (Create uuid name region size made) = made ≡ Raw
+IsPlain (Delete uuid) = ⊤
+IsPlain (Rename uuid name) = ⊤
+IsPlain (Claim uuid) = ⊤
+IsPlain (Unclaim uuid) = ⊤
 
 -- what a word of `--mode` asks for
 abbrev pub make_of : List ℕ → Option Make

@@ -15,6 +15,7 @@ ghost use Rattle.shell_namespaces.specs.Going.{GoesFrom, GoesOn};
 ghost use Rattle.shell_namespaces.specs.Namespaces.{CommandComes};
 ghost use Rattle.shell_namespaces.specs.Refusals.{refused_outcome};
 ghost use Rattle.shell_namespaces.specs.Rest.{IsRest, objects_with};
+ghost use Rattle.shell_namespaces.specs.Words.{IsPlain};
 
 use crate::refusals::refused_answer;
 use crate::saving::{Rest, saved_answer};
@@ -160,7 +161,8 @@ fn opened_answer<C: Chooser>(
 /// The answer of `create`, `delete` or `rename` on an image set: `ok` and the set with the changes of recovery and of the
 /// command, `cut N` and what a power cut after N steps of these leaves of it, or the first reason for which the command
 /// is refused once recovery has made its changes, which saves nothing; or the first region that is no interleave set, or
-/// the least two UUIDs of which extents meet. The set was loaded, so each of its label areas has a label area's size.
+/// the least two UUIDs of which extents meet. The set was loaded, so each of its label areas has a label area's size. The command
+/// makes no namespace of sectors: that takes more than labels.
 /// (UEFI 2.10, section 13.19; the refusals, the order of the changes and recovery are this project's rules.)
 pub fn change_answer<C: Chooser>(
     alloc: Global,
@@ -171,6 +173,7 @@ pub fn change_answer<C: Chooser>(
 ) -> Result<Answer, AllocError>
     requires sound { IsSound loaded }
     requires name { HasGoodName change.now }
+    requires plain { IsPlain change.now }
     ensures { IfOk result (λ answer. CommandComes change.now power (image_set_in loaded) (outcome_of answer)) }
 {
     let Loaded {

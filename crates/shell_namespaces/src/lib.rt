@@ -9,7 +9,7 @@
 //! | what | function | clause |
 //! |---|---|---|
 //! | what a command comes to on a set that is loaded | [`change_answer`] | `CommandComes` of `specs/Namespaces.antt` |
-//! | the commands that words say | [`create_in`], [`delete_in`], [`rename_in`] | `specs/Words.antt` |
+//! | the commands that words say, and the name that a text makes | [`create_in`], [`delete_in`], [`rename_in`], [`named`] | `specs/Words.antt` |
 //! | what is printed of a refusal | [`refused_answer`] | `refused_outcome` of `specs/Refusals.antt` |
 //!
 //! Recovery and command burn one fuse, in this order. A refused command saves nothing, what recovery made neither.
@@ -23,4 +23,4 @@ mod words;
 pub use changing::change_answer;
 pub use refusals::refused_answer;
 pub use saving::{Rest, saved_answer};
-pub use words::{create_in, delete_in, rename_in};
+pub use words::{create_in, delete_in, named, rename_in};

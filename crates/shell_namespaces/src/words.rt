@@ -2,7 +2,7 @@
 ghost use Rattle.std.specs.Prelude.{◌≡◌, IfSome};
 ghost use Rattle.command_words.specs.Parsed.{rows};
 ghost use Rattle.namespace_changes.specs.Commands.{named_of};
-ghost use Rattle.shell_namespaces.specs.Words.{create_in, delete_in, make_in, make_of, rename_in};
+ghost use Rattle.shell_namespaces.specs.Words.{IsPlain, create_in, delete_in, make_in, make_of, rename_in};
 ghost use Rattle.namespace_commands.specs.Carried.{HasGoodName, IsGoodName};
 
 use command_words::Parsed;
@@ -13,7 +13,7 @@ use namespace_changes::{Command, Make, Named};
 const LAST_REGION: u64 = u32::MAX as u64;
 
 /// The name that a text makes, or the length of one that makes none.
-fn named(text: &str) -> Named
+pub fn named(text: &str) -> Named
     ensures named { result ≡ named_of text.now }
     ensures good { IsGoodName result }
 {
@@ -27,14 +27,16 @@ fn named(text: &str) -> Named
 
 /// What a word of `--mode` asks for.
 fn make_of(word: &str) -> Option<Make>
-    ensures { result ≡ make_of word.now }
+    ensures make { result ≡ make_of word.now }
+    ensures plain { IfSome result (λ made. made ≡ Make.Raw) }
 {
     if word == "raw" { Some(Make::Raw) } else { None }
 }
 
 /// What a namespace is made as.
 fn make_in(values: &Parsed<'_>) -> Option<Make>
-    ensures { result ≡ make_in (rows values.now) }
+    ensures make { result ≡ make_in (rows values.now) }
+    ensures plain { IfSome result (λ made. made ≡ Make.Raw) }
 {
     make_of(values.value("mode")?)
 }
@@ -44,6 +46,7 @@ fn make_in(values: &Parsed<'_>) -> Option<Make>
 pub fn create_in(values: &Parsed<'_>) -> Option<Command>
     ensures change { result ≡ create_in (rows values.now) }
     ensures name { IfSome result HasGoodName }
+    ensures plain { IfSome result IsPlain }
 {
     let uuid = values.uuid("uuid")?;
     let name = named(values.value("name")?);
@@ -63,6 +66,7 @@ pub fn create_in(values: &Parsed<'_>) -> Option<Command>
 pub fn delete_in(values: &Parsed<'_>) -> Option<Command>
     ensures change { result ≡ delete_in (rows values.now) }
     ensures name { IfSome result HasGoodName }
+    ensures plain { IfSome result IsPlain }
 {
     let uuid = values.uuid("uuid")?;
     Some(Command::Delete { uuid })
@@ -73,6 +77,7 @@ pub fn delete_in(values: &Parsed<'_>) -> Option<Command>
 pub fn rename_in(values: &Parsed<'_>) -> Option<Command>
     ensures change { result ≡ rename_in (rows values.now) }
     ensures name { IfSome result HasGoodName }
+    ensures plain { IfSome result IsPlain }
 {
     let uuid = values.uuid("uuid")?;
     let name = named(values.value("name")?);

@@ -1,0 +1,5 @@
+pub mod Causes
+mod Contents
+mod Saved
+mod Goes
+mod Held

@@ -1,0 +1,4 @@
+pub mod Parts
+pub mod Sectors
+pub mod Going
+pub mod Words
