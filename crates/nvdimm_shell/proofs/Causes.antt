@@ -32,7 +32,7 @@ use Rattle.shell_namespaces.specs.Areas.{areas_in}
 use Rattle.shell_namespaces.specs.Refusals.{refused_outcome}
 use Rattle.shell_namespaces.specs.Namespaces as namespaces
 use Rattle.sector_creation.specs.declared.new_sectors.NewSectors.{NewSectors}
-use Rattle.shell_sector_creation.proofs.Causes.{CreateCase, barred, create_case, cut_off, faulty_set, made}
+use Rattle.shell_sector_creation.proofs.Causes.{CreateCase, create_case, create_cut, create_faulty, create_made, create_refused}
 use Rattle.shell_namespaces.specs.Namespaces.{sets_in, refusal_in, changes_in, refuses_by}
 use Rattle.nvdimm_shell.specs.Words.{command_of}
 use Rattle.shell_answers.specs.Outcome.{Outcome, usage, printed, status_of}
@@ -160,10 +160,10 @@ module _ (c : NamespaceCommand) (power : Power) (loaded : ImageSet) (outcome : O
 -- ---- a namespace of sectors that is made
 
 sectors_made : (new : NewSectors) (power : Power) (loaded : ImageSet) (outcome : Outcome) → CreateCase new power loaded outcome → CommandCase (CreateSectors new power) (Ok loaded) outcome.ending
-sectors_made new power loaded outcome (faulty_set fault are e) = is_refused (fault, are) e
-sectors_made new power loaded outcome (made sets are long allowed e) = is_done (sets, are) long allowed e
-sectors_made new power loaded outcome (barred sets are long refused e) = is_turned_down (sets, are) long refused e
-sectors_made new power loaded outcome (cut_off sets are short e) = is_cut_short (sets, are) short e
+sectors_made new power loaded outcome (create_faulty fault are e) = is_refused (fault, are) e
+sectors_made new power loaded outcome (create_made sets are long allowed e) = is_done (sets, are) long allowed e
+sectors_made new power loaded outcome (create_refused sets are long refused e) = is_turned_down (sets, are) long refused e
+sectors_made new power loaded outcome (create_cut sets are short e) = is_cut_short (sets, are) short e
 
 -- ---- the arenas of a namespace
 

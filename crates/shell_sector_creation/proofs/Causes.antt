@@ -26,10 +26,10 @@ use Rattle.shell_sector_creation.specs.Sectors.{Labels, Makes, OnRecovered, OnSe
 
 -- the sets have a fault; the namespace is made; it is refused; power is cut
 pub data CreateCase (new : NewSectors) (power : Power) (loaded : ImageSet) (outcome : Outcome) : Type 0 where
-  faulty_set : (fault : OpenFault) → sets_in loaded ≡ Err fault → outcome.ending ≡ ending.Image → CreateCase new power loaded outcome
-  made : (sets : List (List Mapping)) → sets_in loaded ≡ Ok sets → is_short loaded new power.steps ≡ false → refuses loaded new ≡ false → outcome.ending ≡ ending.Done → CreateCase new power loaded outcome
-  barred : (sets : List (List Mapping)) → sets_in loaded ≡ Ok sets → is_short loaded new power.steps ≡ false → refuses loaded new ≡ true → outcome.ending ≡ ending.Refused → CreateCase new power loaded outcome
-  cut_off : (sets : List (List Mapping)) → sets_in loaded ≡ Ok sets → is_short loaded new power.steps ≡ true → outcome.ending ≡ ending.PowerCut → CreateCase new power loaded outcome
+  create_faulty : (fault : OpenFault) → sets_in loaded ≡ Err fault → outcome.ending ≡ ending.Image → CreateCase new power loaded outcome
+  create_made : (sets : List (List Mapping)) → sets_in loaded ≡ Ok sets → is_short loaded new power.steps ≡ false → refuses loaded new ≡ false → outcome.ending ≡ ending.Done → CreateCase new power loaded outcome
+  create_refused : (sets : List (List Mapping)) → sets_in loaded ≡ Ok sets → is_short loaded new power.steps ≡ false → refuses loaded new ≡ true → outcome.ending ≡ ending.Refused → CreateCase new power loaded outcome
+  create_cut : (sets : List (List Mapping)) → sets_in loaded ≡ Ok sets → is_short loaded new power.steps ≡ true → outcome.ending ≡ ending.PowerCut → CreateCase new power loaded outcome
 
 ending_of : (a b : Outcome) → a ≡ b → a.ending ≡ b.ending
 ending_of a b is = ap (λ (o : Outcome). o.ending) is
@@ -90,32 +90,32 @@ module _ (new : NewSectors) (power : Power) (loaded : ImageSet) (outcome : Outco
   labels_case rows none one two true long ends =
       let all : lasts power.steps (steps_on sets seen new) ≡ true = own_lasts None none one ∙ lasts_both (burnt power.steps first) format (label_steps ns mid new) two ∙ long in
       let saved = rw long at ends in
-      made sets are (short_is true all) (refuses_is None none) (saved.saves.ends)
+      create_made sets are (short_is true all) (refuses_is None none) (saved.saves.ends)
   labels_case rows none one two false short ends =
       let all : lasts power.steps (steps_on sets seen new) ≡ false = own_lasts None none one ∙ lasts_both (burnt power.steps first) format (label_steps ns mid new) two ∙ short in
       let cut = rw short at ends in
-      cut_off sets are (short_is false all) (cut.saved.saves.ends)
+      create_cut sets are (short_is false all) (cut.saved.saves.ends)
 
   format_case : (rows : List (List ℕ)) → refused_on sets seen new ≡ None → lasts power.steps first ≡ true → (b : Bool) → lasts (burnt power.steps first) format ≡ b
       → MatchBool b (Labels ns loaded mid rows (burnt (burnt power.steps first) format) new power outcome) (SavesParts ending.PowerCut (cut_text power.steps) loaded mid rows outcome) → CreateCase new power loaded outcome
   format_case rows none one true two ends = labels_case rows none one two (lasts (burnt (burnt power.steps first) format) (label_steps ns mid new)) refl ends
   format_case rows none one false short cut =
-      cut_off sets are (short_is false (own_lasts None none one ∙ short_first (burnt power.steps first) format (label_steps ns mid new) short)) cut.saves.ends
+      create_cut sets are (short_is false (own_lasts None none one ∙ short_first (burnt power.steps first) format (label_steps ns mid new) short)) cut.saves.ends
 
   recovered_case : (o : Option OpRefused) → refused_on sets seen new ≡ o → lasts power.steps first ≡ true
       → MatchOption o (Makes ns loaded mid (burnt power.steps first) new power outcome) (λ refused. outcome ≡ refused_outcome refused) → CreateCase new power loaded outcome
   recovered_case None none one makes = format_case makes.rows none one (lasts (burnt power.steps first) format) refl makes.ends
   recovered_case (Some f) some one said =
-      barred sets are (short_is true (ap (lasts power.steps) (steps_are (Some f) some) ∙ lasts_none power.steps first one)) (refuses_is (Some f) some) (ending_of outcome (refused_outcome f) said)
+      create_refused sets are (short_is true (ap (lasts power.steps) (steps_are (Some f) some) ∙ lasts_none power.steps first one)) (refuses_is (Some f) some) (ending_of outcome (refused_outcome f) said)
 
   goes_case : (b : Bool) → lasts power.steps first ≡ b
       → MatchBool b (OnRecovered ns loaded mid (burnt power.steps first) new power outcome) (IsCut loaded seen (recovery_changes sets seen) power outcome) → CreateCase new power loaded outcome
   goes_case true one recovered = recovered_case (refused_on sets seen new) refl one recovered
-  goes_case false short cut = cut_off sets are (short_is false (short_first power.steps first (own_steps ns mid new (refused_on sets seen new)) short)) cut.saves.ends
+  goes_case false short cut = create_cut sets are (short_is false (short_first power.steps first (own_steps ns mid new (refused_on sets seen new)) short)) cut.saves.ends
 
 sets_case : (new : NewSectors) (power : Power) (loaded : ImageSet) (outcome : Outcome) (found : Result (List (List Mapping)) OpenFault) → sets_in loaded ≡ found → OnSets loaded new power found outcome → CreateCase new power loaded outcome
 sets_case new power loaded outcome (Ok sets) are goes = goes_case new power loaded outcome sets are (lasts power.steps (steps_of_all (areas_in loaded.labels) (recovery_changes sets (areas_in loaded.labels)))) refl goes
-sets_case new power loaded outcome (Err fault) are said = faulty_set fault are (ending_of outcome (open_outcome fault) said)
+sets_case new power loaded outcome (Err fault) are said = create_faulty fault are (ending_of outcome (open_outcome fault) said)
 
 pub create_case : (new : NewSectors) (power : Power) (loaded : ImageSet) (outcome : Outcome) → SectorsCome new power loaded outcome → CreateCase new power loaded outcome
 create_case new power loaded outcome comes = sets_case new power loaded outcome (sets_in loaded) refl comes
