@@ -2,14 +2,14 @@
 # For each new shell: copy it to ~/.local/share/bash-completion/completions/nvd.
 #
 # It offers directories that have image sets for IN, `-` or a name for OUT, the commands, the options of the command that aren't
-# given yet, and what follows an option where that is a short list: a mode, the modules of IN, a region. UUIDs come from the
+# given yet, and what follows an option where that is a short list: a mode, a sector size, the modules of IN, a region. UUIDs come from the
 # labels of IN, by `nvd IN - list`, only where NVD_COMPLETE_UUIDS=1 is set and a proved build is there: that runs the program.
 
 # the options of a command that the line doesn't have yet
 _nvd_options() {
     local options='' option
     case $1 in
-    create) options='--uuid --name --region --size --mode --cut --evict' ;;
+    create) options='--uuid --name --region --size --mode --sector --lanes --cut --evict' ;;
     init | delete | rename) options='--cut --evict' ;;
     esac
     for option in $options; do
@@ -101,9 +101,10 @@ _nvd() {
         ;;
     esac
     case $before in
-    --mode) _nvd_words raw "$current" ;;
+    --mode) _nvd_words 'raw sector' "$current" ;;
     --region) _nvd_words 0 "$current" ;;
-    --uuid | --name | --size | --cut | --evict) ;;
+    --sector) _nvd_words '512 520 528 4096 4104 4160 4224' "$current" ;;
+    --uuid | --name | --size | --lanes | --cut | --evict) ;;
     *)
         case $command,$(_nvd_place),$current in
         *,*,-*) _nvd_words "$(_nvd_options "$command")" "$current" ;;
