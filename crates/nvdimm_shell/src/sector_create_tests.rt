@@ -1,6 +1,6 @@
 //! Runs of `create --mode sector` over forms in memory, and what `list`, `info` and `read` say then. The numbers of steps, sectors
 //! and blocks come from a script that knows the layout's rule (Linux's `alloc_arena`).
-use crate::change_tests::{AfterRun, FIRST, copied, listed, ran};
+use crate::change_tests::{FIRST, copied, listed, ran};
 use crate::sets::{pair, table_of};
 use crate::tables::{ONE_WAY, TWO_WAY};
 use crate::tests::quiet;
@@ -49,26 +49,6 @@ fn single<R: Threads + Wait + Sync>(rt: &R, alloc: Global) -> Result<Vec<Stored>
     fresh(rt, alloc, ONE_WAY, 1, 16 << 20, 1024)
 }
 
-/// A create of 16 MiB with some words more.
-fn create<R: Threads + Wait + Sync>(
-    rt: &R,
-    alloc: Global,
-    size: &str,
-    more: &[&str],
-    objects: &[Stored],
-    stays: bool,
-) -> Result<AfterRun, AllocError> {
-    let mut words = Vec::new(alloc);
-    for word in [
-        "create", "--uuid", FIRST, "--name", "a", "--region", "0", "--size", size, "--mode",
-        "sector",
-    ] {
-        words.push(word)?;
-    }
-    words.extend_from_slice(more)?;
-    ran(rt, alloc, &words, objects, stays)
-}
-
 const WHOLE: &str =
     "ns 11111111-1111-4111-8111-111111111111 \"a\" region 0 mode sector lba 512 size 16777216 complete\nextent 0 0 16777216\n";
 
@@ -86,7 +66,11 @@ fn a_label_comes_when_the_arena_is_whole(rt: HostRuntime) -> Result<(), AllocErr
         ("39041", true, Status::PowerCut, WHOLE),
         ("39042", false, Status::Ok, WHOLE),
     ] {
-        let got = create(&rt, alloc, "16777216", &["--cut", cut], &objects, stays)?;
+        let words = [
+            "create", "--uuid", FIRST, "--name", "a", "--region", "0", "--size", "16777216",
+            "--mode", "sector", "--cut", cut,
+        ];
+        let got = ran(&rt, alloc, &words, &objects, stays)?;
         assert_eq!(rt; got.status, status);
         assert_eq!(rt; listed(&rt, alloc, &got.objects)?.as_str(), left);
     }
@@ -98,21 +82,17 @@ fn a_label_comes_when_the_arena_is_whole(rt: HostRuntime) -> Result<(), AllocErr
 fn sizes_for_which_no_arena_is_planned(rt: HostRuntime) -> Result<(), AllocError> {
     let alloc = rt.alloc();
     let objects = single(&rt, alloc)?;
-    let cases: [(&str, &[&str], &str); 3] = [
-        ("16773120", &[], "refused BadSize 16773120\n"),
-        (
-            "16777216",
-            &["--sector", "513"],
-            "refused BadSize 16777216\n",
-        ),
-        (
-            "16777216",
-            &["--sector=4294967295"],
-            "refused BadSize 16777216\n",
-        ),
+    let cases = [
+        ("16773120", "512", "refused BadSize 16773120\n"),
+        ("16777216", "513", "refused BadSize 16777216\n"),
+        ("16777216", "4294967295", "refused BadSize 16777216\n"),
     ];
-    for (size, more, text) in cases {
-        let got = create(&rt, alloc, size, more, &objects, false)?;
+    for (size, sector, text) in cases {
+        let words = [
+            "create", "--uuid", FIRST, "--name", "a", "--region", "0", "--size", size, "--mode",
+            "sector", "--sector", sector,
+        ];
+        let got = ran(&rt, alloc, &words, &objects, false)?;
         assert_eq!(rt; got.status, Status::Refused);
         assert_eq!(rt; got.text.as_str(), text);
         assert_eq!(rt; got.objects.len(), 0);
@@ -136,11 +116,19 @@ fn a_format_on_two_modules(rt: HostRuntime) -> Result<(), AllocError> {
         ("72199", false, Status::PowerCut, PENDING),
         ("72199", true, Status::PowerCut, COMPLETE),
     ] {
-        let got = create(&rt, alloc, "33554432", &["--cut", cut], &objects, stays)?;
+        let words = [
+            "create", "--uuid", FIRST, "--name", "a", "--region", "0", "--size", "33554432",
+            "--mode", "sector", "--cut", cut,
+        ];
+        let got = ran(&rt, alloc, &words, &objects, stays)?;
         assert_eq!(rt; got.status, status);
         assert_eq!(rt; listed(&rt, alloc, &got.objects)?.as_str(), left);
     }
-    let got = create(&rt, alloc, "33554432", &[], &objects, false)?;
+    let words = [
+        "create", "--uuid", FIRST, "--name", "a", "--region", "0", "--size", "33554432", "--mode",
+        "sector",
+    ];
+    let got = ran(&rt, alloc, &words, &objects, false)?;
     assert_eq!(rt; got.status, Status::Ok);
     let info = quiet(&rt, alloc, &["info", FIRST], copied(alloc, &got.objects)?)?.1;
     assert_eq!(rt;
@@ -162,14 +150,11 @@ fn sizes<R: Threads + Wait + Sync>(
     let objects = single(rt, alloc)?;
     let mut right = true;
     for (sector, last, info) in counts {
-        let made = create(
-            rt,
-            alloc,
-            "16777216",
-            &["--sector", sector, "--lanes", lanes],
-            &objects,
-            false,
-        )?;
+        let words = [
+            "create", "--uuid", FIRST, "--name", "a", "--region", "0", "--size", "16777216",
+            "--mode", "sector", "--sector", sector, "--lanes", lanes,
+        ];
+        let made = ran(rt, alloc, &words, &objects, false)?;
         let shown = quiet(rt, alloc, &["info", FIRST], copied(alloc, &made.objects)?)?.1;
         let read = quiet(rt, alloc, &["read", FIRST, last], made.objects)?.1;
         right = right && shown.as_str() == info && read.as_str() == "ok fill:00\n";

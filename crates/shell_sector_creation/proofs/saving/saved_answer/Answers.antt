@@ -14,19 +14,19 @@ pub new-requires-2 : goal.new-requires-2
 new-requires-2 g c =
     let labels = c.in_ok-labels.labels in
     let is : labels ≡ map words_of c.args.areas = c.in_ok-labels.ensures ∙ ap (map words_of) c.into_vec.ensures in
-    can_be_saved c.args.rest labels c.in_ok-images.images c.in_ok-images.ensures.left c.requires.bad c.requires.few (ap length is ∙ length-map c.args.areas words_of ∙ c.requires.count)
+    can_be_saved c.args.rest labels c.in_ok-images.images (c.in_ok-images.ensures.alone c.new.ensures.items).1 c.requires.bad c.requires.few (ap length is ∙ length-map c.args.areas words_of ∙ c.requires.count)
 
 pub returns : goal.returns
 returns g c =
     let labels = c.in_ok-labels.labels in
     let images = c.in_ok-images.images in
     let is : labels ≡ map words_of c.args.areas = c.in_ok-labels.ensures ∙ ap (map words_of) c.into_vec.ensures in
-    let same = same_objects c.args.rest labels images c.in_ok-images.ensures.left in
+    let same = same_objects c.args.rest labels images (c.in_ok-images.ensures.alone c.new.ensures.items).1 in
     record {
       labels = images.labels;
-      kept = subst (λ ls. Each IsLeftOf ls images.labels) is c.in_ok-images.ensures.left.labels;
+      kept = subst (λ ls. Each IsLeftOf ls images.labels) is (c.in_ok-images.ensures.alone c.new.ensures.items).1.labels;
       rows = images.contents;
-      left = c.in_ok-images.ensures.left.contents;
+      left = (c.in_ok-images.ensures.alone c.new.ensures.items).1.contents;
       saves = record {
         ends = refl;
         says = refl;
