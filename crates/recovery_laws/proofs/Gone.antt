@@ -104,7 +104,7 @@ pub append_all : {X : Type 0} (P : X → Type 0) (xs ys : List X) → AllByRecur
 append_all P [] ys all more = more
 append_all P (x ∷ xs) ys (one, rest) more = (one, append_all P xs ys rest more)
 
-is_unfinished_is : (s : SetStatus) → is_unfinished s ≡ true → s ≡ Unfinished
+pub is_unfinished_is : (s : SetStatus) → is_unfinished s ≡ true → s ≡ Unfinished
 is_unfinished_is Unfinished e = refl
 is_unfinished_is (Complete name pending) e = absurd (false≢true e)
 is_unfinished_is Local e = absurd (false≢true e)
@@ -125,7 +125,7 @@ still_found sets left areas v (f ∷ fs) (less, above) same (one, rest) = (found
 pub own_labels_same : (left areas : List (Option Area)) (u : List ℕ) → own_of u left ≡ own_of u areas → own_labels left u ≡ own_labels areas u
 own_labels_same left areas u same = ap (λ (own : List Placed). map (λ p. (p.«module», p.label)) (by_position own)) same
 
-same_gone : (left areas : List (Option Area)) (v : List ℕ) (es : List Entry) → Above v es → ((u : List ℕ) → u ≢ v → own_of u left ≡ own_of u areas) → flat_map (gone_changes areas) es ≡ flat_map (gone_changes left) es
+pub same_gone : (left areas : List (Option Area)) (v : List ℕ) (es : List Entry) → Above v es → ((u : List ℕ) → u ≢ v → own_of u left ≡ own_of u areas) → flat_map (gone_changes areas) es ≡ flat_map (gone_changes left) es
 same_gone left areas v [] above same = refl
 same_gone left areas v (f ∷ fs) (less, above) same =
     ap (λ (xs : List Change). xs ++ flat_map (gone_changes areas) fs) (ap (λ (qs : List (ℕ × Label)). cond (is_unfinished f.status) (map (change_to (λ l. None)) qs) []) (sym (own_labels_same left areas f.uuid (same f.uuid (above_apart v f.uuid less)))))

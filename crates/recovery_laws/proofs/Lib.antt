@@ -5,3 +5,8 @@ pub mod Settle
 pub mod SettleEntry
 pub mod SettleAll
 pub mod RecoveryLaw
+pub mod Fronts
+pub mod SettleFront
+pub mod Unfinished
+pub mod GoneFront
+pub mod Cuts

@@ -1,8 +1,8 @@
 -- The labels of a UUID that no module has twice, in the order of their positions.
-use Rattle.std.proofs.Common.{◌≡◌, ◌≢◌, ℕ, Bool, true, false, List, ◌∷◌, Option, Some, None, refl, sym, ap, ◌∙◌, inl, inr}
+use Rattle.std.proofs.Common.{◌≡◌, ◌≢◌, ℕ, ◌+◌, Bool, true, false, List, ◌∷◌, length, Option, Some, None, refl, sym, ap, ◌∙◌, subst, arith, inl, inr}
 use Rattle.std.specs.Prelude.{filter, slice_get, unwrap_or}
 use Rattle.std.specs.Option.{option_map}
-use Rattle.std.specs.List.{AllByRecursion, list_any}
+use Rattle.std.specs.List.{AllByRecursion, Contains, list_any, range_with_len}
 use Rattle.std.proofs.lemmas.Bool.{cases_Bool, eq-eqb}
 use Rattle.std.proofs.lemmas.Option.{none-some, same_Some}
 use Rattle.nvd_words.specs.Checks.{first_fault, fault_if}
@@ -21,13 +21,16 @@ use Rattle.namespace_changes.specs.Areas.{Area}
 use Rattle.namespace_changes.specs.Changes.{own_labels, by_position}
 use Rattle.namespace_changes.proofs.Areas.{Proper}
 use Rattle.change_laws.specs.Left.{AreRead}
-use Rattle.change_laws.proofs.Whole.{own_of, IsBy, slot_on, all_by, any_of}
+use Rattle.namespace_changes.proofs.Labels.{placed_at}
+use Rattle.change_laws.proofs.Whole.{AllLab, own_of, IsBy, slot_on, all_by, any_of}
+use Rattle.change_laws.proofs.Agree.{own_by, placed_by}
+use Rattle.change_laws.proofs.Standing.{all_contained}
 use Rattle.change_laws.proofs.Apart.{on_module, own_apart}
 use Rattle.change_laws.proofs.Staged.{Apart, names, all_map}
 use Rattle.change_laws.proofs.Sets.{unmapped}
 use Rattle.change_laws.proofs.Position.{by_position_all, by_position_any, by_position_apart, pair_of, pairs_apart, pairs_named}
 use Rattle.change_laws.proofs.Proper.{lab_of, proper_of, slots_of_lab}
-use Rattle.change_laws.proofs.Shaped.{least_nothing, lies_there}
+use Rattle.change_laws.proofs.Shaped.{least_nothing, lies_there, in_filter, in_range}
 
 -- no module has two
 abbrev pub IsOnce : List Placed → Type 0
@@ -52,6 +55,19 @@ module _ (uuid : List ℕ) (areas : List (Option Area)) (read : AreRead areas) (
       pairs_named (by_position (own_of uuid areas)) m
       (by_position_any (on_module m) (own_of uuid areas) (any_of uuid lab areas m l (on_module m) proper (lies_there uuid lab areas proper m l here) here (λ s. eq-eqb m m refl)))
 
+  -- what holds of each label in the list holds of that on each module
+  pub each_lab : (Q : ℕ → Label → Type 0) → AllByRecursion (λ p. Q p.«module» p.label) (own_of uuid areas) → AllLab Q lab
+  each_lab Q all m l here =
+      subst (λ (x : Label). Q m x) (sym (slots_of_lab uuid areas read once m l here))
+      (all_contained (λ p. Q p.«module» p.label) (own_of uuid areas) (placed_at m (slot_on uuid areas m) (record l { slot = slot_on uuid areas m })) all
+      (subst (λ (xs : List Placed). Contains xs (placed_at m (slot_on uuid areas m) (record l { slot = slot_on uuid areas m }))) (sym (own_by uuid lab areas proper))
+      (in_filter (placed_by lab (slot_on uuid areas)) (range_with_len 0 (length areas)) m _
+      (subst (Contains (range_with_len 0 (length areas))) (zero_more m) (in_range (length areas) 0 m (lies_there uuid lab areas proper m l here)))
+      (ap (option_map (λ k. placed_at m (slot_on uuid areas m) (record k { slot = slot_on uuid areas m }))) here))))
+    where
+      zero_more : (m : ℕ) → 0 + m ≡ m
+      zero_more m = omega arith
+
   pub apart : Apart (own_labels areas uuid)
   apart = pairs_apart (by_position (own_of uuid areas)) (by_position_apart (own_of uuid areas) (own_apart uuid lab areas proper))
 
@@ -66,7 +82,7 @@ second_of os None None s e not_a not_b = refl
 second_of os None (Some y) s e not_a not_b = absurd (not_b y refl (same_Some y s e))
 second_of os (Some x) b s e not_a not_b = absurd (not_a x refl (same_Some x s e))
 
-not_unfinished : (own : List Placed) → naming_of own ≡ Unfinished → ⊥
+pub not_unfinished : (own : List Placed) → naming_of own ≡ Unfinished → ⊥
 not_unfinished own e = by (agreed_name own) e
   where
     half : (a b : Option (List ℕ)) → half_named a b ≡ Unfinished → ⊥

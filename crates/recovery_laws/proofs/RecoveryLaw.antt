@@ -35,7 +35,7 @@ namespaces_same a b e f g h =
     ∙ ap (λ (cs : List (List ℕ × ℕ)). record b { claims = cs }) h
 
 -- each entry of a rising list is found under its UUID
-self_found : (es : List Entry) → IsRising es → AllByRecursion (λ (e : Entry). lookup e.uuid es ≡ Some e) es
+pub self_found : (es : List Entry) → IsRising es → AllByRecursion (λ (e : Entry). lookup e.uuid es ≡ Some e) es
 self_found [] rising = tt
 self_found (e ∷ es) (above, rising) = (rw ((bytes_eq-Decides e.uuid e.uuid).1 refl) refl, later es above (self_found es rising))
   where

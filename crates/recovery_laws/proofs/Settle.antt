@@ -1,9 +1,9 @@
 -- The label changes that settle one complete entry.
-use Rattle.std.proofs.Common.{◌≡◌, ◌≢◌, ℕ, ◌%◌, ◌<◌, Bool, true, false, cond, List, [], ◌∷◌, Option, Some, None, refl, sym, ap, ◌∙◌, subst, arith, inl, inr, ◌⊎◌}
+use Rattle.std.proofs.Common.{◌≡◌, ◌≤◌, ◌≢◌, ℕ, ◌%◌, ◌<◌, Bool, true, false, cond, List, [], ◌∷◌, Option, Some, None, refl, sym, ap, ◌∙◌, subst, arith, inl, inr, ◌⊎◌}
 use Rattle.std.specs.Prelude.{◌==◌, ◌&&◌, not, nat_le, map, filter, find}
 use Rattle.std.specs.Option.{option_map}
 use Rattle.std.specs.List.{AllByRecursion, list_any, filter_map}
-use Rattle.std.proofs.lemmas.Bool.{cases_Bool, cases_eq, false≢true, eq-eqb, ne_eqb, and_parts, leb-true, leb-false, or_parts}
+use Rattle.std.proofs.lemmas.Bool.{cases_Bool, cases_eq, false≢true, eq-eqb, ne_eqb, and_parts, leb-true, leb-false, or_parts, and_right}
 use Rattle.std.proofs.lemmas.Option.{none-some, same_Some}
 use Rattle.label_codec.specs.declared.label.Label.{Label}
 use Rattle.label_set.specs.declared.placed.Placed.{Placed}
@@ -115,12 +115,14 @@ filter_both s t u same (n ∷ ns) = by (cases_Bool (t n)) (cases_Bool (s n)) (fi
 -- ---- the labels after
 
 module _ (uuid name : List ℕ) (areas : List (Option Area)) (lab : ℕ → Option Label) (proper : Proper uuid lab areas) (labels : AllByRecursion (λ p. lab p.0 ≡ Some p.1) (own_labels areas uuid))
-    (only : (m : ℕ) (l : Label) → lab m ≡ Some l → names (own_labels areas uuid) m ≡ true) where
+    (only : (m : ℕ) (l : Label) → lab m ≡ Some l → names (own_labels areas uuid) m ≡ true)
+    -- which of the unsettled labels are settled
+    (t : ℕ × Label → Bool) (may : (p : ℕ × Label) → t p ≡ true → is_unsettled areas p ≡ true) where
   abbrev pub to_named : Label → Option Label
   to_named l = Some (with_name name (settled l))
 
   abbrev pub qs : List (ℕ × Label)
-  qs = filter (is_unsettled areas) (own_labels areas uuid)
+  qs = filter t (own_labels areas uuid)
 
   abbrev pub cs : List Change
   cs = map (change_to to_named) qs
@@ -130,22 +132,22 @@ module _ (uuid name : List ℕ) (areas : List (Option Area)) (lab : ℕ → Opti
 
   -- what a module's label becomes
   abbrev pub step_of : ℕ → Label → Label
-  step_of m l = cond (is_unsettled areas (m, l)) (with_name name (settled l)) l
+  step_of m l = cond (t (m, l)) (with_name name (settled l)) l
 
   keeps : KeepsUuid to_named
   keeps l l' is = ap (λ (k : Label). k.uuid) (sym (same_Some (with_name name (settled l)) l' is))
 
-  unsettled : AllByRecursion (λ q. (lab q.0 ≡ Some q.1) × (is_unsettled areas q ≡ true)) qs
-  unsettled = all_filter (λ p. lab p.0 ≡ Some p.1) (is_unsettled areas) (own_labels areas uuid) labels
+  unsettled : AllByRecursion (λ q. (lab q.0 ≡ Some q.1) × (t q ≡ true)) qs
+  unsettled = all_filter (λ p. lab p.0 ≡ Some p.1) t (own_labels areas uuid) labels
 
   given : AllByRecursion (IsGiven uuid lab areas) qs
   given =
-      all_pass_to (λ q. (lab q.0 ≡ Some q.1) × (is_unsettled areas q ≡ true)) (IsGiven uuid lab areas)
+      all_pass_to (λ q. (lab q.0 ≡ Some q.1) × (t q ≡ true)) (IsGiven uuid lab areas)
       (λ q both. (
         proper.named q.0 q.1 both.0,
         record {
           there = lies_there uuid lab areas proper q.0 q.1 both.0;
-          room = let free = leb-true 1 (free_in (slots_on areas q.0)) (and_parts (changes_now q.1) (nat_le 1 (free_in (slots_on areas q.0))) both.1).1 in let o = ap owned both.0 in omega (arith, free, o);
+          room = let free = leb-true 1 (free_in (slots_on areas q.0)) (and_parts (changes_now q.1) (nat_le 1 (free_in (slots_on areas q.0))) (may q both.1)).1 in let o = ap owned both.0 in omega (arith, free, o);
         },
       )) qs unsettled
 
@@ -155,7 +157,7 @@ module _ (uuid name : List ℕ) (areas : List (Option Area)) (lab : ℕ → Opti
   pub bytes : AllLab (λ m l. 0 < l.raw) lab → AllByRecursion PutsBytes cs
   bytes some =
       all_map PutsBytes (change_to to_named) qs
-      (all_pass_to (λ q. (lab q.0 ≡ Some q.1) × (is_unsettled areas q ≡ true)) (λ q. PutsBytes (change_to to_named q))
+      (all_pass_to (λ q. (lab q.0 ≡ Some q.1) × (t q ≡ true)) (λ q. PutsBytes (change_to to_named q))
       (λ q both l is. subst (λ (x : Label). 0 < x.raw) (same_Some (with_name name (settled q.1)) l is) (some q.0 q.1 both.0)) qs unsettled)
 
   pub proper_then : Proper uuid lab_then (all_changed areas cs)
@@ -164,20 +166,20 @@ module _ (uuid name : List ℕ) (areas : List (Option Area)) (lab : ℕ → Opti
   pub lab_is : (m : ℕ) → lab_then m ≡ option_map (step_of m) (lab m)
   lab_is m = elim (cases_Bool (names qs m)) [
     | inl it ↦
-        by (moved_hit (λ n o. (l : Label) × (lab n ≡ Some l) × (is_unsettled areas (n, l) ≡ true) × (o ≡ Some (with_name name (settled l)))) to_named qs lab m it
-        (all_pass_to (λ q. (lab q.0 ≡ Some q.1) × (is_unsettled areas q ≡ true)) (λ q. (l : Label) × (lab q.0 ≡ Some l) × (is_unsettled areas (q.0, l) ≡ true) × (to_named q.1 ≡ Some (with_name name (settled l))))
+        by (moved_hit (λ n o. (l : Label) × (lab n ≡ Some l) × (t (n, l) ≡ true) × (o ≡ Some (with_name name (settled l)))) to_named qs lab m it
+        (all_pass_to (λ q. (lab q.0 ≡ Some q.1) × (t q ≡ true)) (λ q. (l : Label) × (lab q.0 ≡ Some l) × (t (q.0, l) ≡ true) × (to_named q.1 ≡ Some (with_name name (settled l))))
         (λ q both. (q.1, both.0, both.1, refl)) qs unsettled))
     | inr not_it ↦ moved_miss to_named qs lab m (unnamed qs m not_it) ∙ stays (lab m) refl not_it
   ]
     where
-      by : (l : Label) × (lab m ≡ Some l) × (is_unsettled areas (m, l) ≡ true) × (lab_then m ≡ Some (with_name name (settled l))) → lab_then m ≡ option_map (step_of m) (lab m)
+      by : (l : Label) × (lab m ≡ Some l) × (t (m, l) ≡ true) × (lab_then m ≡ Some (with_name name (settled l))) → lab_then m ≡ option_map (step_of m) (lab m)
       by (l, at, t, is) = is ∙ sym (ap (option_map (step_of m)) at ∙ ap (λ (b : Bool). Some (cond b (with_name name (settled l)) l)) t)
 
       stays : (o : Option Label) → lab m ≡ o → names qs m ≡ false → lab m ≡ option_map (step_of m) (lab m)
       stays None at none = at ∙ sym (ap (option_map (step_of m)) at)
       stays (Some l) at none =
           at ∙ sym (ap (option_map (step_of m)) at
-          ∙ ap (λ (b : Bool). Some (cond b (with_name name (settled l)) l)) (filter_unnamed (is_unsettled areas) lab m l at (own_labels areas uuid) labels (only m l at) none))
+          ∙ ap (λ (b : Bool). Some (cond b (with_name name (settled l)) l)) (filter_unnamed t lab m l at (own_labels areas uuid) labels (only m l at) none))
 
   -- as many slots are free as before
   pub free_same : (i : ℕ) → free_in (slots_on (all_changed areas cs) i) ≡ free_in (slots_on areas i)
@@ -190,7 +192,7 @@ module _ (uuid name : List ℕ) (areas : List (Option Area)) (lab : ℕ → Opti
       same (Some l) = refl
 
   step_like : (m : ℕ) (l : Label) → IsLike l (step_of m l)
-  step_like m l = elim (cases_Bool (is_unsettled areas (m, l))) [
+  step_like m l = elim (cases_Bool (t (m, l))) [
     | inl it ↦ rw it (like_like l (settled l) (with_name name (settled l)) (like_settled l) (like_named (settled l) name))
     | inr not_it ↦ rw not_it (like_self l)
   ]
@@ -206,29 +208,53 @@ module _ (uuid name : List ℕ) (areas : List (Option Area)) (lab : ℕ → Opti
   pub like_lab : (m : ℕ) (k : Label) → lab_then m ≡ Some k → (l : Label) × (lab m ≡ Some l) × IsLike l k
   like_lab m k is = let f = from_lab m k is in (f.0, f.1, subst (IsLike f.0) (sym f.2) (step_like m f.0))
 
-  upd_step : (m : ℕ) (l : Label) → changes_now (step_of m l) ≡ (changes_now l && (free_in (slots_on areas m) == 0))
-  upd_step m l = by (cases_Bool (changes_now l)) (cases_Bool (nat_le 1 (free_in (slots_on areas m))))
+  -- it changes no more, where it is settled
+  upd_step : (m : ℕ) (l : Label) → changes_now (step_of m l) ≡ (changes_now l && not (t (m, l)))
+  upd_step m l = elim (cases_Bool (t (m, l))) [
+    | inl it ↦ rw it (settled_doesnt l ∙ sym (and_right (changes_now l) false refl))
+    | inr not_it ↦ rw not_it (sym (and_true (changes_now l)))
+  ]
     where
-      by : (changes_now l ≡ true) ⊎ (changes_now l ≡ false) → (nat_le 1 (free_in (slots_on areas m)) ≡ true) ⊎ (nat_le 1 (free_in (slots_on areas m)) ≡ false)
-          → changes_now (step_of m l) ≡ (changes_now l && (free_in (slots_on areas m) == 0))
-      by (inl a) (inl b) =
-          let some : (free_in (slots_on areas m) == 0) ≡ false = ne_eqb (free_in (slots_on areas m)) 0 (λ z. let f = leb-true 1 (free_in (slots_on areas m)) b in omega arith) in
-          let t : is_unsettled areas (m, l) ≡ true = rw (a, b) refl in
-          ap (λ (c : Bool). changes_now (cond c (with_name name (settled l)) l)) t ∙ settled_doesnt l ∙ sym (rw (a, some) refl)
-      by (inl a) (inr b) =
-          let none : (free_in (slots_on areas m) == 0) ≡ true = eq-eqb (free_in (slots_on areas m)) 0 (let f = leb-false 1 (free_in (slots_on areas m)) b in omega (arith, f)) in
-          let t : is_unsettled areas (m, l) ≡ false = rw (a, b) refl in
-          ap (λ (c : Bool). changes_now (cond c (with_name name (settled l)) l)) t ∙ a ∙ sym (rw (a, none) refl)
-      by (inr a) which =
-          let t : is_unsettled areas (m, l) ≡ false = rw a refl in
-          ap (λ (c : Bool). changes_now (cond c (with_name name (settled l)) l)) t ∙ a ∙ sym (rw a refl)
+      and_true : (b : Bool) → (b && true) ≡ b
+      and_true true = refl
+      and_true false = refl
 
-  pub upd_then : (m : ℕ) → (upd (lab m) && (free_in (slots_on areas m) == 0)) ≡ upd (lab_then m)
-  upd_then m = by (lab m) ∙ ap upd (sym (lab_is m))
+  -- where a module has a free slot, whether it is in the list is no matter
+  pub upd_full : (m : ℕ) (z : Bool) → (1 ≤ free_in (slots_on areas m) → z ≡ false) → (upd (lab_then m) && z) ≡ (upd (lab m) && z)
+  upd_full m z full = ap (λ (b : Bool). b && z) (ap upd (lab_is m)) ∙ by (lab m)
     where
+      step : (l : Label) → (changes_now (step_of m l) && z) ≡ (changes_now l && z)
+      step l = elim (cases_Bool (t (m, l))) [
+        | inl it ↦
+            let none : z ≡ false = full (leb-true 1 (free_in (slots_on areas m)) (and_parts (changes_now l) (nat_le 1 (free_in (slots_on areas m))) (may (m, l) it)).1) in
+            and_right (changes_now (step_of m l)) z none ∙ sym (and_right (changes_now l) z none)
+        | inr not_it ↦ rw not_it refl
+      ]
+
+      by : (o : Option Label) → (upd (option_map (step_of m) o) && z) ≡ (upd o && z)
+      by None = refl
+      by (Some l) = step l
+
+  -- where all unsettled ones are settled, those are left whose module has no free slot
+  pub upd_whole : ((p : ℕ × Label) → t p ≡ is_unsettled areas p) → (m : ℕ) → (upd (lab m) && (free_in (slots_on areas m) == 0)) ≡ upd (lab_then m)
+  upd_whole all m = by (lab m) ∙ ap upd (sym (lab_is m))
+    where
+      step : (l : Label) → (changes_now l && (free_in (slots_on areas m) == 0)) ≡ changes_now (step_of m l)
+      step l = which (cases_Bool (changes_now l)) (cases_Bool (nat_le 1 (free_in (slots_on areas m)))) ∙ sym (upd_step m l ∙ ap (λ (b : Bool). changes_now l && not b) (all (m, l)))
+        where
+          which : (changes_now l ≡ true) ⊎ (changes_now l ≡ false) → (nat_le 1 (free_in (slots_on areas m)) ≡ true) ⊎ (nat_le 1 (free_in (slots_on areas m)) ≡ false)
+              → (changes_now l && (free_in (slots_on areas m) == 0)) ≡ (changes_now l && not (is_unsettled areas (m, l)))
+          which (inl a) (inl b) =
+              let some : (free_in (slots_on areas m) == 0) ≡ false = ne_eqb (free_in (slots_on areas m)) 0 (λ z. let f = leb-true 1 (free_in (slots_on areas m)) b in omega arith) in
+              rw (a, b, some) refl
+          which (inl a) (inr b) =
+              let none : (free_in (slots_on areas m) == 0) ≡ true = eq-eqb (free_in (slots_on areas m)) 0 (let f = leb-false 1 (free_in (slots_on areas m)) b in omega (arith, f)) in
+              rw (a, b, none) refl
+          which (inr a) other = rw a refl
+
       by : (o : Option Label) → (upd o && (free_in (slots_on areas m) == 0)) ≡ upd (option_map (step_of m) o)
       by None = refl
-      by (Some l) = sym (upd_step m l)
+      by (Some l) = step l
 
   pub locked_then : (m : ℕ) → locked (lab_then m) ≡ locked (lab m)
   locked_then m = ap locked (lab_is m) ∙ by (lab m)
@@ -250,17 +276,17 @@ module _ (uuid name : List ℕ) (areas : List (Option Area)) (lab : ℕ → Opti
       one_name own_then name (own_each uuid lab_then (all_changed areas cs) proper_then (λ m l. l.name ≡ name) (λ m k is n. let f = from_lab m k is in ap (λ (x : Label). x.name) f.2 ∙ stepped m f.0 (all m f.0 f.1))) some
     where
       stepped : (m : ℕ) (l : Label) → l.name ≡ name → (step_of m l).name ≡ name
-      stepped m l e = elim (cases_Bool (is_unsettled areas (m, l))) [ inl it ↦ rw it refl | inr not_it ↦ rw not_it e ]
+      stepped m l e = elim (cases_Bool (t (m, l))) [ inl it ↦ rw it refl | inr not_it ↦ rw not_it e ]
 
   half_then : (new : List ℕ) → AllLab (λ m l. changes_now l ≡ false → l.name ≡ name) lab → AllLab (λ m l. changes_now l ≡ true → l.name ≡ new) lab → list_any still own ≡ true
       → list_any (λ (p : Placed). true) own_then ≡ true → naming_of own_then ≡ Complete name (list_any is_updating own_then)
   half_then new olds news some some_then = by (cases_Bool (list_any is_updating own_then))
     where
       old_step : (m : ℕ) (l : Label) → (changes_now l ≡ false → l.name ≡ name) → changes_now (step_of m l) ≡ false → (step_of m l).name ≡ name
-      old_step m l e = elim (cases_Bool (is_unsettled areas (m, l))) [ inl it ↦ rw it (λ q. refl) | inr not_it ↦ rw not_it e ]
+      old_step m l e = elim (cases_Bool (t (m, l))) [ inl it ↦ rw it (λ q. refl) | inr not_it ↦ rw not_it e ]
 
       new_step : (m : ℕ) (l : Label) → (changes_now l ≡ true → l.name ≡ new) → changes_now (step_of m l) ≡ true → (step_of m l).name ≡ new
-      new_step m l e = elim (cases_Bool (is_unsettled areas (m, l))) [ inl it ↦ rw it (λ q. absurd (false≢true (sym (settled_doesnt l) ∙ q))) | inr not_it ↦ rw not_it e ]
+      new_step m l e = elim (cases_Bool (t (m, l))) [ inl it ↦ rw it (λ q. absurd (false≢true (sym (settled_doesnt l) ∙ q))) | inr not_it ↦ rw not_it e ]
 
       old_each : AllByRecursion (λ (p : Placed). changes_now p.label ≡ false → p.label.name ≡ name) own_then
       old_each = own_each uuid lab_then (all_changed areas cs) proper_then (λ m l. changes_now l ≡ false → l.name ≡ name)
@@ -282,7 +308,7 @@ module _ (uuid name : List ℕ) (areas : List (Option Area)) (lab : ℕ → Opti
               let calm : changes_now by.given ≡ false = ap (λ (x : Label). changes_now x) (sym (ap (λ (x : Label). record x { slot = by.given.slot }) by.label_is)) ∙ not_is (is_updating p) quiet in
               let there : lab_then p.«module» ≡ Some (step_of p.«module» by.given) = lab_is p.«module» ∙ ap (option_map (step_of p.«module»)) by.is_given in
               any_of uuid lab_then (all_changed areas cs) p.«module» (step_of p.«module» by.given) still proper_then (lies_there uuid lab_then (all_changed areas cs) proper_then p.«module» (step_of p.«module» by.given) there) there
-              (λ s. ap (λ (b : Bool). not b) (upd_step p.«module» by.given ∙ ap (λ (b : Bool). b && (free_in (slots_on areas p.«module») == 0)) calm))
+              (λ s. ap (λ (b : Bool). not b) (upd_step p.«module» by.given ∙ ap (λ (b : Bool). b && not (t (p.«module», by.given))) calm))
 
       by : (list_any is_updating own_then ≡ true) ⊎ (list_any is_updating own_then ≡ false) → naming_of own_then ≡ Complete name (list_any is_updating own_then)
       by (inl it) =

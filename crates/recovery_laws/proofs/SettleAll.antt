@@ -48,7 +48,7 @@ filter_same left areas same (p ∷ ps) =
     let t : is_unsettled areas p ≡ is_unsettled left p = ap (λ (n : ℕ). (p.1.flags / 8 % 2 == 1) && nat_le 1 n) (sym (same p.0)) in
     ap (λ (b : Bool). cond b (p ∷ filter (is_unsettled areas) ps) (filter (is_unsettled areas) ps)) t ∙ ap (λ (qs : List (ℕ × Label)). cond (is_unsettled left p) (p ∷ qs) qs) (filter_same left areas same ps)
 
-same_settling : (left areas : List (Option Area)) (v : List ℕ) (es : List Entry) → Above v es → ((u : List ℕ) → u ≢ v → own_of u left ≡ own_of u areas) → ((i : ℕ) → free_in (slots_on left i) ≡ free_in (slots_on areas i))
+pub same_settling : (left areas : List (Option Area)) (v : List ℕ) (es : List Entry) → Above v es → ((u : List ℕ) → u ≢ v → own_of u left ≡ own_of u areas) → ((i : ℕ) → free_in (slots_on left i) ≡ free_in (slots_on areas i))
     → flat_map (settling_changes areas) es ≡ flat_map (settling_changes left) es
 same_settling left areas v [] above same free = refl
 same_settling left areas v (f ∷ fs) (less, above) same free =
@@ -98,47 +98,47 @@ settled_all (e ∷ es) sets areas gone regions read (above, rising) (is, rest) f
       where
         with_status : (pending : Bool) × (e.status ≡ Complete e.name pending) → SettledAll sets areas gone (e ∷ es) (flat_map (settling_changes areas) (e ∷ es))
         with_status (pending, status) = rw it (record {
-          bytes = append_all PutsBytes changes (flat_map (settling_changes areas) es) (one.bytes sets areas e.uuid e pending regions read is status) next.bytes;
+          bytes = append_all PutsBytes changes (flat_map (settling_changes areas) es) (one.bytes sets areas e.uuid e pending regions read is status (is_unsettled areas) (λ p u. u)) next.bytes;
           entries = λ u. ap (λ (left : List (Option Area)). found sets left u) joined ∙ next.entries u ∙ entries_by u (cases_Bool (bytes_eq e.uuid u));
-          free = λ i. ap (λ (left : List (Option Area)). free_in (slots_on left i)) joined ∙ next.free i ∙ one.free_same sets areas e.uuid e pending regions read is status i;
+          free = λ i. ap (λ (left : List (Option Area)). free_in (slots_on left i)) joined ∙ next.free i ∙ one.free_same sets areas e.uuid e pending regions read is status (is_unsettled areas) (λ p u. u) i;
         })
           where
             changes : List Change
-            changes = one.cs sets areas e.uuid e pending regions read is status
+            changes = one.cs sets areas e.uuid e pending regions read is status (is_unsettled areas) (λ p u. u)
 
-            others : (u : List ℕ) → u ≢ e.uuid → own_of u (all_changed areas (one.cs sets areas e.uuid e pending regions read is status)) ≡ own_of u areas
-            others u ne = others_own (one.cs sets areas e.uuid e pending regions read is status) areas u e.uuid ne (one.of sets areas e.uuid e pending regions read is status)
+            others : (u : List ℕ) → u ≢ e.uuid → own_of u (all_changed areas (one.cs sets areas e.uuid e pending regions read is status (is_unsettled areas) (λ p u. u))) ≡ own_of u areas
+            others u ne = others_own (one.cs sets areas e.uuid e pending regions read is status (is_unsettled areas) (λ p u. u)) areas u e.uuid ne (one.of sets areas e.uuid e pending regions read is status (is_unsettled areas) (λ p u. u))
 
-            next : SettledAll sets (all_changed areas (one.cs sets areas e.uuid e pending regions read is status)) gone es (flat_map (settling_changes areas) es)
+            next : SettledAll sets (all_changed areas (one.cs sets areas e.uuid e pending regions read is status (is_unsettled areas) (λ p u. u))) gone es (flat_map (settling_changes areas) es)
             next =
-                subst (SettledAll sets (all_changed areas (one.cs sets areas e.uuid e pending regions read is status)) gone es)
-                (sym (same_settling (all_changed areas (one.cs sets areas e.uuid e pending regions read is status)) areas e.uuid es above others (one.free_same sets areas e.uuid e pending regions read is status)))
-                (on (all_changed areas (one.cs sets areas e.uuid e pending regions read is status)) gone regions
-                (read_all (one.cs sets areas e.uuid e pending regions read is status) areas read (one.bytes sets areas e.uuid e pending regions read is status)) rising
-                (still_found sets (all_changed areas (one.cs sets areas e.uuid e pending regions read is status)) areas e.uuid es above others rest)
-                (λ m. frees m ∙ sym (one.free_same sets areas e.uuid e pending regions read is status m)))
+                subst (SettledAll sets (all_changed areas (one.cs sets areas e.uuid e pending regions read is status (is_unsettled areas) (λ p u. u))) gone es)
+                (sym (same_settling (all_changed areas (one.cs sets areas e.uuid e pending regions read is status (is_unsettled areas) (λ p u. u))) areas e.uuid es above others (one.free_same sets areas e.uuid e pending regions read is status (is_unsettled areas) (λ p u. u))))
+                (on (all_changed areas (one.cs sets areas e.uuid e pending regions read is status (is_unsettled areas) (λ p u. u))) gone regions
+                (read_all (one.cs sets areas e.uuid e pending regions read is status (is_unsettled areas) (λ p u. u)) areas read (one.bytes sets areas e.uuid e pending regions read is status (is_unsettled areas) (λ p u. u))) rising
+                (still_found sets (all_changed areas (one.cs sets areas e.uuid e pending regions read is status (is_unsettled areas) (λ p u. u))) areas e.uuid es above others rest)
+                (λ m. frees m ∙ sym (one.free_same sets areas e.uuid e pending regions read is status (is_unsettled areas) (λ p u. u) m)))
 
-            joined : all_changed areas (one.cs sets areas e.uuid e pending regions read is status ++ flat_map (settling_changes areas) es)
-                ≡ all_changed (all_changed areas (one.cs sets areas e.uuid e pending regions read is status)) (flat_map (settling_changes areas) es)
-            joined = all_changed_append (one.cs sets areas e.uuid e pending regions read is status) (flat_map (settling_changes areas) es) areas
+            joined : all_changed areas (one.cs sets areas e.uuid e pending regions read is status (is_unsettled areas) (λ p u. u) ++ flat_map (settling_changes areas) es)
+                ≡ all_changed (all_changed areas (one.cs sets areas e.uuid e pending regions read is status (is_unsettled areas) (λ p u. u))) (flat_map (settling_changes areas) es)
+            joined = all_changed_append (one.cs sets areas e.uuid e pending regions read is status (is_unsettled areas) (λ p u. u)) (flat_map (settling_changes areas) es) areas
 
             entries_by : (u : List ℕ) → (bytes_eq e.uuid u ≡ true) ⊎ (bytes_eq e.uuid u ≡ false)
-                → cond (list_any (λ (f : Entry). bytes_eq f.uuid u) es) (option_map (settled_entry gone) (found sets (all_changed areas (one.cs sets areas e.uuid e pending regions read is status)) u))
-                (found sets (all_changed areas (one.cs sets areas e.uuid e pending regions read is status)) u)
+                → cond (list_any (λ (f : Entry). bytes_eq f.uuid u) es) (option_map (settled_entry gone) (found sets (all_changed areas (one.cs sets areas e.uuid e pending regions read is status (is_unsettled areas) (λ p u. u))) u))
+                (found sets (all_changed areas (one.cs sets areas e.uuid e pending regions read is status (is_unsettled areas) (λ p u. u))) u)
                 ≡ cond (bytes_eq e.uuid u || list_any (λ (f : Entry). bytes_eq f.uuid u) es) (option_map (settled_entry gone) (found sets areas u)) (found sets areas u)
             entries_by u (inl at) =
                 let same_uuid : e.uuid ≡ u = (bytes_eq-Decides e.uuid u).0 at in
                 let none : list_any (λ (f : Entry). bytes_eq f.uuid u) es ≡ false = ap (λ (v : List ℕ). list_any (λ (f : Entry). bytes_eq f.uuid v) es) (sym same_uuid) ∙ not_among es e.uuid above in
-                let after : found sets (all_changed areas (one.cs sets areas e.uuid e pending regions read is status)) u ≡ Some (settled_entry gone e) =
-                subst (λ (v : List ℕ). found sets (all_changed areas (one.cs sets areas e.uuid e pending regions read is status)) v ≡ Some (settled_entry gone e)) same_uuid
-                (one.settled_found sets areas e.uuid e pending regions read is status gone frees) in
+                let after : found sets (all_changed areas (one.cs sets areas e.uuid e pending regions read is status (is_unsettled areas) (λ p u. u))) u ≡ Some (settled_entry gone e) =
+                subst (λ (v : List ℕ). found sets (all_changed areas (one.cs sets areas e.uuid e pending regions read is status (is_unsettled areas) (λ p u. u))) v ≡ Some (settled_entry gone e)) same_uuid
+                (one.settled_found sets areas e.uuid e pending regions read is status (is_unsettled areas) (λ p u. u) (λ p. refl) gone frees) in
                 let before : found sets areas u ≡ Some e = subst (λ (v : List ℕ). found sets areas v ≡ Some e) same_uuid is in
-                ap (λ (b : Bool). cond b (option_map (settled_entry gone) (found sets (all_changed areas (one.cs sets areas e.uuid e pending regions read is status)) u))
-                (found sets (all_changed areas (one.cs sets areas e.uuid e pending regions read is status)) u)) none
+                ap (λ (b : Bool). cond b (option_map (settled_entry gone) (found sets (all_changed areas (one.cs sets areas e.uuid e pending regions read is status (is_unsettled areas) (λ p u. u))) u))
+                (found sets (all_changed areas (one.cs sets areas e.uuid e pending regions read is status (is_unsettled areas) (λ p u. u))) u)) none
                 ∙ after
                 ∙ sym (ap (λ (b : Bool). cond (b || list_any (λ (f : Entry). bytes_eq f.uuid u) es) (option_map (settled_entry gone) (found sets areas u)) (found sets areas u)) at ∙ ap (option_map (settled_entry gone)) before)
             entries_by u (inr not_at) =
-                let same : found sets (all_changed areas (one.cs sets areas e.uuid e pending regions read is status)) u ≡ found sets areas u =
-                found_by_own sets (all_changed areas (one.cs sets areas e.uuid e pending regions read is status)) areas u (others u (λ s. false≢true (sym not_at ∙ (bytes_eq-Decides e.uuid u).1 (sym s)))) in
+                let same : found sets (all_changed areas (one.cs sets areas e.uuid e pending regions read is status (is_unsettled areas) (λ p u. u))) u ≡ found sets areas u =
+                found_by_own sets (all_changed areas (one.cs sets areas e.uuid e pending regions read is status (is_unsettled areas) (λ p u. u))) areas u (others u (λ s. false≢true (sym not_at ∙ (bytes_eq-Decides e.uuid u).1 (sym s)))) in
                 ap (λ (o : Option Entry). cond (list_any (λ (f : Entry). bytes_eq f.uuid u) es) (option_map (settled_entry gone) o) o) same
                 ∙ sym (ap (λ (b : Bool). cond (b || list_any (λ (f : Entry). bytes_eq f.uuid u) es) (option_map (settled_entry gone) (found sets areas u)) (found sets areas u)) not_at)

@@ -1,9 +1,9 @@
 -- One complete entry, settled.
-use Rattle.std.proofs.Common.{◌≡◌, ℕ, ◌+◌, ◌<◌, Bool, true, cond, List, [], ◌∷◌, length, Option, Some, None, refl, sym, ap, ◌∙◌, subst, arith, inl, inr}
-use Rattle.std.specs.Prelude.{◌==◌, map, filter, find, slice_get}
+use Rattle.std.proofs.Common.{◌≡◌, ℕ, ◌<◌, ◌≤◌, Bool, true, false, cond, List, [], ◌∷◌, length, Option, Some, None, refl, sym, ap, ◌∙◌, subst, arith, inl, inr}
+use Rattle.std.specs.Prelude.{◌==◌, ◌&&◌, map, filter, find, slice_get}
 use Rattle.std.specs.Option.{option_map}
-use Rattle.std.specs.List.{AllByRecursion, Contains, list_any, filter_map, range_with_len}
-use Rattle.std.proofs.lemmas.Bool.{cases_Bool, false≢true}
+use Rattle.std.specs.List.{AllByRecursion, list_any, filter_map, range_with_len}
+use Rattle.std.proofs.lemmas.Bool.{cases_Bool, false≢true, ne_eqb}
 use Rattle.std.proofs.lemmas.Option.{same_Some}
 use Rattle.nfit_reader.specs.declared.table.Mapping.{Mapping}
 use Rattle.label_codec.specs.declared.label.Label.{Label}
@@ -18,7 +18,7 @@ use Rattle.namespaces.proofs.Entries.{lookup_entries}
 use Rattle.namespaces.proofs.Rising.{all_pass_to}
 use Rattle.namespace_changes.specs.Areas.{Area, Change, slots_on, free_in, all_changed}
 use Rattle.namespace_changes.specs.Commands.{area_of, settled_entry}
-use Rattle.namespace_changes.specs.Changes.{placed_in_all}
+use Rattle.namespace_changes.specs.Changes.{placed_in_all, is_unsettled}
 use Rattle.namespace_changes.specs.Laws.{IsOf}
 use Rattle.namespace_changes.proofs.Areas.{Proper}
 use Rattle.namespace_changes.proofs.Labels.{placed_at}
@@ -32,9 +32,9 @@ use Rattle.change_laws.proofs.Table.{Model, SoundAs, IsLike, like_self, like_slo
 use Rattle.change_laws.proofs.Sets.{is_set}
 use Rattle.change_laws.proofs.Regions.{in_region}
 use Rattle.change_laws.proofs.Complete.{Facts, facts, shared_of}
-use Rattle.change_laws.proofs.Proper.{slots_of_lab, bytes_of_lab}
-use Rattle.change_laws.proofs.Shaped.{part_at, part_like, first_of, lies_there, in_filter, in_range, covers, complete_misses}
-use Rattle.change_laws.proofs.Standing.{Found, found_by, all_contained}
+use Rattle.change_laws.proofs.Proper.{bytes_of_lab}
+use Rattle.change_laws.proofs.Shaped.{part_at, part_like, first_of, lies_there, covers, complete_misses}
+use Rattle.change_laws.proofs.Standing.{Found, found_by}
 use Rattle.recovery_laws.proofs.GoneLists.{PutsBytes}
 use Rattle.recovery_laws.proofs.OwnLabels as mine
 use Rattle.recovery_laws.proofs.Settle as settle
@@ -42,7 +42,9 @@ use Rattle.recovery_laws.proofs.Settle.{upd, locked, updating_by, locked_by, fin
 use Rattle.recovery_laws.proofs.Gone.{found}
 
 module _ (sets : List (List Mapping)) (areas : List (Option Area)) (uuid : List ℕ) (e : Entry) (pending : Bool) (regions : AreRegions sets) (read : AreRead areas)
-    (is : found sets areas uuid ≡ Some e) (status : e.status ≡ Complete e.name pending) where
+    (is : found sets areas uuid ≡ Some e) (status : e.status ≡ Complete e.name pending)
+    -- which of the unsettled labels are settled
+    (t : ℕ × Label → Bool) (may : (p : ℕ × Label) → t p ≡ true → is_unsettled areas p ≡ true) where
   abbrev own : List Placed
   own = own_of uuid areas
 
@@ -67,16 +69,7 @@ module _ (sets : List (List Mapping)) (areas : List (Option Area)) (uuid : List 
   proper = mine.proper uuid areas read rules.once
 
   each_lab : (Q : ℕ → Label → Type 0) → AllByRecursion (λ p. Q p.«module» p.label) own → AllLab Q lab
-  each_lab Q all m l here =
-      subst (λ (x : Label). Q m x) (sym (slots_of_lab uuid areas read rules.once m l here))
-      (all_contained (λ p. Q p.«module» p.label) own (placed_at m (slot_on uuid areas m) (record l { slot = slot_on uuid areas m })) all
-      (subst (λ (xs : List Placed). Contains xs (placed_at m (slot_on uuid areas m) (record l { slot = slot_on uuid areas m }))) (sym (own_by uuid lab areas proper))
-      (in_filter (placed_by lab (slot_on uuid areas)) (range_with_len 0 (length areas)) m _
-      (subst (Contains (range_with_len 0 (length areas))) (zero_more m) (in_range (length areas) 0 m (lies_there uuid lab areas proper m l here)))
-      (ap (option_map (λ k. placed_at m (slot_on uuid areas m) (record k { slot = slot_on uuid areas m }))) here))))
-    where
-      zero_more : (m : ℕ) → 0 + m ≡ m
-      zero_more m = omega arith
+  each_lab = mine.each_lab uuid areas read rules.once
 
   sound : AllLab (SoundAt set c) lab
   sound = each_lab (SoundAt set c) rules.sound
@@ -99,22 +92,22 @@ module _ (sets : List (List Mapping)) (areas : List (Option Area)) (uuid : List 
   -- ---- after
 
   abbrev pub cs : List Change
-  cs = settle.cs uuid e.name areas lab proper (mine.labels uuid areas read rules.once) (mine.only uuid areas read rules.once)
+  cs = settle.cs uuid e.name areas lab proper (mine.labels uuid areas read rules.once) (mine.only uuid areas read rules.once) t may
 
   abbrev left : List (Option Area)
   left = all_changed areas cs
 
   abbrev lab_then : ℕ → Option Label
-  lab_then = settle.lab_then uuid e.name areas lab proper (mine.labels uuid areas read rules.once) (mine.only uuid areas read rules.once)
+  lab_then = settle.lab_then uuid e.name areas lab proper (mine.labels uuid areas read rules.once) (mine.only uuid areas read rules.once) t may
 
   proper_then : Proper uuid lab_then left
-  proper_then = settle.proper_then uuid e.name areas lab proper (mine.labels uuid areas read rules.once) (mine.only uuid areas read rules.once)
+  proper_then = settle.proper_then uuid e.name areas lab proper (mine.labels uuid areas read rules.once) (mine.only uuid areas read rules.once) t may
 
   like_lab : (m : ℕ) (k : Label) → lab_then m ≡ Some k → (l : Label) × (lab m ≡ Some l) × IsLike l k
-  like_lab = settle.like_lab uuid e.name areas lab proper (mine.labels uuid areas read rules.once) (mine.only uuid areas read rules.once)
+  like_lab = settle.like_lab uuid e.name areas lab proper (mine.labels uuid areas read rules.once) (mine.only uuid areas read rules.once) t may
 
-  lab_is : (m : ℕ) → lab_then m ≡ option_map (settle.step_of uuid e.name areas lab proper (mine.labels uuid areas read rules.once) (mine.only uuid areas read rules.once) m) (lab m)
-  lab_is = settle.lab_is uuid e.name areas lab proper (mine.labels uuid areas read rules.once) (mine.only uuid areas read rules.once)
+  lab_is : (m : ℕ) → lab_then m ≡ option_map (settle.step_of uuid e.name areas lab proper (mine.labels uuid areas read rules.once) (mine.only uuid areas read rules.once) t may m) (lab m)
+  lab_is = settle.lab_is uuid e.name areas lab proper (mine.labels uuid areas read rules.once) (mine.only uuid areas read rules.once) t may
 
   sound_then : AllLab (SoundAs set model) lab_then
   sound_then m k at = let f = like_lab m k at in record { sound = at_like set c m f.0 k (sound m f.0 f.1) f.2; meant = f.0; is_meant = f.1; like = f.2 }
@@ -123,7 +116,7 @@ module _ (sets : List (List Mapping)) (areas : List (Option Area)) (uuid : List 
   same_count = length_kept cs areas
 
   has_then : (m : ℕ) (l : Label) → lab m ≡ Some l → (k : Label) × (lab_then m ≡ Some k)
-  has_then m l at = (_, lab_is m ∙ ap (option_map (settle.step_of uuid e.name areas lab proper (mine.labels uuid areas read rules.once) (mine.only uuid areas read rules.once) m)) at)
+  has_then m l at = (_, lab_is m ∙ ap (option_map (settle.step_of uuid e.name areas lab proper (mine.labels uuid areas read rules.once) (mine.only uuid areas read rules.once) t may m)) at)
 
   some_then : list_any (λ (p : Placed). true) (own_of uuid left) ≡ true
   some_then = by (subst (AllByRecursion (IsBy lab (slot_on uuid areas))) standing.own_is (all_by uuid lab areas proper))
@@ -141,7 +134,7 @@ module _ (sets : List (List Mapping)) (areas : List (Option Area)) (uuid : List 
       own_counted uuid set model rules.whole lab_then left proper_then sound_then
       (all_pass_to (λ (m : Mapping). list_any (on_module m.«module») own ≡ true) (λ (m : Mapping). (m.«module» < length left) × ((l : Label) × (lab_then m.«module» ≡ Some l)))
       (λ m stands. by m (lab m.«module») refl stands) set (covers set own none_missing))
-      ∙ settle.naming_then uuid e.name areas lab proper (mine.labels uuid areas read rules.once) (mine.only uuid areas read rules.once) each_lab pending rules.named some_then
+      ∙ settle.naming_then uuid e.name areas lab proper (mine.labels uuid areas read rules.once) (mine.only uuid areas read rules.once) t may each_lab pending rules.named some_then
     where
       by : (m : Mapping) (o : Option Label) → lab m.«module» ≡ o → list_any (on_module m.«module») own ≡ true → (m.«module» < length left) × ((l : Label) × (lab_then m.«module» ≡ Some l))
       by m None at stands = absurd (false≢true (sym (any_none uuid lab areas m.«module» proper at) ∙ stands))
@@ -159,7 +152,7 @@ module _ (sets : List (List Mapping)) (areas : List (Option Area)) (uuid : List 
     where
       each : (m : ℕ) (o : Option Label) → lab m ≡ o → option_map part_of (placed_by lab_then (slot_on uuid left) m) ≡ option_map (part_at m) (lab m)
       each m None at =
-          let none : lab_then m ≡ None = lab_is m ∙ ap (option_map (settle.step_of uuid e.name areas lab proper (mine.labels uuid areas read rules.once) (mine.only uuid areas read rules.once) m)) at in
+          let none : lab_then m ≡ None = lab_is m ∙ ap (option_map (settle.step_of uuid e.name areas lab proper (mine.labels uuid areas read rules.once) (mine.only uuid areas read rules.once) t may m)) at in
           ap (λ (o : Option Label). option_map part_of (option_map (λ l. placed_at m (slot_on uuid left m) (record l { slot = slot_on uuid left m })) o)) none ∙ sym (ap (option_map (part_at m)) at)
       each m (Some l) at =
           let h = has_then m l at in let f = like_lab m h.0 h.1 in
@@ -175,21 +168,18 @@ module _ (sets : List (List Mapping)) (areas : List (Option Area)) (uuid : List 
   updating_before : map module_of (filter is_updating own) ≡ filter (λ m. upd (lab m)) (range_with_len 0 (length areas))
   updating_before = ap (λ (xs : List Placed). map module_of (filter is_updating xs)) (own_by uuid lab areas proper) ∙ updating_by lab (slot_on uuid areas) (range_with_len 0 (length areas))
 
-  updating_then : map module_of (filter is_updating (own_of uuid left)) ≡ filter (λ m. free_in (slots_on areas m) == 0) (map module_of (filter is_updating own))
+  updating_then : map module_of (filter is_updating (own_of uuid left)) ≡ filter (λ m. upd (lab_then m)) (range_with_len 0 (length areas))
   updating_then =
       ap (λ (xs : List Placed). map module_of (filter is_updating xs)) (own_by uuid lab_then left proper_then)
       ∙ updating_by lab_then (slot_on uuid left) (range_with_len 0 (length left))
       ∙ ap (λ (n : ℕ). filter (λ m. upd (lab_then m)) (range_with_len 0 n)) same_count
-      ∙ sym (filter_both (λ m. free_in (slots_on areas m) == 0) (λ m. upd (lab m)) (λ m. upd (lab_then m))
-      (settle.upd_then uuid e.name areas lab proper (mine.labels uuid areas read rules.once) (mine.only uuid areas read rules.once)) (range_with_len 0 (length areas)))
-      ∙ ap (filter (λ m. free_in (slots_on areas m) == 0)) (sym updating_before)
 
   locked_same : option_map module_of (find is_read_only (own_of uuid left)) ≡ option_map module_of (find is_read_only own)
   locked_same =
       ap (λ (xs : List Placed). option_map module_of (find is_read_only xs)) (own_by uuid lab_then left proper_then)
       ∙ locked_by lab_then (slot_on uuid left) (range_with_len 0 (length left))
       ∙ ap (λ (n : ℕ). find (λ m. locked (lab_then m)) (range_with_len 0 n)) same_count
-      ∙ find_same (λ m. locked (lab_then m)) (λ m. locked (lab m)) (settle.locked_then uuid e.name areas lab proper (mine.labels uuid areas read rules.once) (mine.only uuid areas read rules.once)) (range_with_len 0 (length areas))
+      ∙ find_same (λ m. locked (lab_then m)) (λ m. locked (lab m)) (settle.locked_then uuid e.name areas lab proper (mine.labels uuid areas read rules.once) (mine.only uuid areas read rules.once) t may) (range_with_len 0 (length areas))
       ∙ sym (ap (λ (xs : List Placed). option_map module_of (find is_read_only xs)) (own_by uuid lab areas proper) ∙ locked_by lab (slot_on uuid areas) (range_with_len 0 (length areas)))
 
   some_of : (xs : List Placed) → list_any (λ (m : ℕ). true) (map module_of (filter is_updating xs)) ≡ list_any is_updating xs
@@ -226,33 +216,24 @@ module _ (sets : List (List Mapping)) (areas : List (Option Area)) (uuid : List 
   shape_before =
       sym (entry_of own pending standing.first (subst (AllByRecursion IsGood) standing.own_is good).0 standing.complete) ∙ standing.entry_is
 
-  -- the settled entry
-  pub settled_found : (gone : Namespaces) → ((m : ℕ) → (area_of gone m).free ≡ free_in (slots_on areas m)) → found sets left uuid ≡ Some (settled_entry gone e)
-  settled_found gone frees = by (first_of IsGood (own_of uuid left) some_then good_then)
+  updating_is : e.updating ≡ filter (λ m. upd (lab m)) (range_with_len 0 (length areas))
+  updating_is = ap (λ (x : Entry). x.updating) (sym shape_before) ∙ updating_before
+
+  -- the modules whose label still has UPDATING
+  abbrev pub still_updating : List ℕ
+  still_updating = filter (λ m. upd (lab_then m)) (range_with_len 0 (length areas))
+
+  -- the entry, with some of its labels settled
+  abbrev pub entry_then : Entry
+  entry_then = record e { updating = still_updating; status = Complete e.name (list_any (λ (m : ℕ). true) still_updating) }
+
+  pub found_then : found sets left uuid ≡ Some entry_then
+  found_then = by (first_of IsGood (own_of uuid left) some_then good_then)
     where
-      filter_same : (s t : ℕ → Bool) → ((m : ℕ) → s m ≡ t m) → (xs : List ℕ) → filter s xs ≡ filter t xs
-      filter_same s t same [] = refl
-      filter_same s t same (x ∷ xs) = ap (λ (b : Bool). cond b (x ∷ filter s xs) (filter s xs)) (same x) ∙ ap (λ (ys : List ℕ). cond (t x) (x ∷ ys) ys) (filter_same s t same xs)
+      pending_is : list_any is_updating (own_of uuid left) ≡ list_any (λ (m : ℕ). true) still_updating
+      pending_is = sym (some_of (own_of uuid left)) ∙ ap (list_any (λ (m : ℕ). true)) updating_then
 
-      abbrev_updating : e.updating ≡ map module_of (filter is_updating own)
-      abbrev_updating = ap (λ (x : Entry). x.updating) (sym shape_before)
-
-      kept : map module_of (filter is_updating (own_of uuid left)) ≡ filter (λ m. (area_of gone m).free == 0) e.updating
-      kept =
-          updating_then
-          ∙ filter_same (λ m. free_in (slots_on areas m) == 0) (λ m. (area_of gone m).free == 0) (λ m. ap (λ (n : ℕ). n == 0) (sym (frees m))) (map module_of (filter is_updating own))
-          ∙ ap (filter (λ m. (area_of gone m).free == 0)) (sym abbrev_updating)
-
-      pending_is : list_any is_updating (own_of uuid left) ≡ list_any (λ (m : ℕ). true) (filter (λ m. (area_of gone m).free == 0) e.updating)
-      pending_is = sym (some_of (own_of uuid left)) ∙ ap (list_any (λ (m : ℕ). true)) kept
-
-      settles : settled_entry gone e ≡ record e {
-        updating = filter (λ m. (area_of gone m).free == 0) e.updating;
-        status = Complete e.name (list_any (λ (m : ℕ). true) (filter (λ m. (area_of gone m).free == 0) e.updating));
-      }
-      settles = rw status refl
-
-      by : (p : Placed) × (slice_get (own_of uuid left) 0 ≡ Some p) × IsGood p → found sets left uuid ≡ Some (settled_entry gone e)
+      by : (p : Placed) × (slice_get (own_of uuid left) 0 ≡ Some p) × IsGood p → found sets left uuid ≡ Some entry_then
       by (p, first, is_good) =
           lookup_entries sets (placed_in_all left) uuid
           ∙ ap (option_map (entry_with sets (own_of uuid left))) first
@@ -260,19 +241,56 @@ module _ (sets : List (List Mapping)) (areas : List (Option Area)) (uuid : List 
           ∙ ap (λ (xs : List Part). shape xs (Complete e.name (list_any is_updating (own_of uuid left))) (map module_of (filter is_updating (own_of uuid left))) (option_map module_of (find is_read_only (own_of uuid left)))) parts_same
           ∙ ap (λ (o : Option ℕ). shape (map part_of own) (Complete e.name (list_any is_updating (own_of uuid left))) (map module_of (filter is_updating (own_of uuid left))) o) locked_same
           ∙ ap (λ (b : Bool). shape (map part_of own) (Complete e.name b) (map module_of (filter is_updating (own_of uuid left))) (option_map module_of (find is_read_only own))) pending_is
-          ∙ ap (λ (u : List ℕ). shape (map part_of own) (Complete e.name (list_any (λ (m : ℕ). true) (filter (λ m. (area_of gone m).free == 0) e.updating))) u (option_map module_of (find is_read_only own))) kept
-          ∙ ap (λ (x : Entry). record x {
-            updating = filter (λ m. (area_of gone m).free == 0) e.updating;
-            status = Complete e.name (list_any (λ (m : ℕ). true) (filter (λ m. (area_of gone m).free == 0) e.updating));
-          }) shape_before
-          ∙ sym settles)
+          ∙ ap (λ (u : List ℕ). shape (map part_of own) (Complete e.name (list_any (λ (m : ℕ). true) still_updating)) u (option_map module_of (find is_read_only own))) updating_then
+          ∙ ap (λ (x : Entry). record x { updating = still_updating; status = Complete e.name (list_any (λ (m : ℕ). true) still_updating) }) shape_before)
+
+  filter_same : (s u : ℕ → Bool) → ((m : ℕ) → s m ≡ u m) → (xs : List ℕ) → filter s xs ≡ filter u xs
+  filter_same s u same [] = refl
+  filter_same s u same (x ∷ xs) = ap (λ (b : Bool). cond b (x ∷ filter s xs) (filter s xs)) (same x) ∙ ap (λ (ys : List ℕ). cond (u x) (x ∷ ys) ys) (filter_same s u same xs)
+
+  settles : (gone : Namespaces) (x : Entry) (b : Bool) → x.status ≡ Complete e.name b → settled_entry gone x ≡ record x {
+    updating = filter (λ m. (area_of gone m).free == 0) x.updating;
+    status = Complete e.name (list_any (λ (m : ℕ). true) (filter (λ m. (area_of gone m).free == 0) x.updating));
+  }
+  settles gone x b at = rw at refl
+
+  -- settled, where all unsettled labels are
+  pub settled_found : ((p : ℕ × Label) → t p ≡ is_unsettled areas p) → (gone : Namespaces) → ((m : ℕ) → (area_of gone m).free ≡ free_in (slots_on areas m)) → found sets left uuid ≡ Some (settled_entry gone e)
+  settled_found all gone frees =
+      found_then
+      ∙ ap (λ (u : List ℕ). Some (record e { updating = u; status = Complete e.name (list_any (λ (m : ℕ). true) u) })) kept
+      ∙ ap Some (sym (settles gone e pending status))
+    where
+      kept : still_updating ≡ filter (λ m. (area_of gone m).free == 0) e.updating
+      kept =
+          sym (filter_both (λ m. free_in (slots_on areas m) == 0) (λ m. upd (lab m)) (λ m. upd (lab_then m))
+          (settle.upd_whole uuid e.name areas lab proper (mine.labels uuid areas read rules.once) (mine.only uuid areas read rules.once) t may all) (range_with_len 0 (length areas)))
+          ∙ filter_same (λ m. free_in (slots_on areas m) == 0) (λ m. (area_of gone m).free == 0) (λ m. ap (λ (n : ℕ). n == 0) (sym (frees m))) (filter (λ m. upd (lab m)) (range_with_len 0 (length areas)))
+          ∙ ap (filter (λ m. (area_of gone m).free == 0)) (sym updating_is)
+
+  -- settled in the end, it comes to the same
+  pub settled_same : (gone : Namespaces) → ((m : ℕ) → free_in (slots_on areas m) ≤ (area_of gone m).free) → settled_entry gone entry_then ≡ settled_entry gone e
+  settled_same gone more =
+      settles gone entry_then (list_any (λ (m : ℕ). true) still_updating) refl
+      ∙ ap (λ (u : List ℕ). record e { updating = u; status = Complete e.name (list_any (λ (m : ℕ). true) u) }) kept
+      ∙ sym (settles gone e pending status)
+    where
+      full : (m : ℕ) → 1 ≤ free_in (slots_on areas m) → ((area_of gone m).free == 0) ≡ false
+      full m some = ne_eqb (area_of gone m).free 0 (λ z. let f = more m in omega (arith, f, some, z))
+
+      kept : filter (λ m. (area_of gone m).free == 0) still_updating ≡ filter (λ m. (area_of gone m).free == 0) e.updating
+      kept =
+          filter_both (λ m. (area_of gone m).free == 0) (λ m. upd (lab_then m)) (λ m. upd (lab m) && ((area_of gone m).free == 0))
+          (λ m. settle.upd_full uuid e.name areas lab proper (mine.labels uuid areas read rules.once) (mine.only uuid areas read rules.once) t may m ((area_of gone m).free == 0) (full m)) (range_with_len 0 (length areas))
+          ∙ sym (filter_both (λ m. (area_of gone m).free == 0) (λ m. upd (lab m)) (λ m. upd (lab m) && ((area_of gone m).free == 0)) (λ m. refl) (range_with_len 0 (length areas)))
+          ∙ ap (filter (λ m. (area_of gone m).free == 0)) (sym updating_is)
 
   pub free_same : (i : ℕ) → free_in (slots_on left i) ≡ free_in (slots_on areas i)
-  free_same = settle.free_same uuid e.name areas lab proper (mine.labels uuid areas read rules.once) (mine.only uuid areas read rules.once)
+  free_same = settle.free_same uuid e.name areas lab proper (mine.labels uuid areas read rules.once) (mine.only uuid areas read rules.once) t may
 
   pub of : AllByRecursion (IsOf uuid) cs
-  of = settle.of uuid e.name areas lab proper (mine.labels uuid areas read rules.once) (mine.only uuid areas read rules.once)
+  of = settle.of uuid e.name areas lab proper (mine.labels uuid areas read rules.once) (mine.only uuid areas read rules.once) t may
 
   -- each label that is put has some bytes
   pub bytes : AllByRecursion PutsBytes cs
-  bytes = settle.bytes uuid e.name areas lab proper (mine.labels uuid areas read rules.once) (mine.only uuid areas read rules.once) (bytes_of_lab uuid areas read rules.once)
+  bytes = settle.bytes uuid e.name areas lab proper (mine.labels uuid areas read rules.once) (mine.only uuid areas read rules.once) t may (bytes_of_lab uuid areas read rules.once)

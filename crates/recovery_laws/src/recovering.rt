@@ -1,3 +1,4 @@
+ghost use Rattle.recovery_laws.specs.Cuts.{RecoveryResumes};
 ghost use Rattle.recovery_laws.specs.Recovery.{RecoveryAgrees};
 
 /// A law: the two definitions of recovery come to the same. The namespaces of the areas that all of
@@ -6,4 +7,10 @@ ghost use Rattle.recovery_laws.specs.Recovery.{RecoveryAgrees};
 /// have a free slot, and is pending where one is left. Whatever the other entries are.
 pub fn recovery_is_its_changes()
     ensures { RecoveryAgrees }
+{}
+
+/// A law: recovery may be cut. Whatever a power cut leaves of its label changes, after any number of their steps,
+/// recovered again has the namespaces that recovery makes uncut, with the areas' free slots.
+pub fn cut_recovery_resumes()
+    ensures { RecoveryResumes }
 {}
