@@ -56,7 +56,7 @@ fn ends(alloc: Global, words: Vec<u64>) -> Result<([Option<(u64, u64)>; 7], usiz
 #[test]
 fn reads_cells_with_the_moves_made(rt: HostRuntime) -> Result<(), Fail> {
     let alloc = rt.alloc();
-    let made = make(alloc, 16 << 20, 512, 2, 0)?;
+    let made = make(alloc, 16 << 20, 512, 256, 0)?;
     let layout = made.layout;
     let mut words = made.words;
     for (sector, entry) in [(3, 0xC000_0004), (4, 0x4000_0003), (5, 0), (6, 77)] {
