@@ -24,7 +24,7 @@ fn write_objects<K: ImageSink>(
     requires empty { ForSome (K.made out.old) IsEmptySet }
     requires modules { HasModules images.now bad.now }
     requires few { length images.now.contents < 2 ^ 32 }
-    requires room { 4194304 ≤ vec_capacity room.old }
+    requires room { 32768 ≤ vec_capacity room.old }
     ensures told { Becomes (K.made out.old) (K.made out.new) (λ set now. IsUnfinished set now
         × OnOk result (IsSameSet now (front_of (set_of nfit.now images.now bad.now) (length images.now.contents)))) }
     ensures kept { OnOk result (Keeps (K.kept out.old) (K.kept out.new) (λ set now. IsEmptySet set
@@ -60,7 +60,7 @@ fn write_objects<K: ImageSink>(
 /// - `failed`, `later`: `WriteFault` comes only where the sink's count of faults rose in this call; the
 ///   count never falls.
 /// - `untouched`: `OutOfMemory` comes before the sink is asked anything. Words are turned into bytes in
-///   pieces of 32 MiB, so it is want of memory for one piece.
+///   pieces of 256 KiB, so it is want of memory for one piece.
 pub fn save<K: ImageSink>(
     alloc: Global,
     nfit: &[u8],

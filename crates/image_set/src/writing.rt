@@ -11,16 +11,16 @@ use nvd_media::{Failed, ImageSink, Object};
 use nvd_words::Items;
 use std::alloc::{AllocError, Global};
 
-/// How many words are written at a time. A sink may wait for each write until it is on the disk, so a
-/// piece is large.
-const PIECE_WORDS: usize = 4 << 20;
+/// How many words are written at a time: 256 KiB, which stay in a processor's caches while they are spelled
+/// and written.
+const PIECE_WORDS: usize = 32 << 10;
 
 /// How many bytes a word has.
 const WORD: usize = 8;
 
 /// The room for the bytes of a piece.
 pub(crate) fn spelling_room(alloc: Global) -> Result<Vec<[u8; WORD]>, AllocError>
-    ensures { IfOk result (λ room. 4194304 ≤ vec_capacity room) }
+    ensures { IfOk result (λ room. 32768 ≤ vec_capacity room) }
 {
     Vec::with_capacity(alloc, PIECE_WORDS)
 }
@@ -57,12 +57,12 @@ fn write_piece<K: ImageSink>(
 ) -> Result<usize, Failed>
     requires not_mark { object ≢ Object.Mark }
     requires within { at ≤ length words.now }
-    requires room { 4194304 ≤ vec_capacity room.old }
+    requires room { 32768 ≤ vec_capacity room.old }
     requires end { ForSome (K.made out.old) (λ set. 8 * at ≡ length (bytes_in set object)) }
     ensures adds { Adds (K.made out.old) (K.made out.new) (K.kept out.old) (K.kept out.new) (K.faults out.old) (K.faults out.new) result
-        (λ set. with_more set object (bytes_of (take (min 4194304 (length words.now - at)) (drop at words.now)))) }
-    ensures next { IfOk result (λ next. next ≡ at + min 4194304 (length words.now - at)) }
-    ensures room { 4194304 ≤ vec_capacity room.new }
+        (λ set. with_more set object (bytes_of (take (min 32768 (length words.now - at)) (drop at words.now)))) }
+    ensures next { IfOk result (λ next. next ≡ at + min 32768 (length words.now - at)) }
+    ensures room { 32768 ≤ vec_capacity room.new }
 {
     let count = (words.len() - at).min(PIECE_WORDS);
     resize(room, count);
@@ -79,11 +79,11 @@ pub(crate) fn write_words<K: ImageSink>(
     room: &mut Vec<[u8; WORD]>,
 ) -> Result<(), Failed>
     requires not_mark { object ≢ Object.Mark }
-    requires room { 4194304 ≤ vec_capacity room.old }
+    requires room { 32768 ≤ vec_capacity room.old }
     requires absent { ForSome (K.made out.old) (λ set. set object ≡ None) }
     ensures adds { Adds (K.made out.old) (K.made out.new) (K.kept out.old) (K.kept out.new) (K.faults out.old) (K.faults out.new) result
         (λ set. with_more set object (bytes_of words.now)) }
-    ensures room { 4194304 ≤ vec_capacity room.new }
+    ensures room { 32768 ≤ vec_capacity room.new }
 {
     let mut at = write_piece(out, object, words, 0, room)?;
     while at < words.len() {
@@ -99,11 +99,11 @@ fn write_area<K: ImageSink>(
     area: &Option<Items<u64>>,
     room: &mut Vec<[u8; WORD]>,
 ) -> Result<(), Failed>
-    requires room { 4194304 ≤ vec_capacity room.old }
+    requires room { 32768 ≤ vec_capacity room.old }
     requires absent { ForSome (K.made out.old) (λ set. set (Object.Labels «module») ≡ None) }
     ensures adds { Adds (K.made out.old) (K.made out.new) (K.kept out.old) (K.kept out.new) (K.faults out.old) (K.faults out.new) result
         (λ set. with_some set (Object.Labels «module») (option_map bytes_of area.now)) }
-    ensures room { 4194304 ≤ vec_capacity room.new }
+    ensures room { 32768 ≤ vec_capacity room.new }
 {
     match area {
         Some(words) => write_words(out, Object::Labels(module), words.as_slice(), room),
@@ -137,11 +137,11 @@ pub(crate) fn write_module<K: ImageSink>(
     ranges: &Option<Items<u8>>,
     room: &mut Vec<[u8; WORD]>,
 ) -> Result<(), Failed>
-    requires room { 4194304 ≤ vec_capacity room.old }
+    requires room { 32768 ≤ vec_capacity room.old }
     requires absent { ForSome (K.made out.old) (HasNone «module») }
     ensures adds { Adds (K.made out.old) (K.made out.new) (K.kept out.old) (K.kept out.new) (K.faults out.old) (K.faults out.new) result
         (with_module «module» (option_map bytes_of area.now) (bytes_of contents.now) ranges.now) }
-    ensures room { 4194304 ≤ vec_capacity room.new }
+    ensures room { 32768 ≤ vec_capacity room.new }
 {
     write_area(out, module, area, room)?;
     write_words(out, Object::Contents(module), contents, room)?;

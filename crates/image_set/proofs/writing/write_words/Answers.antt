@@ -17,7 +17,7 @@ loop-at-preserved g c =
     let words = c.args.words.now in
     let object = c.args.object in
     let at = c.loop-at.at in
-    let count = min 4194304 (length words - at) in
+    let count = min 32768 (length words - at) in
     let next = c.in_ok-at-2.at in
     record {
       within = let n = c.in_ok-at-2.ensures.next in let w = c.loop-at.invariant.within in omega (arith, n, w);

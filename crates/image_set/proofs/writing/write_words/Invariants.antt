@@ -9,7 +9,7 @@ use Rattle.image_set.proofs.writing.write_words.Given as goal
 abbrev pub invariant-loop-at : goal.invariant-loop-at
 invariant-loop-at g l = record {
   within : l.at ≤ length l.words;
-  room : 4194304 ≤ vec_capacity l.room;
+  room : 32768 ≤ vec_capacity l.room;
   adds : Adds {E = Failed} (g.K.ImageSink.made l.fn.out) (g.K.ImageSink.made l.out) (g.K.ImageSink.kept l.fn.out) (g.K.ImageSink.kept l.out)
       (g.K.ImageSink.faults l.fn.out) (g.K.ImageSink.faults l.out) (Ok l.at) (λ set. with_more set l.object (bytes_of (take l.at l.words)));
 }
