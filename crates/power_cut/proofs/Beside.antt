@@ -129,7 +129,7 @@ rows_after n i which k whole part row fuse left made is step makes rows =
 
 -- ---- the laws
 
-row_at : (set : List Mapping) (offset raw : ℕ) (modules modules' : List Words) (which : ℕ) → beside_of (over set offset raw modules) ≡ beside_of (over set offset raw modules') → which < length modules
+pub row_at : (set : List Mapping) (offset raw : ℕ) (modules modules' : List Words) (which : ℕ) → beside_of (over set offset raw modules) ≡ beside_of (over set offset raw modules') → which < length modules
     → row_beside (over set offset raw modules) which ≡ row_beside (over set offset raw modules') which
 unfolding beside_of
 row_at set offset raw modules modules' which same lt =
@@ -137,7 +137,7 @@ row_at set offset raw modules modules' which same lt =
     sym (at_range (row_beside (over set offset raw modules)) (length modules) which blank lt) ∙ ap (λ xs. get_or xs which blank) same
     ∙ at_range (row_beside (over set offset raw modules')) (length modules') which blank (omega (arith, lt, long))
 
-same_count : (set : List Mapping) (offset raw : ℕ) (modules modules' : List Words) → beside_of (over set offset raw modules) ≡ beside_of (over set offset raw modules') → length modules ≡ length modules'
+pub same_count : (set : List Mapping) (offset raw : ℕ) (modules modules' : List Words) → beside_of (over set offset raw modules) ≡ beside_of (over set offset raw modules') → length modules ≡ length modules'
 unfolding beside_of
 same_count set offset raw modules modules' same =
     sym (length_range (row_beside (over set offset raw modules)) (length modules)) ∙ ap length same ∙ length_range (row_beside (over set offset raw modules')) (length modules')
@@ -164,7 +164,7 @@ listed inside xs ys none d same =
       ],
     )
 
-rows_beside : (set : List Mapping) (offset raw : ℕ) (modules modules' : List Words) (which : ℕ) → row_beside (over set offset raw modules) which ≡ row_beside (over set offset raw modules') which
+pub rows_beside : (set : List Mapping) (offset raw : ℕ) (modules modules' : List Words) (which : ℕ) → row_beside (over set offset raw modules) which ≡ row_beside (over set offset raw modules') which
     → AreBeside set offset raw modules modules' which
 rows_beside set offset raw modules modules' which same =
     let kept = listed (is_inside (over set offset raw modules) which) (row_of modules which).kept (row_of modules' which).kept 0 0 (ap (λ (r : Words). r.kept) same) in

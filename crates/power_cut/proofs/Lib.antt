@@ -1,6 +1,7 @@
 mod InTurn
 mod Places
-mod Spread
-mod Beside
+pub mod Spread
+pub mod Beside
+mod Stays
 mod AtPlaces
 mod Rows

@@ -1,4 +1,5 @@
 pub mod Left
 pub mod Namespace
+pub mod Placed
 pub mod Placing
 pub mod Example

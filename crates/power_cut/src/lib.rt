@@ -16,6 +16,12 @@
 //! forward formula of the places), where they lie (`IsOver`), and the modules' other words (`beside_of`);
 //! the two together are all words (`AreAll`).
 //!
+//! Whoever writes a namespace's words through a call that is generic over rows of words
+//! ([`cut_words::WordSpace`]) wants to know of the **modules** what the call did. It says that what stands
+//! beside the words is as it was, and beside them stand the modules' other words and the namespace's place
+//! (`beside_and_place` of `specs/Placed.antt`). So the row lies where it lay ([`beside_tells_the_place`]), and
+//! the modules' words are those of the namespace there and those beside it ([`words_and_beside_are_all`]).
+//!
 //! **What a cut leaves.** The parts of an image set that lose power are the label areas and the contents of
 //! its modules, each a row of words ([`cut_words::CutWords`]). A cut leaves, for each word by itself, its
 //! kept value or the one stored since; a chooser says which, and is asked in this order:
@@ -47,4 +53,4 @@ mod placing;
 mod tests;
 
 pub use leaving::{ArenaLeft, Images, Place, leave_all};
-pub use namespace::{SetWords, reach_ends, words_and_beside_are_all};
+pub use namespace::{SetWords, beside_tells_the_place, reach_ends, words_and_beside_are_all};

@@ -3,7 +3,8 @@ ghost use Rattle.std.specs.Prelude.{◌≡◌, ℕ, ◌+◌, ◌*◌, ◌/◌, �
 ghost use Rattle.std.specs.List.{All};
 ghost use Rattle.interleave.specs.Places.{LiesAt, unit_of};
 ghost use Rattle.interleave.specs.Sound.{IsWord, span_of};
-ghost use Rattle.power_cut.specs.Namespace.{Namespace, HasBytes, HasRows, ReachEnds, IsLaid, IsOver, IsRow, AreApart, AreAll, AreSameOutside, beside_of, byte_at, count_of, row_of, words_of};
+ghost use Rattle.power_cut.specs.Namespace.{Namespace, HasBytes, HasRows, ReachEnds, IsLaid, IsOver, IsRow, AreApart, AreAll, AreSameOutside, byte_at, count_of, row_of, words_of};
+ghost use Rattle.power_cut.specs.Placed.{PlacedStay, beside_and_place};
 
 use cut_words::{CutWords, Fuse, PowerCut, WordSpace};
 use interleave::InterleaveSet;
@@ -42,6 +43,18 @@ pub fn reach_ends(set: &InterleaveSet, modules: &[CutWords]) -> bool
 
 /// The words of a namespace on an interleave set. It owns the words of all modules, and borrows the set.
 /// Contracts see the set, the namespace's extent and the modules' words.
+///
+/// A call that is generic over rows of words ([`WordSpace`]) says nothing of a row but its words and what
+/// stands beside them, and the modules' other words don't tell where the row lies:
+///
+/// ```text
+/// before   module 0  | .. a a a a .. 0 0 0 0 .. |      words a, the others 0 0 0 0
+/// after    module 0  | .. 0 0 0 0 .. b b b b .. |      words b, the others 0 0 0 0: a was lost
+/// ```
+///
+/// So with the other words there stands beside it also its place (`beside_and_place` of
+/// `specs/Placed.antt`): what leaves `beside` as it was leaves the row where it lies
+/// ([`beside_tells_the_place`]).
 #[derive(Drop)]
 pub struct SetWords<'a> {
     set: &'a InterleaveSet,
@@ -127,7 +140,7 @@ impl<'a> SetWords<'a> {
 impl<'a> WordSpace for SetWords<'a> {
     ghost words = { λ words. words_of words };
 
-    ghost beside = { λ words. beside_of words };
+    ghost beside = { λ words. beside_and_place words };
 
     fn count(&self) -> u64 {
         u64::from(self.set.ways()) * self.raw / WORD
@@ -150,8 +163,9 @@ impl<'a> WordSpace for SetWords<'a> {
 }
 
 /// A law: the words of a namespace and those that stand beside it are all words of the modules (`all`),
-/// and where what stands beside it is the same, so is every word outside its extents (`outside`). So what
-/// leaves `beside` as it was changed words of the namespace alone.
+/// and where the words beside it are the same, so is every word outside its extents (`outside`). So what
+/// leaves `beside` as it was changed words of the namespace alone ([`beside_tells_the_place`] gives from it
+/// the words beside).
 ///
 /// `offset` and `raw` are as in [`SetWords::of`].
 pub fn words_and_beside_are_all(set: &InterleaveSet, offset: u64, raw: u64)
@@ -164,3 +178,9 @@ pub fn words_and_beside_are_all(set: &InterleaveSet, offset: u64, raw: u64)
     let _unit = set.unit();
     let _span = set.span();
 }
+
+/// A law: rows beside which the same stands (`beside` of [`SetWords`]) lie in the same place of the same set,
+/// and beside them stand the same words.
+pub fn beside_tells_the_place()
+    ensures { PlacedStay }
+{}

@@ -12,8 +12,8 @@ use Rattle.arena_layout.specs.declared.layout.Layout.{Layout}
 use Rattle.arena_open.specs.Writes.{IsSettled, written_over}
 use Rattle.arena_open.specs.Format.{FormatCounts, IsNewArena, KeepsOutside, format_steps, format_writes}
 use Rattle.power_cut.specs.Namespace.{Namespace, IsRow, beside_of, is_inside, over, row_beside, row_of, words_of}
-use Rattle.placed_words.proofs.Spread.{at_range, blank, length_range}
-use Rattle.placed_words.specs.Placed.{IsBesideSame}
+use Rattle.power_cut.specs.Placed.{IsBesideSame}
+use Rattle.power_cut.proofs.Spread.{at_range, blank, length_range}
 use Rattle.sector_creation.specs.Creation.{IsFormatted, IsFormattedIn}
 
 -- none pending: as many values stored since as words

@@ -18,7 +18,7 @@ use label_codec::Mode;
 use namespace_changes::OpRefused;
 use namespace_commands::Holding;
 use namespace_finding::first_arena;
-use placed_words::{PlacedWords, placed_words_stay};
+use power_cut::{SetWords, beside_tells_the_place};
 use std::alloc::Global;
 use std::mem;
 use uuid::Uuid;
@@ -52,11 +52,11 @@ fn format_at(
     requires room { layout.now.size / 8 ≤ length set.now * raw / 8 }
     ensures { IsFormattedIn (over set.now offset raw) layout.now uuid.now modules.old.items modules.new.items fuse.old fuse.new (is_ok result) }
 {
-    placed_words_stay();
+    beside_tells_the_place();
     format_takes_two_steps_a_word();
     know_uuid(uuid);
     let rows = mem::replace(modules, Vec::new(alloc));
-    let mut space = PlacedWords::of(set, offset, raw, rows);
+    let mut space = SetWords::of(set, offset, raw, rows);
     let first = first_arena(&Mode::Sector);
     let formatted = format_arena(&mut space, fuse, first, layout, uuid, uuid);
     *modules = space.into_modules();

@@ -10,8 +10,8 @@ use Rattle.cut_words.proofs.Guarded.{settled_none}
 use Rattle.nfit_reader.specs.declared.table.Mapping.{Mapping}
 use Rattle.power_cut.specs.Left.{Each}
 use Rattle.power_cut.specs.Namespace.{Namespace, beside_of, byte_at, count_of, is_inside, kept_by, over, place_of, row_beside, row_of, stored_by, words_of}
-use Rattle.placed_words.proofs.Spread.{at_range, blank, count_is, range_same}
-use Rattle.placed_words.proofs.Beside.{AreBeside, row_at, rows_beside, same_count}
+use Rattle.power_cut.proofs.Spread.{at_range, blank, count_is, range_same}
+use Rattle.power_cut.proofs.Beside.{AreBeside, row_at, rows_beside, same_count}
 use Rattle.sector_creation.specs.Creation.{AreSettled}
 
 -- ---- module by module

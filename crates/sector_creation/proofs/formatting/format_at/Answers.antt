@@ -2,8 +2,8 @@ use Rattle.std.proofs.Common.{◌≡◌, ◌∙◌, List, ap, sym, subst, arith}
 use Rattle.cut_words.specs.Words.{Words}
 use Rattle.arena_open.specs.Writes.{IsSettled}
 use Rattle.power_cut.specs.Namespace.{Namespace, ReachEnds, beside_of, count_of, over, words_of}
-use Rattle.placed_words.specs.Placed.{beside_and_place}
-use Rattle.placed_words.proofs.Spread.{count_is}
+use Rattle.power_cut.specs.Placed.{beside_and_place}
+use Rattle.power_cut.proofs.Spread.{count_is}
 use Rattle.sector_views.proofs.Views.{view_settled}
 use Rattle.sector_creation.proofs.Formats.{format_in, format_is, in_place}
 use Rattle.sector_creation.proofs.formatting.format_at.Goals as goal
@@ -16,21 +16,21 @@ of-space-requires-clause-reach c =
 pub format_arena-formatted-requires-clause-inside : goal.format_arena-formatted-requires-clause-inside
 format_arena-formatted-requires-clause-inside c =
     let rows_are : c.replace-rows.result.items ≡ c.args.modules.now.items = λ i. (c.replace-rows.ensures.value i).items in
-    let space_is : c.of-space.result ≡ over c.args.set.now c.args.offset c.args.raw c.args.modules.now.items = c.of-space.ensures ∙ (λ i. over c.args.set.now c.args.offset c.args.raw (rows_are i)) in
+    let space_is : c.of-space.result ≡ over c.args.set.now c.args.offset c.args.raw c.args.modules.now.items = c.of-space.ensures.made ∙ (λ i. over c.args.set.now c.args.offset c.args.raw (rows_are i)) in
     omega (arith, c.first_arena-first.ensures, c.requires.room, count_is c.of-space.result, ap (λ (n : Namespace). count_of n) space_is)
 
 pub format_arena-formatted-requires-clause-settled : goal.format_arena-formatted-requires-clause-settled
 format_arena-formatted-requires-clause-settled c =
     let rows_are : c.replace-rows.result.items ≡ c.args.modules.now.items = λ i. (c.replace-rows.ensures.value i).items in
-    let space_is : c.of-space.result ≡ over c.args.set.now c.args.offset c.args.raw c.args.modules.now.items = c.of-space.ensures ∙ (λ i. over c.args.set.now c.args.offset c.args.raw (rows_are i)) in
+    let space_is : c.of-space.result ≡ over c.args.set.now c.args.offset c.args.raw c.args.modules.now.items = c.of-space.ensures.made ∙ (λ i. over c.args.set.now c.args.offset c.args.raw (rows_are i)) in
     subst (λ (n : Namespace). IsSettled (words_of n)) (sym space_is) (view_settled (over c.args.set.now c.args.offset c.args.raw c.args.modules.now.items) c.requires.settled)
 
 pub returns : goal.returns
 returns c =
     let rows_are : c.replace-rows.result.items ≡ c.args.modules.now.items = λ i. (c.replace-rows.ensures.value i).items in
-    let space_is : c.of-space.result ≡ over c.args.set.now c.args.offset c.args.raw c.args.modules.now.items = c.of-space.ensures ∙ (λ i. over c.args.set.now c.args.offset c.args.raw (rows_are i)) in
+    let space_is : c.of-space.result ≡ over c.args.set.now c.args.offset c.args.raw c.args.modules.now.items = c.of-space.ensures.made ∙ (λ i. over c.args.set.now c.args.offset c.args.raw (rows_are i)) in
     let now = c.format_arena-formatted.new.space in
-    let same = c.placed_words_stay.ensures (over c.args.set.now c.args.offset c.args.raw c.args.modules.now.items) now (c.format_arena-formatted.ensures.beside ∙ ap (λ (n : Namespace). beside_and_place n) space_is) in
+    let same = c.beside_tells_the_place.ensures (over c.args.set.now c.args.offset c.args.raw c.args.modules.now.items) now (c.format_arena-formatted.ensures.beside ∙ ap (λ (n : Namespace). beside_and_place n) space_is) in
     let now_is : now ≡ over c.args.set.now c.args.offset c.args.raw c.into_modules.result.items =
     in_place now c.args.set.now c.args.offset c.args.raw c.args.modules.now.items same ∙ (λ i. over c.args.set.now c.args.offset c.args.raw (sym c.into_modules.ensures.modules i)) in
     format_in c.args.set.now c.args.offset c.args.raw c.args.layout.now c.args.uuid.now c.of-space.result now c.args.modules.now.items c.into_modules.result.items c.args.fuse.now

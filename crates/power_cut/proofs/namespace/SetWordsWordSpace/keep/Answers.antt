@@ -2,9 +2,11 @@ use Rattle.std.proofs.Common.{◌≡◌, ◌<◌, ℕ, [], ◌∷◌, ap, sym, �
 use Rattle.std.specs.Prelude.{is_ok}
 use Rattle.cut_words.specs.Words.{keep}
 use Rattle.cut_words.specs.Fuses.{Makes}
-use Rattle.power_cut.specs.Namespace.{Namespace, HasRows, IsLaid, beside_of, count_of, over, row_of, words_of}
+use Rattle.power_cut.specs.Namespace.{Namespace, HasRows, IsLaid, count_of, over, row_of, words_of}
+use Rattle.power_cut.specs.Placed.{beside_and_place}
 use Rattle.power_cut.proofs.Spread.{IsWordOf, count_is, laid_any, makes_words, row_read, keeps, with_row, word_of_rows}
 use Rattle.power_cut.proofs.Beside.{beside_same, rows_after}
+use Rattle.power_cut.proofs.Stays.{placed_same}
 use Rattle.power_cut.proofs.namespace.SetWordsWordSpace.keep.Goals as goal
 
 pub locate-module-requires : goal.locate-module-requires
@@ -57,4 +59,6 @@ returns-clause-beside c =
     let row : c.index_mut.result.now ≡ row_of n.modules which = row_read n.modules which c.index_mut.result.now is.there c.index_mut.ensures.value in
     let made : Makes (row_of n.modules which) c.keep.new.self c.args.fuse.now c.keep.new.fuse ((keep c.locate-module.result.1) ∷ []) (is_ok c.keep.result) =
     subst (λ r. Makes r c.keep.new.self c.args.fuse.now c.keep.new.fuse ((keep c.locate-module.result.1) ∷ []) (is_ok c.keep.result)) row c.keep.ensures.made in
-    beside_same n c.args.i which k (keep c.args.i) (keep c.locate-module.result.1) c.keep.new.self c.args.fuse.now c.keep.new.fuse (is_ok c.keep.result) laid is keeps made ∙ ap (λ (m : Namespace). beside_of m) c.self.view_is
+    placed_same n (with_row n which c.keep.new.self).modules
+    (beside_same n c.args.i which k (keep c.args.i) (keep c.locate-module.result.1) c.keep.new.self c.args.fuse.now c.keep.new.fuse (is_ok c.keep.result) laid is keeps made)
+    ∙ ap (λ (m : Namespace). beside_and_place m) c.self.view_is

@@ -2,9 +2,11 @@ use Rattle.std.proofs.Common.{◌≡◌, ◌<◌, ℕ, [], ◌∷◌, None, get_
 use Rattle.std.specs.Prelude.{is_ok}
 use Rattle.cut_words.specs.Words.{Words, store}
 use Rattle.cut_words.specs.Fuses.{Makes}
-use Rattle.power_cut.specs.Namespace.{Namespace, HasRows, IsLaid, beside_of, count_of, over, row_of, words_of}
+use Rattle.power_cut.specs.Namespace.{Namespace, HasRows, IsLaid, count_of, over, row_of, words_of}
+use Rattle.power_cut.specs.Placed.{beside_and_place}
 use Rattle.power_cut.proofs.Spread.{IsWordOf, count_is, eighth, laid_any, makes_words, row_read, stored_is, stores, with_row, word_of_rows}
 use Rattle.power_cut.proofs.Beside.{beside_same, rows_after}
+use Rattle.power_cut.proofs.Stays.{placed_same}
 use Rattle.power_cut.proofs.namespace.SetWordsWordSpace.store.Goals as goal
 
 pub locate-module-requires : goal.locate-module-requires
@@ -72,4 +74,6 @@ returns-clause-beside c =
     let row : c.index_mut.result.now ≡ row_of n.modules which = row_read n.modules which c.index_mut.result.now is.there c.index_mut.ensures.value in
     let made : Makes (row_of n.modules which) c.store.new.self c.args.fuse.now c.store.new.fuse ((store c.locate-module.result.1 c.args.v) ∷ []) (is_ok c.store.result) =
     subst (λ r. Makes r c.store.new.self c.args.fuse.now c.store.new.fuse ((store c.locate-module.result.1 c.args.v) ∷ []) (is_ok c.store.result)) row c.store.ensures.made in
-    beside_same n c.args.i which k (store c.args.i c.args.v) (store c.locate-module.result.1 c.args.v) c.store.new.self c.args.fuse.now c.store.new.fuse (is_ok c.store.result) laid is (stores c.args.v) made ∙ ap (λ (m : Namespace). beside_of m) c.self.view_is
+    placed_same n (with_row n which c.store.new.self).modules
+    (beside_same n c.args.i which k (store c.args.i c.args.v) (store c.locate-module.result.1 c.args.v) c.store.new.self c.args.fuse.now c.store.new.fuse (is_ok c.store.result) laid is (stores c.args.v) made)
+    ∙ ap (λ (m : Namespace). beside_and_place m) c.self.view_is

@@ -4,7 +4,7 @@ use Rattle.cut_words.specs.Words.{Words}
 use Rattle.nfit_reader.specs.declared.table.Mapping.{Mapping}
 use Rattle.nfit_reader.specs.declared.table.Lines.{Lines}
 use Rattle.power_cut.specs.Namespace.{Namespace, beside_of, over}
-use Rattle.placed_words.specs.Placed.{PlacedStay, beside_and_place, extent_told, line_size_told, mapping_told, offsets_told}
+use Rattle.power_cut.specs.Placed.{PlacedStay, beside_and_place, extent_told, line_size_told, mapping_told, offsets_told}
 
 lines_by : (o p : Option Lines) → line_size_told o ≡ line_size_told p → offsets_told o ≡ offsets_told p → o ≡ p
 lines_by None None size offsets = refl

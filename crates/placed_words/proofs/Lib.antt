@@ -1,4 +1,0 @@
-mod Places
-pub mod Spread
-pub mod Beside
-pub mod Stays
