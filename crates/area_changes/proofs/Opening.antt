@@ -1,6 +1,5 @@
 -- Areas that were opened are held, keep their words, and show what these show.
-use Rattle.std.proofs.Common.{◌≡◌, ℕ, ◌*◌, ◌<◌, arith, List, [], ◌∷◌, length, map, Option, Some, None, Result, Ok, Err, refl, sym, ap, ◌∙◌, subst}
-use Rattle.std.specs.List.{All}
+use Rattle.std.proofs.Common.{◌≡◌, ℕ, ◌*◌, arith, List, [], ◌∷◌, length, map, Option, Some, None, Result, Ok, Err, refl, sym, ap, ◌∙◌}
 use Rattle.std.specs.Option.{option_map}
 use Rattle.std.proofs.lemmas.List.Elements.{All-head, All-tail, All-cons}
 use Rattle.cut_words.specs.Words.{Words, settled}
@@ -12,7 +11,6 @@ use Rattle.label_area.specs.declared.fault.AreaRefused.{AreaRefused}
 use Rattle.label_area.specs.Area.{block_in}
 use Rattle.label_area.specs.State.{AreaState}
 use Rattle.label_area.specs.Opened.{opened, opened_by}
-use Rattle.module_areas.specs.declared.area.Area.{Area}
 use Rattle.area_changes.specs.Seen.{IsHeld, AreHeld, area_seen, areas_seen, words_of, area_shown, areas_shown, shown_by}
 use Rattle.area_changes.specs.Opening.{IsWhole, AreWhole, as_area, opened_as}
 use Rattle.area_changes.proofs.Seen.{opened_ready, opened_refused}

@@ -1,5 +1,5 @@
 -- Label areas as they are opened: by what their words show.
-use Rattle.std.specs.Prelude.{◌≡◌, ℕ, ◌*◌, List, length, map, Option, Some, None, Result, Ok, Err}
+use Rattle.std.specs.Prelude.{◌≡◌, ◌*◌, List, length, Option, Some, None, Result, Ok, Err}
 use Rattle.std.specs.List.{All}
 use Rattle.cut_words.specs.Words.{Words, settled}
 use Rattle.label_index.specs.Area.{IsAreaSize}

@@ -1,6 +1,6 @@
 -- What a complete status says of the first label.
-use Rattle.std.proofs.Common.{◌≡◌, ℕ, ◌+◌, ◌-◌, ◌%◌, ◌<◌, ◌≤◌, leb, ltb, eqb, Bool, true, false, List, [], ◌∷◌, Option, Some, None, refl, sym, ap, ◌∙◌, subst, arith}
-use Rattle.std.specs.Prelude.{⊤, unwrap_or, not, ◌==◌, ◌||◌, if◌then◌else◌}
+use Rattle.std.proofs.Common.{◌≡◌, ℕ, ◌+◌, ◌-◌, ◌%◌, ◌≤◌, leb, ltb, eqb, Bool, true, false, List, [], ◌∷◌, Option, Some, None, refl, sym, ◌∙◌, arith}
+use Rattle.std.specs.Prelude.{⊤, unwrap_or, not, ◌==◌, if◌then◌else◌}
 use Rattle.std.specs.List.{list_all}
 use Rattle.std.specs.Option.{option_map}
 use Rattle.std.proofs.lemmas.Bool.{ltb-false, eqb-true, not-false, or_parts}
@@ -14,9 +14,9 @@ use Rattle.label_set.specs.declared.placed.Why.TheVariants.{Missing}
 use Rattle.label_set.specs.declared.rules.Rule.{Rule}
 use Rattle.label_set.specs.declared.rules.Rule.TheVariants as rule
 use Rattle.label_set.specs.declared.placed.SetStatus.{SetStatus}
-use Rattle.label_set.specs.declared.placed.SetStatus.TheVariants.{Complete, Unfinished, Local, Incomplete}
-use Rattle.label_set.specs.Rules.{is_updating, lesser, least_where, module_of, mapping_of, counted_from, relative_of, is_past, leaves, is_outside, is_unaligned, breaks_of}
-use Rattle.label_set.specs.Status.{local_finding, twice_finding, broken_finding, differing_finding, short_of, missing_finding, findings, naming_of, status_of}
+use Rattle.label_set.specs.declared.placed.SetStatus.TheVariants.{Unfinished, Local, Incomplete}
+use Rattle.label_set.specs.Rules.{is_updating, lesser, least_where, module_of, mapping_of, counted_from, relative_of, leaves, is_outside, is_unaligned, breaks_of}
+use Rattle.label_set.specs.Status.{local_finding, twice_finding, broken_finding, differing_finding, short_of, missing_finding, naming_of, status_of}
 use Rattle.namespace_changes.specs.Commands.{is_complete}
 
 -- ---- no finding says that labels are complete

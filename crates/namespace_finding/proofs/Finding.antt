@@ -1,6 +1,6 @@
 -- A sector namespace by its first label.
-use Rattle.std.proofs.Common.{◌≡◌, ℕ, zero, suc, ◌+◌, ◌-◌, ◌%◌, ◌<◌, ◌≤◌, Bool, true, false, List, [], ◌∷◌, length, get_or, Option, Some, None, Ok, refl, sym, ap, ◌∙◌, subst, arith}
-use Rattle.std.specs.Prelude.{find, slice_get, not, if◌then◌else◌}
+use Rattle.std.proofs.Common.{◌≡◌, ℕ, suc, ◌+◌, ◌-◌, ◌%◌, ◌<◌, ◌≤◌, Bool, true, false, List, [], ◌∷◌, length, get_or, Option, Some, Ok, refl, sym, ap, ◌∙◌, subst, arith}
+use Rattle.std.specs.Prelude.{find, slice_get, if◌then◌else◌}
 use Rattle.std.specs.Option.{option_map}
 use Rattle.std.specs.List.{enumerate_from}
 use Rattle.nfit_reader.specs.declared.table.Mapping.{Mapping}
@@ -14,7 +14,6 @@ use Rattle.label_set.specs.Rules.{relative_of}
 use Rattle.label_set.specs.Status.{status_of}
 use Rattle.namespaces.specs.Namespaces.{region_of, holds_label, entry_with}
 use Rattle.namespace_changes.specs.Commands.{is_complete, is_sector}
-use Rattle.namespace_finding.specs.declared.found.Found.{Found}
 use Rattle.namespace_finding.specs.Finding.{set_at, found_of, LiesIn}
 use Rattle.namespace_finding.proofs.Complete.{IsPlaced, placed}
 

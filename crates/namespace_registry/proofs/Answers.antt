@@ -1,11 +1,10 @@
 -- What commands come to on namespaces with counts of claims.
-use Rattle.std.proofs.Common.{◌≡◌, ◌≢◌, ℕ, ◌+◌, ◌-◌, Bool, true, false, List, [], ◌∷◌, length, Option, Some, None, Result, Ok, Err, refl, sym, ap, ◌∙◌, subst, if◌then◌else◌}
+use Rattle.std.proofs.Common.{◌≡◌, ◌≢◌, ℕ, ◌+◌, ◌-◌, true, false, List, [], ◌∷◌, length, Option, Some, None, Ok, Err, refl, sym, ap, ◌∙◌, if◌then◌else◌}
 use Rattle.std.specs.Prelude.{nat_lt, nat_le, is_ok, OnOk}
 use Rattle.std.specs.Option.{option_map}
 use Rattle.std.proofs.lemmas.Bool.{false≢true}
 use Rattle.std.proofs.lemmas.Option.{none-some}
 use Rattle.nvd_words.specs.Checks.{value_unless, fault_if}
-use Rattle.module_areas.specs.declared.area.Area.{Area}
 use Rattle.namespaces.specs.Namespaces.{Entry, Namespaces, lookup}
 use Rattle.namespace_changes.specs.declared.commands.Command.{Command}
 use Rattle.namespace_changes.specs.declared.commands.Command.TheVariants.{Claim, Delete, Unclaim}

@@ -1,5 +1,5 @@
 -- Why a claimed namespace isn't deleted.
-use Rattle.std.proofs.Common.{◌≡◌, ℕ, Bool, true, false, List, [], ◌∷◌, Option, Some, None, Err, if◌then◌else◌, refl, inl, inr}
+use Rattle.std.proofs.Common.{◌≡◌, ℕ, true, List, [], ◌∷◌, Option, Some, None, Err, if◌then◌else◌, refl, inl, inr}
 use Rattle.std.specs.Prelude.{nat_lt, not, Ok}
 use Rattle.std.proofs.lemmas.Bool.{cases_Bool}
 use Rattle.nvd_words.specs.Checks.{value_unless, first_fault, fault_if}

@@ -1,7 +1,6 @@
 -- What a journal says after one call more.
-use Rattle.std.proofs.Common.{◌≡◌, ◌≢◌, ◌⊎◌, ℕ, ◌+◌, ◌<◌, ◌≤◌, Bool, true, false, ◌++◌, List, [], ◌∷◌, Option, Some, None, Result, Ok, Err, refl, sym, ap, ◌∙◌, subst, inl, inr, arith, append_assoc}
+use Rattle.std.proofs.Common.{◌≡◌, ◌≢◌, ◌⊎◌, ℕ, ◌+◌, true, false, ◌++◌, List, [], ◌∷◌, Option, Some, None, Ok, Err, refl, sym, ap, ◌∙◌, subst, inl, inr, append_assoc}
 use Rattle.std.specs.Prelude.{is_ok, OnOk}
-use Rattle.std.specs.List.{AllByRecursion}
 use Rattle.std.proofs.lemmas.Bool.{cases_Bool, false≢true, leb-false}
 use Rattle.nvd_words.specs.Checks.{value_unless}
 use Rattle.nfit_reader.specs.declared.table.Mapping.{Mapping}
@@ -10,8 +9,8 @@ use Rattle.cut_words.specs.Fuses.{lasts}
 use Rattle.namespaces.specs.Namespaces.{Namespaces}
 use Rattle.module_areas.specs.declared.area.Area.{Area}
 use Rattle.namespace_changes.specs.Areas.{Area as SeenArea, Change, IsLeftBy, all_changed, steps_of_all}
-use Rattle.namespace_changes.specs.Changes.{changes_of, namespaces_of}
-use Rattle.namespace_changes.specs.Commands.{done, refusal_of, step}
+use Rattle.namespace_changes.specs.Changes.{changes_of}
+use Rattle.namespace_changes.specs.Commands.{done, refusal_of}
 use Rattle.namespace_changes.specs.declared.commands.Command.{Command}
 use Rattle.namespace_changes.specs.declared.refused.OpRefused.{OpRefused}
 use Rattle.namespace_changes.specs.declared.refused.OpRefused.TheVariants as refused
@@ -21,7 +20,7 @@ use Rattle.namespace_commands.specs.Carried.{is_cut}
 use Rattle.namespace_registry.specs.Entries.{Entry, Reply}
 use Rattle.namespace_registry.specs.Counted.{Answered, Counted, GoesOn, namespaces_in}
 use Rattle.namespace_registry.specs.Replay.{after_entry, Gives, is_memory, Kept, kept_after, namespaces_with}
-use Rattle.namespace_registry.specs.Registered.{IsCutIn, IsJournaled, kept_of, opening_of, Registered, WasCut, WasCutIn}
+use Rattle.namespace_registry.specs.Registered.{IsCutIn, IsJournaled, kept_of, opening_of, Registered, WasCut}
 use Rattle.namespace_registry.proofs.NeverMemory.{other_reply}
 use Rattle.namespace_registry.proofs.Replays.{all_more, gives_more, gives_none, IsReply}
 

@@ -1,5 +1,5 @@
 -- What a registry keeps after one call more.
-use Rattle.std.proofs.Common.{◌≡◌, ℕ, false, Result, Ok, Err, ◌+◌, ◌≤◌, ◌<◌, ◌^◌, ◌++◌, List, [], ◌∷◌, length, Option, refl, sym, ap, ◌∙◌, subst, arith, length-append}
+use Rattle.std.proofs.Common.{◌≡◌, ℕ, false, Result, Ok, Err, ◌+◌, ◌≤◌, ◌<◌, ◌^◌, ◌++◌, List, [], ◌∷◌, length, Option, sym, ap, ◌∙◌, subst, arith, length-append}
 use Rattle.std.specs.Prelude.{sum, OnOk, OnErr}
 use Rattle.nfit_reader.specs.declared.table.Mapping.{Mapping}
 use Rattle.call_tag.specs.declared.Tag.{Tag}

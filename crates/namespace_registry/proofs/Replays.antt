@@ -1,5 +1,5 @@
 -- A journal of one entry more.
-use Rattle.std.proofs.Common.{◌≡◌, ◌≢◌, ℕ, Bool, true, false, ◌++◌, List, [], ◌∷◌, Option, Some, None, Result, Ok, Err, refl, sym, ap, ◌∙◌, subst}
+use Rattle.std.proofs.Common.{◌≡◌, ◌≢◌, false, ◌++◌, List, [], ◌∷◌, Err, refl, sym, ap, ◌∙◌, subst}
 use Rattle.std.specs.List.{AllByRecursion}
 use Rattle.nvd_words.specs.Checks.{value_unless}
 use Rattle.nfit_reader.specs.declared.table.Mapping.{Mapping}
@@ -7,7 +7,7 @@ use Rattle.namespaces.specs.Namespaces.{Namespaces}
 use Rattle.namespace_changes.specs.declared.refused.OpRefused.TheVariants.{OutOfMemory}
 use Rattle.namespace_changes.specs.Commands.{refusal_of}
 use Rattle.namespace_commands.specs.Carried.{is_cut}
-use Rattle.namespace_registry.specs.Entries.{Entry, Reply}
+use Rattle.namespace_registry.specs.Entries.{Entry}
 use Rattle.namespace_registry.specs.Replay.{after_entry, replayed, AreReplies, Gives, Kept, kept_after, namespaces_with, remade}
 
 pub all_more : {X : Type 0} (P : X → Type 0) (xs : List X) (x : X) → AllByRecursion P xs → P x → AllByRecursion P (xs ++ x ∷ [])

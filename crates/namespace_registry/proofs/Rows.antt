@@ -1,7 +1,6 @@
 -- Worked rows, computed: one namespace of sectors on one module, whose label area has one more free slot.
-use Rattle.std.proofs.Common.{◌≡◌, ℕ, List, [], ◌∷◌, Option, Some, None, Ok, Err, true, false, codes, replicate, refl}
+use Rattle.std.proofs.Common.{◌≡◌, ℕ, List, [], ◌∷◌, Some, None, Ok, Err, true, false, codes, replicate, refl}
 use Rattle.nvd_words.specs.Checks.{first_fault}
-use Rattle.call_tag.specs.declared.Tag.{Tag}
 use Rattle.label_codec.specs.declared.mode.Mode.TheVariants as mode
 use Rattle.label_set.specs.declared.placed.SetStatus.TheVariants.{Complete, Unfinished}
 use Rattle.namespaces.specs.Namespaces.{Entry as Namespace, Namespaces}
@@ -10,7 +9,6 @@ use Rattle.namespace_changes.specs.declared.commands.Command.TheVariants as comm
 use Rattle.namespace_changes.specs.declared.commands.Named.TheVariants as named
 use Rattle.namespace_changes.specs.declared.refused.OpRefused.TheVariants.{Busy, NoSuch, NotComplete, OutOfMemory, ReadOnlyLabel}
 use Rattle.namespace_changes.specs.Commands.{given_to, refusal_of}
-use Rattle.namespace_registry.specs.Counted.{with_claims}
 use Rattle.namespace_registry.specs.Entries.{Entry, Reply}
 use Rattle.namespace_registry.specs.Replay.{AreReplies, replayed}
 use Rattle.namespace_registry.specs.Room.{taken, with_room}

@@ -1,5 +1,5 @@
 -- Commands on namespaces of which is counted how often each is claimed.
-use Rattle.std.specs.Prelude.{◌≡◌, ◌≢◌, ℕ, Bool, true, false, List, Option, Some, None, Err, is_ok, OnOk}
+use Rattle.std.specs.Prelude.{◌≡◌, ◌≢◌, ℕ, true, false, List, Option, Some, None, Err, is_ok, OnOk}
 use Rattle.namespaces.specs.Namespaces.{Namespaces}
 use Rattle.namespace_changes.specs.declared.commands.Command.{Command}
 use Rattle.namespace_changes.specs.declared.refused.OpRefused.{OpRefused}

@@ -1,5 +1,5 @@
 -- What a registry of namespaces holds, and what its journal says of it.
-use Rattle.std.specs.Prelude.{◌≡◌, ℕ, ◌+◌, ◌<◌, ◌≤◌, ◌^◌, Bool, true, false, List, [], ◌∷◌, ◌++◌, length, sum, Option, None, Err}
+use Rattle.std.specs.Prelude.{◌≡◌, ℕ, ◌+◌, ◌<◌, ◌≤◌, ◌^◌, true, false, List, [], ◌∷◌, ◌++◌, length, sum, Option, None, Err}
 use Rattle.std.specs.List.{AllByRecursion}
 use Rattle.nfit_reader.specs.declared.table.Mapping.{Mapping}
 use Rattle.call_tag.specs.declared.Tag.{Tag}
@@ -10,7 +10,6 @@ use Rattle.namespace_changes.specs.Changes.{changes_of}
 use Rattle.namespace_changes.specs.Commands.{refusal_of}
 use Rattle.module_areas.specs.declared.area.Area.{Area}
 use Rattle.area_changes.specs.Seen.{AreLeft, areas_seen, areas_shown}
-use Rattle.namespace_commands.specs.Carried.{is_cut}
 use Rattle.namespace_registry.specs.Entries.{Entry, Reply}
 use Rattle.namespace_registry.specs.Counted.{Counted}
 use Rattle.namespace_registry.specs.Replay.{Gives, Kept, namespaces_with}

@@ -1,5 +1,5 @@
 -- In the set of each region of an image set that was loaded a namespace can be opened.
-use Rattle.std.proofs.Common.{◌≡◌, ℕ, zero, suc, ◌+◌, ◌-◌, ◌*◌, ◌%◌, ◌^◌, ◌<◌, ◌≤◌, max, List, [], ◌∷◌, length, map, get_or, Option, Some, None, Result, Ok, Err, refl, sym, ap, ◌∙◌, subst, inl, inr, arith}
+use Rattle.std.proofs.Common.{◌≡◌, ℕ, zero, suc, ◌+◌, ◌-◌, ◌*◌, ◌^◌, ◌<◌, ◌≤◌, max, List, [], ◌∷◌, length, map, get_or, None, Result, Ok, Err, refl, sym, ap, ◌∙◌, subst, inl, inr, arith}
 use Rattle.std.specs.Prelude.{sum, Contains}
 use Rattle.std.specs.Result.{result_err}
 use Rattle.std.specs.List.{All}
@@ -14,7 +14,6 @@ use Rattle.cut_words.specs.Words.{Words}
 use Rattle.nfit_reader.specs.declared.table.Mapping.{Mapping}
 use Rattle.nfit_reader.specs.declared.table.Region.{Region}
 use Rattle.nfit_reader.specs.declared.table.Nfit.{Nfit}
-use Rattle.nfit_reader.specs.Counted.{IsCounted, AreCounted}
 use Rattle.interleave.specs.declared.set.SetFault.{SetFault}
 use Rattle.interleave.specs.Places.{line_size_of, line_count_of, by_offset, unit_of}
 use Rattle.interleave.specs.Sets.{faults_of, set_reading}
@@ -25,7 +24,7 @@ use Rattle.interleave.proofs.Sorted.{Sound, sound_set, in_by_offset}
 use Rattle.image_set.specs.Sound.{size_of, IsMapped, AreMapped}
 use Rattle.namespace_ops.specs.Opening.{set_as, set_or_fault, set_fault_from, set_in, sets_of}
 use Rattle.namespace_finding.specs.Finding.{set_at}
-use Rattle.power_cut.specs.Namespace.{HasBytes, ReachEnds, row_of}
+use Rattle.power_cut.specs.Namespace.{HasBytes, row_of}
 use Rattle.sector_views.specs.View.{IsUsable, AreUsable}
 
 -- ---- units

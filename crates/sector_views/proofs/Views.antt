@@ -1,8 +1,8 @@
 -- The words of a namespace over contents of which no word is pending.
-use Rattle.std.proofs.Common.{◌≡◌, ◌≢◌, ℕ, zero, suc, ◌+◌, ◌*◌, ◌/◌, ◌%◌, ◌<◌, ◌≤◌, true, false, List, [], ◌∷◌, length, map, get_or, replicate, Option, Some, None, Result, Err, refl, sym, ap, ◌∙◌, subst, inl, inr, arith}
+use Rattle.std.proofs.Common.{◌≡◌, ◌≢◌, ℕ, zero, suc, ◌+◌, ◌*◌, ◌/◌, ◌%◌, List, [], ◌∷◌, length, map, get_or, replicate, Option, Some, None, Err, refl, sym, ap, ◌∙◌, inl, inr, arith}
 use Rattle.std.specs.List.{All, range_with_len}
 use Rattle.std.proofs.lemmas.Bool.{eq-eqb, ne_eqb, cases_lt}
-use Rattle.std.proofs.lemmas.List.{get_or-replicate, get_or_past, length-replicate}
+use Rattle.std.proofs.lemmas.List.{get_or_past}
 use Rattle.std.proofs.lemmas.List.Elements.{All-get_or}
 use Rattle.std.proofs.lemmas.List.FromFn.{length-map-range_with_len}
 use Rattle.std.proofs.lemmas.Nat.{div-add-mod', mod-mul-add}
@@ -10,9 +10,7 @@ use Rattle.cut_words.specs.Words.{Words, settled}
 use Rattle.cut_words.proofs.Guarded.{settled_none}
 use Rattle.arena_layout.specs.declared.info.InfoFault.TheVariants as info
 use Rattle.arena_open.specs.declared.refused.OpenRefused.TheVariants as refused
-use Rattle.arena_open.specs.declared.state.ArenaState.{ArenaState}
 use Rattle.arena_open.specs.Writes.{IsSettled}
-use Rattle.arena_chain.specs.declared.refused.ChainRefused.{ChainRefused}
 use Rattle.arena_chain.specs.Chain.{chain_answer}
 use Rattle.power_cut.specs.Namespace.{Namespace, words_of, count_of, byte_at, place_of, row_of, stored_at, stored_by}
 use Rattle.sector_views.specs.View.{opened_view}

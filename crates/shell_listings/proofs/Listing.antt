@@ -1,5 +1,5 @@
 -- What `list` answers, by the registry.
-use Rattle.std.proofs.Common.{◌≡◌, ◌≢◌, ℕ, List, [], ◌∷◌, Option, Some, None, Result, Ok, Err, map, refl, sym, ap, ◌∙◌}
+use Rattle.std.proofs.Common.{◌≡◌, ◌≢◌, List, [], ◌∷◌, Option, Some, None, Result, Ok, Err, map, sym, ap, ◌∙◌}
 use Rattle.std.specs.Prelude.{IfOk}
 use Rattle.nvd_words.specs.Checks.{first_fault, value_unless}
 use Rattle.nfit_reader.specs.declared.table.Nfit.{Nfit}
@@ -11,9 +11,9 @@ use Rattle.namespace_ops.specs.declared.registry.OpenFault.{OpenFault}
 use Rattle.namespace_ops.specs.declared.registry.OpenFault.TheVariants.{OutOfMemory}
 use Rattle.namespace_ops.specs.Opening.{Opened, listing, opening, overlap_fault, set_fault_from, sets_of}
 use Rattle.shell_answers.specs.declared.outcome.Answer.{Answer}
-use Rattle.shell_answers.specs.Outcome.{Outcome, printed}
+use Rattle.shell_answers.specs.Outcome.{Outcome}
 use Rattle.shell_answers.specs.Saved.{outcome_of}
-use Rattle.shell_listings.specs.List.{list_text, listed_by, listed_outcome, open_outcome}
+use Rattle.shell_listings.specs.List.{listed_by, open_outcome}
 
 module _ (nfit : Nfit) (areas : List Area) where
   abbrev fault : Option OpenFault

@@ -1,5 +1,5 @@
 -- The command `list`: the namespaces that the labels of all modules make.
-use Rattle.std.specs.Prelude.{ℕ, Bool, true, false, List, [], ◌∷◌, ◌++◌, map, sum_by, Option, Some, None, Result, Ok, Err, codes}
+use Rattle.std.specs.Prelude.{ℕ, true, false, List, [], ◌∷◌, ◌++◌, map, sum_by, Option, Some, None, Result, Ok, Err, codes}
 use Rattle.std.specs.Option.{option_map}
 use Rattle.std.specs.Result.{result_ok}
 use Rattle.std.specs.Fmt.{decimal}

@@ -1,7 +1,4 @@
-use Rattle.std.proofs.Common.{◌≡◌, ℕ, ◌∙◌, true, Ok, ap, sym, subst}
-use Rattle.label_codec.specs.declared.mode.Mode.{Mode}
-use Rattle.label_set.specs.declared.placed.SetStatus.{SetStatus}
-use Rattle.label_set.specs.Rules.{relative_of}
+use Rattle.std.proofs.Common.{ℕ, ◌∙◌, Ok, ap, sym, subst}
 use Rattle.namespace_changes.specs.Commands.{is_complete, is_sector}
 use Rattle.namespace_finding.specs.Finding.{LiesIn}
 use Rattle.namespace_finding.proofs.Finding.{found_with, lies_with, sector_is}

@@ -1,4 +1,4 @@
-use Rattle.std.proofs.Common.{◌≡◌, ◌≤◌, List, length, ap, arith}
+use Rattle.std.proofs.Common.{◌≤◌, length, ap, arith}
 use Rattle.namespaces.specs.Namespaces.{Entry, namespace_of}
 use Rattle.namespace_registry.specs.Claims.{count_of}
 use Rattle.namespace_registry.proofs.Shown.{listed_all}

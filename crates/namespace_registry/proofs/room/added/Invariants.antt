@@ -1,4 +1,4 @@
-use Rattle.std.proofs.Common.{◌≡◌, ℕ, ◌+◌}
+use Rattle.std.proofs.Common.{◌≡◌, ◌+◌}
 use Rattle.std.specs.Prelude.{map, sum}
 use Rattle.std.specs.List.{range_with_len}
 use Rattle.namespace_registry.specs.Room.{room_of}

@@ -1,4 +1,4 @@
-use Rattle.std.proofs.Common.{◌≡◌, ◌∙◌, ap, sym}
+use Rattle.std.proofs.Common.{◌∙◌, ap, sym}
 use Rattle.label_area.specs.Initialise.{initialised}
 use Rattle.image_set.specs.Load.{image_set_in}
 use Rattle.shell_answers.specs.Cut.{LeavesBy}

@@ -1,4 +1,4 @@
-use Rattle.std.proofs.Common.{ℕ, List, Vec, Global, ◌≡◌, ◌∙◌, ap, subst}
+use Rattle.std.proofs.Common.{ℕ, List, Vec, Global, ◌∙◌, ap, subst}
 use Rattle.cut_words.specs.WordBytes.{bytes_of}
 use Rattle.power_cut.specs.Left.{LeavesWords}
 use Rattle.image_set.specs.Load.{image_set_in}

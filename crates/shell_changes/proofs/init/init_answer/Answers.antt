@@ -1,8 +1,7 @@
-use Rattle.std.proofs.Common.{◌≡◌, ◌∙◌, ◌<◌, ℕ, List, Option, None, Some, length, refl, sym, ap, subst, arith}
+use Rattle.std.proofs.Common.{◌≡◌, ◌∙◌, Some, refl, sym, ap, subst, arith}
 use Rattle.std.specs.Prelude.{map}
 use Rattle.std.specs.Option.{option_map}
 use Rattle.std.proofs.lemmas.List.{length-map}
-use Rattle.cut_words.specs.Words.{Words}
 use Rattle.image_set.specs.Load.{area_of, bytes_kept, image_set_in}
 use Rattle.image_set.specs.Sound.{IsArea}
 use Rattle.label_area.specs.Initialise.{initialised}

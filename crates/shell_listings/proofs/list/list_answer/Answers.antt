@@ -1,7 +1,5 @@
-use Rattle.std.proofs.Common.{◌≡◌, ◌∙◌, List, Result, sym, ap}
-use Rattle.namespaces.specs.declared.listed.Namespace.{Namespace}
+use Rattle.std.proofs.Common.{◌≡◌, ◌∙◌, sym, ap}
 use Rattle.namespaces.specs.Namespaces.{placed_of}
-use Rattle.namespace_ops.specs.declared.registry.OpenFault.{OpenFault}
 use Rattle.namespace_ops.specs.Opening.{listing}
 use Rattle.image_set.specs.Load.{image_set_in}
 use Rattle.shell_answers.specs.declared.outcome.Answer.{Answer}

@@ -1,7 +1,7 @@
-use Rattle.std.proofs.Common.{rules, refl, Ok, ◌≡◌, ℕ, ◌+◌, Option, None, Err, false, sym, ap, ◌∙◌}
+use Rattle.std.proofs.Common.{rules, refl, Ok, ℕ, ◌+◌, None, false, sym, ap, ◌∙◌}
 use Rattle.namespace_changes.specs.declared.commands.Command.TheVariants as command
 use Rattle.namespace_refusals.specs.Refusals.{shown}
-use Rattle.namespace_registry.specs.Claims.{count_of, with_count}
+use Rattle.namespace_registry.specs.Claims.{with_count}
 use Rattle.namespace_registry.specs.Counting.{counted_in}
 use Rattle.namespace_registry.proofs.Answers.{claim_answered}
 use Rattle.namespace_registry.proofs.NeverMemory.{carried_memory, claim_other}

@@ -1,6 +1,6 @@
-use Rattle.std.proofs.Common.{◌≡◌, ℕ, ◌-◌, Option, false, sym, ap, ◌∙◌}
+use Rattle.std.proofs.Common.{ℕ, ◌-◌, false, sym, ap, ◌∙◌}
 use Rattle.area_changes.proofs.Went.{went_none}
-use Rattle.namespace_registry.specs.Claims.{count_of, with_count}
+use Rattle.namespace_registry.specs.Claims.{with_count}
 use Rattle.namespace_registry.specs.Counting.{counted_in}
 use Rattle.namespace_registry.proofs.Answers.{unclaim_answered}
 use Rattle.namespace_registry.proofs.counted.CountedNamespaces.unclaim.Goals as goal

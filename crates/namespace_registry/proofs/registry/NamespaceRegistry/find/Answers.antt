@@ -1,6 +1,6 @@
-use Rattle.std.proofs.Common.{◌≡◌, false, List, Option, Result, sym, ap, ◌∙◌, subst}
+use Rattle.std.proofs.Common.{◌≡◌, false, List, ap, ◌∙◌}
 use Rattle.nfit_reader.specs.declared.table.Mapping.{Mapping}
-use Rattle.namespaces.specs.Namespaces.{Entry, entry_at, lookup}
+use Rattle.namespaces.specs.Namespaces.{entry_at, lookup}
 use Rattle.namespace_finding.specs.Finding.{found_of}
 use Rattle.namespace_registry.specs.Counted.{namespaces_in}
 use Rattle.namespace_registry.specs.Registered.{Registered}

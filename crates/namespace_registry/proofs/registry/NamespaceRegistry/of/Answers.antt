@@ -1,6 +1,3 @@
-use Rattle.std.proofs.Common.{◌≡◌, ℕ, ◌+◌, ◌≤◌, ◌<◌, ◌^◌, List, [], length, sym, ap, subst, arith}
-use Rattle.std.specs.Prelude.{sum}
-use Rattle.namespace_registry.specs.Counting.{counted_in}
 use Rattle.namespace_registry.specs.Registered.{Registered}
 use Rattle.namespace_registry.proofs.Kept.{kept_first}
 use Rattle.namespace_registry.proofs.registry.NamespaceRegistry.of.Goals as goal

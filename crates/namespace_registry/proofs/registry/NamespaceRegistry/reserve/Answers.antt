@@ -1,4 +1,4 @@
-use Rattle.std.proofs.Common.{◌≡◌, ℕ, ◌+◌, ◌≤◌, List, length, subst}
+use Rattle.std.proofs.Common.{ℕ, ◌+◌, ◌≤◌, length, subst}
 use Rattle.std.specs.Prelude.{sum}
 use Rattle.namespace_registry.specs.Counting.{counted_in}
 use Rattle.namespace_registry.specs.Registered.{Registered}

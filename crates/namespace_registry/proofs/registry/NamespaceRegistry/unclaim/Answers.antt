@@ -1,13 +1,10 @@
-use Rattle.std.proofs.Common.{◌≡◌, ◌≤◌, ℕ, List, Option, None, sym, subst}
-use Rattle.std.specs.Prelude.{string_bytes}
+use Rattle.std.proofs.Common.{◌≤◌, None, sym, subst}
 use Rattle.namespace_changes.specs.declared.commands.Command.TheVariants as command
-use Rattle.namespace_changes.specs.Commands.{named_of}
-use Rattle.namespace_registry.specs.Claims.{Counts}
 use Rattle.namespace_registry.specs.Counted.{Answered}
 use Rattle.namespace_registry.specs.Counting.{counted_in}
 use Rattle.namespace_registry.specs.Registered.{Registered}
 use Rattle.namespace_registry.specs.Room.{room_of}
-use Rattle.namespace_registry.proofs.Kept.{few_claims, kept_by_call}
+use Rattle.namespace_registry.proofs.Kept.{kept_by_call}
 use Rattle.namespace_registry.proofs.registry.NamespaceRegistry.unclaim.Goals as goal
 
 pub invariant_of-self : goal.invariant_of-self
