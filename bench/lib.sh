@@ -29,9 +29,10 @@ row() {
     printf '| %s | %s | %s |\n' "$1" "$2" "$3"
 }
 
-# proved: sets program to the proved build of these very sources
+# proved: sets program to the proved build of these very sources, which runs as nvd runs it, in large pages
 proved() {
     want python3
+    export GLIBC_TUNABLES="${GLIBC_TUNABLES:-glibc.malloc.hugetlb=1}"
     # shellcheck disable=SC2034
     program=$top/crates/nvdimm_shell/out/nvdimm_shell
     NVD_BUILD=kept NVD_QUIET=1 "$top/nvd" "$top/samples/small" - nfit >/dev/null 2>&1 ||
@@ -39,12 +40,20 @@ proved() {
 }
 
 # scratch NAME LIBRARY ..: goes into a new crate, a program from bench/*.rt.txt (the script's own) over these libraries, in a copy of
-# the repository's crates that stand below; those of the kit are named too
+# the repository's crates that stand below; those of the kit are named too. With BENCH_KEEP=DIRECTORY the copy stays there, in a
+# folder by the script's name, so that a second run proves nothing that the first one did: its figures are those of a quiet machine.
 scratch() {
     want rt
     crate=$1
     shift
-    mkdir -p "$work/crates/$crate/src"
+    script=$(basename -- "$0" .sh)
+    copy=$work
+    if [ -n "${BENCH_KEEP:-}" ]; then
+        mkdir -p "$BENCH_KEEP/$script"
+        copy=$(CDPATH='' cd -- "$BENCH_KEEP/$script" && pwd)
+    fi
+    mkdir -p "$copy/crates/$crate/src"
+    : >"$copy/crates.txt"
     # shellcheck disable=SC2013
     for name in $(awk -v wanted="$*" '
         function add(name,   parts, count, i) {
@@ -55,16 +64,17 @@ scratch() {
         }
         /^[^#]/ { name = $1; sub(/:.*/, "", name); sub(/^[^:]*:/, ""); below[name] = $0 }
         END { count = split(wanted, names, " "); for (i = 1; i <= count; i++) add(names[i]); for (name in got) print name }' "$top/crates.txt"); do
-        mkdir "$work/crates/$name"
+        mkdir -p "$copy/crates/$name"
         for part in src specs proofs; do
-            [ ! -d "$top/crates/$name/$part" ] || cp -r "$top/crates/$name/$part" "$work/crates/$name"
+            rm -rf "$copy/crates/$name/$part"
+            [ ! -d "$top/crates/$name/$part" ] || cp -r "$top/crates/$name/$part" "$copy/crates/$name"
         done
-        grep "^$name:" "$top/crates.txt" >>"$work/crates.txt"
+        grep "^$name:" "$top/crates.txt" >>"$copy/crates.txt"
     done
-    echo "$crate: $*" >>"$work/crates.txt"
-    [ ! -e "$top/HANDLES" ] || cp "$top/HANDLES" "$work"
-    cp "$top/bench/$(basename -- "$0" .sh).rt.txt" "$work/crates/$crate/src/main.rt"
-    cd "$work/crates/$crate"
+    echo "$crate: $*" >>"$copy/crates.txt"
+    [ ! -e "$top/HANDLES" ] || cp "$top/HANDLES" "$copy"
+    cp "$top/bench/$script.rt.txt" "$copy/crates/$crate/src/main.rt"
+    cd "$copy/crates/$crate"
 }
 
 # build: proves, builds and runs the scratch crate, with an argument where $given is set; its lines stand in $work/figures then

@@ -1,7 +1,8 @@
 -- Commands on namespaces of which is counted how often each is claimed.
-use Rattle.std.specs.Prelude.{◌≡◌, ◌≢◌, ℕ, true, false, List, Option, Some, None, Err, is_ok, OnOk}
+use Rattle.std.specs.Prelude.{◌≡◌, ◌≢◌, ℕ, Bool, true, false, List, Option, Some, None, Err, is_ok, OnOk}
 use Rattle.namespaces.specs.Namespaces.{Namespaces}
 use Rattle.namespace_changes.specs.declared.commands.Command.{Command}
+use Rattle.namespace_changes.specs.declared.commands.Command.TheVariants.{Create}
 use Rattle.namespace_changes.specs.declared.refused.OpRefused.{OpRefused}
 use Rattle.namespace_changes.specs.declared.refused.OpRefused.TheVariants.{OutOfMemory, PowerCut}
 use Rattle.namespace_changes.specs.Commands.{refusal_of, done}
@@ -29,6 +30,11 @@ namespaces_in c = with_claims (shown c.held.sets c.held.areas) c.claims
 -- power is on, and memory was found
 abbrev pub GoesOn : Counted → Reply → Type 0
 GoesOn c reply = (c.held.stopped ≡ false) × (reply ≢ Err OutOfMemory)
+
+-- a command that may want memory
+abbrev pub takes_memory : Command → Bool
+takes_memory (Create uuid name region size made) = true
+takes_memory other = false
 
 -- What a command comes to: its reply, and what became of the namespaces and of a fuse.
 pub record Answered (old new : Counted) (fuse left : Option ℕ) (command : Command) (reply : Reply) : Type 0 where

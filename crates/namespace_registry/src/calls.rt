@@ -1,9 +1,10 @@
 //! The calls with a tag.
-ghost use Rattle.std.specs.Prelude.{◌≡◌, ◌≢◌, ◌<◌, ◌≤◌, ℕ, Option, Err, string_bytes};
+ghost use Rattle.std.specs.Prelude.{◌≡◌, ◌≢◌, ◌<◌, ◌≤◌, ℕ, Option, Err, false, string_bytes};
 ghost use Rattle.namespace_changes.specs.declared.commands.Command.TheVariants as command;
 ghost use Rattle.namespace_changes.specs.Commands.{named_of};
+ghost use Rattle.namespace_commands.specs.Carried.{HasGoodName};
 ghost use Rattle.namespace_registry.specs.Claims.{count_of};
-ghost use Rattle.namespace_registry.specs.Counted.{Answered};
+ghost use Rattle.namespace_registry.specs.Counted.{Answered, takes_memory};
 ghost use Rattle.namespace_registry.specs.Registered.{Entered};
 ghost use Rattle.namespace_registry.specs.Room.{room_of};
 
@@ -137,6 +138,34 @@ impl<O: Opening> NamespaceRegistry<O> {
         self.journal.enter(JournalEntry {
             tag,
             command: Command::Unclaim { uuid: *uuid },
+            reply,
+        });
+        reply
+    }
+
+    /// Carries a command out, whichever it is.
+    ///
+    /// The tag's session has room for one more call, and a name that is given has no zero byte, as `name_of` of
+    /// `label_codec` makes it. The answer is that of [`NamespaceRegistry::create`], [`NamespaceRegistry::delete`],
+    /// [`NamespaceRegistry::rename`] or [`NamespaceRegistry::claim`]; a claim that is given back is always granted while
+    /// power is on, and of a namespace that isn't claimed none is given. Only a create takes memory.
+    pub fn carry_out(
+        &mut self,
+        alloc: Global,
+        fuse: &mut Fuse,
+        tag: Tag,
+        command: &Command,
+    ) -> Result<(), OpRefused>
+        requires room { 1 ≤ room_of self.old.room tag.session }
+        requires name { HasGoodName command.now }
+        ensures entered { Entered self.old self.new tag command.now result }
+        ensures answered { Answered self.old.counted self.new.counted fuse.old fuse.new command.now result }
+        ensures memory { takes_memory command.now ≡ false → result ≢ Err OpRefused.OutOfMemory }
+    {
+        let reply = self.namespaces.carry_out(alloc, fuse, command);
+        self.journal.enter(JournalEntry {
+            tag,
+            command: *command,
             reply,
         });
         reply

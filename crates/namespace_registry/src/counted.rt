@@ -1,15 +1,15 @@
 //! Commands on namespaces of which is counted how often each is claimed.
-ghost use Rattle.std.specs.Prelude.{◌≡◌, ◌≢◌, ◌+◌, ◌<◌, ◌^◌, ℕ, Option, Some, Err, false, length};
+ghost use Rattle.std.specs.Prelude.{◌≡◌, ◌≢◌, ◌+◌, ◌<◌, ◌^◌, ℕ, List, Option, Some, Err, false, length};
 ghost use Rattle.namespace_changes.specs.declared.commands.Command.TheVariants as command;
 ghost use Rattle.namespace_changes.specs.Commands.{refusal_of};
-ghost use Rattle.namespace_commands.specs.Carried.{IsGoodName};
+ghost use Rattle.namespace_commands.specs.Carried.{HasGoodName, IsGoodName};
 ghost use Rattle.namespace_registry.specs.Claims.{count_of};
-ghost use Rattle.namespace_registry.specs.Counted.{Answered, namespaces_in};
+ghost use Rattle.namespace_registry.specs.Counted.{Answered, namespaces_in, takes_memory};
 ghost use Rattle.namespace_registry.specs.Counting.{counted_in, is_first};
 
 use crate::claims::Claims;
 use cut_words::Fuse;
-use namespace_changes::{Make, Named, OpRefused};
+use namespace_changes::{Command, Make, Named, OpRefused};
 use namespace_commands::Holding;
 use std::alloc::Global;
 use uuid::Uuid;
@@ -128,10 +128,10 @@ impl CountedNamespaces {
         Ok(())
     }
 
-    /// Gives a claim that is held back, unless power was cut. There is room for a count, and it takes no memory.
+    /// Gives a claim back, unless power was cut; of a namespace that isn't claimed none is given. There is room for a count,
+    /// and it takes no memory.
     pub(crate) fn unclaim(&mut self, uuid: &Uuid) -> Result<(), OpRefused>
         requires room { length self.old.claims.counts < self.old.claims.room }
-        requires held { 0 < count_of self.old.claims.counts uuid.now }
         ensures answered { (fuse : Option ℕ) → Answered (counted_in self.old) (counted_in self.new) fuse fuse (command.Unclaim uuid.now) result }
         ensures room { self.new.claims.room ≡ self.old.claims.room }
         ensures memory { result ≢ Err OpRefused.OutOfMemory }
@@ -142,7 +142,36 @@ impl CountedNamespaces {
         // No area is stopped, which the clause on them says, so making no change of them leaves them as they are.
         let _areas = self.holding.areas();
         let claims = self.claims.count(uuid);
-        self.claims.set(uuid, claims - 1);
+        self.claims.set(uuid, claims.saturating_sub(1));
         Ok(())
+    }
+
+    /// Carries a command out, whichever it is, unless power was cut. There is room for a count.
+    pub(crate) fn carry_out(
+        &mut self,
+        alloc: Global,
+        fuse: &mut Fuse,
+        command: &Command,
+    ) -> Result<(), OpRefused>
+        requires name { HasGoodName command.now }
+        requires room { length self.old.claims.counts < self.old.claims.room }
+        requires few { (uuid : List ℕ) → count_of self.old.claims.counts uuid + 1 < 2 ^ 32 }
+        ensures answered { Answered (counted_in self.old) (counted_in self.new) fuse.old fuse.new command.now result }
+        ensures room { self.new.claims.room ≡ self.old.claims.room }
+        ensures memory { takes_memory command.now ≡ false → result ≢ Err OpRefused.OutOfMemory }
+    {
+        match command {
+            Command::Create {
+                uuid,
+                name,
+                region,
+                size,
+                make,
+            } => self.create(alloc, fuse, uuid, name, *region, *size, *make),
+            Command::Delete { uuid } => self.delete(fuse, uuid),
+            Command::Rename { uuid, name } => self.rename(fuse, uuid, name),
+            Command::Claim { uuid } => self.claim(uuid),
+            Command::Unclaim { uuid } => self.unclaim(uuid),
+        }
     }
 }

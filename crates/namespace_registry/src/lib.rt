@@ -16,7 +16,7 @@
 //!
 //! Once power was cut in a command, every later call answers `PowerCut` and changes nothing but the journal.
 //!
-//! Only `of`, `reserve` and `create` take memory: `reserve` makes the room of the journal's entries and of the counts of
+//! Only `of`, `reserve` and a create take memory: `reserve` makes the room of the journal's entries and of the counts of
 //! claims, session by session, so that a session which has room needs no other's.
 //!
 //! | promise | call | definition |

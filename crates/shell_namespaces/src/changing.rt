@@ -27,23 +27,31 @@ use module_areas::Area;
 use namespace_changes::Command;
 use namespace_commands::Holding;
 use namespace_ops::Registry;
+use namespace_registry::{NamespaceRegistry, Opening, Tag};
 use nvd_media::Chooser;
 use nvd_words::Items;
 use shell_answers::{Answer, Ending, Power, cut_line, fuse_of};
 use shell_listings::open_fault_answer;
 use std::alloc::{AllocError, Global};
+use std::marker::Brand;
+
+/// The tag of the one command of a command line.
+const TAG: Tag = Tag {
+    session: 0,
+    call: 0,
+};
 
 /// The answer where power was cut, with what the cut leaves of the areas as they then are.
 fn cut_answer<C: Chooser>(
     alloc: Global,
     power: Power,
     rest: Rest,
-    holding: Holding,
+    areas: Vec<Area>,
     choose: &mut C,
 ) -> Result<Answer, AllocError>
     requires rest { IsRest rest }
-    requires count { length holding.areas ≡ length rest.contents }
-    ensures { IfOk result (λ answer. (rows : List (Option (List ℕ))) × AreLeft holding.areas rows × IsSaving Ending.PowerCut (cut_text power.steps) (objects_with rest rows) (outcome_of answer)) }
+    requires count { length areas.items ≡ length rest.contents }
+    ensures { IfOk result (λ answer. (rows : List (Option (List ℕ))) × AreLeft areas.items rows × IsSaving Ending.PowerCut (cut_text power.steps) (objects_with rest rows) (outcome_of answer)) }
 {
     choose.begin(power.seed);
     let text = cut_line(alloc, power.steps)?;
@@ -52,7 +60,7 @@ fn cut_answer<C: Chooser>(
         Ending::PowerCut,
         text.into_bytes(),
         rest,
-        Items::from_vec(holding.into_areas()),
+        Items::from_vec(areas),
         choose,
     )
 }
@@ -61,12 +69,12 @@ fn cut_answer<C: Chooser>(
 fn done_answer<C: Chooser>(
     alloc: Global,
     rest: Rest,
-    holding: Holding,
+    areas: Vec<Area>,
     choose: &mut C,
 ) -> Result<Answer, AllocError>
     requires rest { IsRest rest }
-    requires count { length holding.areas ≡ length rest.contents }
-    ensures { IfOk result (λ answer. (rows : List (Option (List ℕ))) × AreLeft holding.areas rows × IsSaving Ending.Done done_text (objects_with rest rows) (outcome_of answer)) }
+    requires count { length areas.items ≡ length rest.contents }
+    ensures { IfOk result (λ answer. (rows : List (Option (List ℕ))) × AreLeft areas.items rows × IsSaving Ending.Done done_text (objects_with rest rows) (outcome_of answer)) }
 {
     let text = Vec::from_slice(alloc, b"ok\n")?;
     saved_answer(
@@ -74,13 +82,13 @@ fn done_answer<C: Chooser>(
         Ending::Done,
         text,
         rest,
-        Items::from_vec(holding.into_areas()),
+        Items::from_vec(areas),
         choose,
     )
 }
 
-/// The answer to a command on what is held, under a fuse.
-fn command_answer<C: Chooser>(
+/// The answer to a command on what is held, under a fuse. It is the first and last entry of a registry's journal.
+fn command_answer<O: Opening, C: Chooser>(
     alloc: Global,
     holding: Holding,
     fuse: Fuse,
@@ -90,6 +98,9 @@ fn command_answer<C: Chooser>(
     choose: &mut C,
 ) -> Result<Answer, AllocError>
     requires running { holding.stopped ≡ false }
+    requires few_sets { length holding.sets < 2 ^ 32 }
+    requires sets { O.sets ≡ holding.sets }
+    requires areas { O.areas ≡ areas_seen holding.areas }
     requires name { HasGoodName change.now }
     requires rest { IsRest rest }
     requires count { length holding.areas ≡ length rest.contents }
@@ -97,13 +108,17 @@ fn command_answer<C: Chooser>(
     ensures went { IfOk result (λ answer. refusal_of (shown holding.sets holding.areas) change.now ≡ None
         → GoesOn rest power holding.areas fuse (changes_of (shown holding.sets holding.areas) (areas_seen holding.areas) change.now) (outcome_of answer)) }
 {
-    let mut holding = holding;
     let mut fuse = fuse;
-    match holding.carry_out(alloc, &mut fuse, change) {
-        Ok(()) => done_answer(alloc, rest, holding, choose),
+    let mut registry = NamespaceRegistry::<O>::of(alloc, holding);
+    registry.reserve(alloc, &[1])?;
+    let reply = registry.carry_out(alloc, &mut fuse, TAG, change);
+    let is_cut = registry.is_stopped();
+    let areas = registry.into_areas();
+    match reply {
+        Ok(()) => done_answer(alloc, rest, areas, choose),
         Err(refused) => {
-            if holding.is_stopped() {
-                cut_answer(alloc, power, rest, holding, choose)
+            if is_cut {
+                cut_answer(alloc, power, rest, areas, choose)
             } else {
                 refused_answer(alloc, refused)
             }
@@ -132,8 +147,8 @@ fn held_answer<C: Chooser>(
     let mut holding = Holding::of(alloc, sets, areas.into_vec())?;
     let mut fuse = fuse_of(power);
     match holding.recover(&mut fuse) {
-        Ok(()) => command_answer(alloc, holding, fuse, change, power, rest, choose),
-        Err(PowerCut) => cut_answer(alloc, power, rest, holding, choose),
+        Ok(()) => command_answer::<Brand, C>(alloc, holding, fuse, change, power, rest, choose),
+        Err(PowerCut) => cut_answer(alloc, power, rest, holding.into_areas(), choose),
     }
 }
 

@@ -7,4 +7,4 @@ use Rattle.shell_namespaces.proofs.changing.held_answer.Goals as goal
 pub cut_answer-requires-clause-count : goal.cut_answer-requires-clause-count
 cut_answer-requires-clause-count g c =
     let old : length c.in_ok-holding.holding.areas ≡ length c.args.rest.contents = ap (λ (h : Holding). length h.areas) c.in_ok-holding.ensures ∙ ap length c.into_vec.ensures ∙ c.requires.count in
-    sym (length-map c.recover.new.self.areas size_of) ∙ ap length c.recover.ensures.went.sizes ∙ length-map c.in_ok-holding.holding.areas size_of ∙ old
+    ap length c.into_areas.ensures ∙ sym (length-map c.recover.new.self.areas size_of) ∙ ap length c.recover.ensures.went.sizes ∙ length-map c.in_ok-holding.holding.areas size_of ∙ old

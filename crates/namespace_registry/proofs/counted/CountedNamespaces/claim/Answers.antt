@@ -1,4 +1,4 @@
-use Rattle.std.proofs.Common.{rules, refl, Ok, ℕ, ◌+◌, None, false, sym, ap, ◌∙◌}
+use Rattle.std.proofs.Common.{rules, refl, Ok, ℕ, ◌+◌, None, sym, ap, ◌∙◌}
 use Rattle.namespace_changes.specs.declared.commands.Command.TheVariants as command
 use Rattle.namespace_refusals.specs.Refusals.{shown}
 use Rattle.namespace_registry.specs.Claims.{with_count}

@@ -1,4 +1,4 @@
-use Rattle.std.proofs.Common.{◌≡◌, Err, false, sym, ◌∙◌, arith}
+use Rattle.std.proofs.Common.{◌≡◌, Err, sym, ◌∙◌, arith}
 use Rattle.namespace_changes.specs.declared.commands.Command.TheVariants as command
 use Rattle.namespace_refusals.specs.Refusals.{shown}
 use Rattle.namespace_commands.proofs.NeverCut.{delete_other as delete_uncut}
