@@ -29,10 +29,9 @@ row() {
     printf '| %s | %s | %s |\n' "$1" "$2" "$3"
 }
 
-# proved: sets program to the proved build of these very sources, which runs as nvd runs it, in large pages
+# proved: sets program to the proved build of these very sources
 proved() {
     want python3
-    export GLIBC_TUNABLES="${GLIBC_TUNABLES:-glibc.malloc.hugetlb=1}"
     # shellcheck disable=SC2034
     program=$top/crates/nvdimm_shell/out/nvdimm_shell
     NVD_BUILD=kept NVD_QUIET=1 "$top/nvd" "$top/samples/small" - nfit >/dev/null 2>&1 ||
