@@ -3,25 +3,25 @@ use Rattle.std.proofs.Common.{◌≡◌, ◌≢◌, ℕ, Bool, true, false, List
 use Rattle.std.specs.Prelude.{is_ok, IfOk, length}
 use Rattle.std.proofs.lemmas.List.{length-map}
 use Rattle.std.proofs.lemmas.Option.{none-some}
-use Rattle.std.proofs.lemmas.Bool.{true≢false, false≢true}
+use Rattle.std.proofs.lemmas.Bool.{false≢true}
 use Rattle.nfit_reader.specs.declared.table.Mapping.{Mapping}
 use Rattle.module_areas.specs.declared.area.Area.{Area}
 use Rattle.namespace_changes.specs.declared.commands.Command.{Command}
 use Rattle.namespace_changes.specs.declared.refused.OpRefused.{OpRefused}
-use Rattle.namespace_changes.specs.declared.refused.OpRefused.TheVariants.{PowerCut, OutOfMemory}
+use Rattle.namespace_changes.specs.declared.refused.OpRefused.TheVariants.{OutOfMemory}
 use Rattle.namespace_changes.specs.Changes.{changes_of}
 use Rattle.namespace_changes.specs.Commands.{refusal_of}
 use Rattle.area_changes.specs.Seen.{areas_seen, AreLeft}
 use Rattle.area_changes.specs.Went.{Went, size_of}
 use Rattle.namespace_refusals.specs.Refusals.{shown}
-use Rattle.namespace_commands.specs.Carried.{Carried, is_cut}
+use Rattle.namespace_commands.specs.Carried.{Carried}
 use Rattle.namespace_commands.specs.Held.{Held}
 use Rattle.namespace_registry.specs.Counted.{Answered, Counted}
 use Rattle.shell_answers.specs.declared.status.Ending.TheVariants as ending
 use Rattle.shell_answers.specs.declared.power.Power.{Power}
 use Rattle.shell_answers.specs.Outcome.{Outcome}
 use Rattle.shell_answers.specs.Saved.{IsSaving}
-use Rattle.shell_answers.specs.Cut.{cut_text, done_text}
+use Rattle.shell_answers.specs.Cut.{cut_text}
 use Rattle.shell_namespaces.specs.declared.saving.Rest.{Rest}
 use Rattle.shell_namespaces.specs.Going.{GoesOn}
 use Rattle.shell_namespaces.specs.Refusals.{refused_outcome}
@@ -75,10 +75,6 @@ count_kept sets old news fuse left c result carried = by (refusal_of (shown sets
     by (Some f) some = ap length (carried.refused f some).1
     by None none = sym (length-map news size_of) ∙ ap length (carried.went none).sizes ∙ length-map old size_of
 
--- an answer of a command in which power wasn't cut
-pub cut_is_not : (result : Result (Unit {0}) OpRefused) (f : OpRefused) → result ≡ Err f → is_cut result ≡ false → f ≢ PowerCut
-cut_is_not result f is whole same = true≢false (ap is_cut (sym (is ∙ ap (λ (x : OpRefused). Err x) same)) ∙ whole)
-
 module _ (rest : Rest) (power : Power) (sets : List (List Mapping)) (old news : List Area) (fuse left : Option ℕ) (c : Command) (result : Result (Unit {0}) OpRefused) (outcome : Outcome)
     (carried : Carried sets old news fuse left c result) where
   abbrev refusal : Option OpRefused
@@ -101,23 +97,6 @@ module _ (rest : Rest) (power : Power) (sets : List (List Mapping)) (old news : 
     cut = λ e. kept.2;
   }
 
-  -- it was carried out to its end
-  pub done_went : result ≡ Ok tt → ((rows : List (Option (List ℕ))) × AreLeft news rows × IsSaving ending.Done done_text (objects_with rest rows) outcome)
-      → refusal ≡ None → GoesOn rest power old fuse (changes_of (shown sets old) (areas_seen old) c) outcome
-  done_went is kept none = record {
-    news = news;
-    left = left;
-    whole = true;
-    went = subst (λ (b : Bool). Went old news fuse left (changes_of (shown sets old) (areas_seen old) c) b) (ap (λ (r : Result (Unit {0}) OpRefused). is_ok r) is) (carried.went none);
-    rows = kept.0;
-    kept = kept.1;
-    done = λ e. kept.2;
-    cut = λ e. absurd (true≢false e);
-  }
-
   -- an error that is no power cut is the refusal
   pub refused_by : (f : OpRefused) → result ≡ Err f → outcome ≡ refused_outcome f → (g : OpRefused) → refusal ≡ Some g → outcome ≡ refused_outcome g
   refused_by f is said g some = said ∙ ap refused_outcome (err_same {A = Unit {0}} f g (sym is ∙ (carried.refused g some).0))
-
-  pub refused_went : (f : OpRefused) → result ≡ Err f → f ≢ PowerCut → refusal ≡ None → GoesOn rest power old fuse (changes_of (shown sets old) (areas_seen old) c) outcome
-  refused_went f is out none = absurd (out (carried.cut none f is))
