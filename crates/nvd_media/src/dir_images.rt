@@ -5,10 +5,15 @@ ghost use Rattle.nvd_media.specs.Files.{file_name_of};
 use crate::object::Object;
 use crate::traits::{Failed, ImageSink, ImageSource};
 use std::alloc::{AllocError, Global};
-use std::fs::{OpenFile, OpenOptions};
+use std::fs::{File, OpenOptions};
 use std::io::{Read, Seek, SeekFrom, Write};
 use std::rt::Files;
-use std::{fs, io};
+use std::thread::{JoinHandle, Threads};
+use std::{fs, io, thread};
+
+/// After how many bytes that were written to an object a thread begins to put them on the disk, while the next ones are
+/// written: 32 MiB.
+const SETTLED_TOGETHER: u64 = 32 << 20;
 
 /// The name of the file in which an image directory has an object.
 pub fn file_name(alloc: Global, object: Object) -> Result<String, AllocError>
@@ -43,16 +48,20 @@ enum Progress {
 /// half-written directory never gets its mark. What was written of an object is on the disk, as far as the
 /// system's sync calls say so, before another object is written, and all of it before `finish` makes the mark.
 #[derive(Drop)]
-pub struct DirImages<'a, R: Files + AllocGlobal> {
+pub struct DirImages<'a, R: Files<File = File> + AllocGlobal + Threads> {
     rt: &'a R,
     directory: &'a str,
     progress: Progress,
     /// The object that was written last.
     last: Option<Object>,
+    /// How many bytes were written to it since a thread began to put it on the disk.
+    unsettled: u64,
+    /// The thread that puts on the disk what was written of it before.
+    settling: Option<JoinHandle<io::Result<()>>>,
     faults: u64,
 }
 
-impl<'a, R: Files + AllocGlobal> DirImages<'a, R> {
+impl<'a, R: Files<File = File> + AllocGlobal + Threads> DirImages<'a, R> {
     /// The image set of a directory. Nothing is opened or made before it is asked for.
     pub fn new(rt: &'a R, directory: &'a str) -> DirImages<'a, R> {
         DirImages {
@@ -60,6 +69,8 @@ impl<'a, R: Files + AllocGlobal> DirImages<'a, R> {
             directory,
             progress: Progress::Untouched,
             last: None,
+            unsettled: 0,
+            settling: None,
             faults: 0,
         }
     }
@@ -103,7 +114,7 @@ impl<'a, R: Files + AllocGlobal> DirImages<'a, R> {
     }
 }
 
-impl<R: Files + AllocGlobal> ImageSource for DirImages<'_, R> {
+impl<R: Files<File = File> + AllocGlobal + Threads> ImageSource for DirImages<'_, R> {
     ghost held = { λ _. None };
 
     ghost faults = { λ images. images.faults };
@@ -123,7 +134,7 @@ impl<R: Files + AllocGlobal> ImageSource for DirImages<'_, R> {
     }
 }
 
-impl<R: Files + AllocGlobal> DirImages<'_, R> {
+impl<R: Files<File = File> + AllocGlobal + Threads> DirImages<'_, R> {
     /// Makes the directory before the first file in it.
     fn begin(&mut self) -> io::Result<()>
         ensures { self.new.faults ≡ self.old.faults }
@@ -142,23 +153,49 @@ impl<R: Files + AllocGlobal> DirImages<'_, R> {
         }
     }
 
-    fn append(&self, object: Object, bytes: &[u8]) -> io::Result<()> {
+    fn append(&self, object: Object, bytes: &[u8]) -> io::Result<File> {
         let mut file = OpenOptions::new()
             .append(true)
             .create(true)
             .open(self.rt, &self.path(object)?)?;
-        file.write_all(bytes)
+        file.write_all(bytes)?;
+        Ok(file)
+    }
+
+    /// Waits for the thread that puts earlier bytes on the disk.
+    fn join_settling(&mut self) -> io::Result<()>
+        ensures { self.new.faults ≡ self.old.faults }
+    {
+        match self.settling.take() {
+            Some(thread) => thread.join(self.rt),
+            None => Ok(()),
+        }
+    }
+
+    /// Has a thread put on the disk what was written to a file, once the one before is done. Where none can be
+    /// started, `settle` does it all.
+    fn settle_behind(&mut self, file: File) -> io::Result<()>
+        ensures { self.new.faults ≡ self.old.faults }
+    {
+        self.join_settling()?;
+        self.unsettled = 0;
+        self.settling = thread::spawn(self.rt, move || file.sync_data()).ok();
+        Ok(())
     }
 
     /// Puts what was written of the last object on the disk.
-    fn settle(&self) -> io::Result<()> {
+    fn settle(&mut self) -> io::Result<()>
+        ensures { self.new.faults ≡ self.old.faults }
+    {
+        self.join_settling()?;
+        self.unsettled = 0;
         match self.last {
             Some(object) => fs::open(self.rt, &self.path(object)?)?.sync_all(),
             None => Ok(()),
         }
     }
 
-    /// Writes behind what an object has so far. One sync call stands for all pieces of an object.
+    /// Writes behind what an object has so far. Large objects are put on the disk as they grow.
     fn put(&mut self, object: Object, bytes: &[u8]) -> io::Result<()>
         ensures { self.new.faults ≡ self.old.faults }
     {
@@ -167,7 +204,12 @@ impl<R: Files + AllocGlobal> DirImages<'_, R> {
             self.settle()?;
         }
         self.last = Some(object);
-        self.append(object, bytes)
+        let file = self.append(object, bytes)?;
+        self.unsettled = self.unsettled.saturating_add(bytes.len() as u64);
+        if self.unsettled >= SETTLED_TOGETHER {
+            self.settle_behind(file)?;
+        }
+        Ok(())
     }
 
     fn sync_directory(&self) -> io::Result<()> {
@@ -175,7 +217,9 @@ impl<R: Files + AllocGlobal> DirImages<'_, R> {
     }
 
     /// The files are on the disk, and known to the directory, before the mark is made.
-    fn mark(&self) -> io::Result<()> {
+    fn mark(&mut self) -> io::Result<()>
+        ensures { self.new.faults ≡ self.old.faults }
+    {
         self.settle()?;
         self.sync_directory()?;
         self.append(Object::Mark, &[])?;
@@ -192,7 +236,7 @@ impl<R: Files + AllocGlobal> DirImages<'_, R> {
     }
 }
 
-impl<R: Files + AllocGlobal> ImageSink for DirImages<'_, R> {
+impl<R: Files<File = File> + AllocGlobal + Threads> ImageSink for DirImages<'_, R> {
     ghost made = { λ _. None };
 
     ghost kept = { λ _. None };
