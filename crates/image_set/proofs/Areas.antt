@@ -13,14 +13,14 @@ use Rattle.nvd_media.specs.Images.{IsSameSet}
 use Rattle.cut_words.specs.Words.{Words}
 use Rattle.cut_words.specs.WordBytes.{bytes_of}
 use Rattle.power_cut.specs.declared.leaving.Images.{Images as Left}
-use Rattle.power_cut.specs.Left.{LeavesAll, IsLeftOfAll, LeavesWords}
-use Rattle.image_set.specs.declared.changing.SetLeft.{SetLeft}
-use Rattle.image_set.specs.declared.loading.Loaded.{Loaded}
-use Rattle.image_set.specs.Load.{area_of, bytes_kept, image_set_in}
-use Rattle.image_set.specs.Save.{set_of}
-use Rattle.image_set.specs.Changed.{IsSavable, LeavesArea, objects_of, with_area}
-use Rattle.image_set.specs.Sound.{IsArea, IsContents, IsSound}
-use Rattle.image_set.proofs.Kept.{AreaSettled, IsSettled, kept_in, kept_rows, one_left, one_is_left}
+use Rattle.power_cut.specs.Left.{InTurn, LeavesAll, IsLeftOfAll, LeavesWords}
+use Rattle.image_set.specs.declared.changing.OutlineLeft.{OutlineLeft}
+use Rattle.image_set.specs.declared.outline.Outline.{Outline}
+use Rattle.image_set.specs.Load.{area_of, bytes_kept}
+use Rattle.image_set.specs.Changed.{objects_of, with_area}
+use Rattle.image_set.specs.Outline.{IsCopyable, IsOutlined, LeavesOutline, image_set_with, objects_with}
+use Rattle.image_set.specs.Sound.{IsArea}
+use Rattle.image_set.proofs.Kept.{AreaSettled, kept_in, one_left, one_is_left}
 
 get_map : {A B : Type 0} (f : A → B) (xs : List A) (k : ℕ) (d : A) → get_or (map f xs) k (f d) ≡ f (get_or xs k d)
 get_map f [] k d = refl
@@ -29,39 +29,32 @@ get_map f (x ∷ xs) (suc k) d = get_map f xs k d
 
 -- ---- an area is taken out
 
-pub taken_is : (loaded : Loaded) (m : ℕ) → option_map bytes_kept (get_or loaded.labels m None) ≡ area_of (image_set_in loaded) m
-unfolding image_set_in
-taken_is loaded m = sym (get_map (option_map bytes_kept) loaded.labels m None)
+pub taken_is : (outline : Outline) (m : ℕ) (contents : List (List ℕ)) → option_map bytes_kept (get_or outline.labels m None) ≡ area_of (image_set_with outline contents) m
+unfolding image_set_with
+taken_is outline m contents = sym (get_map (option_map bytes_kept) outline.labels m None)
 
 -- the set without it
-abbrev pub without : Loaded → ℕ → Loaded
-without loaded m = record { nfit = loaded.nfit; nfit_bytes = loaded.nfit_bytes; labels = set loaded.labels m None; contents = loaded.contents; bad = loaded.bad }
+abbrev pub without : Outline → ℕ → Outline
+without outline m = record { nfit = outline.nfit; nfit_bytes = outline.nfit_bytes; labels = set outline.labels m None; sizes = outline.sizes; bad = outline.bad }
 
 none_is_area : IsArea None
 none_is_area = record { sized = λ words is. absurd cc; kept = λ words is. absurd cc }
 
-pub sound_without : (loaded : Loaded) (m : ℕ) → IsSound loaded → IsSound (without loaded m)
-sound_without loaded m sound = record {
-  table = sound.table;
-  counted = sound.counted;
-  few = sound.few;
-  modules = sound.modules;
-  labels = length-set loaded.labels m None ∙ sound.labels;
-  contents = sound.contents;
+pub outlined_without : (outline : Outline) (m : ℕ) → IsOutlined outline → IsOutlined (without outline m)
+outlined_without outline m sound = record {
+  labels = length-set outline.labels m None ∙ sound.labels;
   bad = sound.bad;
-  areas = All-set IsArea loaded.labels m None none_is_area sound.areas;
-  words = sound.words;
-  ranges = sound.ranges;
-  total = sound.total;
-  mapped = sound.mapped;
+  few = sound.few;
+  areas = All-set IsArea outline.labels m None none_is_area sound.areas;
 }
 
-pub others_without : (loaded : Loaded) (m : ℕ) (bytes : List ℕ) → with_area (image_set_in (without loaded m)) m bytes ≡ with_area (image_set_in loaded) m bytes
-unfolding image_set_in
-others_without loaded m bytes =
+pub others_without : (outline : Outline) (m : ℕ) (contents : List (List ℕ)) (bytes : List ℕ)
+    → with_area (image_set_with (without outline m) contents) m bytes ≡ with_area (image_set_with outline contents) m bytes
+unfolding image_set_with
+others_without outline m contents bytes =
     let f : Option Words → Option (List ℕ) = option_map bytes_kept in
-    let same : set (map f (set loaded.labels m None)) m (Some bytes) ≡ set (map f loaded.labels) m (Some bytes) =
-    ap (λ xs. set xs m (Some bytes)) (map-set f loaded.labels m None) ∙ set-set (map f loaded.labels) m None (Some bytes) in
+    let same : set (map f (set outline.labels m None)) m (Some bytes) ≡ set (map f outline.labels) m (Some bytes) =
+    ap (λ xs. set xs m (Some bytes)) (map-set f outline.labels m None) ∙ set-set (map f outline.labels) m None (Some bytes) in
     rw same refl
 
 all_or : {A : Type 0} (P : A → Type 0) (xs : List A) (k : ℕ) (d : A) → P d → All P xs → P (get_or xs k d)
@@ -69,8 +62,8 @@ all_or P [] k d none all = none
 all_or P (x ∷ xs) zero d none all = All-head P x xs all
 all_or P (x ∷ xs) (suc k) d none all = all_or P xs k d none (All-tail P x xs all)
 
-pub taken_settled : (loaded : Loaded) (m : ℕ) → IsSound loaded → IsArea (get_or loaded.labels m None)
-taken_settled loaded m sound = all_or IsArea loaded.labels m None none_is_area sound.areas
+pub taken_settled : (outline : Outline) (m : ℕ) → IsOutlined outline → IsArea (get_or outline.labels m None)
+taken_settled outline m sound = all_or IsArea outline.labels m None none_is_area sound.areas
 
 -- ---- what is left
 
@@ -93,45 +86,42 @@ same_labels labels m row =
     map-set (option_map bytes_of) (map (option_map kept_in) labels) m (Some row)
     ∙ ap (λ xs. set xs m (Some (bytes_of row))) (map-map (option_map bytes_of) (option_map kept_in) labels ∙ maps_same (λ a. option_map bytes_of (option_map kept_in a)) (option_map bytes_kept) labels bytes_option)
 
-same_objects : (loaded : Loaded) (m : ℕ) (row : List ℕ) (images : Left) → images.labels ≡ set (map (option_map kept_in) loaded.labels) m (Some row) → images.contents ≡ map kept_in loaded.contents
-    → IsSameSet (set_of loaded.nfit_bytes images loaded.bad) (objects_of (with_area (image_set_in loaded) m (bytes_of row)))
-unfolding set_of objects_of image_set_in
-same_objects loaded m row images labels contents object.Mark = refl
-same_objects loaded m row images labels contents object.Nfit = refl
-same_objects loaded m row images labels contents (object.Labels k) =
-    sym (get_map (option_map bytes_of) images.labels k None)
-    ∙ ap (λ xs. get_or xs k None) (ap (map (option_map bytes_of)) labels ∙ same_labels loaded.labels m row)
-same_objects loaded m row images labels contents (object.Contents k) =
-    sym (slice_get-map bytes_of images.contents k) ∙ ap (λ xs. slice_get xs k) (ap (map bytes_of) contents ∙ map-map bytes_of kept_in loaded.contents)
-same_objects loaded m row images labels contents (object.BadRanges k) = refl
-
 -- what is left, as it is saved
-abbrev pub left_in : Loaded → Left → SetLeft
-left_in loaded images = record { nfit = loaded.nfit_bytes; images = images; bad = loaded.bad }
+abbrev pub left_in : Outline → List (Option (List ℕ)) → OutlineLeft
+left_in outline labels = record { nfit = outline.nfit_bytes; labels = labels; sizes = outline.sizes; bad = outline.bad }
 
-pub area_left : {C : Type 0} (picks : C → ℕ → Bool → C → Type 0) (loaded : Loaded) (m : ℕ) (area : Words) (images : Left) (before after : C) → IsSound loaded → m < length loaded.labels
-    → LeavesAll picks (set loaded.labels m (Some area)) loaded.contents images before after → IsLeftOfAll (set loaded.labels m (Some area)) loaded.contents images
-    → LeavesArea picks loaded m area before after (left_in loaded images)
-area_left picks loaded m area images before after sound lt asked left =
-    let settled = all_to IsArea AreaSettled loaded.labels (λ x is. is.kept) sound.areas in
-    let rows = kept_rows picks loaded.contents images.contents asked.between after (all_to IsContents IsSettled loaded.contents (λ x is. is.kept) sound.words) asked.contents in
-    let one = one_left picks loaded.labels m area images.labels before asked.between lt settled asked.labels in
+same_objects : (outline : Outline) (m : ℕ) (row : List ℕ) (labels : List (Option (List ℕ))) → labels ≡ set (map (option_map kept_in) outline.labels) m (Some row)
+    → (contents : List (List ℕ)) → IsSameSet (objects_with (left_in outline labels) contents) (objects_of (with_area (image_set_with outline contents) m (bytes_of row)))
+unfolding objects_of image_set_with
+same_objects outline m row labels are contents object.Mark = refl
+same_objects outline m row labels are contents object.Nfit = refl
+same_objects outline m row labels are contents (object.Labels k) =
+    sym (get_map (option_map bytes_of) labels k None)
+    ∙ ap (λ xs. get_or xs k None) (ap (map (option_map bytes_of)) are ∙ same_labels outline.labels m row)
+same_objects outline m row labels are contents (object.Contents k) = refl
+same_objects outline m row labels are contents (object.BadRanges k) = refl
+
+-- after the last label area no question is asked
+none_asked : {C : Type 0} (picks : C → ℕ → Bool → C → Type 0) (left : List (List ℕ)) (between after : C) → InTurn (LeavesWords picks) [] left between after → after ≡ between
+none_asked picks left between after turn = turn.1
+
+pub area_left : {C : Type 0} (picks : C → ℕ → Bool → C → Type 0) (outline : Outline) (m : ℕ) (area : Words) (images : Left) (before after : C) → IsOutlined outline → m < length outline.labels
+    → LeavesAll picks (set outline.labels m (Some area)) [] images before after → IsLeftOfAll (set outline.labels m (Some area)) [] images
+    → LeavesOutline picks outline m area before after (left_in outline images.labels)
+area_left picks outline m area images before after sound lt asked left =
+    let settled = all_to IsArea AreaSettled outline.labels (λ x is. is.kept) sound.areas in
+    let one = one_left picks outline.labels m area images.labels before asked.between lt settled asked.labels in
     record {
       row = one.row;
-      asked = subst (λ c. LeavesWords picks area one.row before c) (sym rows.1) one.asked;
-      left_of = one_is_left loaded.labels m area one.row images.labels lt one.is left.labels;
-      objects = same_objects loaded m one.row images one.is rows.0;
+      asked = subst (λ c. LeavesWords picks area one.row before c) (sym (none_asked picks images.contents asked.between after asked.contents)) one.asked;
+      left_of = one_is_left outline.labels m area one.row images.labels lt one.is left.labels;
+      objects = same_objects outline m one.row images.labels one.is;
     }
 
-pub savable : {C : Type 0} (picks : C → ℕ → Bool → C → Type 0) (loaded : Loaded) (m : ℕ) (area : Words) (images : Left) (before after : C) → IsSound loaded → m < length loaded.labels
-    → LeavesAll picks (set loaded.labels m (Some area)) loaded.contents images before after → length loaded.nfit.modules ≤ 64 → IsSavable (left_in loaded images)
-savable picks loaded m area images before after sound lt asked few =
-    let settled = all_to IsArea AreaSettled loaded.labels (λ x is. is.kept) sound.areas in
-    let rows = kept_rows picks loaded.contents images.contents asked.between after (all_to IsContents IsSettled loaded.contents (λ x is. is.kept) sound.words) asked.contents in
-    let one = one_left picks loaded.labels m area images.labels before asked.between lt settled asked.labels in
-    let labels : length images.labels ≡ length loaded.labels = ap length one.is ∙ length-set (map (option_map kept_in) loaded.labels) m (Some one.row) ∙ length-map loaded.labels (option_map kept_in) in
-    let contents : length images.contents ≡ length loaded.contents = ap length rows.0 ∙ length-map loaded.contents kept_in in
-    record {
-      modules = record { labels = omega (arith, labels, contents, sound.labels, sound.contents); ranges = omega (arith, contents, sound.contents, sound.bad) };
-      few = omega (arith, contents, sound.contents, few);
-    }
+pub copyable : {C : Type 0} (picks : C → ℕ → Bool → C → Type 0) (outline : Outline) (m : ℕ) (area : Words) (images : Left) (before after : C) → IsOutlined outline → m < length outline.labels
+    → LeavesAll picks (set outline.labels m (Some area)) [] images before after → IsCopyable (left_in outline images.labels)
+copyable picks outline m area images before after sound lt asked =
+    let settled = all_to IsArea AreaSettled outline.labels (λ x is. is.kept) sound.areas in
+    let one = one_left picks outline.labels m area images.labels before asked.between lt settled asked.labels in
+    let labels : length images.labels ≡ length outline.labels = ap length one.is ∙ length-set (map (option_map kept_in) outline.labels) m (Some one.row) ∙ length-map outline.labels (option_map kept_in) in
+    record { labels = labels ∙ sound.labels; bad = sound.bad; few = sound.few }

@@ -17,23 +17,28 @@ use Rattle.image_set.specs.declared.fault.Stop.{Stop}
 use Rattle.image_set.specs.declared.fault.Stop.TheVariants as stop
 use Rattle.image_set.specs.declared.loading.Loaded.{Loaded}
 use Rattle.image_set.specs.declared.sizes.Sizes.{Sizes}
-use Rattle.image_set.specs.Load.{table_fault, modules_fault, mappings_fault, with_table, unless_fault, loading, image_set_of, image_set_in, bytes_kept, fault_of, area_of, AnswersRead, Loads}
+use Rattle.image_set.specs.Outline.{contents_in, image_set_with}
+use Rattle.image_set.specs.Load.{table_fault, modules_fault, mappings_fault, with_table, unless_fault, loading, image_set_of, image_set_in, bytes_kept, fault_of, area_of, AnswersRead, ImageSet}
 use Rattle.image_set.proofs.Asked.{stopped, passed}
 
 -- ---- what load answers
 
-pub loads_err : (set : Images) (result : Result Loaded LoadFault) (e : LoadFault) → result ≡ Err e → (e ≢ fault.ReadFault → e ≢ fault.OutOfMemory → loading set ≡ Err e) → Loads result set
-loads_err set result e is h no_read no_memory =
-    let same : result_map_both image_set_in (λ f. f) result ≡ Err e = ap (result_map_both image_set_in (λ f. f)) is in
+-- what was loaded, seen as an image set, is what the set holds, or the fault is its first
+abbrev pub LoadsBy : {A : Type 0} → (A → ImageSet) → Result A LoadFault → Images → Type 0
+LoadsBy f result set = AnswersRead (result_map_both f (λ fault. fault) result) (loading set)
+
+pub loads_err : {A : Type 0} (f : A → ImageSet) (set : Images) (result : Result A LoadFault) (e : LoadFault) → result ≡ Err e → (e ≢ fault.ReadFault → e ≢ fault.OutOfMemory → loading set ≡ Err e) → LoadsBy f result set
+loads_err f set result e is h no_read no_memory =
+    let same : result_map_both f (λ e. e) result ≡ Err e = ap (result_map_both f (λ e. e)) is in
     same ∙ sym (h (λ x. no_read (same ∙ ap (λ f. Err f) x)) (λ x. no_memory (same ∙ ap (λ f. Err f) x)))
 
-pub loads_ok : (set : Images) (result : Result Loaded LoadFault) (loaded : Loaded) → result ≡ Ok loaded → loading set ≡ Ok (image_set_in loaded) → Loads result set
-loads_ok set result loaded is h no_read no_memory = ap (result_map_both image_set_in (λ f. f)) is ∙ sym h
+pub loads_ok : {A : Type 0} (f : A → ImageSet) (set : Images) (result : Result A LoadFault) (loaded : A) → result ≡ Ok loaded → loading set ≡ Ok (f loaded) → LoadsBy f result set
+loads_ok f set result loaded is h no_read no_memory = ap (result_map_both f (λ e. e)) is ∙ sym h
 
 -- reading stopped
-pub loads_stop : (set : Images) (result : Result Loaded LoadFault) (s : Stop) (e : LoadFault) → result ≡ Err e → e ≡ fault_of s → Loads result set
-loads_stop set result stop.ReadFault e is from = loads_err set result e is (λ no_read no_memory. absurd (no_read from))
-loads_stop set result stop.OutOfMemory e is from = loads_err set result e is (λ no_read no_memory. absurd (no_memory from))
+pub loads_stop : {A : Type 0} (f : A → ImageSet) (set : Images) (result : Result A LoadFault) (s : Stop) (e : LoadFault) → result ≡ Err e → e ≡ fault_of s → LoadsBy f result set
+loads_stop f set result stop.ReadFault e is from = loads_err f set result e is (λ no_read no_memory. absurd (no_read from))
+loads_stop f set result stop.OutOfMemory e is from = loads_err f set result e is (λ no_read no_memory. absurd (no_memory from))
 
 -- ---- what the set is
 
@@ -43,10 +48,10 @@ told_fault e x f r is told no_read no_memory =
     stopped e x f r r is is told (λ h. no_read (let k : Err e ≡ Err fault.ReadFault = sym is ∙ h in cc)) (λ h. no_memory (let k : Err e ≡ Err fault.OutOfMemory = sym is ∙ h in cc))
 
 -- the mark or the table's object shows a fault
-pub table_stops : (set : Images) (result : Result Loaded LoadFault) (e : LoadFault) (n : ℕ) (r : Result ℕ LoadFault) → result ≡ Err e → r ≡ Err e
-    → AnswersRead r (value_unless n (table_fault set)) → Loads result set
+pub table_stops : {A : Type 0} (f : A → ImageSet) (set : Images) (result : Result A LoadFault) (e : LoadFault) (n : ℕ) (r : Result ℕ LoadFault) → result ≡ Err e → r ≡ Err e
+    → AnswersRead r (value_unless n (table_fault set)) → LoadsBy f result set
 unfolding loading
-table_stops set result e n r is is' told = loads_err set result e is (λ no_read no_memory. ap (unless_fault set) (told_fault e n (table_fault set) r is' told no_read no_memory))
+table_stops f set result e n r is is' told = loads_err f set result e is (λ no_read no_memory. ap (unless_fault set) (told_fault e n (table_fault set) r is' told no_read no_memory))
 
 -- they show none
 pub record IsOpen (set : Images) (bytes : List ℕ) : Type 0 where
@@ -58,16 +63,16 @@ unfolding loading
 opened set bytes read ready is = ap (unless_fault set) ready.none ∙ ap (λ b. with_table set (nfit_reading b)) (sym ready.read) ∙ ap (with_table set) is
 
 -- the table isn't read
-pub table_refused : (set : Images) (result : Result Loaded LoadFault) (e : LoadFault) (bytes : List ℕ) (r : Result Nfit LoadFault) (read : Result Nfit NfitFault) → result ≡ Err e → r ≡ Err e
-    → nfit_reading bytes ≡ read → Answers fault.OutOfMemory r (result_map_both (λ n. n) fault.Nfit (nfit_reading bytes)) → IsOpen set bytes → Loads result set
-table_refused set result e bytes r (Ok nfit) is is' reading told ready =
-    loads_err set result e is (λ no_read no_memory.
+pub table_refused : {A : Type 0} (f : A → ImageSet) (set : Images) (result : Result A LoadFault) (e : LoadFault) (bytes : List ℕ) (r : Result Nfit LoadFault) (read : Result Nfit NfitFault) → result ≡ Err e → r ≡ Err e
+    → nfit_reading bytes ≡ read → Answers fault.OutOfMemory r (result_map_both (λ n. n) fault.Nfit (nfit_reading bytes)) → IsOpen set bytes → LoadsBy f result set
+table_refused f set result e bytes r (Ok nfit) is is' reading told ready =
+    loads_err f set result e is (λ no_read no_memory.
     absurd (let same : Err e ≡ Ok nfit = sym is' ∙ told (λ h. no_memory (let k : Err e ≡ Err fault.OutOfMemory = sym is' ∙ h in cc)) ∙ ap (result_map_both (λ n. n) fault.Nfit) reading in cc))
-table_refused set result e bytes r (Err f) is is' reading told ready =
-    loads_err set result e is (λ no_read no_memory.
-    let same : Err e ≡ Err (fault.Nfit f) = sym is' ∙ told (λ h. no_memory (let k : Err e ≡ Err fault.OutOfMemory = sym is' ∙ h in cc)) ∙ ap (result_map_both (λ n. n) fault.Nfit) reading in
-    let is_nfit : e ≡ fault.Nfit f = cc in
-    opened set bytes (Err f) ready reading ∙ ap (λ x. Err x) (sym is_nfit))
+table_refused f set result e bytes r (Err refused) is is' reading told ready =
+    loads_err f set result e is (λ no_read no_memory.
+    let same : Err e ≡ Err (fault.Nfit refused) = sym is' ∙ told (λ h. no_memory (let k : Err e ≡ Err fault.OutOfMemory = sym is' ∙ h in cc)) ∙ ap (result_map_both (λ n. n) fault.Nfit) reading in
+    let is_nfit : e ≡ fault.Nfit refused = cc in
+    opened set bytes (Err refused) ready reading ∙ ap (λ x. Err x) (sym is_nfit))
 
 -- the table that was read
 pub table_is : (bytes : List ℕ) (nfit : Nfit) (r : Result Nfit LoadFault) (read : Result Nfit NfitFault) → r ≡ Ok nfit → nfit_reading bytes ≡ read
@@ -82,18 +87,18 @@ abbrev pub faults_of : Images → Nfit → List (Option LoadFault)
 faults_of set nfit = modules_fault set (length nfit.modules) ∷ mappings_fault set nfit.regions ∷ []
 
 -- a module or a mapping shows a fault
-pub sizes_stop : (set : Images) (result : Result Loaded LoadFault) (e : LoadFault) (bytes : List ℕ) (nfit : Nfit) (xs : List Sizes) (r : Result (List Sizes) LoadFault) → result ≡ Err e → r ≡ Err e
-    → nfit_reading bytes ≡ Ok nfit → AnswersRead r (value_unless xs (first_fault (faults_of set nfit))) → IsOpen set bytes → Loads result set
-sizes_stop set result e bytes nfit xs r is is' reading told ready =
-    loads_err set result e is (λ no_read no_memory.
+pub sizes_stop : {A : Type 0} (f : A → ImageSet) (set : Images) (result : Result A LoadFault) (e : LoadFault) (bytes : List ℕ) (nfit : Nfit) (xs : List Sizes) (r : Result (List Sizes) LoadFault) → result ≡ Err e → r ≡ Err e
+    → nfit_reading bytes ≡ Ok nfit → AnswersRead r (value_unless xs (first_fault (faults_of set nfit))) → IsOpen set bytes → LoadsBy f result set
+sizes_stop f set result e bytes nfit xs r is is' reading told ready =
+    loads_err f set result e is (λ no_read no_memory.
     opened set bytes (Ok nfit) ready reading
     ∙ ap (value_unless (image_set_of set nfit)) (told_fault e xs (first_fault (faults_of set nfit)) r is' told no_read no_memory))
 
 -- all is read
-pub all_read : (set : Images) (result : Result Loaded LoadFault) (loaded : Loaded) (bytes : List ℕ) (nfit : Nfit) (v xs : List Sizes) (r : Result (List Sizes) LoadFault) → result ≡ Ok loaded → r ≡ Ok v
-    → nfit_reading bytes ≡ Ok nfit → AnswersRead r (value_unless xs (first_fault (faults_of set nfit))) → IsOpen set bytes → image_set_in loaded ≡ image_set_of set nfit → Loads result set
-all_read set result loaded bytes nfit v xs r is is' reading told ready same =
-    loads_ok set result loaded is
+pub all_read : {A : Type 0} (f : A → ImageSet) (set : Images) (result : Result A LoadFault) (loaded : A) (bytes : List ℕ) (nfit : Nfit) (v xs : List Sizes) (r : Result (List Sizes) LoadFault) → result ≡ Ok loaded → r ≡ Ok v
+    → nfit_reading bytes ≡ Ok nfit → AnswersRead r (value_unless xs (first_fault (faults_of set nfit))) → IsOpen set bytes → f loaded ≡ image_set_of set nfit → LoadsBy f result set
+all_read f set result loaded bytes nfit v xs r is is' reading told ready same =
+    loads_ok f set result loaded is
     (opened set bytes (Ok nfit) ready reading
     ∙ ap (value_unless (image_set_of set nfit)) (passed v xs (first_fault (faults_of set nfit)) r is' told).0
     ∙ ap (λ x. Ok x) (sym same))
@@ -107,6 +112,15 @@ pub set_is : (set : Images) (nfit : Nfit) (n : ℕ) (bytes : List ℕ) (labels :
     → image_set_in (record { nfit = nfit; nfit_bytes = bytes; labels = labels; contents = contents; bad = bad }) ≡ image_set_of set nfit
 unfolding image_set_in image_set_of
 set_is set nfit n bytes labels contents bad count table areas words ranges = rw (← count) (rw (table, areas, words, ranges) refl)
+
+-- so is what was read of them but for their contents
+pub outline_is : (set : Images) (nfit : Nfit) (n k : ℕ) (bytes : List ℕ) (labels : List (Option Words)) (sizes : List ℕ) (bad : List (Option (List ℕ))) → n ≡ length nfit.modules → k ≡ n
+    → bytes ≡ bytes_of set object.Nfit
+    → map (option_map bytes_kept) labels ≡ map (λ m. set (object.Labels m)) (range_with_len 0 n)
+    → bad ≡ map (λ m. set (object.BadRanges m)) (range_with_len 0 n)
+    → image_set_with (record { nfit = nfit; nfit_bytes = bytes; labels = labels; sizes = sizes; bad = bad }) (contents_in set k) ≡ image_set_of set nfit
+unfolding image_set_with image_set_of
+outline_is set nfit n k bytes labels sizes bad count long table areas ranges = rw long (rw (← count) (rw (table, areas, ranges) refl))
 
 -- ---- one label area
 

@@ -83,7 +83,7 @@ front_none set m now same = record {
   ranges = same (object.BadRanges m) ∙ rw (not_yet set m None [] None) refl;
 }
 
-module_alike : (m : ℕ) (area : Option (List ℕ)) (contents : List ℕ) (bad : Option (List ℕ)) → IsAlike (with_module m area contents bad)
+pub module_alike : (m : ℕ) (area : Option (List ℕ)) (contents : List ℕ) (bad : Option (List ℕ)) → IsAlike (with_module m area contents bad)
 module_alike m area contents bad x y same =
     some_alike (object.BadRanges m) bad (with_more (with_some x (object.Labels m) area) (object.Contents m) contents) (with_more (with_some y (object.Labels m) area) (object.Contents m) contents)
     (more_alike (object.Contents m) contents (with_some x (object.Labels m) area) (with_some y (object.Labels m) area) (some_alike (object.Labels m) area x y same))
@@ -121,10 +121,10 @@ reached_none m m' k k' n n' x set which one now told =
 -- ---- the set that is saved
 
 -- an object of a module past the last one
-none_past : {A : Type 0} (xs : List (Option A)) (k n : ℕ) → length xs ≡ n → nat_lt k n ≡ false → get_or xs k None ≡ None
+pub none_past : {A : Type 0} (xs : List (Option A)) (k n : ℕ) → length xs ≡ n → nat_lt k n ≡ false → get_or xs k None ≡ None
 none_past xs k n is past = get_or_past xs k None (grind (arith, nat_tests))
 
-if_same : (b : Bool) (o : Option (List ℕ)) → (b ≡ false → o ≡ None) → cond b o None ≡ o
+pub if_same : (b : Bool) (o : Option (List ℕ)) → (b ≡ false → o ≡ None) → cond b o None ≡ o
 if_same true o h = refl
 if_same false o h = sym (h refl)
 

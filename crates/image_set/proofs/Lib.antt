@@ -10,3 +10,4 @@ mod Adding
 mod Fronts
 pub mod Kept
 mod Areas
+pub mod Copied

@@ -1,13 +1,9 @@
--- What a cut leaves of a loaded set of which one label area was changed: this project's rules.
-use Rattle.std.specs.Prelude.{ℕ, ◌^◌, ◌<◌, Bool, List, [], length, slice_get, slice_index_or, slice_set, Some, None}
+-- A set as it is saved, and one with another label area: this project's rules.
+use Rattle.std.specs.Prelude.{ℕ, ◌^◌, ◌<◌, List, [], length, slice_get, slice_index_or, slice_set, Some, None}
 use Rattle.nvd_media.specs.declared.object.Object.TheVariants as object
-use Rattle.nvd_media.specs.Images.{Images, IsSameSet}
-use Rattle.cut_words.specs.Words.{Words, IsLeft}
-use Rattle.cut_words.specs.WordBytes.{bytes_of}
-use Rattle.power_cut.specs.Left.{LeavesWords}
+use Rattle.nvd_media.specs.Images.{Images}
 use Rattle.image_set.specs.declared.changing.SetLeft.{SetLeft}
-use Rattle.image_set.specs.declared.loading.Loaded.{Loaded}
-use Rattle.image_set.specs.Load.{ImageSet, image_set_in}
+use Rattle.image_set.specs.Load.{ImageSet}
 use Rattle.image_set.specs.Save.{HasModules, set_of}
 
 -- the objects of an image set, under its mark
@@ -36,11 +32,3 @@ objects_in left = set_of left.nfit left.images left.bad
 pub record IsSavable (left : SetLeft) : Type 0 where
   pub modules : HasModules left.images left.bad
   pub few : length left.images.contents < 2 ^ 32
-
--- What is left of a set in which these words stand for the label area of a module, and no other word is pending: the chooser is
--- asked for these words alone, and all other objects are left as they were.
-pub record LeavesArea {C : Type 0} (picks : C → ℕ → Bool → C → Type 0) (loaded : Loaded) (m : ℕ) (area : Words) (before after : C) (left : SetLeft) : Type 0 where
-  pub row : List ℕ
-  pub asked : LeavesWords picks area row before after
-  pub left_of : IsLeft area row
-  pub objects : IsSameSet (objects_in left) (objects_of (with_area (image_set_in loaded) m (bytes_of row)))

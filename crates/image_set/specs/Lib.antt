@@ -4,3 +4,5 @@ pub mod Sound
 pub mod Sizes
 pub mod Save
 pub mod Changed
+pub mod Outline
+pub mod Copying

@@ -3,12 +3,13 @@ ghost use Rattle.std.specs.Prelude.{◌≡◌, ◌<◌, ◌≤◌, ℕ, List, So
 ghost use Rattle.std.specs.Option.{ForSome, option_map};
 ghost use Rattle.nvd_media.specs.Causes.{Rose};
 ghost use Rattle.nvd_media.specs.Images.{Becomes, Keeps, IsEmptySet, IsSameSet, IsUnfinished};
-ghost use Rattle.image_set.specs.Changed.{IsSavable, LeavesArea, objects_in, with_area};
-ghost use Rattle.image_set.specs.Load.{area_of, bytes_kept, image_set_in};
-ghost use Rattle.image_set.specs.Sound.{IsArea, IsSound};
+ghost use Rattle.image_set.specs.Changed.{IsSavable, objects_in, with_area};
+ghost use Rattle.image_set.specs.Load.{area_of, bytes_kept};
+ghost use Rattle.image_set.specs.Outline.{IsCopyable, IsOutlined, LeavesOutline, image_set_with};
+ghost use Rattle.image_set.specs.Sound.{IsArea};
 
 use crate::fault::SaveFault;
-use crate::loading::Loaded;
+use crate::outline::Outline;
 use crate::saving::save;
 use cut_words::CutWords;
 use nvd_media::{Chooser, ImageSink};
@@ -23,6 +24,19 @@ pub struct SetLeft {
     pub nfit: Items<u8>,
     /// The words of the modules' label areas and contents.
     pub images: Images,
+    /// The bytes of the modules' lists of bad ranges.
+    pub bad: Items<Option<Items<u8>>>,
+}
+
+/// An image set as it is saved, but for its contents, which are copied from where they are.
+#[derive(Debug, Drop)]
+pub struct OutlineLeft {
+    /// The bytes of the firmware's table.
+    pub nfit: Items<u8>,
+    /// The words of the label area of each module that has one.
+    pub labels: Items<Option<Items<u64>>>,
+    /// How many bytes the contents of each module have.
+    pub sizes: Items<u64>,
     /// The bytes of the modules' lists of bad ranges.
     pub bad: Items<Option<Items<u8>>>,
 }
@@ -57,32 +71,33 @@ fn with_area(
     Items::from_vec(labels)
 }
 
-impl Loaded {
+impl Outline {
     /// Takes a module's label area out, where there is one: `None` where the table doesn't name the
     /// module, or it has no label area.
     ///
     /// - `area`, `settled`: its bytes are the area's; it has a label area's size, and no word of it is
     ///   pending.
     /// - `sound`, `others`: the rest of the set is sound, and with a label area put back it is the set
-    ///   with that label area in place of the one that was taken.
-    pub fn take_area(self, module: u32) -> (Loaded, Option<CutWords>)
-        requires { IsSound self }
-        ensures area { option_map bytes_kept result.1 ≡ area_of (image_set_in self) «module» }
+    ///   with that label area in place of the one that was taken, whatever the contents are.
+    pub fn take_area(self, module: u32) -> (Outline, Option<CutWords>)
+        requires { IsOutlined self }
+        ensures area { (contents : List (List ℕ)) → option_map bytes_kept result.1 ≡ area_of (image_set_with self contents) «module» }
         ensures settled { IsArea result.1 }
-        ensures sound { IsSound result.0 }
-        ensures others { (bytes : List ℕ) → with_area (image_set_in result.0) «module» bytes
-            ≡ with_area (image_set_in self) «module» bytes }
+        ensures sound { IsOutlined result.0 }
+        ensures others { (contents : List (List ℕ)) (bytes : List ℕ) → with_area (image_set_with result.0 contents) «module» bytes
+            ≡ with_area (image_set_with self contents) «module» bytes }
         ensures count { length result.0.labels ≡ length self.labels }
+        ensures sizes { result.0.sizes ≡ self.sizes }
     {
         let (labels, area) = without_area(self.labels, module);
-        let loaded = Loaded {
+        let outline = Outline {
             nfit: self.nfit,
             nfit_bytes: self.nfit_bytes,
             labels,
-            contents: self.contents,
+            sizes: self.sizes,
             bad: self.bad,
         };
-        (loaded, area)
+        (outline, area)
     }
 
     /// What a power cut leaves of the set in which these words stand for the label area of a module,
@@ -96,17 +111,19 @@ impl Loaded {
         module: u32,
         area: CutWords,
         choose: &mut C,
-    ) -> Result<SetLeft, AllocError>
-        requires sound { IsSound self }
+    ) -> Result<OutlineLeft, AllocError>
+        requires sound { IsOutlined self }
         requires named { «module» < length self.labels }
-        ensures left { IfOk result (LeavesArea C.picks self «module» area choose.old choose.new) }
-        ensures savable { IfOk result IsSavable }
+        ensures left { IfOk result (LeavesOutline C.picks self «module» area choose.old choose.new) }
+        ensures copyable { IfOk result IsCopyable }
+        ensures sizes { IfOk result (λ left. left.sizes ≡ self.sizes) }
     {
         let labels = with_area(self.labels, module, area);
-        let images = leave_all(alloc, labels, self.contents, Vec::new(alloc), choose)?;
-        Ok(SetLeft {
+        let images = leave_all(alloc, labels, Items::new(alloc), Vec::new(alloc), choose)?;
+        Ok(OutlineLeft {
             nfit: self.nfit_bytes,
-            images,
+            labels: images.labels,
+            sizes: self.sizes,
             bad: self.bad,
         })
     }

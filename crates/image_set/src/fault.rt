@@ -122,3 +122,70 @@ impl From<AllocError> for SaveFault {
         SaveFault::OutOfMemory
     }
 }
+
+/// Why an image set isn't copied.
+#[derive(Clone, Copy, Debug, PartialEq, Eq)]
+pub enum CopyFault {
+    /// The source failed: the set isn't finished.
+    ReadFault,
+    /// The sink failed: the set isn't finished.
+    WriteFault,
+    /// Memory ran out: the sink is as it was.
+    OutOfMemory,
+}
+
+/// Why copying stops. Only a sink's failure is turned into one by `?`.
+#[derive(Clone, Copy, Debug, PartialEq, Eq)]
+pub(crate) enum CopyStop {
+    /// The source failed.
+    ReadFault,
+    /// The sink failed.
+    WriteFault,
+}
+
+impl From<Failed> for CopyStop {
+    ghost use Rattle.std.specs.Prelude.{◌≡◌};
+    ghost use Rattle.image_set.specs.declared.fault.CopyStop.TheVariants.{WriteFault};
+
+    ghost from_gives = { λ _ stop. stop ≡ WriteFault };
+
+    fn from(_error: Failed) -> CopyStop {
+        CopyStop::WriteFault
+    }
+}
+
+impl From<Failed> for CopyFault {
+    ghost use Rattle.std.specs.Prelude.{◌≡◌};
+    ghost use Rattle.image_set.specs.declared.fault.CopyFault.TheVariants.{WriteFault};
+
+    ghost from_gives = { λ _ fault. fault ≡ WriteFault };
+
+    fn from(_error: Failed) -> CopyFault {
+        CopyFault::WriteFault
+    }
+}
+
+impl From<AllocError> for CopyFault {
+    ghost use Rattle.std.specs.Prelude.{◌≡◌};
+    ghost use Rattle.image_set.specs.declared.fault.CopyFault.TheVariants.{OutOfMemory};
+
+    ghost from_gives = { λ _ fault. fault ≡ OutOfMemory };
+
+    fn from(_error: AllocError) -> CopyFault {
+        CopyFault::OutOfMemory
+    }
+}
+
+impl From<CopyStop> for CopyFault {
+    ghost use Rattle.std.specs.Prelude.{◌≡◌};
+    ghost use Rattle.image_set.specs.Copying.{copy_fault_of};
+
+    ghost from_gives = { λ stop fault. fault ≡ copy_fault_of stop };
+
+    fn from(stop: CopyStop) -> CopyFault {
+        match stop {
+            CopyStop::ReadFault => CopyFault::ReadFault,
+            CopyStop::WriteFault => CopyFault::WriteFault,
+        }
+    }
+}

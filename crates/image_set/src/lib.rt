@@ -22,22 +22,35 @@
 //!
 //! [`save`] writes a set that was made of a loaded one: the table, each module's objects in the same order,
 //! and the mark last, so that a set that isn't whole is never taken for one. Words are turned into bytes
-//! piece by piece, so saving takes no second copy. A command that changes one label area takes it out of the
-//! loaded set ([`Loaded::take_area`]) and leaves the set with what became of it ([`Loaded::leave_area`]).
+//! piece by piece, so saving takes no second copy.
+//!
+//! A command that changes one label area needs no contents in memory. [`load_outline`] gives the set but for them, after
+//! the same checks, with the sizes that they have; the command takes the area out ([`Outline::take_area`]) and leaves the
+//! set with what became of it ([`Outline::leave_area`]); and [`OutlineLeft::save`] copies the contents from the source to
+//! the sink as it writes the other objects, 256 KiB at a time:
+//!
+//! ```text
+//! source ── mark, table, sizes, labels, bad ranges ──► outline ──► what is left of it ──┐
+//!    └───────────────────────────── contents ───────────────────────────────────────────┴──► sink, and its mark
+//! ```
+//!
+//! So a source that fails after that leaves a set that isn't finished, as a sink that fails does.
 //!
 //! `specs/Limits.antt` has the limits, `specs/Load.antt` what an image set holds or which fault is its
 //! first (`loading`) and what was loaded as bytes (`image_set_in`), `specs/Sound.antt` what holds of a
 //! set that was loaded even where the source tells nothing (`IsSound`), `specs/Sizes.antt` the sizes
-//! between, `specs/Save.antt` the objects that are saved, and `specs/Changed.antt` what is left of a set with
-//! one other label area. All limits and the order are this project's rules.
+//! between, `specs/Save.antt` the objects that are saved, `specs/Changed.antt` a set with another label area, and
+//! `specs/Outline.antt` an outline, what is left of one and what copying makes. All limits and the order are this project's rules.
 #![tactic(auto)]
 
 mod area;
 mod changing;
+mod copying;
 mod fault;
 mod limits;
 mod loading;
 mod mapped;
+mod outline;
 mod pieces;
 mod reading;
 mod saving;
@@ -46,7 +59,8 @@ mod sizes;
 mod tests;
 mod writing;
 
-pub use changing::SetLeft;
-pub use fault::{LoadFault, SaveFault};
+pub use changing::{OutlineLeft, SetLeft};
+pub use fault::{CopyFault, LoadFault, SaveFault};
 pub use loading::{Loaded, load};
+pub use outline::{Outline, load_outline};
 pub use saving::save;

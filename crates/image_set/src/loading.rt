@@ -40,7 +40,7 @@ pub struct Loaded {
 }
 
 /// Reads the firmware's table.
-fn table_of(alloc: Global, bytes: &[u8]) -> Result<Nfit, LoadFault>
+pub(crate) fn table_of(alloc: Global, bytes: &[u8]) -> Result<Nfit, LoadFault>
     ensures reading { Answers LoadFault.OutOfMemory result (result_map_both (λ nfit. nfit)
         LoadFault.Nfit (nfit_reading bytes.now)) }
     ensures apart { result ≢ Err (LoadFault.Nfit NfitFault.OutOfMemory) }
@@ -57,7 +57,7 @@ fn table_of(alloc: Global, bytes: &[u8]) -> Result<Nfit, LoadFault>
 }
 
 /// The sizes of all modules' objects, into which all mappings fit.
-fn checked_sizes<S: ImageSource>(
+pub(crate) fn checked_sizes<S: ImageSource>(
     alloc: Global,
     images: &mut S,
     nfit: &Nfit,

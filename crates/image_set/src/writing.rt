@@ -93,7 +93,7 @@ pub(crate) fn write_words<K: ImageSink>(
 }
 
 /// Writes a label area, where there is one.
-fn write_area<K: ImageSink>(
+pub(crate) fn write_area<K: ImageSink>(
     out: &mut K,
     module: u32,
     area: &Option<Items<u64>>,
@@ -112,7 +112,7 @@ fn write_area<K: ImageSink>(
 }
 
 /// Writes a list of bad ranges, where there is one, also an empty one.
-fn write_ranges<K: ImageSink>(
+pub(crate) fn write_ranges<K: ImageSink>(
     out: &mut K,
     module: u32,
     ranges: &Option<Items<u8>>,

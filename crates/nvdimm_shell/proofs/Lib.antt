@@ -1,3 +1,5 @@
+pub mod Comes
+pub mod Copies
 pub mod Ending
 pub mod Causes
 pub mod InitLeaves

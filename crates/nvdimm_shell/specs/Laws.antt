@@ -33,7 +33,7 @@ use Rattle.shell_changes.specs.Init.{InitComes}
 use Rattle.shell_answers.specs.Cut.{LeavesBy}
 use Rattle.shell_listings.specs.List.{listed_of}
 use Rattle.shell_sectors.specs.Causes.{IsBroken, IsReadable, refuses_info, refuses_read}
-use Rattle.nvdimm_shell.specs.Run.{IsDue, Ends}
+use Rattle.nvdimm_shell.specs.Run.{IsDue, Ends, copies_by}
 
 -- a module's label area that is refused: there is none, or it has no valid index block
 abbrev pub IsRefusedArea : Option (List ℕ) → Type 0
@@ -109,7 +109,7 @@ HasTableCause words set other = ⊤
 -- each status has only the cause that the table gives it
 abbrev pub EachStatusHasItsCause : (ℕ → Words → List ℕ → Type 0) → Type 0
 EachStatusHasItsCause leaves = (words : List (List ℕ)) (set : Images) (left : Option (List ℕ)) (made made' : Option Images) (text text' : Option (List ℕ)) (s : Status)
-    → Ends (IsDue leaves words (Some set) left) made made' text text' s → HasTableCause words set s
+    → Ends (copies_by words) (IsDue leaves words (Some set) left) made made' text text' s → HasTableCause words set s
 
 -- a status that says that something outside failed, or that memory was wanting
 abbrev pub IsFromOutside : Status → Type 0
@@ -123,7 +123,7 @@ IsFromOutside other = ⊥
 abbrev pub AcceptedIsOk : (ℕ → Words → List ℕ → Type 0) → Type 0
 AcceptedIsOk leaves = (words : List (List ℕ)) (command : Command) (set : Images) (left : Option (List ℕ)) (made made' : Option Images) (text text' : Option (List ℕ)) (s : Status)
     → command_of words ≡ Some command → IsAcceptedFor command (loading set) → is_cut command (loading set) ≡ false → is_barred command (loading set) ≡ false
-    → Ends (IsDue leaves words (Some set) left) made made' text text' s → (s ≡ status.Ok) ⊎ IsFromOutside s
+    → Ends (copies_by words) (IsDue leaves words (Some set) left) made made' text text' s → (s ≡ status.Ok) ⊎ IsFromOutside s
 
 -- ---- what `init` leaves
 

@@ -1,5 +1,5 @@
 -- What a run does, seen from outside.
-use Rattle.std.specs.Prelude.{◌≡◌, ◌⊎◌, ℕ, Bool, false, IsTrue, IsSome, List, ◌++◌, Option, Some, Result, Ok, Err, MatchOption, codes, take}
+use Rattle.std.specs.Prelude.{◌≡◌, ◌⊎◌, ℕ, Bool, true, false, IsTrue, IsSome, List, ◌++◌, Option, Some, None, Result, Ok, Err, MatchOption, codes, take}
 use Rattle.std.specs.Io.KnownBytes.{Keeps, Appends}
 use Rattle.nvd_media.specs.Images.{Images, Becomes, IsUnfinished}
 use Rattle.cut_words.specs.Words.{Words}
@@ -56,6 +56,25 @@ reads_script (CreateSectors new power) = false
 reads_script (Info uuid) = false
 reads_script (Read uuid sector) = false
 
+-- whether a command copies contents as it saves, so that reading may fail then
+abbrev pub copies : Command → Bool
+copies (Labels m) = false
+copies Nfit = false
+copies command.List = false
+copies (Init m power) = true
+copies (Change c power) = false
+copies (CreateSectors new power) = false
+copies (Info uuid) = false
+copies (Read uuid sector) = false
+
+-- whether the words are those of a command that does
+abbrev pub copies_found : Option Command → Bool
+copies_found None = false
+copies_found (Some command) = copies command
+
+abbrev pub copies_by : List (List ℕ) → Bool
+copies_by words = copies_found (command_of words)
+
 -- ---- once for all commands
 
 -- a command comes to this, whatever images and script are told
@@ -75,17 +94,23 @@ LeavesScript words left left' = MatchOption (command_of words) (left' ≡ left) 
 abbrev pub AppendsPart : Option (List ℕ) → Option (List ℕ) → List ℕ → Type 0
 AppendsPart text text' bytes = (n : ℕ) × Appends text text' (take n bytes)
 
+-- after a read fault nothing was written; or, of a command that copies contents as it saves, an outcome was due that has a set,
+-- and the set isn't finished
+abbrev pub FailedToRead : Bool → (Outcome → Type 0) → Option Images → Option Images → Type 0
+FailedToRead copying due made made' =
+    (made' ≡ made) ⊎ (IsTrue copying × ((outcome : Outcome) × due outcome × IsSome outcome.saved × Becomes made made' IsUnfinished))
+
 -- after a write fault an outcome was due and its set wasn't finished and nothing was printed; or an outcome was due and
 -- printing stopped before its end; or printing `read fault` did
-abbrev pub FailedToWrite : (Outcome → Type 0) → Option Images → Option Images → Option (List ℕ) → Option (List ℕ) → Type 0
-FailedToWrite due made made' text text' =
+abbrev pub FailedToWrite : Bool → (Outcome → Type 0) → Option Images → Option Images → Option (List ℕ) → Option (List ℕ) → Type 0
+FailedToWrite copying due made made' text text' =
     ((outcome : Outcome) × due outcome × IsSome outcome.saved × Becomes made made' IsUnfinished × Keeps text text')
     ⊎ ((outcome : Outcome) × due outcome × Saves outcome.saved made made' × AppendsPart text text' outcome.text)
-    ⊎ ((made' ≡ made) × AppendsPart text text' (codes "read fault" ++ lf))
+    ⊎ (FailedToRead copying due made made' × AppendsPart text text' (codes "read fault" ++ lf))
 
--- what stands outside after a status
-abbrev pub Ends : (Outcome → Type 0) → Option Images → Option Images → Option (List ℕ) → Option (List ℕ) → Status → Type 0
-Ends due made made' text text' status.ReadFault = (made' ≡ made) × Appends text text' (codes "read fault" ++ lf)
-Ends due made made' text text' status.WriteFault = FailedToWrite due made made' text text'
-Ends due made made' text text' status.OutOfMemory = (made' ≡ made) × Keeps text text'
-Ends due made made' text text' other = (outcome : Outcome) × due outcome × (status_of outcome.ending ≡ other) × Saves outcome.saved made made' × Appends text text' outcome.text
+-- what stands outside after a status, of a command that copies contents as it saves or doesn't
+abbrev pub Ends : Bool → (Outcome → Type 0) → Option Images → Option Images → Option (List ℕ) → Option (List ℕ) → Status → Type 0
+Ends copying due made made' text text' status.ReadFault = FailedToRead copying due made made' × Appends text text' (codes "read fault" ++ lf)
+Ends copying due made made' text text' status.WriteFault = FailedToWrite copying due made made' text text'
+Ends copying due made made' text text' status.OutOfMemory = (made' ≡ made) × Keeps text text'
+Ends copying due made made' text text' other = (outcome : Outcome) × due outcome × (status_of outcome.ending ≡ other) × Saves outcome.saved made made' × Appends text text' outcome.text

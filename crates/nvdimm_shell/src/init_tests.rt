@@ -1,6 +1,6 @@
 //! Runs of `init` over forms in memory.
 use crate::areas::{AREA, AREA_SIZE};
-use crate::sets::{area_of, pair, patch, with_area};
+use crate::sets::{area_of, pair, patch, with_area, without};
 use crate::tables::TWO_WAY;
 use crate::tests::quiet;
 use crate::top::run;
@@ -27,11 +27,23 @@ pub fn saved<R: Threads + Wait + Sync, C: Chooser>(
     choose: &mut C,
     fails: &[u64],
 ) -> Result<Made, AllocError> {
+    let mut images = MemImages::new(alloc, objects, Vec::new(alloc));
+    saved_from(rt, alloc, words, &mut images, choose, fails)
+}
+
+/// A run on a source, of which the calls with these numbers on the sink fail.
+fn saved_from<R: Threads + Wait + Sync, C: Chooser>(
+    rt: &R,
+    alloc: Global,
+    words: &[&str],
+    images: &mut MemImages,
+    choose: &mut C,
+    fails: &[u64],
+) -> Result<Made, AllocError> {
     let mut owned = Vec::new(alloc);
     for word in words {
         owned.push(String::from_str(alloc, word)?)?;
     }
-    let mut images = MemImages::new(alloc, objects, Vec::new(alloc));
     let mut set = MemImages::new(alloc, Vec::new(alloc), Vec::from_slice(alloc, fails)?);
     let mut script = MemText::new(Vec::new(alloc), Vec::new(alloc));
     let mut text = MemText::new(Vec::new(alloc), Vec::new(alloc));
@@ -39,7 +51,7 @@ pub fn saved<R: Threads + Wait + Sync, C: Chooser>(
         rt,
         alloc,
         &owned,
-        &mut images,
+        images,
         &mut script,
         &mut set,
         &mut text,
@@ -228,6 +240,89 @@ fn each_call_on_the_sink_fails_in_turn(rt: HostRuntime) -> Result<(), AllocError
     }
     // the table, an area, two contents, and the mark
     assert_eq!(rt; failed, 5);
+    Ok(())
+}
+
+/// Each call on the source fails in turn, the last two of them while contents are copied: no set gets its mark,
+/// and the text is `read fault`.
+#[test]
+fn each_call_on_the_source_fails_in_turn(rt: HostRuntime) -> Result<(), AllocError> {
+    let alloc = rt.alloc();
+    let mut failed = 0;
+    let mut begun = 0;
+    for call in 0..16 {
+        let failing = Vec::from_slice(alloc, &[call])?;
+        let mut images = MemImages::new(alloc, blank(alloc)?, failing);
+        let mut choose = ListChooser::new(Vec::new(alloc));
+        let words = ["init", "0"];
+        let Made { status, text, set } = saved_from(
+            &rt,
+            alloc,
+            &words,
+            &mut images,
+            &mut choose,
+            &[],
+        )?;
+        if status == Status::ReadFault {
+            assert_eq!(rt; text.as_str(), "read fault\n");
+            assert!(rt; set.bytes(Object::Mark).is_none());
+            assert_eq!(rt; failed, call);
+            failed += 1;
+            if set.bytes(Object::Nfit).is_some() {
+                begun += 1;
+            }
+        } else {
+            assert_eq!(rt; status, Status::Ok);
+            assert!(rt; set.bytes(Object::Mark).is_some());
+        }
+    }
+    // the mark, the table, two areas, two contents and two lists are asked for, the table and an area are
+    // read, and then two contents
+    assert_eq!(rt; failed, 12);
+    assert_eq!(rt; begun, 2);
+    Ok(())
+}
+
+/// Contents of more than a piece, and a list of bad ranges: but for the area, which is that of any set, all objects
+/// are as they were read.
+#[test]
+fn contents_are_copied(rt: HostRuntime) -> Result<(), AllocError> {
+    let alloc = rt.alloc();
+    let mut contents = vec![in alloc; 0x5a; (256 << 10) + 4096]?;
+    for (at, byte) in [(0, 1), (262143, 2), (262144, 3), (266239, 4)] {
+        contents[at] = byte;
+    }
+    let bad = vec![in alloc; 7; 16]?;
+    let mut objects = without(alloc, blank(alloc)?, Object::Contents(1))?;
+    for (object, bytes) in [
+        (Object::Contents(1), contents.as_slice()),
+        (Object::BadRanges(0), bad.as_slice()),
+    ] {
+        objects.push(Stored {
+            object,
+            bytes: Vec::from_slice(alloc, bytes)?,
+        })?;
+    }
+    let words = ["init", "0"];
+    let mut choose = ListChooser::new(Vec::new(alloc));
+    let plain = saved(&rt, alloc, &words, blank(alloc)?, &mut choose, &[])?.set;
+    let mut images = MemImages::new(alloc, objects, Vec::new(alloc));
+    let Made { status, text, set } = saved_from(&rt, alloc, &words, &mut images, &mut choose, &[])?;
+    assert_eq!(rt; text.as_str(), "ok\n");
+    assert_eq!(rt; status, Status::Ok);
+    for object in [
+        Object::Mark,
+        Object::Nfit,
+        Object::Labels(1),
+        Object::Contents(0),
+        Object::Contents(1),
+        Object::BadRanges(0),
+        Object::BadRanges(1),
+    ] {
+        assert!(rt; set.bytes(object) == images.bytes(object));
+    }
+    assert!(rt; set.bytes(Object::Labels(0)) == plain.bytes(Object::Labels(0)));
+    assert!(rt; set.bytes(Object::Labels(0)).is_some());
     Ok(())
 }
 

@@ -18,7 +18,8 @@
 //! A command is an entry of the table in `specs/Commands.antt`, a case of `Comes` in `specs/Run.antt`, and
 //! a handler that makes an [`outcome::Answer`] from the set that was loaded, without a source or a sink.
 //! Loading, faults of reading and writing and want of memory are handled once, for all commands, by
-//! `on_loaded`, by `Ends` and in `top`.
+//! `on_loaded`, by `Ends` and in `top`. `init` needs no contents: they stay in IN, and are copied as the set is saved, so
+//! reading may still fail then (`copies` and `FailedToRead` of `specs/Run.antt`).
 #![tactic(auto)]
 
 #[cfg(test)]
@@ -26,6 +27,8 @@ mod areas;
 #[cfg(test)]
 mod change_tests;
 mod commands;
+mod copying;
+mod found;
 #[cfg(test)]
 mod init_tests;
 mod laws;
@@ -54,6 +57,7 @@ use nvd_media::{DirImages, NoGate, SeedChooser, StdText, TextSink};
 use shell_answers::Status;
 use std::alloc::AllocError;
 use std::env;
+use std::fs::File;
 use std::process::ExitCode;
 use std::rt::{Env, Files};
 use std::sync::Wait;
@@ -74,7 +78,7 @@ fn usage<O: TextSink>(text: &mut O) -> Status {
 }
 
 /// Runs the command of a command line on the directories that it names.
-fn status_of<R: Files + AllocGlobal + Print + Input + Threads + Wait + Sync>(
+fn status_of<R: Files<File = File> + AllocGlobal + Print + Input + Threads + Wait + Sync>(
     rt: &R,
     words: &[String],
 ) -> Status {

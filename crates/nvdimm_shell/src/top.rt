@@ -1,24 +1,27 @@
-ghost use Rattle.std.specs.Prelude.{◌≡◌, ◌≢◌, ◌⊎◌, ◌++◌, codes, map, string_bytes, false, IfOk, IsSome, OnOk, Some, Err};
+ghost use Rattle.std.specs.Prelude.{◌≡◌, ◌≢◌, ◌⊎◌, ◌++◌, ◌≤◌, codes, map, string_bytes, true, false, IfOk, IfSome, IsSome, IsTrue, OnOk, Some, None, Err};
 ghost use Rattle.std.specs.Option.{ForSome, option_map};
 ghost use Rattle.std.specs.Io.KnownBytes.{Appends};
 ghost use Rattle.nvd_media.specs.Causes.{Rose};
-ghost use Rattle.nvd_media.specs.Images.{Becomes, IsEmptySet, IsUnfinished};
-ghost use Rattle.image_set.specs.Load.{image_set_in};
+ghost use Rattle.nvd_media.specs.Images.{Images, Becomes, IsEmptySet, IsUnfinished};
+ghost use Rattle.image_set.specs.Load.{image_set_in, loading};
 ghost use Rattle.image_set.specs.Sound.{IsSound};
 ghost use Rattle.image_set.specs.Changed.{objects_in};
-ghost use Rattle.shell_answers.specs.Outcome.{lf, status_of};
+ghost use Rattle.shell_answers.specs.Outcome.{Outcome, lf, status_of};
 ghost use Rattle.shell_answers.specs.LoadFaults.{load_outcome};
 ghost use Rattle.shell_answers.specs.Cut.{LeavesBy};
-ghost use Rattle.nvdimm_shell.specs.Run.{LoadedComes, ComesTold, reads_script, IsDue, LeavesScript, Ends, AppendsPart};
+ghost use Rattle.nvdimm_shell.specs.Found.{ComesOf, HasItsContents, copied_of, is_copied, whole_of};
+ghost use Rattle.nvdimm_shell.specs.Run.{LoadedComes, OnLoaded, ComesTold, reads_script, copies, copies_by, IsDue, LeavesScript, Ends, AppendsPart};
 ghost use Rattle.nvdimm_shell.specs.Words.{GivesGoodName};
 ghost use Rattle.shell_answers.specs.Saved.{Saves, outcome_of};
 
+use crate::copying::copy_if;
+use crate::found::Found;
 use crate::words::{Command, command_from};
 use command_words::WordsFault;
-use image_set::{LoadFault, Loaded, SaveFault, load};
+use image_set::{CopyFault, LoadFault, Loaded, SaveFault, load, load_outline};
 use nvd_media::{Chooser, Gate, ImageSink, ImageSource, TextSink, TextSource};
-use shell_answers::{Answer, Ending, SavedSet, Status, Stop, load_answer, usage_answer};
-use shell_changes::init_answer;
+use shell_answers::{Answer, Ending, Power, SavedSet, Status, Stop, load_answer, usage_answer};
+use shell_changes::{InitAnswer, init_answer};
 use shell_listings::{labels_answer, list_answer, nfit_answer};
 use shell_namespaces::change_answer;
 use shell_sector_creation::sectors_answer;
@@ -38,7 +41,47 @@ fn found_memory(answer: Result<Answer, AllocError>) -> Result<Answer, Stop>
     }
 }
 
-/// What a command comes to on the set that it loads.
+/// The answer of a handler whose set, if one is saved, is in memory, or why there is none.
+fn whole(answer: Result<Answer, Stop>) -> Result<Found, Stop>
+    ensures same { result ≡ whole_of answer }
+    ensures failed { result ≡ Err Stop.ReadFault → answer ≡ Err Stop.ReadFault }
+{
+    match answer {
+        Ok(answer) => Ok(Found::Whole(answer)),
+        Err(stop) => Err(stop),
+    }
+}
+
+/// The answer of a handler whose set, if one is saved, gets its contents from the source, or the stop for want of
+/// memory.
+fn copied(answer: Result<InitAnswer, AllocError>) -> Result<Found, Stop>
+    ensures same { result ≡ copied_of answer }
+    ensures memory { result ≢ Err Stop.ReadFault }
+{
+    match answer {
+        Ok(answer) => Ok(Found::Copied(answer)),
+        Err(_) => Err(Stop::OutOfMemory),
+    }
+}
+
+/// The module and the power of `init`, the command that copies contents as it saves; `None` for each other command.
+fn init_of(command: &Command) -> Option<(u32, Power)>
+    ensures some { IfSome result (λ init. command.now ≡ Command.Init init.0 init.1) }
+    ensures none { result ≡ None → copies command.now ≡ false }
+{
+    match *command {
+        Command::Init(module, power) => Some((module, power)),
+        Command::Labels(_) => None,
+        Command::Nfit => None,
+        Command::List => None,
+        Command::Change(_, _) => None,
+        Command::CreateSectors(_, _) => None,
+        Command::Info(_) => None,
+        Command::Read(_, _) => None,
+    }
+}
+
+/// What a command that copies no contents comes to on the set that it loads.
 #[tactic(auto, unfolding(image_set::specs::Load::image_set_in))]
 fn loaded_answer<C: Chooser>(
     alloc: Global,
@@ -48,13 +91,14 @@ fn loaded_answer<C: Chooser>(
 ) -> Result<Answer, AllocError>
     requires sound { IsSound loaded }
     requires name { GivesGoodName command }
+    requires whole { copies command ≡ false }
     ensures { IfOk result (λ answer. LoadedComes (LeavesBy C.begins C.picks choose.old) command (image_set_in loaded) (outcome_of answer)) }
 {
     match command {
         Command::Labels(module) => labels_answer(alloc, module, &loaded),
         Command::Nfit => nfit_answer(alloc, &loaded.nfit),
         Command::List => list_answer(alloc, loaded),
-        Command::Init(module, power) => init_answer(alloc, module, power, loaded, choose),
+        Command::Init(_, _) => unreachable!(),
         Command::Change(change, power) => change_answer(alloc, &change, power, loaded, choose),
         Command::CreateSectors(new, power) => sectors_answer(alloc, &new, power, loaded, choose),
         Command::Info(uuid) => info_answer(alloc, &uuid, loaded),
@@ -77,8 +121,8 @@ fn unloaded(alloc: Global, fault: LoadFault) -> Result<Answer, Stop>
     }
 }
 
-/// What a command comes to.
-fn perform<S: ImageSource, T: TextSource, C: Chooser>(
+/// What a command that copies no contents comes to: the whole set is loaded.
+fn perform_whole<S: ImageSource, T: TextSource, C: Chooser>(
     alloc: Global,
     command: Command,
     images: &mut S,
@@ -86,14 +130,61 @@ fn perform<S: ImageSource, T: TextSource, C: Chooser>(
     choose: &mut C,
 ) -> Result<Answer, Stop>
     requires name { GivesGoodName command }
+    requires whole { copies command ≡ false }
     ensures told { IfOk result (λ answer. ComesTold (LeavesBy C.begins C.picks choose.old) command (S.held images.old) (T.left _script.old) (outcome_of answer)) }
     ensures same { S.held images.new ≡ S.held images.old }
     ensures unread { reads_script command ≡ false → T.left _script.new ≡ T.left _script.old }
     ensures failed { result ≡ Err Stop.ReadFault → Rose (S.faults images.old) (S.faults images.new) }
+    ensures later { S.faults images.old ≤ S.faults images.new }
 {
     match load(alloc, images) {
         Ok(loaded) => found_memory(loaded_answer(alloc, command, loaded, choose)),
         Err(fault) => unloaded(alloc, fault),
+    }
+}
+
+/// What `init` comes to: all but the contents is loaded.
+fn perform_init<S: ImageSource, C: Chooser>(
+    alloc: Global,
+    module: u32,
+    power: Power,
+    images: &mut S,
+    choose: &mut C,
+) -> Result<Found, Stop>
+    ensures told { IfOk result (λ found. (set : Images) (outcome : Outcome) → S.held images.old ≡ Some set → ComesOf (S.held images.old) found outcome
+        → OnLoaded (LoadedComes (LeavesBy C.begins C.picks choose.old) (Command.Init «module» power)) (loading set) outcome) }
+    ensures there { IfOk result (λ found. HasItsContents (S.held images.old) found) }
+    ensures same { S.held images.new ≡ S.held images.old }
+    ensures failed { result ≡ Err Stop.ReadFault → Rose (S.faults images.old) (S.faults images.new) }
+    ensures later { S.faults images.old ≤ S.faults images.new }
+{
+    match load_outline(alloc, images) {
+        Ok(outline) => copied(init_answer(alloc, module, power, outline, choose)),
+        Err(fault) => whole(unloaded(alloc, fault)),
+    }
+}
+
+/// What a command comes to.
+fn perform<S: ImageSource, T: TextSource, C: Chooser>(
+    alloc: Global,
+    command: Command,
+    images: &mut S,
+    script: &mut T,
+    choose: &mut C,
+) -> Result<Found, Stop>
+    requires name { GivesGoodName command }
+    ensures told { IfOk result (λ found. (outcome : Outcome) → ComesOf (S.held images.old) found outcome
+        → ComesTold (LeavesBy C.begins C.picks choose.old) command (S.held images.old) (T.left script.old) outcome) }
+    ensures copying { IfOk result (λ found. IsTrue (is_copied found) → IsTrue (copies command)) }
+    ensures there { IfOk result (λ found. HasItsContents (S.held images.old) found) }
+    ensures same { S.held images.new ≡ S.held images.old }
+    ensures unread { reads_script command ≡ false → T.left script.new ≡ T.left script.old }
+    ensures failed { result ≡ Err Stop.ReadFault → Rose (S.faults images.old) (S.faults images.new) }
+    ensures later { S.faults images.old ≤ S.faults images.new }
+{
+    match init_of(&command) {
+        Some(init) => perform_init(alloc, init.0, init.1, images, choose),
+        None => whole(perform_whole(alloc, command, images, script, choose)),
     }
 }
 
@@ -104,15 +195,19 @@ fn answer_to<S: ImageSource, T: TextSource, C: Chooser>(
     images: &mut S,
     script: &mut T,
     choose: &mut C,
-) -> Result<Answer, Stop>
-    ensures due { IfOk result (λ answer. IsDue (LeavesBy C.begins C.picks choose.old) (map string_bytes words.now) (S.held images.old) (T.left script.old) (outcome_of answer)) }
+) -> Result<Found, Stop>
+    ensures due { IfOk result (λ found. (outcome : Outcome) → ComesOf (S.held images.old) found outcome
+        → IsDue (LeavesBy C.begins C.picks choose.old) (map string_bytes words.now) (S.held images.old) (T.left script.old) outcome) }
+    ensures copying { IfOk result (λ found. IsTrue (is_copied found) → IsTrue (copies_by (map string_bytes words.now))) }
+    ensures there { IfOk result (λ found. HasItsContents (S.held images.old) found) }
     ensures same { S.held images.new ≡ S.held images.old }
     ensures unread { LeavesScript (map string_bytes words.now) (T.left script.old) (T.left script.new) }
     ensures failed { result ≡ Err Stop.ReadFault → Rose (S.faults images.old) (S.faults images.new) }
+    ensures later { S.faults images.old ≤ S.faults images.new }
 {
     match command_from(alloc, words) {
         Ok(command) => perform(alloc, command, images, script, choose),
-        Err(WordsFault::Usage) => found_memory(usage_answer(alloc)),
+        Err(WordsFault::Usage) => whole(found_memory(usage_answer(alloc))),
         Err(WordsFault::OutOfMemory) => Err(Stop::OutOfMemory),
     }
 }
@@ -149,14 +244,14 @@ fn printed<O: TextSink>(ending: Ending, bytes: &[u8], text: &mut O) -> Status
 
 /// Saves the image set of an answer, if it has one, and then prints its text.
 #[tactic(auto, using(crate::proofs::Ending::endings))]
-fn conclude<K: ImageSink, O: TextSink>(
+fn conclude_whole<K: ImageSink, O: TextSink>(
     alloc: Global,
     answer: Answer,
     out: &mut K,
     text: &mut O,
 ) -> Status
     requires { ForSome (K.made out.old) IsEmptySet }
-    ensures ends { Ends (λ outcome. outcome ≡ outcome_of answer) (K.made out.old) (K.made out.new) (O.written text.old) (O.written text.new) result }
+    ensures ends { Ends false (λ outcome. outcome ≡ outcome_of answer) (K.made out.old) (K.made out.new) (O.written text.old) (O.written text.new) result }
     ensures no_read { result ≢ Status.ReadFault }
     ensures failed { result ≡ Status.WriteFault → Rose (K.faults out.old) (K.faults out.new) ⊎ Rose (O.faults text.old) (O.faults text.new) }
 {
@@ -187,6 +282,58 @@ fn stopped<O: TextSink>(stop: Stop, text: &mut O) -> Status
     }
 }
 
+/// Saves the image set of an answer, if it has one, with the contents that the source has, and then prints its text.
+/// Where the source fails the set isn't finished, and the text is `read fault`.
+#[tactic(auto, using(crate::proofs::Ending::endings))]
+fn conclude_copied<S: ImageSource, K: ImageSink, O: TextSink>(
+    alloc: Global,
+    answer: InitAnswer,
+    images: &mut S,
+    out: &mut K,
+    text: &mut O,
+) -> Status
+    requires empty { ForSome (K.made out.old) IsEmptySet }
+    requires there { HasItsContents (S.held images.old) (Found.Copied answer) }
+    ensures ends { Ends true (ComesOf (S.held images.old) (Found.Copied answer)) (K.made out.old) (K.made out.new) (O.written text.old) (O.written text.new) result }
+    ensures read { result ≡ Status.ReadFault → Rose (S.faults images.old) (S.faults images.new) }
+    ensures failed { result ≡ Status.WriteFault → Rose (K.faults out.old) (K.faults out.new) ⊎ Rose (O.faults text.old) (O.faults text.new) }
+    ensures same { S.held images.new ≡ S.held images.old }
+{
+    let InitAnswer {
+        ending,
+        text: bytes,
+        saved,
+    } = answer;
+    match copy_if(alloc, saved, images, out) {
+        Ok(()) => printed(ending, &bytes, text),
+        Err(CopyFault::ReadFault) => stopped(Stop::ReadFault, text),
+        Err(CopyFault::WriteFault) => Status::WriteFault,
+        Err(CopyFault::OutOfMemory) => Status::OutOfMemory,
+    }
+}
+
+/// Saves what was found, if it has an image set, and then prints its text.
+#[tactic(auto, using(crate::proofs::Ending::endings))]
+fn conclude<S: ImageSource, K: ImageSink, O: TextSink>(
+    alloc: Global,
+    found: Found,
+    images: &mut S,
+    out: &mut K,
+    text: &mut O,
+) -> Status
+    requires empty { ForSome (K.made out.old) IsEmptySet }
+    requires there { HasItsContents (S.held images.old) found }
+    ensures ends { Ends (is_copied found) (ComesOf (S.held images.old) found) (K.made out.old) (K.made out.new) (O.written text.old) (O.written text.new) result }
+    ensures read { result ≡ Status.ReadFault → Rose (S.faults images.old) (S.faults images.new) }
+    ensures failed { result ≡ Status.WriteFault → Rose (K.faults out.old) (K.faults out.new) ⊎ Rose (O.faults text.old) (O.faults text.new) }
+    ensures same { S.held images.new ≡ S.held images.old }
+{
+    match found {
+        Found::Whole(answer) => conclude_whole(alloc, answer, out, text),
+        Found::Copied(answer) => conclude_copied(alloc, answer, images, out, text),
+    }
+}
+
 /// Does what the words ask for, and answers how it ended.
 ///
 /// The words are those after the two directories of the command line: a command's name and what follows
@@ -194,8 +341,9 @@ fn stopped<O: TextSink>(stop: Stop, text: &mut O) -> Status
 ///
 /// - `ends`: what is printed and saved is what is due for the words, the images and the script, as far
 ///   as they are told (`specs/Run.antt`). Status 2 is due exactly where the words aren't a command line,
-///   3 where the images show a fault, 0 else; after 5 the text is `read fault`; 7 is the one status that
-///   is free, and prints nothing.
+///   3 where the images show a fault, 0 else; after 5 the text is `read fault`, and nothing was written, or, of
+///   `init`, which copies contents as it saves, a set that isn't finished; 7 is the one status that is free, and
+///   prints nothing.
 /// - `read_fault`, `write_fault`: status 5 comes only where the count of faults of the images rose in this
 ///   call, 6 only where that of `out` or of the text did.
 /// - `kept`, `unread`: the images are never written, and a script is left that the command doesn't read.
@@ -220,7 +368,7 @@ pub fn run<
     _gate: &G,
 ) -> Status
     requires { ForSome (K.made out.old) IsEmptySet }
-    ensures ends { Ends (IsDue (LeavesBy C.begins C.picks choose.old) (map string_bytes words.now) (S.held images.old) (T.left script.old))
+    ensures ends { Ends (copies_by (map string_bytes words.now)) (IsDue (LeavesBy C.begins C.picks choose.old) (map string_bytes words.now) (S.held images.old) (T.left script.old))
         (K.made out.old) (K.made out.new) (O.written text.old) (O.written text.new) result }
     ensures read_fault { result ≡ Status.ReadFault → Rose (S.faults images.old) (S.faults images.new) }
     ensures write_fault { result ≡ Status.WriteFault → Rose (K.faults out.old) (K.faults out.new) ⊎ Rose (O.faults text.old) (O.faults text.new) }
@@ -228,7 +376,7 @@ pub fn run<
     ensures unread { LeavesScript (map string_bytes words.now) (T.left script.old) (T.left script.new) }
 {
     match answer_to(alloc, words, images, script, choose) {
-        Ok(answer) => conclude(alloc, answer, out, text),
+        Ok(found) => conclude(alloc, found, images, out, text),
         Err(stop) => stopped(stop, text),
     }
 }

@@ -1,6 +1,6 @@
 -- What `init` answers, by the area that it found.
 use Rattle.std.proofs.Common.{◌≡◌, ◌≢◌, ℕ, zero, suc, ◌<◌, Bool, true, false, List, [], ◌∷◌, Option, Some, None, Result, Ok, Err, length, refl, sym, ◌∙◌, subst, arith}
-use Rattle.std.specs.Prelude.{IfOk, slice_index_or}
+use Rattle.std.specs.Prelude.{IfOk, IfSome, slice_index_or}
 use Rattle.cut_words.specs.Words.{Words, settled}
 use Rattle.cut_words.specs.Fuses.{lasts}
 use Rattle.cut_words.specs.WordBytes.{bytes_of}
@@ -13,12 +13,15 @@ use Rattle.label_area.specs.State.{AreaState}
 use Rattle.label_area.specs.Initialise.{initial, initialised, initialised_by, init_count}
 use Rattle.image_set.specs.Load.{ImageSet, bytes_kept}
 use Rattle.image_set.specs.Changed.{objects_of, with_area}
-use Rattle.shell_answers.specs.declared.outcome.Answer.{Answer}
 use Rattle.shell_answers.specs.declared.status.Ending.TheVariants as ending
 use Rattle.shell_answers.specs.declared.power.Power.{Power}
 use Rattle.shell_answers.specs.Outcome.{Outcome}
-use Rattle.shell_answers.specs.Saved.{IsSaving, outcome_of}
+use Rattle.shell_answers.specs.Saved.{IsSaving}
+use Rattle.shell_listings.specs.Labels.{module_outcome}
+use Rattle.image_set.specs.declared.changing.OutlineLeft.{OutlineLeft}
+use Rattle.shell_changes.specs.declared.answer.InitAnswer.{InitAnswer}
 use Rattle.shell_changes.specs.Init.{InitArea, InitModule, RefusedArea, not_initialised}
+use Rattle.shell_changes.specs.Outlined.{HasSizes, outcome_with}
 use Rattle.shell_answers.specs.Cut.{cut_text, done_text}
 
 -- a place where something stands is inside
@@ -55,29 +58,48 @@ kept_is leaves m power loaded words outcome OutOfMemory other is = is
 kept_is leaves m power loaded words outcome (AlreadyInitialised seq) other is = is
 kept_is leaves m power loaded words outcome PowerCut other is = absurd (other refl)
 
+-- an area that isn't initialised saves nothing
+pub kept_saves_none : (m : ℕ) (fault : AreaFault) → (not_initialised m fault).saved ≡ None
+kept_saves_none m (Unsupported major minor) = refl
+kept_saves_none m NoIndex = refl
+kept_saves_none m OutOfMemory = refl
+kept_saves_none m (AlreadyInitialised seq) = refl
+kept_saves_none m PowerCut = refl
+
+-- where nothing is saved, any sizes will do
+pub no_sizes : (sizes : List ℕ) (answer : InitAnswer) → answer.saved ≡ None → HasSizes sizes answer
+no_sizes sizes answer none = subst (λ (saved : Option OutlineLeft). IfSome saved (λ left. left.sizes ≡ sizes)) (sym none) tt
+
 -- ---- what was answered, by what was found
 
-module _ (leaves : ℕ → Words → List ℕ → Type 0) (m : ℕ) (power : Power) (loaded : ImageSet) where
-  pub told_ok : {E : Type 0} (r : Result Answer E) (words : Words) (area : AreaState) (found due : Result AreaState AreaRefused)
+-- a set of which any contents may be copied
+module _ (leaves : ℕ → Words → List ℕ → Type 0) (m : ℕ) (power : Power) (set : List (List ℕ) → ImageSet) where
+  pub told_ok : {E : Type 0} (r : Result InitAnswer E) (words : Words) (area : AreaState) (found due : Result AreaState AreaRefused)
       → found ≡ Ok area → (found ≢ Err (record { words = words; fault = OutOfMemory }) → found ≡ due)
-      → IfOk r (λ answer. IsSaving ending.Done done_text (objects_of (with_area loaded m (bytes_of area.words.kept))) (outcome_of answer)) → IfOk r (λ answer. InitArea leaves m power loaded due (outcome_of answer))
+      → IfOk r (λ answer. (contents : List (List ℕ)) → IsSaving ending.Done done_text (objects_of (with_area (set contents) m (bytes_of area.words.kept))) (outcome_with answer contents))
+      → IfOk r (λ answer. (contents : List (List ℕ)) → InitArea leaves m power (set contents) due (outcome_with answer contents))
   told_ok r words area found due is told said =
       let same : Ok area ≡ due = sym is ∙ told (λ wanting. (let e = sym is ∙ wanting in cc)) in
-      subst (λ (d : Result AreaState AreaRefused). IfOk r (λ answer. InitArea leaves m power loaded d (outcome_of answer))) same said
+      subst (λ (d : Result AreaState AreaRefused). IfOk r (λ answer. (contents : List (List ℕ)) → InitArea leaves m power (set contents) d (outcome_with answer contents))) same said
 
-  pub told_err : {E : Type 0} (r : Result Answer E) (words : Words) (refused : AreaRefused) (found due : Result AreaState AreaRefused)
+  pub told_err : {E : Type 0} (r : Result InitAnswer E) (words : Words) (refused : AreaRefused) (found due : Result AreaState AreaRefused)
       → found ≡ Err refused → (found ≢ Err (record { words = words; fault = OutOfMemory }) → found ≡ due)
-      → IfOk r (λ answer. RefusedArea leaves m power loaded refused.words refused.fault (outcome_of answer)) → IfOk r (λ _. refused.fault ≢ OutOfMemory)
-      → IfOk r (λ answer. InitArea leaves m power loaded due (outcome_of answer))
+      → IfOk r (λ answer. (contents : List (List ℕ)) → RefusedArea leaves m power (set contents) refused.words refused.fault (outcome_with answer contents)) → IfOk r (λ _. refused.fault ≢ OutOfMemory)
+      → IfOk r (λ answer. (contents : List (List ℕ)) → InitArea leaves m power (set contents) due (outcome_with answer contents))
   told_err (Ok answer) words refused found due is told said finding =
       let same : Err refused ≡ due = sym is ∙ told (λ wanting. finding (let e = sym is ∙ wanting in cc)) in
-      subst (λ (d : Result AreaState AreaRefused). InitArea leaves m power loaded d (outcome_of answer)) same said
+      subst (λ (d : Result AreaState AreaRefused). (contents : List (List ℕ)) → InitArea leaves m power (set contents) d (outcome_with answer contents)) same said
   told_err (Err e) words refused found due is told said finding = tt
 
+module _ (leaves : ℕ → Words → List ℕ → Type 0) (m : ℕ) (power : Power) (loaded : ImageSet) where
   -- of a module that has an area
   pub module_some : (outcome : Outcome) (found : Option (List ℕ)) (words : Words) → Some (bytes_kept words) ≡ found
       → InitArea leaves m power loaded (initialised words.kept power.steps) outcome → InitModule leaves m power loaded found outcome
   module_some outcome found words is said = subst (λ (f : Option (List ℕ)). InitModule leaves m power loaded f outcome) is (words.kept, refl, said)
+
+  -- of one that has none
+  pub module_none : (outcome : Outcome) (found : Option (List ℕ)) → None ≡ found → outcome ≡ module_outcome m None → InitModule leaves m power loaded found outcome
+  module_none outcome found is said = subst (λ (f : Option (List ℕ)). InitModule leaves m power loaded f outcome) is said
 
   -- a set that is the same once the area is put back
   module _ (rest : ImageSet) (same : (bytes : List ℕ) → with_area rest m bytes ≡ with_area loaded m bytes) (outcome : Outcome) where

@@ -1,23 +1,25 @@
 //! The command `init`: fresh index blocks in a module's label area, and what a power cut leaves of them.
-ghost use Rattle.std.specs.Prelude.{◌≡◌, ◌≢◌, ◌<◌, ◌*◌, ℕ, List, IfOk, length, string_bytes};
+ghost use Rattle.std.specs.Prelude.{◌≡◌, ◌≢◌, ◌<◌, ◌*◌, ℕ, List, None, IfOk, length};
 ghost use Rattle.cut_words.specs.Words.{settled};
 ghost use Rattle.cut_words.specs.WordBytes.{bytes_of};
 ghost use Rattle.power_cut.specs.Left.{LeavesWords};
 ghost use Rattle.label_index.specs.Area.{IsAreaSize};
 ghost use Rattle.label_area.specs.Initialise.{initialised};
-ghost use Rattle.image_set.specs.Load.{image_set_in};
-ghost use Rattle.image_set.specs.Sound.{IsSound};
 ghost use Rattle.image_set.specs.Changed.{objects_of, with_area};
+ghost use Rattle.image_set.specs.Outline.{IsOutlined, image_set_with};
 ghost use Rattle.shell_answers.specs.Saved.{IsSaving};
 ghost use Rattle.shell_changes.specs.Init.{not_initialised, InitArea, InitComes, RefusedArea};
+ghost use Rattle.shell_changes.specs.Outlined.{HasSizes, outcome_with};
 ghost use Rattle.shell_answers.specs.Cut.{LeavesBy, cut_text, done_text};
 ghost use Rattle.shell_answers.specs.Saved.{outcome_of};
+ghost use Rattle.shell_listings.specs.Labels.{module_outcome};
 
+use crate::answer::{InitAnswer, SavedOutline, without_set};
 use cut_words::CutWords;
-use image_set::Loaded;
+use image_set::Outline;
 use label_area::{AreaFault, AreaRefused, LabelArea, init_area};
 use nvd_media::Chooser;
-use shell_answers::{Answer, Ending, Power, SavedSet, cut_line, fuse_of, image_answer};
+use shell_answers::{Answer, Ending, Power, cut_line, fuse_of, image_answer};
 use shell_listings::{fault_answer, missing_answer};
 use std::alloc::{AllocError, Global};
 
@@ -27,21 +29,22 @@ fn saved_answer<C: Chooser>(
     alloc: Global,
     ending: Ending,
     text: Vec<u8>,
-    rest: Loaded,
+    rest: Outline,
     module: u32,
     words: CutWords,
     choose: &mut C,
-) -> Result<Answer, AllocError>
-    requires sound { IsSound rest }
+) -> Result<InitAnswer, AllocError>
+    requires sound { IsOutlined rest }
     requires there { «module» < length rest.labels }
-    ensures { IfOk result (λ answer. (left : List ℕ) × LeavesWords C.picks words left choose.old choose.new
-        × IsSaving ending text.items (objects_of (with_area (image_set_in rest) «module» (bytes_of left))) (outcome_of answer)) }
+    ensures comes { IfOk result (λ answer. (contents : List (List ℕ)) → (left : List ℕ) × LeavesWords C.picks words left choose.old choose.new
+        × IsSaving ending text.items (objects_of (with_area (image_set_with rest contents) «module» (bytes_of left))) (outcome_with answer contents)) }
+    ensures sizes { IfOk result (λ answer. HasSizes rest.sizes answer) }
 {
     let left = rest.leave_area(alloc, module, words, choose)?;
-    Ok(Answer {
+    Ok(InitAnswer {
         ending,
         text,
-        saved: Some(SavedSet::new(left)),
+        saved: Some(SavedOutline::new(left)),
     })
 }
 
@@ -49,15 +52,16 @@ fn saved_answer<C: Chooser>(
 fn cut_answer<C: Chooser>(
     alloc: Global,
     power: Power,
-    rest: Loaded,
+    rest: Outline,
     module: u32,
     words: CutWords,
     choose: &mut C,
-) -> Result<Answer, AllocError>
-    requires sound { IsSound rest }
+) -> Result<InitAnswer, AllocError>
+    requires sound { IsOutlined rest }
     requires there { «module» < length rest.labels }
-    ensures { IfOk result (λ answer. (left : List ℕ) × LeavesBy C.begins C.picks choose.old power.seed words left
-        × IsSaving Ending.PowerCut (cut_text power.steps) (objects_of (with_area (image_set_in rest) «module» (bytes_of left))) (outcome_of answer)) }
+    ensures comes { IfOk result (λ answer. (contents : List (List ℕ)) → (left : List ℕ) × LeavesBy C.begins C.picks choose.old power.seed words left
+        × IsSaving Ending.PowerCut (cut_text power.steps) (objects_of (with_area (image_set_with rest contents) «module» (bytes_of left))) (outcome_with answer contents)) }
+    ensures sizes { IfOk result (λ answer. HasSizes rest.sizes answer) }
 {
     choose.begin(power.seed);
     let text = cut_line(alloc, power.steps)?;
@@ -75,15 +79,17 @@ fn cut_answer<C: Chooser>(
 /// The answer where both blocks stand.
 fn done_answer<C: Chooser>(
     alloc: Global,
-    rest: Loaded,
+    rest: Outline,
     module: u32,
     area: LabelArea,
     choose: &mut C,
-) -> Result<Answer, AllocError>
-    requires sound { IsSound rest }
+) -> Result<InitAnswer, AllocError>
+    requires sound { IsOutlined rest }
     requires there { «module» < length rest.labels }
     requires settled { area.words ≡ settled area.words.kept }
-    ensures { IfOk result (λ answer. IsSaving Ending.Done done_text (objects_of (with_area (image_set_in rest) «module» (bytes_of area.words.kept))) (outcome_of answer)) }
+    ensures comes { IfOk result (λ answer. (contents : List (List ℕ))
+        → IsSaving Ending.Done done_text (objects_of (with_area (image_set_with rest contents) «module» (bytes_of area.words.kept))) (outcome_with answer contents)) }
+    ensures sizes { IfOk result (λ answer. HasSizes rest.sizes answer) }
 {
     let text = Vec::from_slice(alloc, b"ok\n")?;
     saved_answer(
@@ -97,8 +103,8 @@ fn done_answer<C: Chooser>(
     )
 }
 
-/// The answer on an area that isn't initialised.
-fn kept_answer(alloc: Global, module: u32, fault: AreaFault) -> Result<Answer, AllocError>
+/// The text on an area that isn't initialised.
+fn kept_text(alloc: Global, module: u32, fault: AreaFault) -> Result<Answer, AllocError>
     ensures text { IfOk result (λ answer. outcome_of answer ≡ not_initialised «module» fault) }
     ensures finding { IfOk result (λ _. fault ≢ AreaFault.OutOfMemory) }
 {
@@ -111,19 +117,30 @@ fn kept_answer(alloc: Global, module: u32, fault: AreaFault) -> Result<Answer, A
     }
 }
 
+/// The answer on an area that isn't initialised.
+fn kept_answer(alloc: Global, module: u32, fault: AreaFault) -> Result<InitAnswer, AllocError>
+    ensures text { IfOk result (λ answer. (contents : List (List ℕ)) → outcome_with answer contents ≡ not_initialised «module» fault) }
+    ensures finding { IfOk result (λ _. fault ≢ AreaFault.OutOfMemory) }
+    ensures saved { IfOk result (λ answer. answer.saved ≡ None) }
+{
+    let answer = kept_text(alloc, module, fault)?;
+    Ok(without_set(answer))
+}
+
 /// The answer on an area that is refused, with its words as they then are.
 fn refused_answer<C: Chooser>(
     alloc: Global,
     power: Power,
-    rest: Loaded,
+    rest: Outline,
     module: u32,
     refused: AreaRefused,
     choose: &mut C,
-) -> Result<Answer, AllocError>
-    requires sound { IsSound rest }
+) -> Result<InitAnswer, AllocError>
+    requires sound { IsOutlined rest }
     requires there { «module» < length rest.labels }
-    ensures text { IfOk result (λ answer. RefusedArea (LeavesBy C.begins C.picks choose.old) «module» power (image_set_in rest) refused.words refused.fault (outcome_of answer)) }
+    ensures comes { IfOk result (λ answer. (contents : List (List ℕ)) → RefusedArea (LeavesBy C.begins C.picks choose.old) «module» power (image_set_with rest contents) refused.words refused.fault (outcome_with answer contents)) }
     ensures finding { IfOk result (λ _. refused.fault ≢ AreaFault.OutOfMemory) }
+    ensures sizes { IfOk result (λ answer. HasSizes rest.sizes answer) }
 {
     let AreaRefused { words, fault } = refused;
     match fault {
@@ -136,16 +153,17 @@ fn refused_answer<C: Chooser>(
 fn area_answer<C: Chooser>(
     alloc: Global,
     power: Power,
-    rest: Loaded,
+    rest: Outline,
     module: u32,
     words: CutWords,
     choose: &mut C,
-) -> Result<Answer, AllocError>
-    requires sound { IsSound rest }
+) -> Result<InitAnswer, AllocError>
+    requires sound { IsOutlined rest }
     requires there { «module» < length rest.labels }
     requires settled { words ≡ settled words.kept }
     requires size { IsAreaSize (8 * length words.kept) }
-    ensures { IfOk result (λ answer. InitArea (LeavesBy C.begins C.picks choose.old) «module» power (image_set_in rest) (initialised words.kept power.steps) (outcome_of answer)) }
+    ensures comes { IfOk result (λ answer. (contents : List (List ℕ)) → InitArea (LeavesBy C.begins C.picks choose.old) «module» power (image_set_with rest contents) (initialised words.kept power.steps) (outcome_with answer contents)) }
+    ensures sizes { IfOk result (λ answer. HasSizes rest.sizes answer) }
 {
     let mut fuse = fuse_of(power);
     match init_area(alloc, words, &mut fuse) {
@@ -154,9 +172,19 @@ fn area_answer<C: Chooser>(
     }
 }
 
+/// The answer where the module has no label area.
+fn no_area_answer(alloc: Global, module: u32) -> Result<InitAnswer, AllocError>
+    ensures text { IfOk result (λ answer. (contents : List (List ℕ)) → outcome_with answer contents ≡ module_outcome «module» None) }
+    ensures saved { IfOk result (λ answer. answer.saved ≡ None) }
+{
+    let answer = missing_answer(alloc, module)?;
+    Ok(without_set(answer))
+}
+
 /// The answer of `init` on an image set: the set in which the module's label area, which had no index
 /// block, has two; or what a power cut leaves of that, where power doesn't last for all steps. The set was
-/// loaded, so each of its label areas has a label area's size.
+/// loaded but for its contents, so each of its label areas has a label area's size, and it is saved with whatever
+/// contents it has.
 ///
 /// An area that has an index block, or one of another version, is refused, and so is a module without an
 /// area; nothing is saved then.
@@ -164,15 +192,16 @@ pub fn init_answer<C: Chooser>(
     alloc: Global,
     module: u32,
     power: Power,
-    loaded: Loaded,
+    outline: Outline,
     choose: &mut C,
-) -> Result<Answer, AllocError>
-    requires { IsSound loaded }
-    ensures { IfOk result (λ answer. InitComes (LeavesBy C.begins C.picks choose.old) «module» power (image_set_in loaded) (outcome_of answer)) }
+) -> Result<InitAnswer, AllocError>
+    requires { IsOutlined outline }
+    ensures comes { IfOk result (λ answer. (contents : List (List ℕ)) → InitComes (LeavesBy C.begins C.picks choose.old) «module» power (image_set_with outline contents) (outcome_with answer contents)) }
+    ensures sizes { IfOk result (λ answer. HasSizes outline.sizes answer) }
 {
-    let (rest, area) = loaded.take_area(module);
+    let (rest, area) = outline.take_area(module);
     match area {
         Some(words) => area_answer(alloc, power, rest, module, words, choose),
-        None => missing_answer(alloc, module),
+        None => no_area_answer(alloc, module),
     }
 }

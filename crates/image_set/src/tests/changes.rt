@@ -1,7 +1,5 @@
-ghost use Rattle.image_set.specs.Sound.{IsSound};
-
 use super::sets::{pattern, sound_set};
-use crate::{Loaded, load};
+use crate::{CopyFault, load_outline};
 use cut_words::{CutWords, Fuse, WordSpace};
 use nvd_media::{ListChooser, MemImages, Object};
 use std::alloc::{AllocError, Global};
@@ -15,18 +13,21 @@ fn change(area: &mut CutWords) {
     }
 }
 
-/// The set that is saved after a change of a module's label area; none where it has no label area or a
-/// call failed.
-fn saved_changed(
+/// What copying a set comes to after a change of a module's label area, and the sink: `None` where the module has no
+/// label area, or the set isn't loaded. The source's call and the sink's with these numbers fail.
+fn copied(
     alloc: Global,
-    loaded: Loaded,
     module: u32,
     answers: [bool; 2],
-) -> Result<Option<MemImages>, AllocError>
-    requires { IsSound loaded }
-{
-    let named = (module as usize) < loaded.labels.len();
-    let (rest, area) = loaded.take_area(module);
+    failing: (u64, u64),
+) -> Result<Option<(Result<(), CopyFault>, MemImages)>, AllocError> {
+    let (read, written) = failing;
+    let mut images = MemImages::new(alloc, sound_set(alloc)?, vec![in alloc; read; 1]?);
+    let Ok(outline) = load_outline(alloc, &mut images) else {
+        return Ok(None);
+    };
+    let named = (module as usize) < outline.labels.len();
+    let (rest, area) = outline.take_area(module);
     let Some(mut area) = area else {
         return Ok(None);
     };
@@ -35,20 +36,17 @@ fn saved_changed(
     }
     change(&mut area);
     let mut choose = ListChooser::new(Vec::from_array(alloc, answers)?);
-    let set = rest.leave_area(alloc, module, area, &mut choose)?;
-    let mut out = MemImages::new(alloc, Vec::new(alloc), Vec::new(alloc));
-    match set.save(alloc, &mut out) {
-        Ok(()) => Ok(Some(out)),
-        Err(_) => Ok(None),
-    }
+    let left = rest.leave_area(alloc, module, area, &mut choose)?;
+    let mut out = MemImages::new(alloc, Vec::new(alloc), vec![in alloc; written; 1]?);
+    let copied = left.save(alloc, &mut images, &mut out);
+    Ok(Some((copied, out)))
 }
 
-/// The same of the set of the tests.
+/// The set that is saved where no call fails; none where the module has no label area.
 fn saved(alloc: Global, module: u32, answers: [bool; 2]) -> Result<Option<MemImages>, AllocError> {
-    let mut images = MemImages::new(alloc, sound_set(alloc)?, Vec::new(alloc));
-    match load(alloc, &mut images) {
-        Ok(loaded) => saved_changed(alloc, loaded, module, answers),
-        Err(_) => Ok(None),
+    match copied(alloc, module, answers, (u64::MAX, u64::MAX))? {
+        Some((Ok(()), out)) => Ok(Some(out)),
+        _ => Ok(None),
     }
 }
 
@@ -92,6 +90,31 @@ fn no_area_is_taken(rt: HostRuntime) -> Result<(), AllocError> {
     let alloc = rt.alloc();
     for module in [1, 2, u32::MAX] {
         assert!(rt; saved(alloc, module, [true, true])?.is_none());
+    }
+    Ok(())
+}
+
+/// Where a call fails while the set is copied, the fault is named and the set isn't finished. The source has been
+/// asked for eight lengths and three objects by then, and is asked for the contents of two modules; the sink is
+/// given five objects and the mark.
+#[test]
+fn failing_copies(rt: HostRuntime) -> Result<(), AllocError> {
+    let alloc = rt.alloc();
+    for (read, written, fault) in [
+        (11, u64::MAX, Err(CopyFault::ReadFault)),
+        (12, u64::MAX, Err(CopyFault::ReadFault)),
+        (13, u64::MAX, Ok(())),
+        (u64::MAX, 0, Err(CopyFault::WriteFault)),
+        (u64::MAX, 2, Err(CopyFault::WriteFault)),
+        (u64::MAX, 5, Err(CopyFault::WriteFault)),
+        (u64::MAX, 6, Ok(())),
+    ] {
+        let Some((copied, out)) = copied(alloc, 0, [true, true], (read, written))? else {
+            assert!(rt; false);
+            return Ok(());
+        };
+        assert_eq!(rt; copied, fault);
+        assert_eq!(rt; out.bytes(Object::Mark).is_some(), fault.is_ok());
     }
     Ok(())
 }

@@ -1,6 +1,7 @@
 use Rattle.std.proofs.Common.{length, Ok, Err, sym, ap, ◌∙◌, refl, subst}
 use Rattle.std.proofs.lemmas.Result.{err_from_is_err_and}
 use Rattle.nfit_reader.specs.Table.{nfit_reading}
+use Rattle.image_set.specs.Load.{image_set_in}
 use Rattle.image_set.specs.Sizes.{AreSizesOf}
 use Rattle.image_set.proofs.Asked.{passed}
 use Rattle.image_set.proofs.Ends.{sizes_told}
@@ -10,7 +11,7 @@ use Rattle.image_set.proofs.loading.load.Goals as goal
 pub returns-in_err-bytes-clause-told : goal.returns-in_err-bytes-clause-told
 returns-in_err-bytes-clause-told g c = λ set told.
     let p = err_from_is_err_and c.from_residual.result c.from_residual.ensures.1 in
-    table_stops set c.from_residual.result c.in_err-bytes.field-0.0 _ c.table_size.result (p.1 ∙ ap (λ f. Err f) p.2) c.in_err-bytes.was (c.table_size.ensures.told set told)
+    table_stops image_set_in set c.from_residual.result c.in_err-bytes.field-0.0 _ c.table_size.result (p.1 ∙ ap (λ f. Err f) p.2) c.in_err-bytes.was (c.table_size.ensures.told set told)
 
 pub read_bytes-requires : goal.read_bytes-requires
 read_bytes-requires g c = λ set told.
@@ -23,7 +24,7 @@ returns-in_err-nfit-clause-told g c = λ set told.
       none = (passed c.in_ok-bytes.bytes _ _ c.table_size.result c.in_ok-bytes.was (c.table_size.ensures.told set told)).0;
       read = c.deref.ensures.value ∙ c.in_ok-nfit_bytes.ensures.told set (c.table_size.ensures.same ∙ told);
     } in
-    table_refused set c.from_residual-in_err-nfit.result c.in_err-nfit.field-0.0 c.deref.result.now c.table_of.result (nfit_reading c.deref.result.now) (p.1 ∙ ap (λ f. Err f) p.2) c.in_err-nfit.was refl
+    table_refused image_set_in set c.from_residual-in_err-nfit.result c.in_err-nfit.field-0.0 c.deref.result.now c.table_of.result (nfit_reading c.deref.result.now) (p.1 ∙ ap (λ f. Err f) p.2) c.in_err-nfit.was refl
     c.table_of.ensures.reading ready
 
 pub returns-in_err-sizes-clause-told : goal.returns-in_err-sizes-clause-told
@@ -33,7 +34,7 @@ returns-in_err-sizes-clause-told g c = λ set told.
       none = (passed c.in_ok-bytes.bytes _ _ c.table_size.result c.in_ok-bytes.was (c.table_size.ensures.told set told)).0;
       read = c.deref.ensures.value ∙ c.in_ok-nfit_bytes.ensures.told set (c.table_size.ensures.same ∙ told);
     } in
-    sizes_stop set c.from_residual-in_err-sizes.result c.in_err-sizes.field-0.0 c.deref.result.now c.in_ok-nfit.nfit _ c.checked_sizes.result (p.1 ∙ ap (λ f. Err f) p.2) c.in_err-sizes.was
+    sizes_stop image_set_in set c.from_residual-in_err-sizes.result c.in_err-sizes.field-0.0 c.deref.result.now c.in_ok-nfit.nfit _ c.checked_sizes.result (p.1 ∙ ap (λ f. Err f) p.2) c.in_err-sizes.was
     (table_is c.deref.result.now c.in_ok-nfit.nfit c.table_of.result (nfit_reading c.deref.result.now) c.in_ok-nfit.was refl c.table_of.ensures.reading)
     (c.checked_sizes.ensures.told set (c.read_bytes.ensures.same ∙ c.table_size.ensures.same ∙ told)) ready
 
@@ -49,7 +50,7 @@ returns-clause-told g c = λ set told.
       none = (passed c.in_ok-bytes.bytes _ _ c.table_size.result c.in_ok-bytes.was (c.table_size.ensures.told set told)).0;
       read = c.deref.ensures.value ∙ c.in_ok-nfit_bytes.ensures.told set (c.table_size.ensures.same ∙ told);
     } in
-    all_read set (Ok c.in_ok-read_set.field-0) c.in_ok-read_set.field-0 c.deref.result.now c.in_ok-nfit.nfit c.in_ok-sizes.sizes _ c.checked_sizes.result refl c.in_ok-sizes.was
+    all_read image_set_in set (Ok c.in_ok-read_set.field-0) c.in_ok-read_set.field-0 c.deref.result.now c.in_ok-nfit.nfit c.in_ok-sizes.sizes _ c.checked_sizes.result refl c.in_ok-sizes.was
     (table_is c.deref.result.now c.in_ok-nfit.nfit c.table_of.result (nfit_reading c.deref.result.now) c.in_ok-nfit.was refl c.table_of.ensures.reading)
     (c.checked_sizes.ensures.told set (c.read_bytes.ensures.same ∙ c.table_size.ensures.same ∙ told)) ready
     (c.in_ok-read_set.ensures.told set (c.checked_sizes.ensures.same ∙ c.read_bytes.ensures.same ∙ c.table_size.ensures.same ∙ told))

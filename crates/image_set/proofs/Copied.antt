@@ -1,0 +1,275 @@
+-- Objects that are copied to a set, one after another.
+use Rattle.std.proofs.Common.{◌≡◌, ℕ, ◌+◌, ◌<◌, true, false, cond, List, [], ◌∷◌, ◌++◌, length, map, take, drop, get_or, Option, Some, None, Result, Ok, Err, refl, sym, ap, ◌∙◌, arith, inl, inr}
+use Rattle.std.specs.Prelude.{OnOk, nat_lt, slice_get, MatchResult}
+use Rattle.std.specs.Option.{ForSome, option_map}
+use Rattle.std.specs.List.{range_with_len}
+use Rattle.std.proofs.lemmas.Bool.{cases_Bool}
+use Rattle.std.proofs.lemmas.Bool.Decides.{nat_tests}
+use Rattle.std.proofs.lemmas.List.{get_or_push, get_or_append_left, length_push, length-append, map_push, take_all, take_more, get_or_past}
+use Rattle.std.proofs.lemmas.List.FromFn.{length-map-range_with_len, length-range_with_len, get_or-map-range_with_len}
+use Rattle.std.proofs.lemmas.Option.{slice_get_past, slice_get-get_or}
+use Rattle.std.proofs.Math.Seq.{take-add}
+use Rattle.std.proofs.lemmas.Simd.{map-map}
+use Rattle.nvd_media.specs.declared.object.Object.{Object}
+use Rattle.nvd_media.specs.declared.object.Object.TheVariants as object
+use Rattle.nvd_media.specs.Images.{Images, IsEmptySet, IsSameSet, Becomes, Keeps, IsUnfinished, is_object, bytes_of as bytes_in, with_more}
+use Rattle.nvd_media.proofs.Told.{becomes_here, becomes_then, becomes_told}
+use Rattle.cut_words.specs.WordBytes.{bytes_of}
+use Rattle.image_set.specs.declared.changing.OutlineLeft.{OutlineLeft}
+use Rattle.image_set.specs.Outline.{Copies, CopiesRow, CopiesModule, CopiesFront, CopiesSet, HasContents, IsCopyable, contents_in, objects_with}
+use Rattle.image_set.specs.Save.{Adds, HasNone, front_of, with_module, with_some}
+use Rattle.image_set.proofs.Adding.{IsAlike, on_ok, keeps_then, becomes_mono, bytes_added, more_alike, more_twice, some_alike, some_other}
+use Rattle.image_set.proofs.Filled.{list_on}
+use Rattle.image_set.proofs.Fronts.{front_none, front_step, if_same, module_alike, none_past}
+
+-- ---- what became of a sink
+
+-- words that are written are copied, too
+pub copies_of : {T E U F : Type 0} (m m' k k' : Option Images) (n n' : ℕ) (x : T) (f : Images → Images) → (y : U) → Adds {E = E} m m' k k' n n' (Ok x) f → Copies {E = F} m m' k k' (Ok y) f
+copies_of m m' k k' n n' x f y adds = record { told = adds.told; holds = adds.holds }
+
+pub copies_of_err : {T E U F : Type 0} (m m' k k' : Option Images) (n n' : ℕ) (e : E) (f g : Images → Images) → (e' : F) → Adds {T = T} m m' k k' n n' (Err e) f → Copies {T = U} m m' k k' (Err e') g
+copies_of_err m m' k k' n n' e f g e' adds = record { told = becomes_mono m m' (λ a b r. (r.0, tt)) adds.told; holds = tt }
+
+pub copies_then : {T E U F : Type 0} (m m' m'' k k' k'' : Option Images) (x : T) (second : Result U F) (f g : Images → Images) → IsAlike g
+    → Copies {E = E} m m' k k' (Ok x) f → Copies m' m'' k' k'' second g → Copies m m'' k k'' second (λ set. g (f set))
+copies_then m m' m'' k k' k'' x second f g alike one two = record {
+  told = becomes_then m m' m'' (λ set now. IsUnfinished set now × IsSameSet now (f set)) (λ set now. IsUnfinished set now × OnOk second (IsSameSet now (g set)))
+      (λ set now. IsUnfinished set now × OnOk second (IsSameSet now (g (f set))))
+      (λ a b c _ r s. (s.0 ∙ r.0, on_ok second (λ same object. same object ∙ alike b (f a) r.1 object) s.1)) one.told two.told;
+  holds = on_ok second (λ keeps. keeps_then k k' k'' (λ set now. IsSameSet now (f set)) (λ set now. IsSameSet now (g set)) (λ set now. IsSameSet now (g (f set)))
+      (λ a b c r s object. s object ∙ alike b (f a) r object) one.holds keeps) two.holds;
+}
+
+pub copies_as : {T E : Type 0} (m m' k k' : Option Images) (result : Result T E) (f g : Images → Images) → ((set : Images) → IsSameSet (f set) (g set))
+    → Copies m m' k k' result f → Copies m m' k k' result g
+copies_as m m' k k' result f g same copies = record {
+  told = becomes_mono m m' (λ a b r. (r.0, on_ok result (λ is object. is object ∙ same a object) r.1)) copies.told;
+  holds = on_ok result (λ keeps now told. let p = keeps now told in (p.0, p.1, λ object. p.2 object ∙ same p.0 object)) copies.holds;
+}
+
+-- after a fault nothing is said of what was copied
+pub copies_fault : {T E U F : Type 0} (m m' k k' : Option Images) (e : E) (e' : F) (f g : Images → Images) → Copies {T = T} m m' k k' (Err e) f → Copies {T = U} m m' k k' (Err e') g
+copies_fault m m' k k' e e' f g copies = record { told = becomes_mono m m' (λ a b r. (r.0, tt)) copies.told; holds = tt }
+
+-- nothing was asked of the sink
+pub copies_stay : {U F : Type 0} (m k : Option Images) (e : F) (g : Images → Images) → Copies {T = U} m m k k (Err e) g
+copies_stay m k e g = record { told = becomes_here m (λ set now. IsUnfinished set now × Unit {0}) (λ set _. (refl, tt)); holds = tt }
+
+-- ---- rows
+
+-- a row that was read and then written
+pub row_copied : {T E : Type 0} (held : Option Images) (o : Object) (at count : ℕ) (m m' k k' : Option Images) (x : T) (row : List ℕ) → length row ≡ count
+    → ForSome held (λ source. row ≡ take count (drop at (bytes_in source o)))
+    → Becomes m m' (λ set now. IsUnfinished set now × IsSameSet now (with_more set o row)) → Keeps k k' (λ set now. IsSameSet now (with_more set o row))
+    → CopiesRow {E = E} held o at count m m' k k' (Ok x)
+row_copied held o at count m m' k k' x row long read told holds = record { row = row; long = long; read = read; copies = record { told = told; holds = holds } }
+
+-- one that stopped
+pub row_stopped : {T E : Type 0} (held : Option Images) (o : Object) (at count : ℕ) (m m' k k' : Option Images) (e : E)
+    → Becomes m m' (λ set now. IsUnfinished set now × Unit {0}) → CopiesRow {T = T} held o at count m m' k k' (Err e)
+row_stopped held o at count m m' k k' e told = record { row = []; long = tt; read = tt; copies = record { told = told; holds = tt } }
+
+pub row_fault : {T U E F : Type 0} (held : Option Images) (o : Object) (at count at' count' : ℕ) (m m' k k' : Option Images) (e : E) (e' : F)
+    → CopiesRow {T = T} held o at count m m' k k' (Err e) → CopiesRow {T = U} held o at' count' m m' k k' (Err e')
+row_fault held o at count at' count' m m' k k' e e' one =
+    record { row = one.row; long = tt; read = tt; copies = copies_fault m m' k k' e e' (λ set. with_more set o one.row) (λ set. with_more set o one.row) one.copies }
+
+-- the next row behind
+pub row_more : {T E U F : Type 0} (held : Option Images) (o : Object) (at count : ℕ) (m m' m'' k k' k'' : Option Images) (x : T) (second : Result U F)
+    → CopiesRow {E = E} held o 0 at m m' k k' (Ok x) → CopiesRow held o at count m' m'' k' k'' second → CopiesRow held o 0 (at + count) m m'' k k'' second
+row_more held o at count m m' m'' k k' k'' x second one two = record {
+  row = one.row ++ two.row;
+  long = on_ok second (λ long. length-append one.row two.row ∙ ap (λ n. n + length two.row) one.long ∙ ap (λ n. at + n) long) two.long;
+  read = on_ok second (λ read source told.
+      ap (λ xs. xs ++ two.row) (one.read source told) ∙ ap (λ xs. take at (bytes_in source o) ++ xs) (read source told) ∙ sym (take-add at count (bytes_in source o))) two.read;
+  copies = copies_as m m'' k k'' second (λ set. with_more (with_more set o one.row) o two.row) (λ set. with_more set o (one.row ++ two.row))
+      (λ set. more_twice o one.row two.row set)
+      (copies_then m m' m'' k k' k'' x second (λ set. with_more set o one.row) (λ set. with_more set o two.row) (more_alike o two.row) one.copies two.copies);
+}
+
+-- by another answer, and another count that is the same
+pub row_as : {T E U F : Type 0} (held : Option Images) (o : Object) (count count' : ℕ) (m m' k k' : Option Images) (x : T) (y : U) → count ≡ count'
+    → CopiesRow {E = E} held o 0 count m m' k k' (Ok x) → CopiesRow {E = F} held o 0 count' m m' k k' (Ok y)
+row_as held o count count' m m' k k' x y same one = record {
+  row = one.row;
+  long = one.long ∙ same;
+  read = λ source told. one.read source told ∙ ap (λ n. take n (bytes_in source o)) same;
+  copies = record { told = one.copies.told; holds = one.copies.holds };
+}
+
+-- where the next row begins
+pub row_ends : {T E : Type 0} (held : Option Images) (o : Object) (count : ℕ) (m m' k k' : Option Images) (x : T) → ForSome m (λ set. set o ≡ None)
+    → CopiesRow {E = E} held o 0 count m m' k k' (Ok x) → ForSome m' (λ set. count ≡ length (bytes_in set o))
+row_ends held o count m m' k k' x absent one now told =
+    let p = becomes_told m m' (λ set now. IsUnfinished set now × IsSameSet now (with_more set o one.row)) now one.copies.told told in
+    sym one.long ∙ sym (ap length (bytes_added o one.row p.0 now (absent p.0 p.1) p.2.1))
+
+-- another object that was absent still is
+pub absent_from : {T E : Type 0} (held : Option Images) (o other : Object) (count : ℕ) (m m' k k' : Option Images) (x : T) → is_object o other ≡ false → ForSome m (λ set. set other ≡ None)
+    → CopiesRow {E = E} held o 0 count m m' k k' (Ok x) → ForSome m' (λ set. set other ≡ None)
+absent_from held o other count m m' k k' x apart absent one now told =
+    let p = becomes_told m m' (λ set now. IsUnfinished set now × IsSameSet now (with_more set o one.row)) now one.copies.told told in
+    p.2.1 other ∙ some_other o other (Some one.row) p.0 apart ∙ absent p.0 p.1
+
+-- ---- modules
+
+pub module_copied : {T E U F V G : Type 0} (held : Option Images) (which : ℕ) (area : Option (List ℕ)) (count : ℕ) (bad : Option (List ℕ)) (m0 m1 m2 m3 k0 k1 k2 k3 : Option Images) (x : T) (y : U) (third : Result V G)
+    → ForSome held (λ source. length (bytes_in source (object.Contents which)) ≡ count)
+    → Copies {E = E} m0 m1 k0 k1 (Ok x) (λ set. with_some set (object.Labels which) area) → CopiesRow {E = F} held (object.Contents which) 0 count m1 m2 k1 k2 (Ok y)
+    → Copies m2 m3 k2 k3 third (λ set. with_some set (object.BadRanges which) bad) → CopiesModule held which area count bad m0 m3 k0 k3 third
+module_copied held which area count bad m0 m1 m2 m3 k0 k1 k2 k3 x y third there one two three =
+    let labels : Images → Images = λ set. with_some set (object.Labels which) area in
+    let contents : Images → Images = λ set. with_more set (object.Contents which) two.row in
+    let ranges : Images → Images = λ set. with_some set (object.BadRanges which) bad in
+    record {
+      row = two.row;
+      long = on_ok_of third two.long;
+      read = on_ok_of third (λ source told. two.read source told ∙ take_all count (bytes_in source (object.Contents which)) (let e = there source told in omega arith));
+      copies = copies_then m0 m2 m3 k0 k2 k3 y third (λ set. contents (labels set)) ranges (some_alike (object.BadRanges which) bad)
+          (copies_then m0 m1 m2 k0 k1 k2 x (Ok y) labels contents (more_alike (object.Contents which) two.row) one two.copies) three;
+    }
+  where
+    on_ok_of : {V G P : Type 0} (r : Result V G) → P → OnOk r P
+    on_ok_of (Ok x) p = p
+    on_ok_of (Err e) p = tt
+
+-- a module that stopped
+pub module_stopped : {T E : Type 0} (held : Option Images) (which : ℕ) (area : Option (List ℕ)) (count : ℕ) (bad : Option (List ℕ)) (m m' k k' : Option Images) (e : E)
+    → Becomes m m' (λ set now. IsUnfinished set now × Unit {0}) → CopiesModule {T = T} held which area count bad m m' k k' (Err e)
+module_stopped held which area count bad m m' k k' e told = record { row = []; long = tt; read = tt; copies = record { told = told; holds = tt } }
+
+-- steps of which the last stopped
+pub stopped_then : (m m' m'' : Option Images) (R S : Images → Images → Type 0) → ((x y : Images) → R x y → IsUnfinished x y) → ((x y : Images) → S x y → IsUnfinished x y)
+    → Becomes m m' R → Becomes m' m'' S → Becomes m m'' (λ set now. IsUnfinished set now × Unit {0})
+stopped_then m m' m'' R S f g one two = becomes_then m m' m'' R S (λ set now. IsUnfinished set now × Unit {0}) (λ a b c _ r s. (g b c s ∙ f a b r, tt)) one two
+
+-- ---- the front of a set
+
+-- one more module's contents change nothing of the modules before it
+front_kept : (left : OutlineLeft) (contents : List (List ℕ)) (row : List ℕ) (m : ℕ) → length contents ≡ m
+    → IsSameSet (front_of (objects_with left contents) m) (front_of (objects_with left (contents ++ row ∷ [])) m)
+front_kept left contents row m long object.Mark = refl
+front_kept left contents row m long object.Nfit = refl
+front_kept left contents row m long (object.Labels k) = refl
+front_kept left contents row m long (object.BadRanges k) = refl
+front_kept left contents row m long (object.Contents k) = elim (cases_Bool (nat_lt k m)) [
+  | inl below ↦
+      let lt : k < length contents = grind (arith, nat_tests, long, below) in
+      let more : k < length (contents ++ row ∷ []) = omega (arith, lt, length_push contents row) in
+      ap (λ found. cond (nat_lt k m) found None)
+      (slice_get-get_or contents k [] lt ∙ sym (ap (λ x. Some x) (get_or_append_left contents (row ∷ []) [] k lt)) ∙ sym (slice_get-get_or (contents ++ row ∷ []) k [] more))
+  | inr above ↦ rw above refl
+]
+
+contents_last : (contents : List (List ℕ)) (row : List ℕ) (m : ℕ) → length contents ≡ m → slice_get (contents ++ row ∷ []) m ≡ Some row
+contents_last contents row m long =
+    slice_get-get_or (contents ++ row ∷ []) m [] (omega (arith, long, length_push contents row)) ∙ ap (λ x. Some x) (get_or_push contents row [] m long)
+
+-- the objects of one more module
+pub front_more : {T E U F : Type 0} (held : Option Images) (left : OutlineLeft) (m : ℕ) (area : Option (List ℕ)) (count : ℕ) (bad : Option (List ℕ)) (m0 m1 m2 k0 k1 k2 : Option Images) (x : T) (second : Result U F)
+    → m < length left.sizes → area ≡ option_map bytes_of (get_or left.labels m None) → count ≡ get_or left.sizes m 0 → bad ≡ get_or left.bad m None
+    → CopiesFront {E = E} held left m m0 m1 k0 k1 (Ok x) → CopiesModule held m area count bad m1 m2 k1 k2 second → CopiesFront held left (m + 1) m0 m2 k0 k2 second
+front_more held left m area count bad m0 m1 m2 k0 k1 k2 x second lt labels sizes ranges one two =
+    let after : List (List ℕ) = one.contents ++ two.row ∷ [] in
+    let step : (was : Images) → IsSameSet was (front_of (objects_with left one.contents) m) → IsSameSet (with_module m area two.row bad was) (front_of (objects_with left after) (m + 1)) =
+    (λ was same o.
+    module_alike m area two.row bad was (front_of (objects_with left after) m) (λ p. same p ∙ front_kept left one.contents two.row m one.count p) o
+    ∙ front_step (objects_with left after) m area two.row bad (sym labels) (contents_last one.contents two.row m one.count) (sym ranges) o) in
+    record {
+      contents = after;
+      count = on_ok second (λ _. length_push one.contents two.row ∙ ap (λ n. n + 1) one.count) two.long;
+      sized = on_ok second (λ long.
+          map_push (λ (row : List ℕ). length row) one.contents two.row ∙ ap (λ xs. xs ++ length two.row ∷ []) one.sized
+          ∙ ap (λ n. take m left.sizes ++ n ∷ []) (long ∙ sizes) ∙ sym (take_more left.sizes m 0 lt)) two.long;
+      read = on_ok second (λ read source told. list_on (λ (k : ℕ). bytes_in source (object.Contents k)) one.contents two.row m (one.read source told) (read source told)) two.read;
+      told = becomes_then m0 m1 m2 (λ was now. IsUnfinished was now × IsSameSet now (front_of (objects_with left one.contents) m)) (λ was now. IsUnfinished was now × OnOk second (IsSameSet now (with_module m area two.row bad was)))
+          (λ was now. IsUnfinished was now × OnOk second (IsSameSet now (front_of (objects_with left after) (m + 1))))
+          (λ a b c _ r s. (s.0 ∙ r.0, on_ok second (λ is o. is o ∙ step b r.1 o) s.1)) one.told two.copies.told;
+      holds = on_ok second (λ keeps. keeps_then k0 k1 k2 (λ was now. IsEmptySet was → IsSameSet now (front_of (objects_with left one.contents) m)) (λ was now. IsSameSet now (with_module m area two.row bad was))
+          (λ was now. IsEmptySet was → IsSameSet now (front_of (objects_with left after) (m + 1)))
+          (λ a b c r s empty o. s o ∙ step b (r empty) o) one.holds keeps) two.copies.holds;
+    }
+
+pub front_stopped : {T E : Type 0} (held : Option Images) (left : OutlineLeft) (m : ℕ) (m0 m1 k0 k1 : Option Images) (e : E)
+    → Becomes m0 m1 (λ set now. IsUnfinished set now × Unit {0}) → CopiesFront {T = T} held left m m0 m1 k0 k1 (Err e)
+front_stopped held left m m0 m1 k0 k1 e told = record { contents = []; count = tt; sized = tt; read = tt; told = told; holds = tt }
+
+-- no object of the next module is there
+pub front_lacks : {T E : Type 0} (held : Option Images) (left : OutlineLeft) (m : ℕ) (m0 m1 k0 k1 : Option Images) (x : T) → CopiesFront {E = E} held left m m0 m1 k0 k1 (Ok x) → ForSome m1 (HasNone m)
+front_lacks held left m m0 m1 k0 k1 x one now told =
+    front_none (objects_with left one.contents) m now (becomes_told m0 m1 (λ was now. IsUnfinished was now × IsSameSet now (front_of (objects_with left one.contents) m)) now one.told told).2.1
+
+none_below : (k : ℕ) → nat_lt k 0 ≡ false
+none_below k = grind (arith, nat_tests)
+
+table_first : (left : OutlineLeft) (set : Images) → IsEmptySet set → IsSameSet (with_more set object.Nfit left.nfit) (front_of (objects_with left []) 0)
+table_first left set empty object.Mark = empty object.Mark
+table_first left set empty object.Nfit = rw (empty object.Nfit) refl
+table_first left set empty (object.Labels k) = empty (object.Labels k) ∙ rw (none_below k) refl
+table_first left set empty (object.Contents k) = empty (object.Contents k) ∙ rw (none_below k) refl
+table_first left set empty (object.BadRanges k) = empty (object.BadRanges k) ∙ rw (none_below k) refl
+
+becomes_empty : {R S : Images → Images → Type 0} (a b : Option Images) → ForSome a IsEmptySet → ((x y : Images) → IsEmptySet x → R x y → S x y) → Becomes a b R → Becomes a b S
+becomes_empty None b empty h r = r
+becomes_empty (Some x) b empty h r = (r.0, r.1, h x r.0 (empty x refl) r.2)
+
+-- the table alone
+pub front_table : {T E : Type 0} (held : Option Images) (left : OutlineLeft) (m0 m1 k0 k1 : Option Images) (x : T) → ForSome m0 IsEmptySet
+    → Becomes m0 m1 (λ set now. IsUnfinished set now × IsSameSet now (with_more set object.Nfit left.nfit)) → Keeps k0 k1 (λ set now. IsSameSet now (with_more set object.Nfit left.nfit))
+    → CopiesFront {E = E} held left 0 m0 m1 k0 k1 (Ok x)
+front_table held left m0 m1 k0 k1 x empty told holds = record {
+  contents = [];
+  count = refl;
+  sized = refl;
+  read = λ source told'. refl;
+  told = becomes_empty m0 m1 empty (λ a b none r. (r.0, λ o. r.1 o ∙ table_first left a none o)) told;
+  holds = λ now told'. let p = holds now told' in (p.0, p.1, λ none o. p.2 o ∙ table_first left p.0 none o);
+}
+
+-- ---- the whole set
+
+set_whole : (left : OutlineLeft) (contents : List (List ℕ)) (n : ℕ) → IsCopyable left → n ≡ length left.sizes → length contents ≡ n
+    → IsSameSet (with_more (front_of (objects_with left contents) n) object.Mark []) (objects_with left contents)
+set_whole left contents n has is long object.Mark = refl
+set_whole left contents n has is long object.Nfit = refl
+set_whole left contents n has is long (object.Labels k) =
+    if_same (nat_lt k n) (option_map bytes_of (get_or left.labels k None)) (λ past. ap (option_map bytes_of) (none_past left.labels k n (has.labels ∙ sym is) past))
+set_whole left contents n has is long (object.Contents k) =
+    if_same (nat_lt k n) (slice_get contents k) (λ past. slice_get_past contents k (grind (arith, nat_tests, long, past)))
+set_whole left contents n has is long (object.BadRanges k) = if_same (nat_lt k n) (get_or left.bad k None) (none_past left.bad k n (has.bad ∙ sym is))
+
+-- the mark is made
+pub set_copied : {T E U F : Type 0} (held : Option Images) (left : OutlineLeft) (m0 m1 m2 k0 k1 k2 : Option Images) (x : T) (y : U) → IsCopyable left
+    → CopiesFront {E = E} held left (length left.sizes) m0 m1 k0 k1 (Ok x)
+    → Becomes m1 m2 (λ set now. IsSameSet now (with_more set object.Mark [])) → Keeps k1 k2 (λ set now. IsSameSet now (with_more set object.Mark []))
+    → CopiesSet {E = F} held left m0 m2 k0 k2 (Ok y)
+set_copied held left m0 m1 m2 k0 k1 k2 x y has one mark marked =
+    let n : ℕ = length left.sizes in
+    let whole : (was : Images) → IsSameSet was (front_of (objects_with left one.contents) n) → IsSameSet (with_more was object.Mark []) (objects_with left one.contents) =
+    (λ was same o. more_alike object.Mark [] was (front_of (objects_with left one.contents) n) same o ∙ set_whole left one.contents n has refl one.count o) in
+    record {
+      contents = one.contents;
+      sized = one.sized ∙ take_all n left.sizes (omega arith);
+      read = one.read;
+      told = becomes_then m0 m1 m2 (λ was now. IsUnfinished was now × IsSameSet now (front_of (objects_with left one.contents) n)) (λ was now. IsSameSet now (with_more was object.Mark []))
+          (λ _ now. IsSameSet now (objects_with left one.contents)) (λ a b c _ r s o. s o ∙ whole b r.1 o) one.told mark;
+      holds = keeps_then k0 k1 k2 (λ was now. IsEmptySet was → IsSameSet now (front_of (objects_with left one.contents) n)) (λ was now. IsSameSet now (with_more was object.Mark []))
+          (λ was now. IsEmptySet was → IsSameSet now (objects_with left one.contents)) (λ a b c r s empty o. s o ∙ whole b (r empty) o) one.holds marked;
+    }
+
+pub set_stopped : {T E : Type 0} (held : Option Images) (left : OutlineLeft) (m0 m1 k0 k1 : Option Images) (e : E)
+    → Becomes m0 m1 (λ set now. IsUnfinished set now) → CopiesSet {T = T} held left m0 m1 k0 k1 (Err e)
+set_stopped held left m0 m1 k0 k1 e told = record { contents = []; sized = tt; read = tt; told = told; holds = tt }
+
+pub set_untouched : {T E : Type 0} (held : Option Images) (left : OutlineLeft) (m0 m1 k0 k1 : Option Images) (e : E) → m1 ≡ m0 → CopiesSet {T = T} held left m0 m1 k0 k1 (Err e)
+set_untouched held left m0 m1 k0 k1 e same = rw same (set_stopped held left m0 m0 k0 k1 e (becomes_here m0 (λ set now. IsUnfinished set now) (λ set _. refl)))
+
+-- ---- sizes
+
+-- the contents of a module have the size that is stated
+pub size_at : (sizes : List ℕ) (source : Images) (m : ℕ) → HasContents sizes source → m < length sizes → length (bytes_in source (object.Contents m)) ≡ get_or sizes m 0
+size_at sizes source m has lt =
+    let f : ℕ → ℕ = λ k. length (bytes_in source (object.Contents k)) in
+    sym (ap (λ xs. get_or xs m 0) (has ∙ map-map (λ (row : List ℕ). length row) (λ (k : ℕ). bytes_in source (object.Contents k)) (range_with_len 0 (length sizes)))
+    ∙ get_or-map-range_with_len f 0 (length sizes) m m 0 lt (omega arith))

@@ -1,0 +1,37 @@
+use Rattle.std.proofs.Common.{◌≡◌, ℕ, length, map, sym, ap, ◌∙◌, arith}
+use Rattle.std.specs.List.{range_with_len}
+use Rattle.std.proofs.lemmas.List.{length-map}
+use Rattle.std.proofs.lemmas.Simd.{map-map}
+use Rattle.nvd_media.specs.declared.object.Object.TheVariants as object
+use Rattle.nvd_media.specs.Images.{bytes_of}
+use Rattle.image_set.specs.declared.sizes.Sizes.{Sizes}
+use Rattle.image_set.specs.Sizes.{contents_of}
+use Rattle.image_set.proofs.Chain.{outline_is}
+use Rattle.image_set.proofs.Counting.{contents_by}
+use Rattle.image_set.proofs.outline.read_outline.Goals as goal
+
+pub returns-clause-told : goal.returns-clause-told
+returns-clause-told g c = λ set told.
+    let long : length c.in_ok-of_contents.of_contents ≡ length c.args.sizes.now = ap length c.in_ok-of_contents.ensures ∙ length-map c.args.sizes.now (λ (s : Sizes). s.contents) in
+    outline_is set c.args.nfit (length c.args.sizes.now) (length c.in_ok-of_contents.of_contents) c.from_vec.result c.in_ok-labels.labels c.in_ok-of_contents.of_contents c.in_ok-bad.bad c.requires.count long
+    (c.from_vec.ensures ∙ c.requires.read set told)
+    (c.in_ok-labels.ensures.told set told)
+    (c.in_ok-bad.ensures.told set (c.read_areas.ensures.same ∙ told))
+
+pub returns-clause-sizes : goal.returns-clause-sizes
+returns-clause-sizes g c = λ set told.
+    let sizes = c.args.sizes.now in
+    let long : length c.in_ok-of_contents.of_contents ≡ length sizes = ap length c.in_ok-of_contents.ensures ∙ length-map sizes (λ (s : Sizes). s.contents) in
+    c.in_ok-of_contents.ensures ∙ ap contents_of (c.requires.there set told) ∙ contents_by set (range_with_len 0 (length sizes))
+    ∙ sym (map-map (λ row. length row) (λ (k : ℕ). bytes_of set (object.Contents k)) (range_with_len 0 (length sizes)))
+    ∙ ap (λ n. map (λ row. length row) (map (λ (k : ℕ). bytes_of set (object.Contents k)) (range_with_len 0 n))) (sym long)
+
+pub returns-clause-sound : goal.returns-clause-sound
+returns-clause-sound g c =
+    let long : length c.in_ok-of_contents.of_contents ≡ length c.args.sizes.now = ap length c.in_ok-of_contents.ensures ∙ length-map c.args.sizes.now (λ (s : Sizes). s.contents) in
+    record {
+      labels = c.in_ok-labels.ensures.count ∙ sym long;
+      bad = c.in_ok-bad.ensures.count ∙ sym long;
+      few = let f = c.requires.modules.few in let n = c.requires.count in omega arith;
+      areas = c.in_ok-labels.ensures.sound;
+    }

@@ -1,0 +1,115 @@
+-- An image set whose contents stay where they are, and what is saved of it once they are copied: this project's rules.
+use Rattle.std.specs.Prelude.{◌≡◌, ℕ, ◌≤◌, Bool, List, [], length, map, take, drop, slice_get, slice_index_or, Option, Some, None, Result, OnOk, MatchResult}
+use Rattle.std.specs.Option.{ForSome, option_map}
+use Rattle.std.specs.Result.{result_map_both}
+use Rattle.std.specs.List.{All, range_with_len}
+use Rattle.nvd_media.specs.declared.object.Object.{Object}
+use Rattle.nvd_media.specs.declared.object.Object.TheVariants as object
+use Rattle.nvd_media.specs.Images.{Images, IsEmptySet, IsSameSet, Becomes, Keeps, IsUnfinished, bytes_of as bytes_in, with_more}
+use Rattle.cut_words.specs.Words.{Words, IsLeft}
+use Rattle.cut_words.specs.WordBytes.{bytes_of}
+use Rattle.power_cut.specs.Left.{LeavesWords}
+use Rattle.image_set.specs.declared.fault.LoadFault.{LoadFault}
+use Rattle.image_set.specs.declared.outline.Outline.{Outline}
+use Rattle.image_set.specs.declared.changing.OutlineLeft.{OutlineLeft}
+use Rattle.image_set.specs.Load.{AnswersRead, ImageSet, bytes_kept, loading}
+use Rattle.image_set.specs.Changed.{objects_of, with_area}
+use Rattle.image_set.specs.Save.{front_of, with_module}
+use Rattle.image_set.specs.Sound.{IsArea}
+
+-- ---- an outline
+
+-- the contents of so many modules
+abbrev pub contents_in : Images → ℕ → List (List ℕ)
+contents_in set count = map (λ m. bytes_in set (object.Contents m)) (range_with_len 0 count)
+
+-- an outline as an image set whose modules have these contents
+unfoldable pub image_set_with : Outline → List (List ℕ) → ImageSet
+image_set_with outline contents = record {
+  nfit = outline.nfit;
+  nfit_bytes = outline.nfit_bytes;
+  labels = map (option_map bytes_kept) outline.labels;
+  contents = contents;
+  bad = outline.bad;
+}
+
+-- the contents of a set have these sizes
+abbrev pub HasContents : List ℕ → Images → Type 0
+HasContents sizes set = sizes ≡ map (λ row. length row) (contents_in set (length sizes))
+
+-- with the contents of the set an outline is what the set holds, or the fault is its first
+abbrev pub Outlines : Result Outline LoadFault → Images → Type 0
+Outlines result set = AnswersRead (result_map_both (λ outline. image_set_with outline (contents_in set (length outline.sizes))) (λ fault. fault) result) (loading set)
+
+-- What holds of an outline, whatever its source tells.
+pub record IsOutlined (outline : Outline) : Type 0 where
+  -- one of each for each module
+  pub labels : length outline.labels ≡ length outline.sizes
+  pub bad : length outline.bad ≡ length outline.sizes
+  pub few : length outline.sizes ≤ 64
+  -- label areas are inside their limits
+  pub areas : All IsArea outline.labels
+
+-- ---- what is left of one
+
+-- the objects that are saved, with these contents
+abbrev pub objects_with : OutlineLeft → List (List ℕ) → Images
+objects_with left contents object.Mark = Some []
+objects_with left contents object.Nfit = Some left.nfit
+objects_with left contents (object.Labels m) = option_map bytes_of (slice_index_or left.labels m None)
+objects_with left contents (object.Contents m) = slice_get contents m
+objects_with left contents (object.BadRanges m) = slice_index_or left.bad m None
+
+-- what is left can be saved
+pub record IsCopyable (left : OutlineLeft) : Type 0 where
+  pub labels : length left.labels ≡ length left.sizes
+  pub bad : length left.bad ≡ length left.sizes
+  pub few : length left.sizes ≤ 64
+
+-- What is left of an outline in which these words stand for the label area of a module, and no other word is pending: the chooser is
+-- asked for these words alone, and all other objects are left as they were, whatever the contents are.
+pub record LeavesOutline {C : Type 0} (picks : C → ℕ → Bool → C → Type 0) (outline : Outline) (m : ℕ) (area : Words) (before after : C) (left : OutlineLeft) : Type 0 where
+  pub row : List ℕ
+  pub asked : LeavesWords picks area row before after
+  pub left_of : IsLeft area row
+  pub objects : (contents : List (List ℕ)) → IsSameSet (objects_with left contents) (objects_of (with_area (image_set_with outline contents) m (bytes_of row)))
+
+-- ---- copying
+
+-- What became of a sink to which bytes were copied: where nothing failed it has what a change makes of what it had, and the set isn't
+-- finished by it.
+pub record Copies {T E : Type 0} (made made' kept kept' : Option Images) (result : Result T E) (change : Images → Images) : Type 0 where
+  pub told : Becomes made made' (λ set now. IsUnfinished set now × OnOk result (IsSameSet now (change set)))
+  pub holds : OnOk result (Keeps kept kept' (λ set now. IsSameSet now (change set)))
+
+-- a row of so many bytes of an object, from a place on, was copied from what the source holds
+pub record CopiesRow {T E : Type 0} (held : Option Images) (o : Object) (at count : ℕ) (made made' kept kept' : Option Images) (result : Result T E) : Type 0 where
+  pub row : List ℕ
+  pub long : OnOk result (length row ≡ count)
+  pub read : OnOk result (ForSome held (λ source. row ≡ take count (drop at (bytes_in source o))))
+  pub copies : Copies made made' kept kept' result (λ set. with_more set o row)
+
+-- the objects of a module were copied: what is left of its label area, its contents, and its list of bad ranges
+pub record CopiesModule {T E : Type 0} (held : Option Images) (m : ℕ) (area : Option (List ℕ)) (count : ℕ) (bad : Option (List ℕ)) (made made' kept kept' : Option Images) (result : Result T E) : Type 0 where
+  pub row : List ℕ
+  pub long : OnOk result (length row ≡ count)
+  pub read : OnOk result (ForSome held (λ source. row ≡ bytes_in source (object.Contents m)))
+  pub copies : Copies made made' kept kept' result (with_module m area row bad)
+
+-- What became of a sink that was empty when the objects of so many modules were copied.
+pub record CopiesFront {T E : Type 0} (held : Option Images) (left : OutlineLeft) (m : ℕ) (made made' kept kept' : Option Images) (result : Result T E) : Type 0 where
+  pub contents : List (List ℕ)
+  pub count : OnOk result (length contents ≡ m)
+  pub sized : OnOk result (map (λ row. length row) contents ≡ take m left.sizes)
+  pub read : OnOk result (ForSome held (λ source. contents ≡ contents_in source m))
+  pub told : Becomes made made' (λ set now. IsUnfinished set now × OnOk result (IsSameSet now (front_of (objects_with left contents) m)))
+  pub holds : OnOk result (Keeps kept kept' (λ set now. IsEmptySet set → IsSameSet now (front_of (objects_with left contents) m)))
+
+-- What became of a sink that was empty: where nothing failed it has all objects of what is left, with contents of the stated sizes, which are
+-- those that the source holds, and the mark; else the set isn't finished.
+pub record CopiesSet {T E : Type 0} (held : Option Images) (left : OutlineLeft) (made made' kept kept' : Option Images) (result : Result T E) : Type 0 where
+  pub contents : List (List ℕ)
+  pub sized : OnOk result (map (λ row. length row) contents ≡ left.sizes)
+  pub read : OnOk result (ForSome held (λ source. contents ≡ contents_in source (length left.sizes)))
+  pub told : Becomes made made' (λ set now. MatchResult result (λ _. IsSameSet now (objects_with left contents)) (λ _. IsUnfinished set now))
+  pub holds : OnOk result (Keeps kept kept' (λ set now. IsEmptySet set → IsSameSet now (objects_with left contents)))

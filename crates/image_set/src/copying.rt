@@ -1,0 +1,191 @@
+//! An image set is saved whose contents are copied from where they are, piece by piece.
+ghost use Rattle.std.specs.Prelude.{◌≡◌, ◌≢◌, ◌+◌, ◌-◌, ◌<◌, ◌≤◌, min, length, vec_len, Some, None, IfOk, OnOk, Err};
+ghost use Rattle.std.specs.Option.{ForSome, option_map};
+ghost use Rattle.std.specs.Vec.{vec_capacity};
+ghost use Rattle.nvd_media.specs.Causes.{Rose};
+ghost use Rattle.nvd_media.specs.Images.{IsEmptySet, bytes_of as bytes_in};
+ghost use Rattle.cut_words.specs.WordBytes.{bytes_of};
+ghost use Rattle.image_set.specs.Outline.{CopiesFront, CopiesModule, CopiesRow, CopiesSet, HasContents, IsCopyable};
+ghost use Rattle.image_set.specs.Save.{HasNone};
+
+use crate::changing::OutlineLeft;
+use crate::fault::{CopyFault, CopyStop};
+use crate::pieces::piece_room;
+use crate::writing::{spelling_room, write_area, write_ranges};
+use nvd_media::{ImageSink, ImageSource, Object};
+use nvd_words::Items;
+use std::alloc::Global;
+
+/// How many bytes are copied at a time: few calls, and a buffer that stays in the caches.
+const PIECE: u64 = 256 << 10;
+
+/// Copies the bytes of an object of so many from a place on, as many as a piece has or as there are, and answers the
+/// place after them.
+fn copy_piece<S: ImageSource, K: ImageSink>(
+    images: &mut S,
+    out: &mut K,
+    object: Object,
+    at: u64,
+    bytes: u64,
+    room: &mut Vec<u8>,
+) -> Result<u64, CopyStop>
+    requires not_mark { object ≢ Object.Mark }
+    requires within { at ≤ bytes }
+    requires room { vec_len room.old ≡ 262144 }
+    requires there { ForSome (S.held images.old) (λ set. length (bytes_in set object) ≡ bytes) }
+    requires end { ForSome (K.made out.old) (λ set. at ≡ length (bytes_in set object)) }
+    ensures copied { CopiesRow (S.held images.old) object at (min 262144 (bytes - at)) (K.made out.old) (K.made out.new) (K.kept out.old) (K.kept out.new) result }
+    ensures next { IfOk result (λ next. next ≡ at + min 262144 (bytes - at)) }
+    ensures room { vec_len room.new ≡ 262144 }
+    ensures same { S.held images.new ≡ S.held images.old }
+    ensures later_read { S.faults images.old ≤ S.faults images.new }
+    ensures later_written { K.faults out.old ≤ K.faults out.new }
+    ensures read { result ≡ Err CopyStop.ReadFault → Rose (S.faults images.old) (S.faults images.new) }
+    ensures written { result ≡ Err CopyStop.WriteFault → Rose (K.faults out.old) (K.faults out.new) }
+{
+    let count = (bytes - at).min(PIECE);
+    let piece = &mut room[..count as usize];
+    if images.read(object, at, piece).is_err() {
+        return Err(CopyStop::ReadFault);
+    }
+    out.write(object, at, piece)?;
+    Ok(at + count)
+}
+
+/// Copies an object of so many bytes, which the sink doesn't have.
+fn copy_object<S: ImageSource, K: ImageSink>(
+    images: &mut S,
+    out: &mut K,
+    object: Object,
+    bytes: u64,
+    room: &mut Vec<u8>,
+) -> Result<(), CopyStop>
+    requires not_mark { object ≢ Object.Mark }
+    requires room { vec_len room.old ≡ 262144 }
+    requires there { ForSome (S.held images.old) (λ set. length (bytes_in set object) ≡ bytes) }
+    requires absent { ForSome (K.made out.old) (λ set. set object ≡ None) }
+    ensures copied { CopiesRow (S.held images.old) object 0 bytes (K.made out.old) (K.made out.new) (K.kept out.old) (K.kept out.new) result }
+    ensures room { vec_len room.new ≡ 262144 }
+    ensures same { S.held images.new ≡ S.held images.old }
+    ensures later_read { S.faults images.old ≤ S.faults images.new }
+    ensures later_written { K.faults out.old ≤ K.faults out.new }
+    ensures read { result ≡ Err CopyStop.ReadFault → Rose (S.faults images.old) (S.faults images.new) }
+    ensures written { result ≡ Err CopyStop.WriteFault → Rose (K.faults out.old) (K.faults out.new) }
+{
+    let mut at = copy_piece(images, out, object, 0, bytes, room)?;
+    while at < bytes {
+        at = copy_piece(images, out, object, at, bytes, room)?;
+    }
+    Ok(())
+}
+
+/// Copies the objects of a module of which the sink has none: what is left of its label area, its contents and its
+/// list of bad ranges, in this order.
+fn copy_module<S: ImageSource, K: ImageSink>(
+    images: &mut S,
+    out: &mut K,
+    module: u32,
+    area: &Option<Items<u64>>,
+    bytes: u64,
+    ranges: &Option<Items<u8>>,
+    spelling: &mut Vec<[u8; 8]>,
+    room: &mut Vec<u8>,
+) -> Result<(), CopyStop>
+    requires spelling { 32768 ≤ vec_capacity spelling.old }
+    requires room { vec_len room.old ≡ 262144 }
+    requires there { ForSome (S.held images.old) (λ set. length (bytes_in set (Object.Contents «module»)) ≡ bytes) }
+    requires absent { ForSome (K.made out.old) (HasNone «module») }
+    ensures copied { CopiesModule (S.held images.old) «module» (option_map bytes_of area.now) bytes ranges.now (K.made out.old) (K.made out.new) (K.kept out.old) (K.kept out.new) result }
+    ensures spelling { 32768 ≤ vec_capacity spelling.new }
+    ensures room { vec_len room.new ≡ 262144 }
+    ensures same { S.held images.new ≡ S.held images.old }
+    ensures later_read { S.faults images.old ≤ S.faults images.new }
+    ensures later_written { K.faults out.old ≤ K.faults out.new }
+    ensures read { result ≡ Err CopyStop.ReadFault → Rose (S.faults images.old) (S.faults images.new) }
+    ensures written { result ≡ Err CopyStop.WriteFault → Rose (K.faults out.old) (K.faults out.new) }
+{
+    write_area(out, module, area, spelling)?;
+    copy_object(images, out, Object::Contents(module), bytes, room)?;
+    write_ranges(out, module, ranges)?;
+    Ok(())
+}
+
+/// Copies all objects but the mark.
+fn copy_objects<S: ImageSource, K: ImageSink>(
+    left: &OutlineLeft,
+    images: &mut S,
+    out: &mut K,
+    spelling: &mut Vec<[u8; 8]>,
+    room: &mut Vec<u8>,
+) -> Result<(), CopyStop>
+    requires spelling { 32768 ≤ vec_capacity spelling.old }
+    requires room { vec_len room.old ≡ 262144 }
+    requires empty { ForSome (K.made out.old) IsEmptySet }
+    requires copyable { IsCopyable left.now }
+    requires there { ForSome (S.held images.old) (HasContents left.now.sizes) }
+    ensures copied { CopiesFront (S.held images.old) left.now (length left.now.sizes) (K.made out.old) (K.made out.new) (K.kept out.old) (K.kept out.new) result }
+    ensures same { S.held images.new ≡ S.held images.old }
+    ensures later_read { S.faults images.old ≤ S.faults images.new }
+    ensures later_written { K.faults out.old ≤ K.faults out.new }
+    ensures read { result ≡ Err CopyStop.ReadFault → Rose (S.faults images.old) (S.faults images.new) }
+    ensures written { result ≡ Err CopyStop.WriteFault → Rose (K.faults out.old) (K.faults out.new) }
+{
+    out.write(Object::Nfit, 0, left.nfit.as_slice())?;
+    let labels = left.labels.as_slice();
+    let sizes = left.sizes.as_slice();
+    let bad = left.bad.as_slice();
+    for module in 0..sizes.len() as u32 {
+        let at = module as usize;
+        copy_module(
+            images,
+            out,
+            module,
+            &labels[at],
+            sizes[at],
+            &bad[at],
+            spelling,
+            room,
+        )?;
+    }
+    Ok(())
+}
+
+impl OutlineLeft {
+    /// Saves the set, with contents that are copied from the source: writes the firmware's table, then for each module
+    /// by number what is left of its label area where it has one, its contents and its list of bad ranges where it has
+    /// one, and then finishes the set.
+    ///
+    /// Where the source tells, its contents have the sizes that are stated here. Where `out` tells, nothing was written
+    /// to it.
+    ///
+    /// - `copied`: after `Ok` the sink has exactly these objects and the mark, with contents of the stated sizes which,
+    ///   where the source tells, are those that it holds; after a fault the set isn't finished.
+    /// - `read`, `written`: `ReadFault` comes only where the source's count of faults rose in this call, `WriteFault`
+    ///   only where the sink's did; no count ever falls (`later_read`, `later_written`).
+    /// - `same`: the source holds what it held.
+    /// - `untouched`: `OutOfMemory` comes before source and sink are asked anything. It is want of memory for two
+    ///   pieces of 256 KiB.
+    pub fn save<S: ImageSource, K: ImageSink>(
+        &self,
+        alloc: Global,
+        images: &mut S,
+        out: &mut K,
+    ) -> Result<(), CopyFault>
+        requires empty { ForSome (K.made out.old) IsEmptySet }
+        requires copyable { IsCopyable self.now }
+        requires there { ForSome (S.held images.old) (HasContents self.now.sizes) }
+        ensures copied { CopiesSet (S.held images.old) self.now (K.made out.old) (K.made out.new) (K.kept out.old) (K.kept out.new) result }
+        ensures same { S.held images.new ≡ S.held images.old }
+        ensures later_read { S.faults images.old ≤ S.faults images.new }
+        ensures later_written { K.faults out.old ≤ K.faults out.new }
+        ensures read { result ≡ Err CopyFault.ReadFault → Rose (S.faults images.old) (S.faults images.new) }
+        ensures written { result ≡ Err CopyFault.WriteFault → Rose (K.faults out.old) (K.faults out.new) }
+        ensures untouched { result ≡ Err CopyFault.OutOfMemory → out.new ≡ out.old }
+    {
+        let mut spelling = spelling_room(alloc)?;
+        let mut room = piece_room(alloc)?;
+        copy_objects(self, images, out, &mut spelling, &mut room)?;
+        out.finish()?;
+        Ok(())
+    }
+}

@@ -1,0 +1,112 @@
+//! An image set of which all but the contents is loaded: its contents stay where they are until they are copied.
+ghost use Rattle.std.specs.Prelude.{◌≡◌, ◌≢◌, ◌≤◌, length, map, IfOk, Ok, Err};
+ghost use Rattle.std.specs.Option.{ForSome};
+ghost use Rattle.std.specs.List.{All};
+ghost use Rattle.nvd_media.specs.Causes.{Rose};
+ghost use Rattle.nvd_media.specs.Images.{bytes_of};
+ghost use Rattle.nfit_reader.specs.Counted.{NamesItsModules};
+ghost use Rattle.image_set.specs.Load.{image_set_of};
+ghost use Rattle.image_set.specs.Outline.{HasContents, IsOutlined, Outlines, contents_in, image_set_with};
+ghost use Rattle.image_set.specs.Sizes.{contents_of, AreSizesOf, AreSized};
+
+use crate::fault::{LoadFault, Stop};
+use crate::loading::{checked_sizes, table_of};
+use crate::pieces::{piece_room, read_bytes};
+use crate::reading::{read_areas, read_bad};
+use crate::sizes::{Sizes, table_size};
+use cut_words::CutWords;
+use nfit_reader::{Nfit, NfitFault};
+use nvd_media::{ImageSource, Object};
+use nvd_words::Items;
+use std::alloc::{AllocError, Global};
+
+/// An image set in memory but for its contents, of which it has the sizes. Lists go by the numbers of the modules in
+/// the firmware's table.
+#[derive(Debug, Drop)]
+pub struct Outline {
+    /// What the firmware's table says.
+    pub nfit: Nfit,
+    /// The bytes of the table's object, also those past its Length.
+    pub nfit_bytes: Items<u8>,
+    /// The label area of each module that has one, from its byte 0, the low byte of each word first.
+    pub labels: Items<Option<CutWords>>,
+    /// How many bytes the contents of each module have.
+    pub sizes: Items<u64>,
+    /// The bytes of the list of bad ranges of each module that has one. They aren't looked into.
+    pub bad: Items<Option<Items<u8>>>,
+}
+
+/// How many bytes the contents of the modules have.
+fn contents_sizes(alloc: Global, sizes: &[Sizes]) -> Result<Items<u64>, AllocError>
+    ensures { IfOk result (λ bytes. bytes ≡ contents_of sizes.now) }
+{
+    let mut bytes = Items::new(alloc);
+    for of_module in sizes {
+        bytes.push(of_module.contents)?;
+    }
+    Ok(bytes)
+}
+
+/// The bytes of all modules but their contents, under the table that was read.
+fn read_outline<S: ImageSource>(
+    alloc: Global,
+    images: &mut S,
+    nfit: Nfit,
+    nfit_bytes: Vec<u8>,
+    sizes: &[Sizes],
+) -> Result<Outline, Stop>
+    requires modules { NamesItsModules nfit }
+    requires count { length sizes.now ≡ length nfit.modules }
+    requires sized { AreSized sizes.now }
+    requires there { ForSome (S.held images.old) (λ set. AreSizesOf set sizes.now) }
+    requires read { ForSome (S.held images.old)
+        (λ set. nfit_bytes.items ≡ bytes_of set Object.Nfit) }
+    ensures told { ForSome (S.held images.old)
+        (λ set. IfOk result (λ outline. image_set_with outline (contents_in set (length outline.sizes)) ≡ image_set_of set nfit)) }
+    ensures sizes { ForSome (S.held images.old) (λ set. IfOk result (λ outline. HasContents outline.sizes set)) }
+    ensures sound { IfOk result IsOutlined }
+    ensures same { S.held images.new ≡ S.held images.old }
+    ensures later { S.faults images.old ≤ S.faults images.new }
+    ensures failed { result ≡ Err Stop.ReadFault
+        → Rose (S.faults images.old) (S.faults images.new) }
+{
+    let mut room = piece_room(alloc)?;
+    let of_contents = contents_sizes(alloc, sizes)?;
+    let labels = read_areas(alloc, images, sizes, &mut room)?;
+    let bad = read_bad(alloc, images, sizes)?;
+    Ok(Outline {
+        nfit,
+        nfit_bytes: Items::from_vec(nfit_bytes),
+        labels,
+        sizes: of_contents,
+        bad,
+    })
+}
+
+/// Loads an image set but for its contents, which stay in the source: their sizes are checked, and their bytes are
+/// read once they are copied ([`crate::OutlineLeft::save`]).
+///
+/// - `told`: where the source tells what it holds, the answer is that of the set (`loading`): with the contents that
+///   the source holds it is the set that `load` gives, and its faults are the same.
+/// - `sizes`: the contents have the sizes that the outline names.
+/// - `failed`: `ReadFault` comes only where the source's count of faults rose in this call.
+/// - `OutOfMemory` may come in place of any other answer. No fault wraps it (`apart`).
+/// - `sound`: what was loaded is inside its limits and belongs together, whatever the source tells.
+/// - `same`, `later`: the source holds what it held, and its count of faults never falls. After a
+///   fault nothing is kept.
+pub fn load_outline<S: ImageSource>(alloc: Global, images: &mut S) -> Result<Outline, LoadFault>
+    ensures told { ForSome (S.held images.old) (Outlines result) }
+    ensures sizes { ForSome (S.held images.old) (λ set. IfOk result (λ outline. HasContents outline.sizes set)) }
+    ensures sound { IfOk result IsOutlined }
+    ensures apart { result ≢ Err (LoadFault.Nfit NfitFault.OutOfMemory) }
+    ensures failed { result ≡ Err LoadFault.ReadFault
+        → Rose (S.faults images.old) (S.faults images.new) }
+    ensures later { S.faults images.old ≤ S.faults images.new }
+    ensures same { S.held images.new ≡ S.held images.old }
+{
+    let bytes = table_size(images)?;
+    let nfit_bytes = read_bytes(alloc, images, Object::Nfit, bytes)?;
+    let nfit = table_of(alloc, &nfit_bytes)?;
+    let sizes = checked_sizes(alloc, images, &nfit)?;
+    Ok(read_outline(alloc, images, nfit, nfit_bytes, sizes.as_slice())?)
+}
