@@ -249,7 +249,7 @@ fn each_call_on_the_sink_fails_in_turn(rt: HostRuntime) -> Result<(), AllocError
 fn each_call_on_the_source_fails_in_turn(rt: HostRuntime) -> Result<(), AllocError> {
     let alloc = rt.alloc();
     let mut failed = 0;
-    let mut begun = 0;
+    let mut begun: u64 = 0;
     for call in 0..16 {
         let failing = Vec::from_slice(alloc, &[call])?;
         let mut images = MemImages::new(alloc, blank(alloc)?, failing);
@@ -269,7 +269,7 @@ fn each_call_on_the_source_fails_in_turn(rt: HostRuntime) -> Result<(), AllocErr
             assert_eq!(rt; failed, call);
             failed += 1;
             if set.bytes(Object::Nfit).is_some() {
-                begun += 1;
+                begun = begun.saturating_add(1);
             }
         } else {
             assert_eq!(rt; status, Status::Ok);
@@ -290,7 +290,9 @@ fn contents_are_copied(rt: HostRuntime) -> Result<(), AllocError> {
     let alloc = rt.alloc();
     let mut contents = vec![in alloc; 0x5a; (256 << 10) + 4096]?;
     for (at, byte) in [(0, 1), (262143, 2), (262144, 3), (266239, 4)] {
-        contents[at] = byte;
+        if let Some(place) = contents.get_mut(at) {
+            *place = byte;
+        }
     }
     let bad = vec![in alloc; 7; 16]?;
     let mut objects = without(alloc, blank(alloc)?, Object::Contents(1))?;
