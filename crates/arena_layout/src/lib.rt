@@ -28,8 +28,6 @@ mod checks;
 mod info;
 mod layout;
 mod planning;
-#[cfg(test)]
-mod tests;
 mod write;
 
 pub use info::{Info, InfoFault, read_info};

@@ -20,3 +20,10 @@ pub mod States
 pub mod Sectors
 pub mod InPlace
 mod Rows
+pub mod Own
+pub mod Outside
+pub mod Joined
+pub mod ChainAnswering
+pub mod SoFar
+pub mod ChainSectors
+pub mod ChainInPlace

@@ -6,3 +6,6 @@ pub mod Reading
 pub mod Moves
 pub mod Cells
 pub mod Format
+pub mod Chain
+pub mod ChainCells
+pub mod InPlace

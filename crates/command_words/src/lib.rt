@@ -23,8 +23,6 @@
 
 mod argument;
 mod numbers;
-#[cfg(test)]
-mod tests;
 mod uuids;
 mod values;
 

@@ -49,8 +49,6 @@ mod fuse;
 mod law;
 mod runs;
 mod space;
-#[cfg(test)]
-mod tests;
 mod values;
 mod words;
 

@@ -27,8 +27,6 @@
 
 mod group;
 mod half;
-#[cfg(test)]
-mod tests;
 
 pub use group::{FlogFault, Group, next_half, read_group};
 pub use half::{Half, half_words};

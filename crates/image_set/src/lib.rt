@@ -55,8 +55,6 @@ mod pieces;
 mod reading;
 mod saving;
 mod sizes;
-#[cfg(test)]
-mod tests;
 mod writing;
 
 pub use changing::{OutlineLeft, SetLeft};

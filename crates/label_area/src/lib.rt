@@ -43,8 +43,6 @@
 
 mod area;
 mod change;
-#[cfg(test)]
-mod change_tests;
 mod fault;
 mod initial;
 mod labels;
@@ -53,8 +51,6 @@ mod list;
 mod next;
 mod read;
 mod spell;
-#[cfg(test)]
-mod tests;
 
 pub use area::{current_block, read_slot};
 pub use change::{write_block, write_change};

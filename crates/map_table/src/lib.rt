@@ -27,8 +27,6 @@
 mod check;
 mod counts;
 mod kinds;
-#[cfg(test)]
-mod tests;
 mod words;
 
 pub use check::{BlockFault, check_blocks};

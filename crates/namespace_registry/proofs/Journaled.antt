@@ -4,7 +4,7 @@ use Rattle.std.specs.Prelude.{is_ok, OnOk}
 use Rattle.std.proofs.lemmas.Bool.{cases_Bool, false≢true, leb-false}
 use Rattle.nvd_words.specs.Checks.{value_unless}
 use Rattle.nfit_reader.specs.declared.table.Mapping.{Mapping}
-use Rattle.call_tag.specs.declared.Tag.{Tag}
+use Rattle.nvd_words.specs.declared.tag.Tag.{Tag}
 use Rattle.cut_words.specs.Fuses.{lasts}
 use Rattle.namespaces.specs.Namespaces.{Namespaces}
 use Rattle.module_areas.specs.declared.area.Area.{Area}

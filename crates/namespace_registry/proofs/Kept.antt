@@ -2,7 +2,7 @@
 use Rattle.std.proofs.Common.{◌≡◌, ℕ, false, Result, Ok, Err, ◌+◌, ◌≤◌, ◌<◌, ◌^◌, ◌++◌, List, [], ◌∷◌, length, Option, sym, ap, ◌∙◌, subst, arith, length-append}
 use Rattle.std.specs.Prelude.{sum, OnOk, OnErr}
 use Rattle.nfit_reader.specs.declared.table.Mapping.{Mapping}
-use Rattle.call_tag.specs.declared.Tag.{Tag}
+use Rattle.nvd_words.specs.declared.tag.Tag.{Tag}
 use Rattle.namespace_changes.specs.Areas.{Area as SeenArea}
 use Rattle.namespace_changes.specs.declared.commands.Command.{Command}
 use Rattle.area_changes.specs.Seen.{areas_seen}

@@ -1,6 +1,6 @@
 -- What was asked of a registry, and what it answered.
 use Rattle.std.specs.Prelude.{Result}
-use Rattle.call_tag.specs.declared.Tag.{Tag}
+use Rattle.nvd_words.specs.declared.tag.Tag.{Tag}
 use Rattle.namespace_changes.specs.declared.commands.Command.{Command}
 use Rattle.namespace_changes.specs.declared.refused.OpRefused.{OpRefused}
 

@@ -2,7 +2,7 @@
 use Rattle.std.specs.Prelude.{◌≡◌, ℕ, ◌+◌, ◌<◌, ◌≤◌, ◌^◌, true, false, List, [], ◌∷◌, ◌++◌, length, sum, Option, None, Err}
 use Rattle.std.specs.List.{AllByRecursion}
 use Rattle.nfit_reader.specs.declared.table.Mapping.{Mapping}
-use Rattle.call_tag.specs.declared.Tag.{Tag}
+use Rattle.nvd_words.specs.declared.tag.Tag.{Tag}
 use Rattle.namespace_changes.specs.declared.commands.Command.{Command}
 use Rattle.namespace_changes.specs.declared.refused.OpRefused.TheVariants.{PowerCut}
 use Rattle.namespace_changes.specs.Areas.{Area as SeenArea, Change, IsLeftBy, steps_of_all}

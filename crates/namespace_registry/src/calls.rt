@@ -11,9 +11,9 @@ ghost use Rattle.namespace_registry.specs.Room.{room_of};
 use crate::journal::JournalEntry;
 use crate::names::named;
 use crate::registry::{NamespaceRegistry, Opening};
-use call_tag::Tag;
 use cut_words::Fuse;
 use namespace_changes::{Command, CreateSpec, OpRefused};
+use nvd_words::Tag;
 use std::alloc::Global;
 use uuid::Uuid;
 

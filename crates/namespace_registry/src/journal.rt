@@ -4,8 +4,8 @@ ghost use Rattle.std.specs.Vec.{vec_capacity};
 ghost use Rattle.namespace_registry.specs.Room.{room_of, taken, with_room};
 
 use crate::room::Room;
-use call_tag::Tag;
 use namespace_changes::{Command, OpRefused};
+use nvd_words::Tag;
 use std::alloc::{AllocError, Global};
 use std::marker::Model;
 

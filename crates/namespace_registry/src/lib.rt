@@ -35,9 +35,7 @@ mod listing;
 mod names;
 mod registry;
 mod room;
-#[cfg(test)]
-mod tests;
 
-pub use call_tag::Tag;
 pub use journal::JournalEntry;
+pub use nvd_words::Tag;
 pub use registry::{NamespaceRegistry, Opening};

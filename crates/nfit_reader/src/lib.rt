@@ -40,8 +40,6 @@ mod regions;
 mod shared;
 mod structures;
 mod table;
-#[cfg(test)]
-mod tests;
 
 pub use law::regions_share_no_bytes;
 pub use read::read_nfit;

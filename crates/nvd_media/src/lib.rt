@@ -19,31 +19,26 @@
 //! `specs/Images.antt` has image sets as functions from objects to bytes, and says how what is told
 //! before and after a call hang together (`Becomes`).
 //!
-//! [`DirImages`] and [`StdText`] are the trusted edge: a few lines each over std, which tell nothing.
 //! [`MemImages`] and [`MemText`] stand in memory and can be made to fail at any call; no call of
-//! [`SureImages`] and [`SureText`] fails.
+//! [`SureImages`] and [`SureText`] fails. Directories and the standard streams are in `nvd_files`.
 #![tactic(auto)]
 
 mod chooser;
-mod dir_images;
 mod failures;
 mod gate;
 mod mem_images;
 mod mem_text;
 mod object;
-mod std_text;
 mod sure_images;
 mod sure_text;
 mod traits;
 mod whole_text;
 
 pub use chooser::{ListChooser, SeedChooser};
-pub use dir_images::{DirImages, file_name};
 pub use gate::NoGate;
 pub use mem_images::{MemImages, Stored};
 pub use mem_text::MemText;
 pub use object::Object;
-pub use std_text::StdText;
 pub use sure_images::SureImages;
 pub use sure_text::SureText;
 pub use traits::{Chooser, Failed, Gate, ImageSink, ImageSource, TextSink, TextSource};

@@ -21,7 +21,7 @@
 //! - **Numbers in bytes**: `specs/Bytes.antt`.
 //!
 //! [`Items`] is a list whose contracts see its items, and [`Flags`] a row of flags, a bit each
-//! (`specs/Bits.antt`). `specs/Checks.antt` has the form in which every reader of a format states its refusals: a list of
+//! (`specs/Bits.antt`). A [`Tag`] names a call of a session in logs. `specs/Checks.antt` has the form in which every reader of a format states its refusals: a list of
 //! checks in a fixed order, of which the first that fails is the answer.
 #![tactic(auto)]
 
@@ -30,6 +30,7 @@ mod flags;
 mod guid;
 mod items;
 mod ring;
+mod tag;
 mod word;
 
 pub use checksum::{fletcher64, fletcher64_without};
@@ -37,4 +38,5 @@ pub use flags::Flags;
 pub use guid::{guid_bytes, guid_order_is_its_own_inverse, guid_read};
 pub use items::Items;
 pub use ring::{seq_newer, seq_next};
+pub use tag::Tag;
 pub use word::{u16_at, u32_at, word_at};

@@ -40,10 +40,9 @@ use Rattle.shell_listings.specs.Labels.{module_outcome, found_outcome, fault_out
 use Rattle.shell_changes.specs.Init.{InitArea, InitModule, not_initialised}
 use Rattle.shell_listings.specs.List.{listed_of, listed_outcome, open_outcome}
 use Rattle.arena_open.specs.declared.state.ArenaState.{ArenaState}
-use Rattle.arena_chain.specs.Cells.{sectors_of}
+use Rattle.arena_open.specs.ChainCells.{sectors_of}
 use Rattle.namespace_finding.specs.declared.found.Found.{Found}
-use Rattle.shell_sectors.specs.Faults.{arena_outcome, find_refusal}
-use Rattle.shell_sectors.specs.Faults.{refused_outcome as sector_refusal}
+use Rattle.shell_sectors.specs.Faults.{arena_outcome, find_refusal, refused_outcome as sector_refusal}
 use Rattle.shell_sectors.specs.Sectors.{arena_lines, sector_outcome}
 use Rattle.shell_sectors.specs.Causes.{IsBroken, IsReadable, found_in, opened_in, is_unfound, lacks, lacks_found}
 use Rattle.shell_sectors.proofs.Causes.{SectorsCase, faulty, unfound, broken, opened, sectors_case}

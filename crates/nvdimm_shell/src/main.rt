@@ -53,7 +53,8 @@ mod tests;
 mod top;
 mod words;
 
-use nvd_media::{DirImages, NoGate, SeedChooser, StdText, TextSink};
+use nvd_files::{DirImages, StdText};
+use nvd_media::{NoGate, SeedChooser, TextSink};
 use shell_answers::Status;
 use std::alloc::AllocError;
 use std::env;

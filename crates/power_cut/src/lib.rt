@@ -49,8 +49,6 @@
 mod leaving;
 mod namespace;
 mod placing;
-#[cfg(test)]
-mod tests;
 
 pub use leaving::{ArenaLeft, Images, Place, leave_all};
 pub use namespace::{SetWords, beside_tells_the_place, reach_ends, words_and_beside_are_all};

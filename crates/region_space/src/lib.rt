@@ -24,8 +24,6 @@ mod fitting;
 mod order;
 mod reach;
 mod space;
-#[cfg(test)]
-mod tests;
 
 pub use extent::{Extent, SpaceFault};
 pub use space::Space;

@@ -22,8 +22,6 @@
 mod creating;
 mod formatting;
 mod new_sectors;
-#[cfg(test)]
-mod tests;
 
 pub use creating::create_sectors;
 pub use new_sectors::NewSectors;

@@ -11,7 +11,7 @@ use Rattle.cut_words.proofs.Guarded.{settled_none}
 use Rattle.arena_layout.specs.declared.info.InfoFault.TheVariants as info
 use Rattle.arena_open.specs.declared.refused.OpenRefused.TheVariants as refused
 use Rattle.arena_open.specs.Writes.{IsSettled}
-use Rattle.arena_chain.specs.Chain.{chain_answer}
+use Rattle.arena_open.specs.Chain.{chain_answer}
 use Rattle.power_cut.specs.Namespace.{Namespace, words_of, count_of, byte_at, place_of, row_of, stored_at, stored_by}
 use Rattle.sector_views.specs.View.{opened_view}
 

@@ -9,8 +9,8 @@ use Rattle.cut_words.specs.WordBytes.{words_in}
 use Rattle.arena_layout.specs.declared.info.InfoFault.TheVariants as info
 use Rattle.arena_open.specs.declared.refused.OpenRefused.TheVariants as refused
 use Rattle.arena_open.specs.declared.state.ArenaState.{ArenaState}
-use Rattle.arena_chain.specs.declared.refused.ChainRefused.{ChainRefused}
-use Rattle.arena_chain.specs.Chain.{chain_answer}
+use Rattle.arena_open.specs.declared.chain_refused.ChainRefused.{ChainRefused}
+use Rattle.arena_open.specs.Chain.{chain_answer}
 use Rattle.power_cut.specs.Namespace.{words_of, over, ReachEnds}
 use Rattle.namespace_finding.specs.declared.found.Found.{Found}
 use Rattle.namespace_finding.specs.Finding.{set_at}

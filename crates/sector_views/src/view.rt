@@ -1,11 +1,11 @@
 ghost use Rattle.std.specs.Prelude.{◌≡◌, ◌*◌, ◌+◌, ◌≤◌, ◌%◌, length};
 ghost use Rattle.std.specs.List.{All};
-ghost use Rattle.arena_chain.specs.Chain.{HasMemory};
+ghost use Rattle.arena_open.specs.Chain.{HasMemory};
 ghost use Rattle.image_set.specs.Sound.{IsContents};
 ghost use Rattle.namespace_finding.specs.Finding.{LiesIn};
 ghost use Rattle.sector_views.specs.View.{AreUsable, opened_view, view_words};
 
-use arena_chain::{ChainRefused, ReadChain, read_chain};
+use arena_open::{ChainRefused, ReadChain, read_chain};
 use arena_layout::InfoFault;
 use arena_open::OpenRefused;
 use cut_words::{CutWords, WordSpace};

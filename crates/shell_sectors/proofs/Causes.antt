@@ -1,7 +1,7 @@
 -- The ways in which a command on the arenas of a namespace ends.
 use Rattle.std.proofs.Common.{◌≡◌, ℕ, List, Option, Some, None, Result, Ok, Err, refl}
 use Rattle.arena_open.specs.declared.state.ArenaState.{ArenaState}
-use Rattle.arena_chain.specs.declared.refused.ChainRefused.{ChainRefused}
+use Rattle.arena_open.specs.declared.chain_refused.ChainRefused.{ChainRefused}
 use Rattle.namespace_changes.specs.declared.refused.OpRefused.{OpRefused}
 use Rattle.namespace_finding.specs.declared.found.Found.{Found}
 use Rattle.namespace_ops.specs.declared.registry.OpenFault.{OpenFault}

@@ -1,8 +1,8 @@
 -- Why a command on the arenas of a namespace ends as it does: this project's rules.
 use Rattle.std.specs.Prelude.{◌≡◌, ◌⊎◌, ℕ, nat_lt, Bool, true, false, not, List, Option, Some, None, Result, Ok, Err}
 use Rattle.arena_open.specs.declared.state.ArenaState.{ArenaState}
-use Rattle.arena_chain.specs.declared.refused.ChainRefused.{ChainRefused}
-use Rattle.arena_chain.specs.Cells.{sectors_of}
+use Rattle.arena_open.specs.declared.chain_refused.ChainRefused.{ChainRefused}
+use Rattle.arena_open.specs.ChainCells.{sectors_of}
 use Rattle.namespaces.specs.Namespaces.{entry_at}
 use Rattle.namespace_changes.specs.declared.refused.OpRefused.{OpRefused}
 use Rattle.namespace_finding.specs.declared.found.Found.{Found}

@@ -11,7 +11,7 @@ use Rattle.map_table.specs.declared.check.BlockFault.{BlockFault}
 use Rattle.map_table.specs.declared.check.BlockFault.TheVariants as block
 use Rattle.arena_open.specs.declared.refused.OpenRefused.{OpenRefused}
 use Rattle.arena_open.specs.declared.refused.OpenRefused.TheVariants as open_refused
-use Rattle.arena_chain.specs.declared.refused.ChainRefused.{ChainRefused}
+use Rattle.arena_open.specs.declared.chain_refused.ChainRefused.{ChainRefused}
 use Rattle.namespace_changes.specs.declared.refused.OpRefused.{OpRefused}
 use Rattle.namespace_changes.specs.declared.refused.OpRefused.TheVariants as op
 use Rattle.shell_answers.specs.declared.status.Ending.TheVariants as ending

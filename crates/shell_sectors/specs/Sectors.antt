@@ -13,8 +13,8 @@ use Rattle.arena_open.specs.declared.state.ArenaState.{ArenaState}
 use Rattle.arena_open.specs.declared.cell.Cell.{Cell}
 use Rattle.arena_open.specs.declared.cell.Cell.TheVariants as cell
 use Rattle.arena_open.specs.Moves.{moves_made}
-use Rattle.arena_chain.specs.declared.refused.ChainRefused.{ChainRefused}
-use Rattle.arena_chain.specs.Cells.{contents_of, sectors_of}
+use Rattle.arena_open.specs.declared.chain_refused.ChainRefused.{ChainRefused}
+use Rattle.arena_open.specs.ChainCells.{contents_of, sectors_of}
 use Rattle.namespaces.specs.Namespaces.{entry_at}
 use Rattle.namespace_changes.specs.declared.refused.OpRefused.{OpRefused}
 use Rattle.namespace_finding.specs.declared.found.Found.{Found}

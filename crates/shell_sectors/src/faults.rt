@@ -4,7 +4,7 @@ ghost use Rattle.shell_answers.specs.Outcome.{joined, lf};
 ghost use Rattle.shell_answers.specs.Saved.{outcome_of};
 ghost use Rattle.shell_sectors.specs.Faults.{arena_outcome, block_text, field_text, find_refusal, flog_text, info_text, open_refused_text, refused_outcome};
 
-use arena_chain::ChainRefused;
+use arena_open::ChainRefused;
 use arena_layout::{InfoFault, LayoutField};
 use arena_open::OpenRefused;
 use flog::FlogFault;

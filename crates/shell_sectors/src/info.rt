@@ -8,7 +8,7 @@ ghost use Rattle.shell_answers.specs.Saved.{outcome_of};
 ghost use Rattle.shell_sectors.specs.Sectors.{arena_facts, arena_lines, info_outcome};
 
 use crate::opening::{Ask, set_answer};
-use arena_chain::ReadChain;
+use arena_open::ReadChain;
 use arena_layout::Layout;
 use cut_words::WordSpace;
 use image_set::Loaded;

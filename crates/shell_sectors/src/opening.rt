@@ -13,7 +13,7 @@ ghost use Rattle.shell_sectors.specs.Sectors.{on_arenas, on_found, on_sectors};
 use crate::faults::{arena_answer, unfound_answer};
 use crate::info::lines_answer;
 use crate::read::sector_answer;
-use arena_chain::ReadChain;
+use arena_open::ReadChain;
 use cut_words::{CutWords, WordSpace};
 use image_set::Loaded;
 use label_codec::Mode;

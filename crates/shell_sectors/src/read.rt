@@ -3,7 +3,7 @@ ghost use Rattle.std.specs.Prelude.{◌≡◌, ◌<◌, ◌++◌, ◌∷◌, [],
 ghost use Rattle.hex.specs.Hex.{encode_lower};
 ghost use Rattle.cut_words.specs.WordBytes.{bytes_of};
 ghost use Rattle.arena_open.specs.declared.cell.Cell.TheVariants as cell;
-ghost use Rattle.arena_chain.specs.Cells.{contents_of, sectors_of};
+ghost use Rattle.arena_open.specs.ChainCells.{contents_of, sectors_of};
 ghost use Rattle.image_set.specs.Load.{image_set_in};
 ghost use Rattle.image_set.specs.Sound.{IsSound};
 ghost use Rattle.shell_answers.specs.Outcome.{joined, lf};
@@ -12,7 +12,7 @@ ghost use Rattle.shell_sectors.specs.Sectors.{cell_text, is_fill, read_outcome, 
 
 use crate::faults::refused_answer;
 use crate::opening::{Ask, set_answer};
-use arena_chain::ReadChain;
+use arena_open::ReadChain;
 use arena_open::CellKind;
 use cut_words::WordSpace;
 use image_set::Loaded;

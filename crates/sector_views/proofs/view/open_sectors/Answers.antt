@@ -4,8 +4,8 @@ use Rattle.nfit_reader.specs.declared.table.Mapping.{Mapping}
 use Rattle.interleave.specs.Places.{unit_of}
 use Rattle.cut_words.specs.Words.{Words, settled}
 use Rattle.power_cut.specs.Namespace.{Namespace, ReachEnds, words_of, over}
-use Rattle.arena_chain.specs.declared.refused.ChainRefused.{ChainRefused}
-use Rattle.arena_chain.specs.Chain.{chain_answer}
+use Rattle.arena_open.specs.declared.chain_refused.ChainRefused.{ChainRefused}
+use Rattle.arena_open.specs.Chain.{chain_answer}
 use Rattle.namespace_finding.specs.Finding.{set_at}
 use Rattle.sector_views.specs.View.{view_words}
 use Rattle.sector_views.proofs.Views.{length_view, pages_of, page_words, view_settled, no_words, some_words}

@@ -1,7 +1,7 @@
 use Rattle.std.proofs.Common.{ℕ, ◌/◌, ◌∙◌, Option, ap}
 use Rattle.std.specs.Prelude.{unwrap_or}
 use Rattle.std.proofs.lemmas.Option.{unwrap_or-slice_get}
-use Rattle.arena_chain.specs.Cells.{sizes_of}
+use Rattle.arena_open.specs.ChainCells.{sizes_of}
 use Rattle.shell_sectors.proofs.read.cell_line.Goals as goal
 
 pub read-requires-clause-room : goal.read-requires-clause-room

@@ -1,6 +1,0 @@
-use Rattle.std.proofs.Common.{◌≡◌, ◌+◌, take}
-use Rattle.arena_chain.specs.Cells.{sectors_of}
-use Rattle.arena_chain.proofs.chain.Chain.locate.Given as goal
-
-abbrev pub invariant-loop-k : goal.invariant-loop-k
-invariant-loop-k l = l.sector ≡ sectors_of (take l.k l.arena-items) + l.own

@@ -1,6 +1,0 @@
-use Rattle.std.proofs.Common.{sym}
-use Rattle.label_codec.proofs.Laws.{sound_if_read}
-use Rattle.label_codec.proofs.tests.a_label_is_written_as_linux_did.Goals as goal
-
-pub write_label-requires : goal.write_label-requires
-write_label-requires g c = sound_if_read _ _ _ (sym c.in-Ok.ensures)

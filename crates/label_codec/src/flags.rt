@@ -1,0 +1,52 @@
+//! The flags of a label (UEFI 2.10, section 13.19, Flags).
+
+ghost use Rattle.std.specs.Prelude.{◌≡◌};
+ghost use Rattle.label_codec.specs.Flags.{has_rolabel, has_local, has_updating, without_updating, with_updating};
+
+use crate::label::Label;
+
+/// ROLABEL, bit 0: the namespace may only be read.
+pub const ROLABEL: u32 = 1;
+
+/// LOCAL, bit 1: the namespace is one module's own.
+pub const LOCAL: u32 = 2;
+
+/// UPDATING, bit 3: a change of the namespace's labels isn't finished.
+pub const UPDATING: u32 = 8;
+
+/// Flags with UPDATING cleared, and all other bits kept.
+pub fn without_updating(flags: u32) -> u32
+    ensures { result ≡ without_updating flags }
+{
+    flags - flags / UPDATING % 2 * UPDATING
+}
+
+/// Flags with UPDATING set, and all other bits kept.
+pub fn with_updating(flags: u32) -> u32
+    ensures { result ≡ with_updating flags }
+{
+    flags - flags / UPDATING % 2 * UPDATING + UPDATING
+}
+
+impl Label {
+    /// Whether the flag ROLABEL is set.
+    pub fn is_read_only(&self) -> bool
+        ensures { result ≡ has_rolabel self.now.flags }
+    {
+        self.flags / ROLABEL % 2 == 1
+    }
+
+    /// Whether the flag LOCAL is set.
+    pub fn is_local(&self) -> bool
+        ensures { result ≡ has_local self.now.flags }
+    {
+        self.flags / LOCAL % 2 == 1
+    }
+
+    /// Whether the flag UPDATING is set.
+    pub fn is_updating(&self) -> bool
+        ensures { result ≡ has_updating self.now.flags }
+    {
+        self.flags / UPDATING % 2 == 1
+    }
+}
