@@ -10,7 +10,7 @@ use Rattle.std.proofs.lemmas.List.Elements.{filter_more}
 use Rattle.std.proofs.lemmas.Map.Text.{is_eq-slice_cmp}
 use Rattle.std.proofs.lemmas.Slice.Eq.{bytes_eq-Decides}
 use Rattle.label_set.specs.declared.placed.Placed.{Placed}
-use Rattle.namespaces.specs.Namespaces.{uuid_of, labels_with}
+use Rattle.namespace_map.specs.Namespaces.{uuid_of, labels_with}
 use Rattle.namespace_ops.specs.Groups.{items_of}
 
 pub ruleset orders = (is_eq-slice_cmp)

@@ -17,12 +17,12 @@ use Rattle.std.proofs.lemmas.Map.Text.{is_eq-slice_cmp}
 use Rattle.std.proofs.lemmas.Slice.Eq.{bytes_eq-Decides}
 use Rattle.nfit_reader.specs.declared.table.Mapping.{Mapping}
 use Rattle.label_set.specs.declared.placed.Placed.{Placed}
-use Rattle.namespaces.specs.declared.listed.Namespace.{Namespace}
-use Rattle.namespaces.specs.Namespaces.{Entry, entries_of, entry_at, entry_with, labels_with, lookup, namespace_of, uuid_lt}
-use Rattle.namespaces.specs.Laws.{IsRising}
-use Rattle.namespaces.proofs.Entries.{entry_uuid, entry_none, lookup_entries}
-use Rattle.namespaces.proofs.Rising.{rising_entries, rising_same}
-use Rattle.namespace_groups.specs.Seen.{namespace_in, namespace_with}
+use Rattle.namespace_map.specs.declared.listed.Namespace.{Namespace}
+use Rattle.namespace_map.specs.Namespaces.{Entry, entries_of, entry_at, entry_with, labels_with, lookup, namespace_of, uuid_lt}
+use Rattle.namespace_map.specs.Laws.{IsRising}
+use Rattle.namespace_map.proofs.Entries.{entry_uuid, entry_none, lookup_entries}
+use Rattle.namespace_map.proofs.Rising.{rising_entries, rising_same}
+use Rattle.namespace_areas.specs.GroupSeen.{namespace_in, namespace_with}
 use Rattle.namespace_ops.specs.Groups.{items_of, IsGrouped}
 
 abbrev cmp : List ℕ → List ℕ → Ordering

@@ -3,8 +3,8 @@ use Rattle.std.proofs.Common.{◌≡◌, ◌≢◌, List, [], ◌∷◌, Option,
 use Rattle.nvd_words.specs.Checks.{first_fault, value_unless}
 use Rattle.nfit_reader.specs.declared.table.Mapping.{Mapping}
 use Rattle.nfit_reader.specs.declared.table.Nfit.{Nfit}
-use Rattle.module_areas.specs.declared.area.Area.{Area}
-use Rattle.module_areas.specs.Areas.{labels_of}
+use Rattle.namespace_areas.specs.declared.area.Area.{Area}
+use Rattle.namespace_areas.specs.Areas.{labels_of}
 use Rattle.namespace_ops.specs.declared.registry.OpenFault.{OpenFault}
 use Rattle.namespace_ops.specs.declared.registry.OpenFault.TheVariants.{OutOfMemory}
 use Rattle.namespace_ops.specs.Opening.{Opened, opening, sets_of, set_fault_from, overlap_fault}

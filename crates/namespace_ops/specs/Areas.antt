@@ -1,9 +1,9 @@
 -- What a registry keeps.
 use Rattle.std.specs.Prelude.{◌<◌, ◌^◌, List, length}
 use Rattle.nfit_reader.specs.declared.table.Mapping.{Mapping}
-use Rattle.module_areas.specs.declared.area.Area.{Area}
-use Rattle.module_areas.specs.Areas.{AreRunning, labels_of}
-use Rattle.namespace_groups.specs.Groups.{Grouping, HasGroupsOf}
+use Rattle.namespace_areas.specs.declared.area.Area.{Area}
+use Rattle.namespace_areas.specs.Areas.{AreRunning, labels_of}
+use Rattle.namespace_areas.specs.Groups.{Grouping, HasGroupsOf}
 
 -- what a registry keeps of its interleave sets, its areas and their labels by UUID
 pub record IsOpen (sets : List (List Mapping)) (areas : List Area) (groups : Grouping) : Type 0 where

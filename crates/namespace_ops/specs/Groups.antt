@@ -5,7 +5,7 @@ use Rattle.std.specs.Cmp.Lexicographic.{slice_cmp}
 use Rattle.std.specs.BTreeMap as tree
 use Rattle.std.specs.Global.{Vec}
 use Rattle.label_set.specs.declared.placed.Placed.{Placed}
-use Rattle.namespaces.specs.Namespaces.{labels_with}
+use Rattle.namespace_map.specs.Namespaces.{labels_with}
 
 abbrev pub items_of : Option (Vec Placed) → List Placed
 items_of None = []

@@ -1,3 +1,15 @@
 pub mod Opening
 pub mod Areas
 pub mod Groups
+pub mod Plans
+pub mod Carried
+pub mod Held
+pub mod Created
+pub mod Claims
+pub mod Room
+pub mod Entries
+pub mod Book
+pub mod Counted
+pub mod Counting
+pub mod Replay
+pub mod Registered

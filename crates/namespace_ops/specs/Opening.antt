@@ -13,13 +13,13 @@ use Rattle.label_set.specs.declared.placed.Placed.{Placed}
 use Rattle.region_space.specs.declared.extent.SpaceFault.{SpaceFault}
 use Rattle.region_space.specs.declared.extent.SpaceFault.TheVariants as space
 use Rattle.region_space.specs.Space.{overlap_of}
-use Rattle.namespaces.specs.declared.listed.Namespace.{Namespace}
-use Rattle.namespace_changes.specs.declared.refused.OpRefused.{OpRefused}
-use Rattle.namespace_finding.specs.declared.found.Found.{Found}
-use Rattle.namespace_finding.specs.Finding.{found_of}
-use Rattle.namespaces.specs.Namespaces.{entry_at, extent_of, entries_of, namespace_of}
-use Rattle.module_areas.specs.declared.area.Area.{Area}
-use Rattle.module_areas.specs.Areas.{labels_of}
+use Rattle.namespace_map.specs.declared.listed.Namespace.{Namespace}
+use Rattle.namespace_map.specs.declared.refused.OpRefused.{OpRefused}
+use Rattle.namespace_areas.specs.declared.found.Found.{Found}
+use Rattle.namespace_areas.specs.Finding.{found_of}
+use Rattle.namespace_map.specs.Namespaces.{entry_at, extent_of, entries_of, namespace_of}
+use Rattle.namespace_areas.specs.declared.area.Area.{Area}
+use Rattle.namespace_areas.specs.Areas.{labels_of}
 use Rattle.namespace_ops.specs.declared.registry.OpenFault.{OpenFault}
 use Rattle.namespace_ops.specs.declared.registry.OpenFault.TheVariants.{Set, Overlap, OutOfMemory}
 

@@ -1,12 +1,12 @@
 //! The namespaces that labels make.
 ghost use Rattle.std.specs.Prelude.{◌≡◌, ◌<◌, ◌^◌, IfOk, length, map};
-ghost use Rattle.namespaces.specs.Namespaces.{entries_of, namespace_of};
+ghost use Rattle.namespace_map.specs.Namespaces.{entries_of, namespace_of};
 
 use crate::grouping::grouped;
 use interleave::InterleaveSet;
 use label_set::Placed;
-use namespace_groups::add_namespace;
-use namespaces::Namespace;
+use namespace_areas::add_namespace;
+use namespace_map::Namespace;
 use nvd_words::Items;
 use std::alloc::{AllocError, Global};
 

@@ -12,40 +12,40 @@ use Rattle.label_area.specs.declared.fault.AreaFault.TheVariants.{Unsupported, N
 use Rattle.label_area.specs.Area.{block_in}
 use Rattle.label_area.specs.Initialise.{initialised_by, init_count}
 use Rattle.label_area.proofs.Blocks.{read_fault}
-use Rattle.namespaces.specs.declared.listed.Namespace.{Namespace}
+use Rattle.namespace_map.specs.declared.listed.Namespace.{Namespace}
 use Rattle.namespace_ops.specs.declared.registry.OpenFault.{OpenFault}
 use Rattle.image_set.specs.declared.fault.LoadFault.{LoadFault}
 use Rattle.image_set.specs.Load.{ImageSet, area_of, loading}
-use Rattle.shell_answers.specs.declared.status.Ending.{Ending}
-use Rattle.shell_answers.specs.declared.status.Ending.TheVariants as ending
-use Rattle.shell_answers.specs.declared.status.Status.{Status}
-use Rattle.shell_answers.specs.declared.status.Status.TheVariants as status
+use Rattle.shell_reports.specs.declared.status.Ending.{Ending}
+use Rattle.shell_reports.specs.declared.status.Ending.TheVariants as ending
+use Rattle.shell_reports.specs.declared.status.Status.{Status}
+use Rattle.shell_reports.specs.declared.status.Status.TheVariants as status
 use Rattle.nvdimm_shell.specs.declared.words.Command.{Command}
 use Rattle.nvdimm_shell.specs.declared.words.Command.TheVariants.{Labels, Nfit, Init, Change, CreateSectors, Info, Read}
 use Rattle.nvdimm_shell.specs.declared.words.Command.TheVariants as command
-use Rattle.shell_answers.specs.declared.power.Power.{Power}
+use Rattle.shell_reports.specs.declared.power.Power.{Power}
 use Rattle.nfit_reader.specs.declared.table.Mapping.{Mapping}
-use Rattle.namespace_changes.specs.declared.commands.Command.{Command as NamespaceCommand}
-use Rattle.namespace_changes.specs.declared.refused.OpRefused.{OpRefused}
-use Rattle.namespace_changes.specs.Areas.{Area, steps_of_all}
-use Rattle.shell_namespaces.specs.Areas.{areas_in}
-use Rattle.shell_namespaces.specs.Refusals.{refused_outcome}
-use Rattle.shell_namespaces.specs.Namespaces as namespaces
-use Rattle.sector_creation.specs.declared.new_sectors.NewSectors.{NewSectors}
-use Rattle.shell_sector_creation.proofs.Causes.{CreateCase, create_case, create_cut, create_faulty, create_made, create_refused}
-use Rattle.shell_namespaces.specs.Namespaces.{sets_in, refusal_in, changes_in, refuses_by}
+use Rattle.namespace_map.specs.declared.commands.Command.{Command as NamespaceCommand}
+use Rattle.namespace_map.specs.declared.refused.OpRefused.{OpRefused}
+use Rattle.namespace_map.specs.Areas.{Area, steps_of_all}
+use Rattle.shell_changes.specs.Areas.{areas_in}
+use Rattle.shell_changes.specs.Refusals.{refused_outcome}
+use Rattle.shell_changes.specs.Namespaces as namespaces
+use Rattle.sector_namespaces.specs.declared.new_sectors.NewSectors.{NewSectors}
+use Rattle.shell_changes.proofs.Causes.{CreateCase, create_case, create_cut, create_faulty, create_made, create_refused}
+use Rattle.shell_changes.specs.Namespaces.{sets_in, refusal_in, changes_in, refuses_by}
 use Rattle.nvdimm_shell.specs.Words.{command_of}
-use Rattle.shell_answers.specs.Outcome.{Outcome, usage, printed, status_of}
-use Rattle.shell_listings.specs.Labels.{module_outcome, found_outcome, fault_outcome}
+use Rattle.shell_reports.specs.Outcome.{Outcome, usage, printed, status_of}
+use Rattle.shell_reports.specs.Labels.{module_outcome, found_outcome, fault_outcome}
 use Rattle.shell_changes.specs.Init.{InitArea, InitModule, not_initialised}
-use Rattle.shell_listings.specs.List.{listed_of, listed_outcome, open_outcome}
+use Rattle.shell_reports.specs.List.{listed_of, listed_outcome, open_outcome}
 use Rattle.arena_open.specs.declared.state.ArenaState.{ArenaState}
 use Rattle.arena_open.specs.ChainCells.{sectors_of}
-use Rattle.namespace_finding.specs.declared.found.Found.{Found}
-use Rattle.shell_sectors.specs.Faults.{arena_outcome, find_refusal, refused_outcome as sector_refusal}
-use Rattle.shell_sectors.specs.Sectors.{arena_lines, sector_outcome}
-use Rattle.shell_sectors.specs.Causes.{IsBroken, IsReadable, found_in, opened_in, is_unfound, lacks, lacks_found}
-use Rattle.shell_sectors.proofs.Causes.{SectorsCase, faulty, unfound, broken, opened, sectors_case}
+use Rattle.namespace_areas.specs.declared.found.Found.{Found}
+use Rattle.shell_reports.specs.Faults.{arena_outcome, find_refusal, refused_outcome as sector_refusal}
+use Rattle.shell_reports.specs.Sectors.{arena_lines, sector_outcome}
+use Rattle.shell_reports.specs.Causes.{IsBroken, IsReadable, found_in, opened_in, is_unfound, lacks, lacks_found}
+use Rattle.shell_reports.proofs.Causes.{SectorsCase, faulty, unfound, broken, opened, sectors_case}
 use Rattle.nvdimm_shell.specs.Run.{LoadedComes, OnLoaded, ComesTold, IsDue}
 use Rattle.nvdimm_shell.specs.Laws.{IsRefusedArea, IsAcceptedArea, IsKeptArea, IsBlankArea, IsRefusedFor, IsAcceptedFor, is_barred, is_cut, is_short, HasTableCause, EachStatusHasItsCause, AcceptedIsOk}
 

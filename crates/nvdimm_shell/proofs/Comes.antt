@@ -10,12 +10,12 @@ use Rattle.image_set.specs.declared.fault.LoadFault.TheVariants.{ReadFault, OutO
 use Rattle.image_set.specs.declared.outline.Outline.{Outline}
 use Rattle.image_set.specs.Load.{ImageSet, loading}
 use Rattle.image_set.specs.Outline.{HasContents, Outlines, contents_in, image_set_with, objects_with}
-use Rattle.shell_answers.specs.declared.outcome.Answer.{Answer}
-use Rattle.shell_answers.specs.declared.power.Power.{Power}
-use Rattle.shell_answers.specs.declared.status.Stop.{Stop}
-use Rattle.shell_answers.specs.LoadFaults.{load_outcome}
-use Rattle.shell_answers.specs.Outcome.{Outcome, usage}
-use Rattle.shell_answers.specs.Saved.{outcome_of}
+use Rattle.shell_reports.specs.declared.outcome.Answer.{Answer}
+use Rattle.shell_reports.specs.declared.power.Power.{Power}
+use Rattle.shell_reports.specs.declared.status.Stop.{Stop}
+use Rattle.shell_reports.specs.LoadFaults.{load_outcome}
+use Rattle.shell_reports.specs.Outcome.{Outcome, usage}
+use Rattle.shell_reports.specs.Saved.{outcome_of}
 use Rattle.shell_changes.specs.declared.answer.InitAnswer.{InitAnswer}
 use Rattle.shell_changes.specs.Init.{InitComes}
 use Rattle.shell_changes.specs.Outlined.{HasSizes, outcome_from, outcome_with}

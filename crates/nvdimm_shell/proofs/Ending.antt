@@ -3,14 +3,14 @@ use Rattle.std.proofs.Common.{◌≡◌, ◌≢◌, ℕ, Bool, true, List, ◌++
 use Rattle.std.specs.Prelude.{◌⊎◌, IsSome, IsTrue}
 use Rattle.std.specs.Io.KnownBytes.{Keeps, Appends}
 use Rattle.nvd_media.specs.Images.{Images, Becomes, IsUnfinished}
-use Rattle.shell_answers.specs.declared.status.Ending.{Ending}
-use Rattle.shell_answers.specs.declared.status.Ending.TheVariants as ending
-use Rattle.shell_answers.specs.declared.status.Status.{Status}
-use Rattle.shell_answers.specs.declared.status.Status.TheVariants as status
-use Rattle.shell_answers.specs.declared.status.Stop.{Stop}
-use Rattle.shell_answers.specs.declared.status.Stop.TheVariants as stop
-use Rattle.shell_answers.specs.Outcome.{Outcome, lf, status_of}
-use Rattle.shell_answers.specs.Saved.{Saves}
+use Rattle.shell_reports.specs.declared.status.Ending.{Ending}
+use Rattle.shell_reports.specs.declared.status.Ending.TheVariants as ending
+use Rattle.shell_reports.specs.declared.status.Status.{Status}
+use Rattle.shell_reports.specs.declared.status.Status.TheVariants as status
+use Rattle.shell_reports.specs.declared.status.Stop.{Stop}
+use Rattle.shell_reports.specs.declared.status.Stop.TheVariants as stop
+use Rattle.shell_reports.specs.Outcome.{Outcome, lf, status_of}
+use Rattle.shell_reports.specs.Saved.{Saves}
 use Rattle.nvdimm_shell.specs.Run.{Ends, FailedToRead, AppendsPart}
 
 -- what is due may be said of more, and so may what copies contents

@@ -19,12 +19,12 @@ use Rattle.label_area.specs.Whole.{steps_under}
 use Rattle.label_area.proofs.Blocks.{both_done, both_last, both_whole, is_init, read_fault}
 use Rattle.image_set.specs.Load.{ImageSet, area_of}
 use Rattle.image_set.specs.Changed.{objects_of, with_area}
-use Rattle.shell_answers.specs.declared.status.Ending.{Ending}
-use Rattle.shell_answers.specs.declared.power.Power.{Power}
-use Rattle.shell_answers.specs.Outcome.{Outcome}
-use Rattle.shell_answers.specs.Saved.{IsSaving}
+use Rattle.shell_reports.specs.declared.status.Ending.{Ending}
+use Rattle.shell_reports.specs.declared.power.Power.{Power}
+use Rattle.shell_reports.specs.Outcome.{Outcome}
+use Rattle.shell_reports.specs.Saved.{IsSaving}
 use Rattle.shell_changes.specs.Init.{InitArea, InitModule, not_initialised}
-use Rattle.shell_answers.specs.Cut.{LeavesBy}
+use Rattle.shell_reports.specs.Cut.{LeavesBy}
 use Rattle.nvdimm_shell.specs.Laws.{IsLeftByInit, InitLeavesWhole}
 use Rattle.nvdimm_shell.proofs.Causes.{words_in_area}
 

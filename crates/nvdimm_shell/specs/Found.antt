@@ -4,11 +4,11 @@ use Rattle.std.specs.Option.{ForSome, option_map}
 use Rattle.nvd_media.specs.Images.{Images}
 use Rattle.image_set.specs.declared.changing.OutlineLeft.{OutlineLeft}
 use Rattle.image_set.specs.Outline.{HasContents, contents_in, objects_with}
-use Rattle.shell_answers.specs.declared.outcome.Answer.{Answer}
-use Rattle.shell_answers.specs.declared.status.Stop.{Stop}
-use Rattle.shell_answers.specs.declared.status.Stop.TheVariants as stop
-use Rattle.shell_answers.specs.Outcome.{Outcome}
-use Rattle.shell_answers.specs.Saved.{Saves, outcome_of}
+use Rattle.shell_reports.specs.declared.outcome.Answer.{Answer}
+use Rattle.shell_reports.specs.declared.status.Stop.{Stop}
+use Rattle.shell_reports.specs.declared.status.Stop.TheVariants as stop
+use Rattle.shell_reports.specs.Outcome.{Outcome}
+use Rattle.shell_reports.specs.Saved.{Saves, outcome_of}
 use Rattle.shell_changes.specs.declared.answer.InitAnswer.{InitAnswer}
 use Rattle.shell_changes.specs.Outlined.{outcome_from}
 use Rattle.nvdimm_shell.specs.declared.found.Found.{Found}

@@ -12,27 +12,27 @@ use Rattle.label_area.specs.Area.{block_in}
 use Rattle.label_area.specs.Init.{IsInitCut}
 use Rattle.label_area.specs.Initialise.{init_count, size_for, slots_for}
 use Rattle.label_area.specs.Whole.{steps_under}
-use Rattle.namespaces.specs.declared.listed.Namespace.{Namespace}
+use Rattle.namespace_map.specs.declared.listed.Namespace.{Namespace}
 use Rattle.namespace_ops.specs.declared.registry.OpenFault.{OpenFault}
 use Rattle.image_set.specs.declared.fault.LoadFault.{LoadFault}
 use Rattle.image_set.specs.Load.{ImageSet, area_of, loading}
 use Rattle.image_set.specs.Changed.{objects_of, with_area}
-use Rattle.shell_answers.specs.declared.status.Status.{Status}
-use Rattle.shell_answers.specs.declared.status.Status.TheVariants as status
+use Rattle.shell_reports.specs.declared.status.Status.{Status}
+use Rattle.shell_reports.specs.declared.status.Status.TheVariants as status
 use Rattle.nfit_reader.specs.declared.table.Mapping.{Mapping}
-use Rattle.shell_namespaces.specs.Namespaces as namespaces
-use Rattle.shell_namespaces.specs.Namespaces.{sets_in, refuses}
-use Rattle.shell_sector_creation.specs.Sectors as sectors
+use Rattle.shell_changes.specs.Namespaces as namespaces
+use Rattle.shell_changes.specs.Namespaces.{sets_in, refuses}
+use Rattle.shell_changes.specs.Sectors as sectors
 use Rattle.nvdimm_shell.specs.declared.words.Command.{Command}
 use Rattle.nvdimm_shell.specs.declared.words.Command.TheVariants.{Labels, Nfit, Init, Change, CreateSectors, Info, Read}
 use Rattle.nvdimm_shell.specs.declared.words.Command.TheVariants as command
-use Rattle.shell_answers.specs.declared.power.Power.{Power}
+use Rattle.shell_reports.specs.declared.power.Power.{Power}
 use Rattle.nvdimm_shell.specs.Words.{command_of}
-use Rattle.shell_answers.specs.Outcome.{Outcome}
+use Rattle.shell_reports.specs.Outcome.{Outcome}
 use Rattle.shell_changes.specs.Init.{InitComes}
-use Rattle.shell_answers.specs.Cut.{LeavesBy}
-use Rattle.shell_listings.specs.List.{listed_of}
-use Rattle.shell_sectors.specs.Causes.{IsBroken, IsReadable, refuses_info, refuses_read}
+use Rattle.shell_reports.specs.Cut.{LeavesBy}
+use Rattle.shell_reports.specs.List.{listed_of}
+use Rattle.shell_reports.specs.Causes.{IsBroken, IsReadable, refuses_info, refuses_read}
 use Rattle.nvdimm_shell.specs.Run.{IsDue, Ends, copies_by}
 
 -- a module's label area that is refused: there is none, or it has no valid index block

@@ -5,22 +5,22 @@ use Rattle.nvd_media.specs.Images.{Images, Becomes, IsUnfinished}
 use Rattle.cut_words.specs.Words.{Words}
 use Rattle.image_set.specs.declared.fault.LoadFault.{LoadFault}
 use Rattle.image_set.specs.Load.{ImageSet, loading}
-use Rattle.shell_answers.specs.declared.status.Status.{Status}
-use Rattle.shell_answers.specs.declared.status.Status.TheVariants as status
+use Rattle.shell_reports.specs.declared.status.Status.{Status}
+use Rattle.shell_reports.specs.declared.status.Status.TheVariants as status
 use Rattle.nvdimm_shell.specs.declared.words.Command.{Command}
 use Rattle.nvdimm_shell.specs.declared.words.Command.TheVariants.{Labels, Nfit, Init, Change, CreateSectors, Info, Read}
 use Rattle.nvdimm_shell.specs.declared.words.Command.TheVariants as command
 use Rattle.nvdimm_shell.specs.Words.{command_of}
-use Rattle.shell_answers.specs.Outcome.{Outcome, usage, lf, status_of}
-use Rattle.shell_answers.specs.LoadFaults.{load_outcome}
-use Rattle.shell_listings.specs.Labels.{labels_outcome}
-use Rattle.shell_listings.specs.Nfit.{nfit_outcome}
-use Rattle.shell_answers.specs.Saved.{Saves}
+use Rattle.shell_reports.specs.Outcome.{Outcome, usage, lf, status_of}
+use Rattle.shell_reports.specs.LoadFaults.{load_outcome}
+use Rattle.shell_reports.specs.Labels.{labels_outcome}
+use Rattle.shell_reports.specs.Nfit.{nfit_outcome}
+use Rattle.shell_reports.specs.Saved.{Saves}
 use Rattle.shell_changes.specs.Init.{InitComes}
-use Rattle.shell_namespaces.specs.Namespaces.{CommandComes}
-use Rattle.shell_listings.specs.List.{list_outcome}
-use Rattle.shell_sectors.specs.Sectors.{info_outcome, read_outcome}
-use Rattle.shell_sector_creation.specs.Sectors.{SectorsCome}
+use Rattle.shell_changes.specs.Namespaces.{CommandComes}
+use Rattle.shell_reports.specs.List.{list_outcome}
+use Rattle.shell_reports.specs.Sectors.{info_outcome, read_outcome}
+use Rattle.shell_changes.specs.Sectors.{SectorsCome}
 
 -- ---- a case for each command
 

@@ -8,12 +8,12 @@ use Rattle.nvdimm_shell.specs.declared.commands.Kind.TheVariants as kind
 use Rattle.nvdimm_shell.specs.declared.words.Command.{Command}
 use Rattle.nvdimm_shell.specs.declared.words.Command.TheVariants.{Labels, Nfit, Init, Change, CreateSectors, Info, Read}
 use Rattle.nvdimm_shell.specs.declared.words.Command.TheVariants as command
-use Rattle.shell_answers.specs.declared.power.Power.{Power}
-use Rattle.namespace_commands.specs.Carried.{HasGoodName, IsGoodName}
-use Rattle.shell_namespaces.specs.Words.{IsPlain, delete_in, rename_in}
-use Rattle.shell_sector_creation.specs.declared.words.Created.{Created}
-use Rattle.shell_sector_creation.specs.declared.words.Created.TheVariants.{Raw, Sectors}
-use Rattle.shell_sector_creation.specs.Words.{created_in}
+use Rattle.shell_reports.specs.declared.power.Power.{Power}
+use Rattle.namespace_ops.specs.Carried.{HasGoodName, IsGoodName}
+use Rattle.shell_changes.specs.Words.{IsPlain, delete_in, rename_in}
+use Rattle.shell_changes.specs.declared.sector_words.Created.{Created}
+use Rattle.shell_changes.specs.declared.sector_words.Created.TheVariants.{Raw, Sectors}
+use Rattle.shell_changes.specs.SectorWords.{created_in}
 use Rattle.nvdimm_shell.specs.Commands.{kind_of, arguments_of}
 
 -- the greatest number of an option

@@ -1,6 +1,6 @@
 //! Label areas and what `labels 0` prints of them. The bytes come from a script that knows the formats
 //! from UEFI 2.10, section 13.19, and from Linux; the program made none of them.
-use shell_answers::Status;
+use shell_reports::Status;
 
 /// Bytes at an offset.
 pub type Patch = (usize, &'static [u8]);

@@ -4,7 +4,7 @@ use crate::sets::pair;
 use crate::tables::TWO_WAY;
 use crate::tests::quiet;
 use nvd_media::{ListChooser, MemImages, Object, Stored};
-use shell_answers::Status;
+use shell_reports::Status;
 use std::alloc::{AllocError, Global};
 use std::sync::Wait;
 use std::thread::Threads;

@@ -1,6 +1,6 @@
 //! What a command comes to before anything is saved.
-use shell_answers::Answer;
 use shell_changes::InitAnswer;
+use shell_reports::Answer;
 
 /// What a command comes to.
 #[derive(Drop)]

@@ -5,7 +5,7 @@ use crate::tables::TWO_WAY;
 use crate::tests::quiet;
 use crate::top::run;
 use nvd_media::{Chooser, ListChooser, MemImages, MemText, NoGate, Object, SeedChooser, Stored};
-use shell_answers::Status;
+use shell_reports::Status;
 use std::alloc::{AllocError, Global};
 use std::sync::Wait;
 use std::thread::Threads;

@@ -3,7 +3,7 @@
 //! UEFI 2.10, section 13.19, and ACPI 6.5, section 5.2.25; the program made none of them.
 use crate::areas::Patch;
 use crate::list_rules::PairCase;
-use shell_answers::Status;
+use shell_reports::Status;
 
 /// The areas of a pair that agree, with some bytes changed.
 pub const LISTS: &[PairCase] = &[

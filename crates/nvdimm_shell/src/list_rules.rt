@@ -2,7 +2,7 @@
 //! UUID. The bytes come from a script that knows the formats from
 //! UEFI 2.10, section 13.19, and ACPI 6.5, section 5.2.25; the program made none of them.
 use crate::areas::Patch;
-use shell_answers::Status;
+use shell_reports::Status;
 
 /// The label areas of two modules, each by what differs from its area of [`AGREED`], or none; the status;
 /// what is printed.

@@ -6,7 +6,7 @@ use crate::sets::{area_of, pair, patch, table_of, without};
 use crate::tables::{TWO_LINES, TWO_WAY};
 use crate::tests::quiet;
 use nvd_media::{Object, Stored};
-use shell_answers::Status;
+use shell_reports::Status;
 use std::alloc::{AllocError, Global};
 
 /// Adds a module's label area, by what differs from another one.

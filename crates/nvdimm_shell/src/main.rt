@@ -55,7 +55,7 @@ mod words;
 
 use nvd_files::{DirImages, StdText};
 use nvd_media::{NoGate, SeedChooser, TextSink};
-use shell_answers::Status;
+use shell_reports::Status;
 use std::alloc::AllocError;
 use std::env;
 use std::fs::File;

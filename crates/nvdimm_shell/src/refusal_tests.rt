@@ -5,7 +5,7 @@ use crate::init_tests::{Made, saved};
 use crate::list_tests::with_areas;
 use crate::tables::TWO_WAY;
 use nvd_media::{ListChooser, Object};
-use shell_answers::Status;
+use shell_reports::Status;
 use std::alloc::AllocError;
 
 const FIRST: &str = "11111111-1111-4111-8111-111111111111";

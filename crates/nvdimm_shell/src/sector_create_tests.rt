@@ -5,7 +5,7 @@ use crate::sets::{pair, table_of};
 use crate::tables::{ONE_WAY, TWO_WAY};
 use crate::tests::quiet;
 use nvd_media::{Object, Stored};
-use shell_answers::Status;
+use shell_reports::Status;
 use std::alloc::{AllocError, Global};
 use std::sync::Wait;
 use std::thread::Threads;

@@ -6,7 +6,7 @@ use crate::list_tests::with_areas;
 use crate::sets::pair;
 use crate::tables::{TWO_LINES, TWO_WAY};
 use crate::tests::quiet;
-use shell_answers::Status;
+use shell_reports::Status;
 use std::alloc::AllocError;
 
 const SOME: &str = "11111111-1111-4111-8111-111111111111";

@@ -6,13 +6,13 @@ ghost use Rattle.nvd_media.specs.Images.{Images, Becomes, IsEmptySet, IsUnfinish
 ghost use Rattle.image_set.specs.Load.{image_set_in, loading};
 ghost use Rattle.image_set.specs.Sound.{IsSound};
 ghost use Rattle.image_set.specs.Changed.{objects_in};
-ghost use Rattle.shell_answers.specs.Outcome.{Outcome, lf, status_of};
-ghost use Rattle.shell_answers.specs.LoadFaults.{load_outcome};
-ghost use Rattle.shell_answers.specs.Cut.{LeavesBy};
+ghost use Rattle.shell_reports.specs.Outcome.{Outcome, lf, status_of};
+ghost use Rattle.shell_reports.specs.LoadFaults.{load_outcome};
+ghost use Rattle.shell_reports.specs.Cut.{LeavesBy};
 ghost use Rattle.nvdimm_shell.specs.Found.{ComesOf, HasItsContents, copied_of, is_copied, whole_of};
 ghost use Rattle.nvdimm_shell.specs.Run.{LoadedComes, OnLoaded, ComesTold, reads_script, copies, copies_by, IsDue, LeavesScript, Ends, AppendsPart};
 ghost use Rattle.nvdimm_shell.specs.Words.{GivesGoodName};
-ghost use Rattle.shell_answers.specs.Saved.{Saves, outcome_of};
+ghost use Rattle.shell_reports.specs.Saved.{Saves, outcome_of};
 
 use crate::copying::copy_if;
 use crate::found::Found;
@@ -20,12 +20,11 @@ use crate::words::{Command, command_from};
 use command_words::WordsFault;
 use image_set::{CopyFault, LoadFault, Loaded, SaveFault, load, load_outline};
 use nvd_media::{Chooser, Gate, ImageSink, ImageSource, TextSink, TextSource};
-use shell_answers::{Answer, Ending, Power, SavedSet, Status, Stop, load_answer, usage_answer};
-use shell_changes::{InitAnswer, init_answer};
-use shell_listings::{labels_answer, list_answer, nfit_answer};
-use shell_namespaces::change_answer;
-use shell_sector_creation::sectors_answer;
-use shell_sectors::{info_answer, read_answer};
+use shell_changes::{InitAnswer, change_answer, init_answer, sectors_answer};
+use shell_reports::{
+    Answer, Ending, Power, SavedSet, Status, Stop, info_answer, labels_answer, list_answer,
+    load_answer, nfit_answer, read_answer, usage_answer,
+};
 use std::alloc::{AllocError, Global};
 use std::sync::Wait;
 use std::thread::Threads;

@@ -1,15 +1,14 @@
 //! What the words of a command line ask for.
 ghost use Rattle.std.specs.Prelude.{◌≡◌, ◌≢◌, IfOk, IfSome, Some, None, Err, map, string_bytes};
 ghost use Rattle.command_words.specs.Parsed.{rows};
-ghost use Rattle.shell_sector_creation.specs.Words.{GivesName};
+ghost use Rattle.shell_changes.specs.SectorWords.{GivesName};
 ghost use Rattle.nvdimm_shell.specs.Words.{command_of, command_with, command_in, creation_of, power_in, GivesGoodName};
 
 use crate::commands::Kind;
 use command_words::{Parsed, WordsFault, parse};
-use sector_creation::NewSectors;
-use shell_answers::Power;
-use shell_namespaces::{delete_in, rename_in};
-use shell_sector_creation::{Created, created_in};
+use sector_namespaces::NewSectors;
+use shell_changes::{Created, created_in, delete_in, rename_in};
+use shell_reports::Power;
 use std::alloc::Global;
 use uuid::Uuid;
 
@@ -25,7 +24,7 @@ pub enum Command {
     /// Write fresh index blocks into the label area of a module.
     Init(u32, Power),
     /// Make a namespace without sectors, or remove or rename one.
-    Change(namespace_changes::Command, Power),
+    Change(namespace_map::Command, Power),
     /// Make a namespace of sectors.
     CreateSectors(NewSectors, Power),
     /// Print the arenas of a namespace.

@@ -13,16 +13,16 @@ use Rattle.label_area.specs.State.{AreaState}
 use Rattle.label_area.specs.Initialise.{initial, initialised, initialised_by, init_count}
 use Rattle.image_set.specs.Load.{ImageSet, bytes_kept}
 use Rattle.image_set.specs.Changed.{objects_of, with_area}
-use Rattle.shell_answers.specs.declared.status.Ending.TheVariants as ending
-use Rattle.shell_answers.specs.declared.power.Power.{Power}
-use Rattle.shell_answers.specs.Outcome.{Outcome}
-use Rattle.shell_answers.specs.Saved.{IsSaving}
-use Rattle.shell_listings.specs.Labels.{module_outcome}
+use Rattle.shell_reports.specs.declared.status.Ending.TheVariants as ending
+use Rattle.shell_reports.specs.declared.power.Power.{Power}
+use Rattle.shell_reports.specs.Outcome.{Outcome}
+use Rattle.shell_reports.specs.Saved.{IsSaving}
+use Rattle.shell_reports.specs.Labels.{module_outcome}
 use Rattle.image_set.specs.declared.changing.OutlineLeft.{OutlineLeft}
 use Rattle.shell_changes.specs.declared.answer.InitAnswer.{InitAnswer}
 use Rattle.shell_changes.specs.Init.{InitArea, InitModule, RefusedArea, not_initialised}
 use Rattle.shell_changes.specs.Outlined.{HasSizes, outcome_with}
-use Rattle.shell_answers.specs.Cut.{cut_text, done_text}
+use Rattle.shell_reports.specs.Cut.{cut_text, done_text}
 
 -- a place where something stands is inside
 pub inside : {A : Type 0} (xs : List (Option A)) (i : ℕ) (x : A) → slice_index_or xs i None ≡ Some x → i < length xs

@@ -10,12 +10,12 @@ use Rattle.label_area.specs.State.{AreaState}
 use Rattle.label_area.specs.Initialise.{initialised}
 use Rattle.image_set.specs.Load.{ImageSet, area_of}
 use Rattle.image_set.specs.Changed.{objects_of, with_area}
-use Rattle.shell_answers.specs.declared.status.Ending.TheVariants as ending
-use Rattle.shell_answers.specs.declared.power.Power.{Power}
-use Rattle.shell_answers.specs.Outcome.{Outcome, image_fault, lf}
-use Rattle.shell_answers.specs.Cut.{cut_text, done_text}
-use Rattle.shell_listings.specs.Labels.{module_outcome, fault_outcome}
-use Rattle.shell_answers.specs.Saved.{IsSaving}
+use Rattle.shell_reports.specs.declared.status.Ending.TheVariants as ending
+use Rattle.shell_reports.specs.declared.power.Power.{Power}
+use Rattle.shell_reports.specs.Outcome.{Outcome, image_fault, lf}
+use Rattle.shell_reports.specs.Cut.{cut_text, done_text}
+use Rattle.shell_reports.specs.Labels.{module_outcome, fault_outcome}
+use Rattle.shell_reports.specs.Saved.{IsSaving}
 
 -- an area that isn't initialised
 abbrev pub not_initialised : ℕ → AreaFault → Outcome

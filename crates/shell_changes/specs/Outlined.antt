@@ -3,7 +3,7 @@ use Rattle.std.specs.Prelude.{◌≡◌, ℕ, List, length, Option, IfSome}
 use Rattle.std.specs.Option.{option_map}
 use Rattle.nvd_media.specs.Images.{Images}
 use Rattle.image_set.specs.Outline.{contents_in, objects_with}
-use Rattle.shell_answers.specs.Outcome.{Outcome}
+use Rattle.shell_reports.specs.Outcome.{Outcome}
 use Rattle.shell_changes.specs.declared.answer.InitAnswer.{InitAnswer}
 
 -- an answer without where it lies in memory, with contents like these

@@ -4,12 +4,12 @@ ghost use Rattle.std.specs.Option.{ForSome};
 ghost use Rattle.nvd_media.specs.Causes.{Rose};
 ghost use Rattle.nvd_media.specs.Images.{IsEmptySet};
 ghost use Rattle.image_set.specs.Outline.{CopiesSet, HasContents, IsCopyable};
-ghost use Rattle.shell_answers.specs.Saved.{outcome_of};
+ghost use Rattle.shell_reports.specs.Saved.{outcome_of};
 ghost use Rattle.shell_changes.specs.Outlined.{HasSizes, outcome_with};
 
 use image_set::{CopyFault, OutlineLeft};
 use nvd_media::{ImageSink, ImageSource};
-use shell_answers::{Answer, Ending};
+use shell_reports::{Answer, Ending};
 use std::alloc::Global;
 use std::marker::Model;
 

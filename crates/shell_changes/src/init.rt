@@ -7,20 +7,20 @@ ghost use Rattle.label_index.specs.Area.{IsAreaSize};
 ghost use Rattle.label_area.specs.Initialise.{initialised};
 ghost use Rattle.image_set.specs.Changed.{objects_of, with_area};
 ghost use Rattle.image_set.specs.Outline.{IsOutlined, image_set_with};
-ghost use Rattle.shell_answers.specs.Saved.{IsSaving};
+ghost use Rattle.shell_reports.specs.Saved.{IsSaving, outcome_of};
 ghost use Rattle.shell_changes.specs.Init.{not_initialised, InitArea, InitComes, RefusedArea};
 ghost use Rattle.shell_changes.specs.Outlined.{HasSizes, outcome_with};
-ghost use Rattle.shell_answers.specs.Cut.{LeavesBy, cut_text, done_text};
-ghost use Rattle.shell_answers.specs.Saved.{outcome_of};
-ghost use Rattle.shell_listings.specs.Labels.{module_outcome};
+ghost use Rattle.shell_reports.specs.Cut.{LeavesBy, cut_text, done_text};
+ghost use Rattle.shell_reports.specs.Labels.{module_outcome};
 
 use crate::answer::{InitAnswer, SavedOutline, without_set};
 use cut_words::CutWords;
 use image_set::Outline;
 use label_area::{AreaFault, AreaRefused, LabelArea, init_area};
 use nvd_media::Chooser;
-use shell_answers::{Answer, Ending, Power, cut_line, fuse_of, image_answer};
-use shell_listings::{fault_answer, missing_answer};
+use shell_reports::{
+    Answer, Ending, Power, cut_line, fault_answer, fuse_of, image_answer, missing_answer,
+};
 use std::alloc::{AllocError, Global};
 
 /// Answers with the set that a cut leaves in which these words are a module's label area. Of words of which

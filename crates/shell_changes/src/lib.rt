@@ -1,3 +1,39 @@
+//! The commands `create`, `delete` and `rename` of `nvdimm_shell`, which change namespaces and save the set.
+//!
+//! ```text
+//! loaded set ──► label areas, interleave sets ──► recovery ──► the command ──► ok, and the set with all changes
+//!                        │                          │              ├── refused ──► the reason; nothing is saved
+//!                        └── image fault            └── power cut ─┴── power cut ──► cut N, and what the cut leaves
+//! ```
+//!
+//! | what | function | clause |
+//! |---|---|---|
+//! | what a command comes to on a set that is loaded | [`change_answer`] | `CommandComes` of `specs/Namespaces.antt` |
+//! | the commands that words say, and the name that a text makes | [`create_in`], [`delete_in`], [`rename_in`], [`named`] | `specs/Words.antt` |
+//! | what is printed of a refusal | [`refused_answer`] | `refused_outcome` of `specs/Refusals.antt` |
+//!
+//! Recovery and command burn one fuse, in this order. A refused command saves nothing, what recovery made neither.
+//!
+//! # Creating sector namespaces
+//!
+//! The command `create --mode sector` of `nvdimm_shell`, which makes a namespace of sectors and saves the set.
+//!
+//! ```text
+//! loaded set ──► recovery ──► refused: the reason; nothing is saved
+//!                   │     └─► the arena is formatted in the contents ──► labels name it ──► ok, and the whole set
+//!                   └─ power cut ────────── power cut ───────────────── power cut ──► cut N, and what the cut leaves
+//! ```
+//!
+//! | what | function | clause |
+//! |---|---|---|
+//! | what the command comes to on a set that is loaded | [`sectors_answer`] | `SectorsCome` of `specs/Sectors.antt` |
+//! | what is left of the contents | the same | `AreFormatted` of `specs/Sectors.antt` |
+//! | the command that words say, of either mode | [`created_in`] | `specs/SectorWords.antt` |
+//!
+//! Recovery, format and labels burn one fuse, in this order.
+//!
+//! # Initialising a label area
+//!
 //! The command `init` of `nvdimm_shell`, which changes one label area and saves the set.
 //!
 //! ```text
@@ -11,7 +47,20 @@
 #![tactic(auto)]
 
 mod answer;
+mod answering;
+mod changing;
 mod init;
+mod refusals;
+mod saving;
+mod sector_saving;
+mod sector_words;
+mod words;
 
 pub use answer::{InitAnswer, SavedOutline};
+pub use answering::sectors_answer;
+pub use changing::change_answer;
 pub use init::init_answer;
+pub use refusals::refused_answer;
+pub use saving::{Rest, saved_answer};
+pub use sector_words::{Created, created_in};
+pub use words::{create_in, delete_in, named, rename_in};

@@ -2,7 +2,7 @@ use Rattle.std.proofs.Common.{◌≡◌, ◌∙◌, ap, ◌++◌, ◌∷◌, []}
 use Rattle.std.specs.Ordering.{nat_cmp}
 use Rattle.std.specs.Cmp.Lexicographic.{slice_cmp}
 use Rattle.std.specs.BTreeMap as tree
-use Rattle.namespaces.specs.Namespaces.{uuid_of}
+use Rattle.namespace_map.specs.Namespaces.{uuid_of}
 use Rattle.namespace_ops.specs.Groups.{items_of}
 use Rattle.namespace_ops.proofs.Grouped.{group_more}
 use Rattle.namespace_ops.proofs.grouping.grouped.Goals as goal

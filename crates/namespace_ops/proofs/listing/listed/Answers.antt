@@ -1,6 +1,6 @@
 use Rattle.std.proofs.Common.{◌∙◌, ◌++◌, ap}
 use Rattle.std.specs.List.{filter_map}
-use Rattle.namespace_groups.specs.Seen.{namespace_in}
+use Rattle.namespace_areas.specs.GroupSeen.{namespace_in}
 use Rattle.namespace_ops.proofs.Listed.{listed_all}
 use Rattle.namespace_ops.proofs.listing.listed.Goals as goal
 

@@ -1,7 +1,7 @@
 use Rattle.std.proofs.Common.{◌≡◌, ◌++◌, map}
 use Rattle.std.specs.List.{filter_map}
-use Rattle.namespaces.specs.Namespaces.{entries_of, namespace_of}
-use Rattle.namespace_groups.specs.Seen.{namespace_in}
+use Rattle.namespace_map.specs.Namespaces.{entries_of, namespace_of}
+use Rattle.namespace_areas.specs.GroupSeen.{namespace_in}
 use Rattle.namespace_ops.proofs.listing.listed.Given as goal
 
 abbrev pub invariant-loop-group : goal.invariant-loop-group

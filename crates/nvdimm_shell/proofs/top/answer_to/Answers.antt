@@ -1,5 +1,5 @@
 use Rattle.std.specs.Prelude.{IsTrue, map, string_bytes}
-use Rattle.shell_answers.specs.Cut.{LeavesBy}
+use Rattle.shell_reports.specs.Cut.{LeavesBy}
 use Rattle.nvdimm_shell.specs.declared.found.Found.{Found}
 use Rattle.nvdimm_shell.specs.Found.{HasItsContents, is_copied, whole_of}
 use Rattle.nvdimm_shell.specs.Run.{copies_by}

@@ -2,7 +2,7 @@ use Rattle.std.proofs.Common.{◌≡◌, ℕ, true, List, Option, Err, refl, ap,
 use Rattle.std.specs.Io.KnownBytes.{Appends}
 use Rattle.nvd_media.specs.Images.{Images}
 use Rattle.image_set.specs.declared.fault.CopyFault.{CopyFault}
-use Rattle.shell_answers.specs.Outcome.{Outcome}
+use Rattle.shell_reports.specs.Outcome.{Outcome}
 use Rattle.nvdimm_shell.specs.declared.found.Found.TheVariants.{Copied}
 use Rattle.nvdimm_shell.specs.Found.{ComesOf}
 use Rattle.nvdimm_shell.specs.Run.{AppendsPart}

@@ -1,6 +1,6 @@
 use Rattle.std.proofs.Common.{◌≡◌, refl, Bool, sym, ap, subst}
 use Rattle.std.specs.Prelude.{IsTrue}
-use Rattle.shell_answers.specs.Cut.{LeavesBy}
+use Rattle.shell_reports.specs.Cut.{LeavesBy}
 use Rattle.nvdimm_shell.specs.declared.found.Found.{Found}
 use Rattle.nvdimm_shell.specs.declared.words.Command.TheVariants.{Init}
 use Rattle.nvdimm_shell.specs.Found.{HasItsContents, is_copied, whole_of}

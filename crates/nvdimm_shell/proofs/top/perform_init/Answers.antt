@@ -1,4 +1,4 @@
-use Rattle.shell_answers.specs.Cut.{LeavesBy}
+use Rattle.shell_reports.specs.Cut.{LeavesBy}
 use Rattle.nvdimm_shell.specs.Found.{HasItsContents, copied_of, whole_of}
 use Rattle.nvdimm_shell.specs.declared.found.Found.{Found}
 use Rattle.nvdimm_shell.proofs.Comes.{IsTold, copied_there, copied_told, if_found, unloaded_told, whole_there}

@@ -1,7 +1,7 @@
 use Rattle.std.proofs.Common.{Option, sym, subst, arith}
 use Rattle.std.specs.Prelude.{map, string_bytes}
 use Rattle.nvd_media.specs.Images.{Images}
-use Rattle.shell_answers.specs.Cut.{LeavesBy}
+use Rattle.shell_reports.specs.Cut.{LeavesBy}
 use Rattle.nvdimm_shell.specs.Found.{ComesOf, HasItsContents, is_copied}
 use Rattle.nvdimm_shell.specs.Run.{Ends, IsDue, copies_by}
 use Rattle.nvdimm_shell.proofs.Ending.{ends_more, ends_stopped}

@@ -1,6 +1,6 @@
 use Rattle.std.proofs.Common.{Option, sym, ap}
 use Rattle.nvd_media.specs.Images.{Images}
-use Rattle.shell_answers.specs.Outcome.{Outcome}
+use Rattle.shell_reports.specs.Outcome.{Outcome}
 use Rattle.shell_changes.proofs.answer.without_set.Goals as goal
 
 pub returns-clause-same : goal.returns-clause-same

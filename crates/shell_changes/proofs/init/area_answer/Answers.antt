@@ -1,7 +1,7 @@
 use Rattle.std.proofs.Common.{ℕ, List, ◌∙◌, ap, sym}
 use Rattle.label_area.specs.Initialise.{initialised}
 use Rattle.image_set.specs.Outline.{image_set_with}
-use Rattle.shell_answers.specs.Cut.{LeavesBy}
+use Rattle.shell_reports.specs.Cut.{LeavesBy}
 use Rattle.shell_changes.proofs.Parts.{area_settled, told_ok, told_err}
 use Rattle.shell_changes.proofs.init.area_answer.Goals as goal
 

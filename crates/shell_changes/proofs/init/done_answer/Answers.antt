@@ -5,10 +5,10 @@ use Rattle.power_cut.specs.Left.{LeavesWords}
 use Rattle.image_set.specs.Changed.{objects_of, with_area}
 use Rattle.image_set.specs.Outline.{image_set_with}
 use Rattle.image_set.proofs.Kept.{kept_row}
-use Rattle.shell_answers.specs.declared.status.Ending.TheVariants as ending
-use Rattle.shell_answers.specs.Saved.{IsSaving}
-use Rattle.shell_answers.specs.Cut.{done_text}
-use Rattle.shell_answers.proofs.More.{if_more}
+use Rattle.shell_reports.specs.declared.status.Ending.TheVariants as ending
+use Rattle.shell_reports.specs.Saved.{IsSaving}
+use Rattle.shell_reports.specs.Cut.{done_text}
+use Rattle.shell_reports.proofs.More.{if_more}
 use Rattle.shell_changes.specs.declared.answer.InitAnswer.{InitAnswer}
 use Rattle.shell_changes.specs.Outlined.{outcome_with}
 use Rattle.shell_changes.proofs.init.done_answer.Goals as goal

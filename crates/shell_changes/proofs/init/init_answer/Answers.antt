@@ -6,9 +6,9 @@ use Rattle.image_set.specs.Load.{area_of, bytes_kept}
 use Rattle.image_set.specs.Outline.{image_set_with}
 use Rattle.image_set.specs.Sound.{IsArea}
 use Rattle.label_area.specs.Initialise.{initialised}
-use Rattle.shell_answers.specs.Cut.{LeavesBy}
-use Rattle.shell_answers.proofs.More.{if_more}
-use Rattle.shell_listings.specs.Labels.{module_outcome}
+use Rattle.shell_reports.specs.Cut.{LeavesBy}
+use Rattle.shell_reports.proofs.More.{if_more}
+use Rattle.shell_reports.specs.Labels.{module_outcome}
 use Rattle.shell_changes.specs.declared.answer.InitAnswer.{InitAnswer}
 use Rattle.shell_changes.specs.Init.{InitArea, InitComes}
 use Rattle.shell_changes.specs.Outlined.{HasSizes, outcome_with}

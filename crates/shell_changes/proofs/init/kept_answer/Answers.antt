@@ -1,5 +1,5 @@
 use Rattle.std.proofs.Common.{◌∙◌, ap}
-use Rattle.shell_answers.specs.Outcome.{Outcome}
+use Rattle.shell_reports.specs.Outcome.{Outcome}
 use Rattle.shell_changes.proofs.Parts.{kept_saves_none}
 use Rattle.shell_changes.proofs.init.kept_answer.Goals as goal
 

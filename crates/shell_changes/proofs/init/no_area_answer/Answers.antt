@@ -1,5 +1,5 @@
 use Rattle.std.proofs.Common.{◌∙◌, ap}
-use Rattle.shell_answers.specs.Outcome.{Outcome}
+use Rattle.shell_reports.specs.Outcome.{Outcome}
 use Rattle.shell_changes.proofs.init.no_area_answer.Goals as goal
 
 pub without_set-requires : goal.without_set-requires

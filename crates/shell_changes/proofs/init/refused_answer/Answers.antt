@@ -2,7 +2,7 @@ use Rattle.std.proofs.Common.{ℕ, List, sym, subst}
 use Rattle.std.specs.Prelude.{IfOk}
 use Rattle.label_area.specs.declared.fault.AreaFault.{AreaFault}
 use Rattle.image_set.specs.Outline.{image_set_with}
-use Rattle.shell_answers.specs.Cut.{LeavesBy}
+use Rattle.shell_reports.specs.Cut.{LeavesBy}
 use Rattle.shell_changes.specs.declared.answer.InitAnswer.{InitAnswer}
 use Rattle.shell_changes.specs.Init.{RefusedArea}
 use Rattle.shell_changes.specs.Outlined.{outcome_with}

@@ -1,8 +1,8 @@
 use Rattle.std.proofs.Common.{◌∙◌, ap}
 use Rattle.std.specs.Prelude.{slice_get}
 use Rattle.std.specs.Option.{option_map}
-use Rattle.namespaces.specs.Namespaces.{entry_with}
-use Rattle.namespace_finding.specs.Finding.{found_of}
+use Rattle.namespace_map.specs.Namespaces.{entry_with}
+use Rattle.namespace_areas.specs.Finding.{found_of}
 use Rattle.namespace_ops.specs.Opening.{Opened, finding}
 use Rattle.namespace_ops.proofs.registry.Registry.find.Goals as goal
 

@@ -1,6 +1,0 @@
-use Rattle.std.proofs.Common.{◌≡◌, ◌++◌, map}
-use Rattle.area_changes.specs.Seen.{words_of}
-use Rattle.area_changes.proofs.words.into_words.Given as goal
-
-abbrev pub invariant-loop-area : goal.invariant-loop-area
-invariant-loop-area l = l.words ++ map words_of l.area-iterator.rest.items ≡ map words_of l.fn.areas.items

@@ -1,8 +1,0 @@
-use Rattle.change_laws.proofs.EntryCut as cut
-use Rattle.change_laws.proofs.changing.rename_is_cut.Goals as goal
-
-pub returns-clause-left : goal.returns-clause-left
-returns-clause-left c = cut.rename_is_cut
-
-pub returns-clause-alone : goal.returns-clause-alone
-returns-clause-alone c sets areas uuid e regions read is status name good one steps stays = cut.rename_is_cut_alone sets areas uuid e regions read is status name good one steps stays

@@ -1,8 +1,0 @@
-use Rattle.change_laws.proofs.CreateCut as cut
-use Rattle.change_laws.proofs.creating.create_is_cut.Goals as goal
-
-pub returns-clause-left : goal.returns-clause-left
-returns-clause-left c = cut.create_is_cut
-
-pub returns-clause-alone : goal.returns-clause-alone
-returns-clause-alone c = cut.create_is_cut_alone

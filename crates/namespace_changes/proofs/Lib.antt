@@ -1,7 +1,0 @@
-mod Rows
-mod Refusals
-pub mod Fronts
-pub mod Slots
-pub mod Areas
-pub mod Labels
-pub mod Others

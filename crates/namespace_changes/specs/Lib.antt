@@ -1,4 +1,0 @@
-pub mod Areas
-pub mod Commands
-pub mod Changes
-pub mod Laws

@@ -1,4 +1,0 @@
-pub mod Plans
-pub mod Carried
-pub mod Held
-pub mod Created

@@ -1,7 +1,0 @@
-use Rattle.std.proofs.Common.{◌≡◌, ◌+◌, ◌*◌, ◌≤◌, drop}
-use Rattle.std.specs.List.{sum_by}
-use Rattle.namespace_groups.specs.Groups.{slots_of, slots_in}
-use Rattle.namespace_groups.proofs.filling.slots_in.Given as goal
-
-abbrev pub invariant-loop-area : goal.invariant-loop-area
-invariant-loop-area l = (l.count + sum_by slots_of (drop l.area-index l.areas) ≡ slots_in l.areas) × (l.count ≤ 4096 * l.area-index)

@@ -1,0 +1,11 @@
+use Rattle.namespace_laws.proofs.RecoversLaw as law
+use Rattle.namespace_laws.proofs.recovering.cuts_recover_to_either.Goals as goal
+
+pub returns-clause-create : goal.returns-clause-create
+returns-clause-create c = law.create_recovers
+
+pub returns-clause-delete : goal.returns-clause-delete
+returns-clause-delete c = law.delete_recovers
+
+pub returns-clause-rename : goal.returns-clause-rename
+returns-clause-rename c = law.rename_recovers

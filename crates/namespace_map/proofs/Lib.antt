@@ -1,0 +1,10 @@
+pub mod Entries
+pub mod Rising
+mod Rows
+mod CommandRows
+mod Refusals
+pub mod Fronts
+pub mod Slots
+pub mod Areas
+pub mod Labels
+pub mod Others

@@ -1,0 +1,137 @@
+-- The label changes of the commands, in their order; this project's rules over UEFI 2.10, section 13.19 (Flags, UPDATING).
+use Rattle.std.specs.Prelude.{ℕ, ◌+◌, ◌%◌, ◌/◌, ◌==◌, nat_le, Bool, true, ◌&&◌, if◌then◌else◌, List, [], ◌∷◌, ◌++◌, length, map, filter, Option, Some, None}
+use Rattle.std.specs.Option.{option_map}
+use Rattle.std.specs.List.{flat_map, enumerate_from}
+use Rattle.nfit_reader.specs.declared.table.Mapping.{Mapping}
+use Rattle.interleave.specs.Places.{cookie_of}
+use Rattle.label_codec.specs.declared.label.Label.{Label}
+use Rattle.label_codec.specs.Mode.{persistent_memory, no_abstraction, btt_2_0}
+use Rattle.label_area.specs.Area.{labels_in}
+use Rattle.label_set.specs.declared.placed.Placed.{Placed}
+use Rattle.namespace_map.specs.Namespaces.{Entry, AreaState, Namespaces, placed_of, labels_with, entries_of, without_updating}
+use Rattle.namespace_map.specs.declared.commands.Make.{Make}
+use Rattle.namespace_map.specs.declared.commands.Make.TheVariants as make
+use Rattle.namespace_map.specs.declared.commands.Command.{Command}
+use Rattle.namespace_map.specs.declared.commands.Command.TheVariants as command
+use Rattle.namespace_map.specs.Areas.{Area, Change, free_in, slots_on, all_changed}
+use Rattle.namespace_map.specs.Commands.{no_area, set_of, share_of, new_offset, name_in, lba_for, is_complete, is_unfinished}
+
+-- ---- the namespaces of areas
+
+-- the labels of a module's area by slot, where it is ready
+abbrev pub labels_at : Option Area → Option (List (Option Label))
+labels_at area = option_map (λ a. labels_in a.slots) area
+
+-- the labels of all areas, rising by module and slot
+abbrev pub placed_in_all : List (Option Area) → List Placed
+placed_in_all areas = placed_of (map labels_at areas)
+
+abbrev pub area_state : Option Area → AreaState
+area_state None = no_area
+area_state (Some area) = record { ready = true; block = area.block; free = free_in area.slots }
+
+-- the namespaces that the labels of areas make, none of them claimed
+abbrev pub namespaces_of : List (List Mapping) → List (Option Area) → Namespaces
+namespaces_of sets areas = record { sets = sets; areas = map area_state areas; entries = entries_of sets (placed_in_all areas); claims = [] }
+
+-- ---- changes
+
+abbrev pub updating : Label → Label
+updating l = record l { flags = without_updating l.flags + 8 }
+
+abbrev pub settled : Label → Label
+settled l = record l { flags = without_updating l.flags }
+
+abbrev pub with_name : List ℕ → Label → Label
+with_name name l = record l { name = name }
+
+-- a module's label becomes this, or goes
+abbrev pub change_to : (Label → Option Label) → ℕ × Label → Change
+change_to become p = record { number = p.0; uuid = p.1.uuid; label = become p.1 }
+
+-- each label becomes one thing and then, in a second round, another; with one module the second alone
+abbrev pub in_two : (Label → Option Label) → (Label → Option Label) → List (ℕ × Label) → List Change
+in_two first second [] = []
+in_two first second (p ∷ []) = change_to second p ∷ []
+in_two first second ps = map (change_to first) ps ++ map (change_to second) ps
+
+abbrev pub abstraction_for : Make → List ℕ
+abstraction_for make.Raw = no_abstraction
+abstraction_for (make.Sector sector lanes) = btt_2_0
+
+-- the label of a new namespace on the module at a position; its slot is the one into which it comes
+abbrev pub new_label : List ℕ → List ℕ → Make → List Mapping → ℕ → ℕ → ℕ × Mapping → ℕ × Label
+new_label uuid name made set offset raw m = (
+  m.1.«module»,
+  record {
+    uuid = uuid;
+    name = name;
+    flags = 0;
+    count = length set;
+    position = m.0;
+    cookie = cookie_of set;
+    lba = lba_for made;
+    dpa = m.1.start + offset;
+    raw = raw;
+    slot = 0;
+    align = 0;
+    kind = persistent_memory;
+    abstraction = abstraction_for made;
+    spa_cookie = 0;
+  },
+)
+
+-- the labels of a new namespace, by position
+abbrev pub new_labels : Namespaces → List ℕ → List ℕ → ℕ → ℕ → Make → List (ℕ × Label)
+new_labels ns uuid name region size made =
+    let set = set_of ns region in
+    let raw = share_of set size in
+    map (new_label uuid name made set (new_offset ns set raw) raw) (enumerate_from 0 set)
+
+-- labels by position
+unfoldable pub by_position_with : Placed → List Placed → List Placed
+by_position_with p [] = p ∷ []
+by_position_with p (q ∷ qs) = if nat_le p.label.position q.label.position then p ∷ q ∷ qs else q ∷ by_position_with p qs
+
+unfoldable pub by_position : List Placed → List Placed
+by_position [] = []
+by_position (p ∷ ps) = by_position_with p (by_position ps)
+
+-- the labels of a UUID with their modules, by position
+abbrev pub own_labels : List (Option Area) → List ℕ → List (ℕ × Label)
+own_labels areas uuid = map (λ p. (p.«module», p.label)) (by_position (labels_with uuid (placed_in_all areas)))
+
+-- the changes of a command that isn't refused: by position, each label is put with UPDATING, and then without it, or removed
+abbrev pub changes_of : Namespaces → List (Option Area) → Command → List Change
+changes_of ns areas (command.Create uuid name region size made) =
+    in_two (λ l. Some (updating l)) (λ l. Some (settled l)) (new_labels ns uuid (name_in name) region size made)
+changes_of ns areas (command.Delete uuid) = in_two (λ l. Some (updating l)) (λ l. None) (own_labels areas uuid)
+changes_of ns areas (command.Rename uuid name) =
+    in_two (λ l. Some (with_name (name_in name) (updating l))) (λ l. Some (with_name (name_in name) (settled l))) (own_labels areas uuid)
+changes_of ns areas (command.Claim uuid) = []
+changes_of ns areas (command.Unclaim uuid) = []
+
+-- ---- recovery
+
+-- an unfinished entry loses its labels
+abbrev pub gone_changes : List (Option Area) → Entry → List Change
+gone_changes areas e = if is_unfinished e.status then map (change_to (λ l. None)) (own_labels areas e.uuid) else []
+
+-- a label with UPDATING on a module with a free slot
+abbrev pub is_unsettled : List (Option Area) → ℕ × Label → Bool
+is_unsettled areas p = (p.1.flags / 8 % 2 == 1) && nat_le 1 (free_in (slots_on areas p.0))
+
+-- those of a complete entry are rewritten without UPDATING, under the entry's name
+abbrev pub settling_changes : List (Option Area) → Entry → List Change
+settling_changes areas e =
+    if is_complete e.status then map (change_to (λ l. Some (with_name e.name (settled l)))) (filter (is_unsettled areas) (own_labels areas e.uuid)) else []
+
+-- first each unfinished entry loses its labels, and then each complete one is settled
+abbrev pub recovery_changes : List (List Mapping) → List (Option Area) → List Change
+recovery_changes sets areas =
+    let gone = flat_map (gone_changes areas) (namespaces_of sets areas).entries in
+    let left = all_changed areas gone in
+    gone ++ flat_map (settling_changes left) (namespaces_of sets left).entries
+
+abbrev pub recovered_areas : List (List Mapping) → List (Option Area) → List (Option Area)
+recovered_areas sets areas = all_changed areas (recovery_changes sets areas)

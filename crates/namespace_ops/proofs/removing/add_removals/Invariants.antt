@@ -1,0 +1,11 @@
+use Rattle.std.proofs.Common.{◌≡◌, ◌+◌, ◌≤◌, ◌++◌, drop, vec_len}
+use Rattle.std.specs.Vec.{vec_capacity}
+use Rattle.namespace_ops.specs.Plans.{removals}
+use Rattle.namespace_ops.proofs.removing.add_removals.Given as goal
+
+abbrev pub invariant-loop-label : goal.invariant-loop-label
+invariant-loop-label l = record {
+  items : l.changes.items ++ removals (drop l.label-index l.own) ≡ l.fn.changes.items ++ removals l.own;
+  len : vec_len l.changes ≡ vec_len l.fn.changes + l.label-index;
+  capacity : vec_capacity l.fn.changes ≤ vec_capacity l.changes;
+}

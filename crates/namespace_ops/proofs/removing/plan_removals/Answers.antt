@@ -1,0 +1,32 @@
+use Rattle.std.proofs.Common.{◌++◌, ◌≤◌, List, length, arith, sym, ap, ◌∙◌}
+use Rattle.label_set.specs.declared.placed.Placed.{Placed}
+use Rattle.namespace_map.specs.Namespaces.{entry_with}
+use Rattle.namespace_ops.specs.Plans.{all_gone, gone_in, gone_of}
+use Rattle.namespace_ops.proofs.Planned.{first_at, group_is, planned_more, planned_all}
+use Rattle.namespace_ops.proofs.removing.plan_removals.Goals as goal
+
+pub loop-at-preserved : goal.loop-at-preserved
+loop-at-preserved c =
+    let i = c.loop-at.invariant in
+    let sets = c.args.sets.now in
+    let sorted = c.args.groups.now.sorted in
+    let group = c.group_from-group.result.now in
+    let first = c.index-group-0.result in
+    let next = c.group_from-group.ensures in
+    let is = first_at group first next.some c.index-group-0.is in
+    let now = c.loop-at.room.changes.items in
+    record {
+      items = planned_more sets sorted c.loop-at.at group first (gone_in sorted) now c.add_gone.new.room.changes.items (all_gone sets sorted) next is
+          (c.add_gone.ensures.items ∙ ap (λ (own : List Placed). now ++ gone_of (entry_with sets group first) own) (sym (group_is sorted c.loop-at.at group first next is))) i.items;
+      start = next.next;
+      within = next.within;
+      len = omega arith;
+      own = omega arith;
+      capacity = omega arith;
+    }
+
+pub returns-clause-items : goal.returns-clause-items
+returns-clause-items c =
+    let sorted = c.args.groups.now.sorted in
+    let past : length sorted ≤ c.loop-at.at = omega (arith, ap length c.labels.ensures.labels) in
+    planned_all c.args.sets.now sorted c.loop-at.at (gone_in sorted) c.loop-at.room.changes.items (all_gone c.args.sets.now sorted) past c.loop-at.invariant.items

@@ -1,0 +1,49 @@
+-- The label changes of recovery, entry by entry, as labels by UUID give them.
+use Rattle.std.specs.Prelude.{ℕ, if◌then◌else◌, List, [], map, filter, Option, Some, None}
+use Rattle.std.specs.List.{flat_map}
+use Rattle.nfit_reader.specs.declared.table.Mapping.{Mapping}
+use Rattle.label_codec.specs.declared.label.Label.{Label}
+use Rattle.label_set.specs.declared.placed.Placed.{Placed}
+use Rattle.namespace_map.specs.Namespaces.{Entry, labels_with, entries_of}
+use Rattle.namespace_map.specs.Areas.{Area, Change}
+use Rattle.namespace_map.specs.Commands.{is_complete, is_unfinished}
+use Rattle.namespace_map.specs.Changes.{by_position, change_to, settled, with_name, is_unsettled, namespaces_of, gone_changes, settling_changes}
+
+-- labels with their modules
+abbrev pub pairs_of : List Placed → List (ℕ × Label)
+pairs_of labels = map (λ p. (p.«module», p.label)) labels
+
+abbrev pub removals : List Placed → List Change
+removals own = map (change_to (λ l. None)) (pairs_of own)
+
+-- each that is unsettled is rewritten under a name
+abbrev pub settlings : List (Option Area) → List ℕ → List Placed → List Change
+settlings areas name own = map (change_to (λ l. Some (with_name name (settled l)))) (filter (is_unsettled areas) (pairs_of own))
+
+-- the changes of one entry, whose labels are given
+abbrev pub gone_of : Entry → List Placed → List Change
+gone_of e own = if is_unfinished e.status then removals (by_position own) else []
+
+abbrev pub settling_of : List (Option Area) → Entry → List Placed → List Change
+settling_of areas e own = if is_complete e.status then settlings areas e.name (by_position own) else []
+
+-- of one entry, whose labels are among others
+abbrev pub gone_in : List Placed → Entry → List Change
+gone_in labels e = gone_of e (labels_with e.uuid labels)
+
+abbrev pub settling_in : List (Option Area) → List Placed → Entry → List Change
+settling_in areas labels e = settling_of areas e (labels_with e.uuid labels)
+
+-- of all entries that labels make, rising
+abbrev pub all_gone : List (List Mapping) → List Placed → List Change
+all_gone sets labels = flat_map (gone_in labels) (entries_of sets labels)
+
+abbrev pub all_settling : List (List Mapping) → List (Option Area) → List Placed → List Change
+all_settling sets areas labels = flat_map (settling_in areas labels) (entries_of sets labels)
+
+-- the two rounds of recovery
+abbrev pub gone_round : List (List Mapping) → List (Option Area) → List Change
+gone_round sets areas = flat_map (gone_changes areas) (namespaces_of sets areas).entries
+
+abbrev pub settling_round : List (List Mapping) → List (Option Area) → List Change
+settling_round sets areas = flat_map (settling_changes areas) (namespaces_of sets areas).entries

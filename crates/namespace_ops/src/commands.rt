@@ -1,0 +1,122 @@
+//! The commands on what is held.
+ghost use Rattle.std.specs.Prelude.{◌≡◌, ◌≢◌, false, Some, Err, OnOk};
+ghost use Rattle.namespace_map.specs.declared.commands.Command.TheVariants as command;
+ghost use Rattle.namespace_map.specs.Commands.{done, refusal_of};
+ghost use Rattle.namespace_map.specs.declared.refused.OpRefused.{OpRefused as Refused};
+ghost use Rattle.namespace_areas.specs.Refusals.{shown};
+ghost use Rattle.namespace_ops.specs.Carried.{Carried, IsGoodName, is_cut};
+
+use crate::changing::{delete, rename};
+use crate::creating::create;
+use crate::holding::Holding;
+use cut_words::Fuse;
+use namespace_map::{Make, Named, OpRefused};
+use std::alloc::Global;
+use uuid::Uuid;
+
+/// Whether power was cut in a command.
+fn is_cut(answer: &Result<(), OpRefused>) -> bool
+    ensures { result ≡ is_cut answer.now }
+{
+    matches!(answer, Err(OpRefused::PowerCut))
+}
+
+impl Holding {
+    /// Creates a namespace on all modules of a region: a label is put with UPDATING on each, by position, and then each
+    /// without it. On a single module the label is put at once. It lies at the least offset, the same on each module, at
+    /// which it fits beside the extents of all labels.
+    ///
+    /// `size` is in bytes, those of all modules together. It isn't stopped, and the name has no zero byte, as `name_of`
+    /// of `label_codec` makes it. Refusals, after which nothing has changed (`create_offset` of `namespace_refusals`):
+    /// `BadName`, `NoRegion`, `ModuleLabels`, `Exists`, `BadSize`, `NoSlot`, `NoSpace`. `OutOfMemory` may come in place of
+    /// any other answer, and nothing has changed then. Else `PowerCut`, as for [`Holding::delete`].
+    pub fn create(
+        &mut self,
+        alloc: Global,
+        fuse: &mut Fuse,
+        uuid: &Uuid,
+        name: &Named,
+        region: u32,
+        size: u64,
+        make: Make,
+    ) -> Result<(), OpRefused>
+        requires running { self.old.stopped ≡ false }
+        requires name { IsGoodName name.now }
+        ensures carried { result ≢ Err OpRefused.OutOfMemory → Carried self.old.sets self.old.areas self.new.areas fuse.old fuse.new (command.Create uuid.now name.now region size make) result }
+        ensures memory { result ≡ Err OpRefused.OutOfMemory → (self.new.areas ≡ self.old.areas) × (fuse.new ≡ fuse.old) }
+        ensures unchanged { (f : Refused) → refusal_of (shown self.old.sets self.old.areas) (command.Create uuid.now name.now region size make) ≡ Some f → result ≢ Err OpRefused.OutOfMemory → (self.new ≡ self.old) × (fuse.new ≡ fuse.old) }
+        ensures done { OnOk result (shown self.new.sets self.new.areas ≡ done (shown self.old.sets self.old.areas) (command.Create uuid.now name.now region size make)) }
+        ensures sets { self.new.sets ≡ self.old.sets }
+        ensures stopped { self.new.stopped ≡ is_cut result }
+    {
+        let created = create(
+            alloc,
+            self.sets.as_slice(),
+            &mut self.areas,
+            &mut self.groups,
+            fuse,
+            uuid,
+            name,
+            region,
+            size,
+            make,
+        );
+        self.stopped = is_cut(&created);
+        created
+    }
+
+    /// Deletes the namespace of a UUID: its labels get UPDATING, by position, and then each is removed. A single label
+    /// is removed at once.
+    ///
+    /// It isn't stopped. Refusals, after which nothing has changed (`delete_refusal` of `namespace_refusals`): `NoSuch`,
+    /// `NotComplete`, `ReadOnlyLabel`, `NoSlot`. Else `PowerCut` comes exactly where the fuse has fewer steps left than
+    /// these changes take, and then it is stopped: what a cut leaves of the areas is what it leaves of the changes. It
+    /// takes no memory.
+    pub fn delete(&mut self, fuse: &mut Fuse, uuid: &Uuid) -> Result<(), OpRefused>
+        requires running { self.old.stopped ≡ false }
+        ensures carried { Carried self.old.sets self.old.areas self.new.areas fuse.old fuse.new (command.Delete uuid.now) result }
+        ensures unchanged { (f : Refused) → refusal_of (shown self.old.sets self.old.areas) (command.Delete uuid.now) ≡ Some f → (self.new ≡ self.old) × (fuse.new ≡ fuse.old) }
+        ensures done { OnOk result (shown self.new.sets self.new.areas ≡ done (shown self.old.sets self.old.areas) (command.Delete uuid.now)) }
+        ensures sets { self.new.sets ≡ self.old.sets }
+        ensures stopped { self.new.stopped ≡ is_cut result }
+    {
+        let deleted = delete(
+            self.sets.as_slice(),
+            &mut self.areas,
+            &mut self.groups,
+            &mut self.room,
+            fuse,
+            uuid,
+        );
+        self.stopped = is_cut(&deleted);
+        deleted
+    }
+
+    /// Renames the namespace of a UUID: its labels get the name and UPDATING, by position, and then the name without
+    /// UPDATING. A single label gets the name at once.
+    ///
+    /// It isn't stopped, and the name has no zero byte, as `name_of` of `label_codec` makes it. Refusals, after which
+    /// nothing has changed (`rename_refusal` of `namespace_refusals`): `BadName`, `NoSuch`, `NotComplete`,
+    /// `ReadOnlyLabel`, `NoSlot`. Else as for [`Holding::delete`].
+    pub fn rename(&mut self, fuse: &mut Fuse, uuid: &Uuid, name: &Named) -> Result<(), OpRefused>
+        requires running { self.old.stopped ≡ false }
+        requires name { IsGoodName name.now }
+        ensures carried { Carried self.old.sets self.old.areas self.new.areas fuse.old fuse.new (command.Rename uuid.now name.now) result }
+        ensures unchanged { (f : Refused) → refusal_of (shown self.old.sets self.old.areas) (command.Rename uuid.now name.now) ≡ Some f → (self.new ≡ self.old) × (fuse.new ≡ fuse.old) }
+        ensures done { OnOk result (shown self.new.sets self.new.areas ≡ done (shown self.old.sets self.old.areas) (command.Rename uuid.now name.now)) }
+        ensures sets { self.new.sets ≡ self.old.sets }
+        ensures stopped { self.new.stopped ≡ is_cut result }
+    {
+        let renamed = rename(
+            self.sets.as_slice(),
+            &mut self.areas,
+            &mut self.groups,
+            &mut self.room,
+            fuse,
+            uuid,
+            name,
+        );
+        self.stopped = is_cut(&renamed);
+        renamed
+    }
+}

@@ -1,0 +1,194 @@
+//! A namespace is created.
+ghost use Rattle.std.specs.Prelude.{◌≡◌, ◌≢◌, ◌+◌, ◌*◌, ◌<◌, ◌≤◌, ◌^◌, [], false, length, map, is_ok, Err, IfOk, OnOk, slice_get, slice_index_or, unwrap_or};
+ghost use Rattle.std.specs.List.{AllByRecursion, enumerate_from};
+ghost use Rattle.nfit_reader.specs.declared.table.Mapping.{Mapping};
+ghost use Rattle.namespace_map.specs.Left.{AreRegions};
+ghost use Rattle.namespace_map.specs.declared.commands.Command.TheVariants as command;
+ghost use Rattle.namespace_map.specs.declared.refused.OpRefused.{OpRefused as Refused};
+ghost use Rattle.namespace_map.specs.Commands.{done, lba_for};
+ghost use Rattle.namespace_map.specs.Changes.{abstraction_for, in_two, new_label};
+ghost use Rattle.namespace_areas.specs.Seen.{areas_seen};
+ghost use Rattle.namespace_areas.specs.Went.{CanMake, PutsSound, Went};
+ghost use Rattle.namespace_areas.specs.Groups.{slots_in};
+ghost use Rattle.namespace_areas.specs.Refusals.{shown};
+ghost use Rattle.namespace_ops.specs.Held.{AreCurrent};
+ghost use Rattle.namespace_ops.specs.Plans.{pairs_of};
+ghost use Rattle.namespace_ops.specs.Carried.{Carried, IsGoodName, becomes, is_cut};
+ghost use Rattle.namespace_ops.specs.Created.{new_changes};
+
+use crate::changing::carry_out;
+use crate::turns::{Round, plan};
+use cut_words::Fuse;
+use interleave::InterleaveSet;
+use label_codec::{BTT_2_0, Label, NO_ABSTRACTION, Name, PERSISTENT_MEMORY};
+use label_set::Placed;
+use namespace_areas::{Area, Change, LabelGroups, create_offset};
+use namespace_map::{Make, Named, OpRefused};
+use std::alloc::{AllocError, Global};
+use uuid::Uuid;
+
+/// LbaSize of a namespace without sectors.
+const RAW_LBA: u64 = 512;
+
+/// The LbaSize of a new namespace's labels, in bytes.
+fn lba_for(make: Make) -> u64
+    ensures { result ≡ lba_for make }
+{
+    match make {
+        Make::Raw => RAW_LBA,
+        Make::Sector { sector, .. } => u64::from(sector),
+    }
+}
+
+/// The AddressAbstractionGuid of a new namespace's labels.
+fn abstraction_for(make: Make) -> Uuid
+    ensures { result ≡ abstraction_for make }
+{
+    match make {
+        Make::Raw => Uuid::from_bytes(NO_ABSTRACTION),
+        Make::Sector { .. } => Uuid::from_bytes(BTT_2_0),
+    }
+}
+
+/// What the labels of a new namespace have in common.
+#[derive(Clone, Copy, Debug)]
+pub(crate) struct NewLabels {
+    pub(crate) uuid: Uuid,
+    pub(crate) name: Name,
+    pub(crate) make: Make,
+    /// How far its extents lie from the start of each mapping, in bytes.
+    pub(crate) offset: u64,
+    /// The bytes of each module.
+    pub(crate) raw: u64,
+}
+
+impl NewLabels {
+    /// The label for the module at a position; it has no slot yet.
+    fn at(&self, set: &InterleaveSet, position: u32) -> Placed
+        requires inside { position < length set.now }
+        requires fits { (m : Mapping) → (slice_index_or set.now position m).start + self.now.offset < 2 ^ 64 }
+        ensures { (m : Mapping) → (result.«module», result.label)
+            ≡ new_label self.now.uuid self.now.name self.now.make set.now self.now.offset self.now.raw (position, slice_index_or set.now position m) }
+    {
+        Placed {
+            module: set.module_at(position),
+            slot: 0,
+            label: Label {
+                uuid: self.uuid,
+                name: self.name,
+                flags: 0,
+                count: set.ways() as u16,
+                position: position as u16,
+                cookie: set.cookie(),
+                lba: lba_for(self.make),
+                dpa: set.start(position) + self.offset,
+                raw: self.raw,
+                slot: 0,
+                align: 0,
+                kind: Uuid::from_bytes(PERSISTENT_MEMORY),
+                abstraction: abstraction_for(self.make),
+                spa_cookie: 0,
+            },
+        }
+    }
+
+    /// The labels for all modules of a set, by position.
+    fn all(&self, alloc: Global, set: &InterleaveSet) -> Result<Vec<Placed>, AllocError>
+        requires fits { AllByRecursion (λ m. m.start + self.now.offset < 2 ^ 64) set.now }
+        ensures { IfOk result (λ own. pairs_of own.items
+            ≡ map (new_label self.now.uuid self.now.name self.now.make set.now self.now.offset self.now.raw) (enumerate_from 0 set.now)) }
+    {
+        let mut own = Vec::new(alloc);
+        for position in 0..set.ways() {
+            own.push(self.at(set, position))?;
+        }
+        Ok(own)
+    }
+
+    /// Their changes: each is put with UPDATING, and then without it.
+    fn changes(&self, alloc: Global, set: &InterleaveSet) -> Result<Vec<Change>, AllocError>
+        requires fits { AllByRecursion (λ m. m.start + self.now.offset < 2 ^ 64) set.now }
+        ensures { IfOk result (λ changes. changes.items ≡ in_two (becomes Round.Mark) (becomes Round.Settle)
+            (map (new_label self.now.uuid self.now.name self.now.make set.now self.now.offset self.now.raw) (enumerate_from 0 set.now))) }
+    {
+        let own = self.all(alloc, set)?;
+        let mut changes = Vec::with_capacity(alloc, 2 * own.len())?;
+        plan(&own, &Round::Mark, &Round::Settle, &mut changes);
+        Ok(changes)
+    }
+}
+
+/// Makes the labels of a new namespace in a set.
+fn create_in(
+    alloc: Global,
+    set: &InterleaveSet,
+    areas: &mut [Area],
+    groups: &mut LabelGroups,
+    fuse: &mut Fuse,
+    new: &NewLabels,
+) -> Result<(), OpRefused>
+    requires few { length areas.old < 2 ^ 32 }
+    requires current { AreCurrent areas.old groups.old }
+    requires fits { AllByRecursion (λ m. m.start + new.now.offset < 2 ^ 64) set.now }
+    requires can { CanMake (areas_seen areas.old) (new_changes set.now new.now) }
+    requires sound { AllByRecursion PutsSound (new_changes set.now new.now) }
+    ensures went { result ≢ Err OpRefused.OutOfMemory → Went areas.old areas.new fuse.old fuse.new (new_changes set.now new.now) (is_ok result) }
+    ensures cut { result ≢ Err OpRefused.OutOfMemory → (f : Refused) → result ≡ Err f → f ≡ OpRefused.PowerCut }
+    ensures memory { result ≡ Err OpRefused.OutOfMemory → (areas.new ≡ areas.old) × (fuse.new ≡ fuse.old) }
+    ensures current { is_cut result ≡ false → AreCurrent areas.new groups.new }
+    ensures slots { is_cut result ≡ false → slots_in areas.new ≡ slots_in areas.old }
+{
+    match new.changes(alloc, set) {
+        Ok(changes) => carry_out(areas, groups, &changes, fuse),
+        Err(AllocError) => Err(OpRefused::OutOfMemory),
+    }
+}
+
+/// The set of a region that is there.
+fn set_at(sets: &[InterleaveSet], region: u32) -> &InterleaveSet
+    requires { region < length sets.now }
+    ensures { result.now ≡ unwrap_or (slice_get sets.now region) [] }
+{
+    &sets[region as usize]
+}
+
+/// Creates a namespace.
+pub(crate) fn create(
+    alloc: Global,
+    sets: &[InterleaveSet],
+    areas: &mut [Area],
+    groups: &mut LabelGroups,
+    fuse: &mut Fuse,
+    uuid: &Uuid,
+    name: &Named,
+    region: u32,
+    size: u64,
+    make: Make,
+) -> Result<(), OpRefused>
+    requires regions { AreRegions sets.now }
+    requires few_sets { length sets.now < 2 ^ 32 }
+    requires few { length areas.old < 2 ^ 32 }
+    requires name { IsGoodName name.now }
+    requires current { AreCurrent areas.old groups.old }
+    ensures carried { result ≢ Err OpRefused.OutOfMemory → Carried sets.now areas.old areas.new fuse.old fuse.new (command.Create uuid.now name.now region size make) result }
+    ensures done { OnOk result (shown sets.now areas.new ≡ done (shown sets.now areas.old) (command.Create uuid.now name.now region size make)) }
+    ensures memory { result ≡ Err OpRefused.OutOfMemory → (areas.new ≡ areas.old) × (fuse.new ≡ fuse.old) }
+    ensures current { is_cut result ≡ false → AreCurrent areas.new groups.new }
+    ensures slots { is_cut result ≡ false → slots_in areas.new ≡ slots_in areas.old }
+{
+    let offset = create_offset(alloc, sets, areas, groups, uuid, name, region, size, make)?;
+    match name {
+        Named::Good(name) => {
+            let set = set_at(sets, region);
+            let new = NewLabels {
+                uuid: *uuid,
+                name: *name,
+                make,
+                offset,
+                raw: size / u64::from(set.ways()),
+            };
+            create_in(alloc, set, areas, groups, fuse, &new)
+        }
+        Named::Refused { bytes } => Err(OpRefused::BadName { bytes: *bytes }),
+    }
+}

@@ -1,2 +1,0 @@
-pub mod Namespaces
-pub mod Laws

@@ -1,4 +1,0 @@
-mod Good
-mod Formats
-mod Making
-mod Rows

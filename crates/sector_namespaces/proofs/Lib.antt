@@ -1,0 +1,6 @@
+pub mod Views
+pub mod Usable
+mod Good
+mod Formats
+mod Making
+mod Rows

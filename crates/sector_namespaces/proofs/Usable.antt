@@ -1,0 +1,121 @@
+-- In the set of each region of an image set that was loaded a namespace can be opened.
+use Rattle.std.proofs.Common.{◌≡◌, ℕ, zero, suc, ◌+◌, ◌-◌, ◌*◌, ◌^◌, ◌<◌, ◌≤◌, max, List, [], ◌∷◌, length, map, get_or, None, Result, Ok, Err, refl, sym, ap, ◌∙◌, subst, inl, inr, arith}
+use Rattle.std.specs.Prelude.{sum, Contains}
+use Rattle.std.specs.Result.{result_err}
+use Rattle.std.specs.List.{All}
+use Rattle.std.proofs.Math.Nat.{max-eq_left, max-eq_right}
+use Rattle.std.proofs.lemmas.Bool.{cases_lt}
+use Rattle.std.proofs.lemmas.Nat.{pow_pos, pow-add, pow_below}
+use Rattle.std.proofs.lemmas.List.{get_or-map, length-map}
+use Rattle.std.proofs.lemmas.List.Elements.{All-contains, All-get_or}
+use Rattle.std.proofs.lemmas.List.Sums.{get_or-le-sum_by}
+use Rattle.nvd_words.specs.Checks.{first_fault}
+use Rattle.cut_words.specs.Words.{Words}
+use Rattle.nfit_reader.specs.declared.table.Mapping.{Mapping}
+use Rattle.nfit_reader.specs.declared.table.Region.{Region}
+use Rattle.nfit_reader.specs.declared.table.Nfit.{Nfit}
+use Rattle.interleave.specs.declared.set.SetFault.{SetFault}
+use Rattle.interleave.specs.Places.{line_size_of, line_count_of, by_offset, unit_of}
+use Rattle.interleave.specs.Sets.{faults_of, set_reading}
+use Rattle.interleave.specs.Sound.{IsShare, IsSound, span_of}
+use Rattle.interleave.proofs.Holders.{In, in_from, in_to}
+use Rattle.interleave.proofs.Checked.{no_first, no_fault}
+use Rattle.interleave.proofs.Sorted.{Sound, sound_set, in_by_offset}
+use Rattle.image_set.specs.Sound.{size_of, IsMapped, AreMapped}
+use Rattle.namespace_ops.specs.Opening.{set_as, set_or_fault, set_fault_from, set_in, sets_of}
+use Rattle.namespace_areas.specs.Finding.{set_at}
+use Rattle.power_cut.specs.Namespace.{HasBytes, row_of}
+use Rattle.sector_namespaces.specs.View.{IsUsable, AreUsable}
+
+-- ---- units
+
+record Pages (unit : ℕ) : Type 0 where
+  count : ℕ
+  is : unit ≡ 4096 * (count + 1)
+
+pages_power : (k : ℕ) → Pages (max 4096 (2 ^ k))
+pages_power k = elim (cases_lt 12 k) [
+  | inl more ↦
+      let big : 4096 ≤ 2 ^ k = omega (arith, pow_below 12 k more) in
+      let split : 2 ^ k ≡ 2 ^ 12 * 2 ^ (k - 12) = ap (λ (j : ℕ). 2 ^ j) (let z : k ≡ 12 + (k - 12) = omega arith in z) ∙ pow-add 2 12 (k - 12) in
+      record { count = 2 ^ (k - 12) - 1; is = max-eq_right big ∙ split ∙ omega (arith, pow_pos (k - 12)) }
+  | inr few ↦
+      let small : 2 ^ k ≤ 4096 = elim (cases_lt k 12) [
+        | inl less ↦ omega (arith, pow_below k 12 less)
+        | inr same ↦ (let twelve : k ≡ 12 = omega arith in rw twelve (omega arith))
+      ] in
+      record { count = 0; is = max-eq_left small ∙ omega arith }
+]
+
+unit_pages : (line lines span : ℕ) (set : List Mapping) → IsSound line lines span set → Pages (unit_of set)
+unit_pages line lines span [] sound = record { count = 0; is = refl }
+unit_pages line lines span (m ∷ ms) sound =
+    let share : IsShare line lines span m = sound.shares m (in_to (m ∷ ms) m (inl refl)) in
+    let is : line_count_of m * line_size_of m ≡ 2 ^ sound.power.0 = (λ i. share.line_count i * share.line_size i) ∙ sound.power.1 in
+    subst (λ (u : ℕ). Pages (max 4096 u)) (sym is) (pages_power sound.power.0)
+
+-- ---- what the modules have
+
+module _ (rows : List Words) where
+  abbrev sizes : List ℕ
+  sizes = map size_of rows
+
+  blank : Words
+  blank = record { kept = []; stored = [] }
+
+  size_at : (k : ℕ) → k < length rows → get_or sizes k 0 ≡ size_of (row_of rows k)
+  size_at k lt = get_or-map size_of rows k (record { kept = []; stored = [] }) 0 lt
+
+  has_bytes : (m : Mapping) → IsMapped sizes m → HasBytes rows m.«module» m.start m.size
+  has_bytes m mapped =
+      let lt : m.«module» < length rows = omega (arith, mapped.there, length-map rows size_of) in
+      record { there = lt; reaches = omega (arith, mapped.inside, size_at m.«module» lt) }
+
+  short_by : (set : List Mapping) → ((m : Mapping) → Contains set m → IsMapped sizes m) → sum sizes ≤ 536870912 → span_of set ≤ 536870912
+  short_by [] all total = omega arith
+  short_by (m ∷ ms) all total =
+      let mapped : IsMapped sizes m = all m (in_to (m ∷ ms) m (inl refl)) in
+      omega (arith, mapped.inside, get_or-le-sum_by (λ (x : ℕ). x) sizes m.«module» 0 mapped.there, total)
+
+  pub usable : (r : Region) (set : List Mapping) → set_reading r ≡ Ok set → AreMapped sizes r → sum sizes ≤ 536870912 → IsUsable set rows
+  usable r set read mapped total =
+      let s : Sound r set = sound_set r set read in
+      let same : by_offset r.mappings ≡ set = (no_fault (by_offset r.mappings) set (first_fault (faults_of r r.mappings)) read).1 in
+      let each : (m : Mapping) → Contains set m → IsMapped sizes m =
+      λ m c. All-contains (IsMapped sizes) r.mappings m mapped
+      (in_to r.mappings m (in_by_offset r.mappings m (subst (λ (ms : List Mapping). In ms m) (sym same) (in_from set m c)))) in
+      let pages : Pages (unit_of set) = unit_pages s.line s.lines s.span set s.sound in
+      record {
+        pages = (pages.count, pages.is);
+        reach = λ m c. has_bytes m (each m c);
+        short = short_by set each total;
+      }
+
+-- ---- all regions
+
+set_by : (number : ℕ) (read : Result (List Mapping) SetFault) → result_err (set_as number read) ≡ None → read ≡ Ok (set_in read)
+set_by number (Ok set) e = refl
+set_by number (Err fault) e = absurd (let f = e in cc)
+
+read_at : (regions : List Region) (number k : ℕ) (d : Region) → set_fault_from number regions ≡ None → k < length regions
+    → set_reading (get_or regions k d) ≡ Ok (set_in (set_reading (get_or regions k d)))
+unfolding set_fault_from
+read_at [] number k d e lt = absurd (omega arith)
+read_at (r ∷ regions) number zero d e lt =
+    set_by number (set_reading r) (no_first (result_err (set_or_fault number r)) (set_fault_from (number + 1) regions ∷ []) e).0
+read_at (r ∷ regions) number (suc k) d e lt =
+    let behind = (no_first (result_err (set_or_fault number r)) (set_fault_from (number + 1) regions ∷ []) e).1 in
+    read_at regions (number + 1) k d (no_first (set_fault_from (number + 1) regions) [] behind).0 (omega arith)
+
+no_region : Region
+no_region = record { index = 0; base = 0; length = 0; mappings = [] }
+
+pub usable_sets : (nfit : Nfit) (rows : List Words) → All (AreMapped (map size_of rows)) nfit.regions → sum (map size_of rows) ≤ 536870912
+    → set_fault_from 0 nfit.regions ≡ None → AreUsable (sets_of nfit) rows
+usable_sets nfit rows mapped total none region lt =
+    let lt' : region < length nfit.regions = omega (arith, length-map nfit.regions (λ r. set_in (set_reading r))) in
+    let is : set_at (sets_of nfit) region ≡ set_in (set_reading (get_or nfit.regions region no_region)) =
+    get_or-map (λ r. set_in (set_reading r)) nfit.regions region no_region [] lt' in
+    subst (λ (set : List Mapping). IsUsable set rows) (sym is)
+    (usable rows (get_or nfit.regions region no_region) (set_in (set_reading (get_or nfit.regions region no_region))) (read_at nfit.regions 0 region no_region none lt')
+    (All-get_or (AreMapped (map size_of rows)) nfit.regions region no_region lt' mapped) total)

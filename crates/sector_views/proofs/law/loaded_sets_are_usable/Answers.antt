@@ -1,5 +1,0 @@
-use Rattle.sector_views.proofs.Usable.{usable_sets}
-use Rattle.sector_views.proofs.law.loaded_sets_are_usable.Goals as goal
-
-pub returns : goal.returns
-returns c = usable_sets

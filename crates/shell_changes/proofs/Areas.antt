@@ -1,0 +1,162 @@
+-- The label areas of a loaded set: what they show, and what is saved of them.
+use Rattle.std.proofs.Common.{◌≡◌, ℕ, zero, suc, ◌*◌, List, [], ◌∷◌, length, map, get_or, Option, Some, None, Result, Ok, Err, refl, sym, ap, ◌∙◌, subst}
+use Rattle.std.specs.Prelude.{slice_index_or}
+use Rattle.std.specs.Option.{option_map}
+use Rattle.std.proofs.lemmas.Option.{none-some}
+use Rattle.nvd_media.specs.declared.object.Object.TheVariants as object
+use Rattle.nvd_media.specs.Images.{Images, IsSameSet}
+use Rattle.cut_words.specs.Words.{Words, IsLeft, settled}
+use Rattle.cut_words.specs.WordBytes.{bytes_of}
+use Rattle.cut_words.proofs.Bytes.{length_bytes}
+use Rattle.label_index.specs.declared.index.IndexBlock.{IndexBlock}
+use Rattle.label_area.specs.declared.fault.AreaFault.{AreaFault}
+use Rattle.label_area.specs.Area.{block_in}
+use Rattle.label_area.specs.Opened.{opened_by}
+use Rattle.power_cut.specs.Left.{IsLeftOf}
+use Rattle.namespace_areas.specs.declared.area.Area.{Area}
+use Rattle.namespace_areas.specs.declared.area.Area.TheVariants.{Absent, Refused, Ready}
+use Rattle.namespace_areas.specs.Seen.{areas_seen, area_shown, areas_shown, shown_by, words_of, AreLeft}
+use Rattle.namespace_areas.specs.Opening.{as_area, opened_as}
+use Rattle.namespace_areas.specs.Went.{unready, size_of}
+use Rattle.namespace_areas.proofs.Seen.{left_kept}
+use Rattle.namespace_areas.proofs.Opening.{row_of, seen_all}
+use Rattle.image_set.specs.Load.{bytes_kept, image_set_in}
+use Rattle.image_set.specs.Changed.{objects_of}
+use Rattle.image_set.specs.declared.loading.Loaded.{Loaded}
+use Rattle.shell_changes.specs.declared.saving.Rest.{Rest}
+use Rattle.shell_changes.specs.Areas.{area_by, area_in, areas_in, with_labels, HasAreas}
+use Rattle.shell_changes.specs.Rest.{objects_with}
+
+-- ---- what areas show, by their bytes
+
+by_block : (values : List ℕ) (b : Result IndexBlock AreaFault) → area_by (bytes_of values) b ≡ shown_by values b
+by_block values (Ok block) = refl
+by_block values (Err fault) = refl
+
+row_in : (row : Option (List ℕ)) → area_in (option_map bytes_of row) ≡ area_shown row
+row_in None = refl
+row_in (Some values) = by_block values (block_in (bytes_of values))
+
+pub rows_in : (rows : List (Option (List ℕ))) → areas_in (map (option_map bytes_of) rows) ≡ areas_shown rows
+rows_in [] = refl
+rows_in (row ∷ rows) = rw (row_in row, rows_in rows) refl
+
+kept_bytes : (words : Option Words) → option_map bytes_kept words ≡ option_map bytes_of (row_of words)
+kept_bytes None = refl
+kept_bytes (Some w) = refl
+
+all_kept : (labels : List (Option Words)) → map (option_map bytes_kept) labels ≡ map (option_map bytes_of) (map row_of labels)
+all_kept [] = refl
+all_kept (words ∷ labels) = rw (kept_bytes words, all_kept labels) refl
+
+-- areas that were opened show what the bytes that were loaded show
+pub opened_in : (labels : List (Option Words)) → areas_seen (map opened_as labels) ≡ areas_in (map (option_map bytes_kept) labels)
+opened_in labels = seen_all labels ∙ sym (ap areas_in (all_kept labels) ∙ rows_in (map row_of labels))
+
+-- ---- one area after a command
+
+is_absent : (n : Area) → unready n ≡ Some Absent → n ≡ Absent
+is_absent Absent e = refl
+is_absent (Refused r) e = absurd (let e' = e in cc)
+is_absent (Ready a) e = absurd (none-some Absent e)
+
+-- an area that isn't read is left as it was
+unread_by : (words : Words) (b : Result IndexBlock AreaFault) (n : Area) (row : Option (List ℕ)) → unready n ≡ unready (as_area (opened_by words.kept b)) → IsLeftOf (words_of n) row
+    → area_by (bytes_of words.kept) b ≡ None → option_map bytes_of row ≡ Some (bytes_kept words)
+unread_by words (Ok block) n row same left none = absurd (none-some _ (sym none))
+unread_by words (Err fault) Absent row same left none = absurd (let e = same in cc)
+unread_by words (Err fault) (Ready a) row same left none = absurd (none-some _ same)
+unread_by words (Err fault) (Refused r) row same left none =
+    let is : r.words ≡ settled words.kept = (let e = same in cc) in
+    let kept : left.0 ≡ r.words.kept = left_kept r.words left.0 (is ∙ ap (λ (w : Words). settled w.kept) (sym is)) left.2 in
+    ap (option_map bytes_of) left.1 ∙ ap (λ v. Some (bytes_of v)) (kept ∙ ap (λ (w : Words). w.kept) is)
+
+unread_one : (words : Option Words) (n : Area) (row : Option (List ℕ)) → unready n ≡ unready (opened_as words) → IsLeftOf (words_of n) row
+    → area_in (option_map bytes_kept words) ≡ None → option_map bytes_of row ≡ option_map bytes_kept words
+unread_one None n row same left none = let is = is_absent n same in ap (option_map bytes_of) (subst (λ (a : Area). IsLeftOf (words_of a) row) is left)
+unread_one (Some w) n row same left none = unread_by w (block_in (bytes_of w.kept)) n row same left none
+
+-- and each keeps its size
+opened_size : (words : Words) (b : Result IndexBlock AreaFault) → size_of (as_area (opened_by words.kept b)) ≡ length words.kept
+opened_size words (Ok block) = refl
+opened_size words (Err fault) = refl
+
+not_absent : (words : Words) (b : Result IndexBlock AreaFault) → unready Absent ≡ unready (as_area (opened_by words.kept b)) → ⊥
+not_absent words (Ok block) e = none-some Absent (sym e)
+not_absent words (Err fault) e = let e' = e in cc
+
+long_row : (n : ℕ) (left : List ℕ) (words : Words) (row : Option (List ℕ)) → row ≡ Some left → IsLeft words left → length words.kept ≡ n → option_map length (option_map bytes_of row) ≡ Some (8 * n)
+long_row n left words row is of_it size = ap (λ r. option_map length (option_map bytes_of r)) is ∙ ap (λ (k : ℕ). Some k) (length_bytes left ∙ ap (λ k. 8 * k) (of_it.same_length ∙ size))
+
+sized_some : (words : Words) (n : Area) (row : Option (List ℕ)) → unready n ≡ unready (opened_as (Some words)) → size_of n ≡ size_of (opened_as (Some words)) → IsLeftOf (words_of n) row
+    → option_map length (option_map bytes_of row) ≡ Some (length (bytes_kept words))
+sized_some words Absent row same size left = absurd (not_absent words (block_in (bytes_of words.kept)) same)
+sized_some words (Refused r) row same size left =
+    long_row (length words.kept) left.0 r.words row left.1 left.2 (size ∙ opened_size words (block_in (bytes_of words.kept))) ∙ ap (λ (k : ℕ). Some k) (sym (length_bytes words.kept))
+sized_some words (Ready a) row same size left =
+    long_row (length words.kept) left.0 a.words row left.1 left.2 (size ∙ opened_size words (block_in (bytes_of words.kept))) ∙ ap (λ (k : ℕ). Some k) (sym (length_bytes words.kept))
+
+sized_one : (words : Option Words) (n : Area) (row : Option (List ℕ)) → unready n ≡ unready (opened_as words) → size_of n ≡ size_of (opened_as words) → IsLeftOf (words_of n) row
+    → option_map length (option_map bytes_of row) ≡ option_map length (option_map bytes_kept words)
+sized_one None n row same size left = let is = is_absent n same in ap (λ r. option_map length (option_map bytes_of r)) (subst (λ (a : Area). IsLeftOf (words_of a) row) is left)
+sized_one (Some w) n row same size left = sized_some w n row same size left
+
+-- ---- all areas
+
+first_same : {A : Type 0} (x y : A) (xs ys : List A) → x ∷ xs ≡ y ∷ ys → x ≡ y
+first_same x y xs ys e = let e' = e in cc
+
+rest_same : {A : Type 0} (x y : A) (xs ys : List A) → x ∷ xs ≡ y ∷ ys → xs ≡ ys
+rest_same x y xs ys e = let e' = e in cc
+
+pub unread_all : (labels : List (Option Words)) (news : List Area) (rows : List (Option (List ℕ))) → map unready news ≡ map unready (map opened_as labels) → AreLeft news rows
+    → (m : ℕ) → area_in (get_or (map (option_map bytes_kept) labels) m None) ≡ None → get_or (map (option_map bytes_of) rows) m None ≡ get_or (map (option_map bytes_kept) labels) m None
+unread_all [] [] rows same left m none = ap (λ rs. get_or (map (option_map bytes_of) rs) m None) left
+unread_all [] (n ∷ news) rows same left m none = absurd (let e = same in cc)
+unread_all (w ∷ labels) [] rows same left m none = absurd (let e = same in cc)
+unread_all (w ∷ labels) (n ∷ news) rows same left zero none =
+    ap (λ rs. get_or (map (option_map bytes_of) rs) zero None) left.2 ∙ unread_one w n left.0 (first_same (unready n) (unready (opened_as w)) (map unready news) (map unready (map opened_as labels)) same) left.3 none
+unread_all (w ∷ labels) (n ∷ news) rows same left (suc m) none =
+    ap (λ rs. get_or (map (option_map bytes_of) rs) (suc m) None) left.2 ∙ unread_all labels news left.1 (rest_same (unready n) (unready (opened_as w)) (map unready news) (map unready (map opened_as labels)) same) left.4 m none
+
+pub sized_all : (labels : List (Option Words)) (news : List Area) (rows : List (Option (List ℕ))) → map unready news ≡ map unready (map opened_as labels) → map size_of news ≡ map size_of (map opened_as labels)
+    → AreLeft news rows → map (option_map length) (map (option_map bytes_of) rows) ≡ map (option_map length) (map (option_map bytes_kept) labels)
+sized_all [] [] rows same sizes left = ap (λ rs. map (option_map length) (map (option_map bytes_of) rs)) left
+sized_all [] (n ∷ news) rows same sizes left = absurd (let e = same in cc)
+sized_all (w ∷ labels) [] rows same sizes left = absurd (let e = same in cc)
+sized_all (w ∷ labels) (n ∷ news) rows same sizes left =
+    let here = sized_one w n left.0 (first_same (unready n) (unready (opened_as w)) (map unready news) (map unready (map opened_as labels)) same) (first_same (size_of n) (size_of (opened_as w)) (map size_of news) (map size_of (map opened_as labels)) sizes) left.3 in
+    let on = sized_all labels news left.1 (rest_same (unready n) (unready (opened_as w)) (map unready news) (map unready (map opened_as labels)) same) (rest_same (size_of n) (size_of (opened_as w)) (map size_of news) (map size_of (map opened_as labels)) sizes) left.4 in
+    ap (λ rs. map (option_map length) (map (option_map bytes_of) rs)) left.2 ∙ ap (λ x. x ∷ map (option_map length) (map (option_map bytes_of) left.1)) here
+    ∙ ap (λ xs. option_map length (option_map bytes_kept w) ∷ xs) on
+
+-- ---- the set that is saved
+
+-- what a loaded set has beside its label areas
+abbrev pub rest_of : Loaded → Rest
+rest_of loaded = record { nfit_bytes = loaded.nfit_bytes; contents = loaded.contents; bad = loaded.bad }
+
+same_objects : (loaded : Loaded) (rows : List (Option (List ℕ))) → IsSameSet (objects_with (rest_of loaded) rows) (objects_of (with_labels (image_set_in loaded) (map (option_map bytes_of) rows)))
+unfolding objects_with objects_of image_set_in
+same_objects loaded rows object.Mark = refl
+same_objects loaded rows object.Nfit = refl
+same_objects loaded rows (object.Labels m) = refl
+same_objects loaded rows (object.Contents m) = refl
+same_objects loaded rows (object.BadRanges m) = refl
+
+labels_in : (loaded : Loaded) → (image_set_in loaded).labels ≡ map (option_map bytes_kept) loaded.labels
+unfolding image_set_in
+labels_in loaded = refl
+
+pub has_areas : (loaded : Loaded) (news : List Area) (rows : List (Option (List ℕ))) (saved : Images) → map unready news ≡ map unready (map opened_as loaded.labels)
+    → map size_of news ≡ map size_of (map opened_as loaded.labels) → AreLeft news rows → IsSameSet saved (objects_with (rest_of loaded) rows) → HasAreas (image_set_in loaded) (areas_shown rows) saved
+has_areas loaded news rows saved same sizes left objects =
+    let labels = labels_in loaded in
+    record {
+      labels = map (option_map bytes_of) rows;
+      shown = rows_in rows;
+      unread = λ m none.
+          unread_all loaded.labels news rows same left m (ap (λ ls. area_in (slice_index_or ls m None)) (sym labels) ∙ none) ∙ ap (λ ls. slice_index_or ls m None) (sym labels);
+      sizes = sized_all loaded.labels news rows same sizes left ∙ ap (map (option_map length)) (sym labels);
+      objects = λ o. objects o ∙ same_objects loaded rows o;
+    }

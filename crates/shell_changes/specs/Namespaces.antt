@@ -1,0 +1,92 @@
+-- The commands `create`, `delete` and `rename`: UEFI 2.10, section 13.19, with this project's rules.
+use Rattle.std.specs.Prelude.{◌≡◌, ℕ, Bool, List, [], ◌∷◌, ◌++◌, Option, Some, None, is_some, Result, Ok, Err, MatchBool, false, not}
+use Rattle.nvd_media.specs.Images.{Images}
+use Rattle.nvd_words.specs.Checks.{first_fault, value_unless}
+use Rattle.nfit_reader.specs.declared.table.Mapping.{Mapping}
+use Rattle.cut_words.specs.Fuses.{lasts}
+use Rattle.namespace_map.specs.declared.commands.Command.{Command}
+use Rattle.namespace_map.specs.declared.refused.OpRefused.{OpRefused}
+use Rattle.namespace_map.specs.Areas.{Area, Change, all_changed, steps_of_all, IsLeftBy}
+use Rattle.namespace_map.specs.Commands.{refusal_of}
+use Rattle.namespace_map.specs.Changes.{namespaces_of, placed_in_all, changes_of, recovery_changes, recovered_areas}
+use Rattle.namespace_ops.specs.declared.registry.OpenFault.{OpenFault}
+use Rattle.namespace_ops.specs.Opening.{set_fault_from, sets_of, overlap_fault}
+use Rattle.image_set.specs.Load.{ImageSet}
+use Rattle.shell_reports.specs.declared.status.Ending.TheVariants as ending
+use Rattle.shell_reports.specs.declared.power.Power.{Power}
+use Rattle.shell_reports.specs.Outcome.{Outcome}
+use Rattle.shell_reports.specs.Saved.{IsSaving}
+use Rattle.shell_reports.specs.Cut.{cut_text, done_text}
+use Rattle.shell_reports.specs.List.{open_outcome}
+use Rattle.shell_changes.specs.Areas.{areas_in, HasAreas}
+use Rattle.shell_changes.specs.Refusals.{refused_outcome}
+
+-- the interleave sets of a set whose namespaces can be told, or the first fault: a region that is no interleave set; extents of two
+-- UUIDs that meet
+abbrev pub sets_in : ImageSet → Result (List (List Mapping)) OpenFault
+sets_in loaded = value_unless (sets_of loaded.nfit) (first_fault (set_fault_from 0 loaded.nfit.regions ∷ overlap_fault (placed_in_all (areas_in loaded.labels)) ∷ []))
+
+-- all changes are made: the set is saved with the areas that they make
+pub record IsDone (loaded : ImageSet) (areas : List (Option Area)) (changes : List Change) (outcome : Outcome) : Type 0 where
+  pub set : Images
+  pub has : HasAreas loaded (all_changed areas changes) set
+  pub saves : IsSaving ending.Done done_text set outcome
+
+-- power is cut within changes: the set is saved with what the cut leaves of the areas
+pub record IsCut (loaded : ImageSet) (areas : List (Option Area)) (changes : List Change) (power : Power) (outcome : Outcome) : Type 0 where
+  pub steps : ℕ
+  pub given : power.steps ≡ Some steps
+  pub left : List (Option Area)
+  pub leaves : IsLeftBy areas changes steps left
+  pub set : Images
+  pub has : HasAreas loaded left set
+  pub saves : IsSaving ending.PowerCut (cut_text power.steps) set outcome
+
+-- the first reason for which a command is refused once recovery has made its changes
+abbrev pub refusal_in : List (List Mapping) → List (Option Area) → Command → Option OpRefused
+refusal_in sets areas c = refusal_of (namespaces_of sets (recovered_areas sets areas)) c
+
+-- recovery's changes, and then those of a command that isn't refused
+abbrev pub changes_by : List (List Mapping) → List (Option Area) → Command → Option OpRefused → List Change
+changes_by sets areas c (Some refused) = recovery_changes sets areas
+changes_by sets areas c None = recovery_changes sets areas ++ changes_of (namespaces_of sets (recovered_areas sets areas)) (recovered_areas sets areas) c
+
+abbrev pub changes_in : List (List Mapping) → List (Option Area) → Command → List Change
+changes_in sets areas c = changes_by sets areas c (refusal_in sets areas c)
+
+-- with power to the end: of a command that is refused nothing is saved, what recovery made neither
+abbrev pub Ends : ImageSet → List (Option Area) → List Change → Option OpRefused → Outcome → Type 0
+Ends loaded areas changes None outcome = IsDone loaded areas changes outcome
+Ends loaded areas changes (Some refused) outcome = outcome ≡ refused_outcome refused
+
+-- a command, by how long power lasts
+abbrev pub Goes : ImageSet → List (Option Area) → List Change → Option OpRefused → Power → Outcome → Type 0
+Goes loaded areas changes refusal power outcome =
+    MatchBool (lasts power.steps (steps_of_all areas changes)) (Ends loaded areas changes refusal outcome) (IsCut loaded areas changes power outcome)
+
+abbrev pub OnSets : ImageSet → Command → Power → Result (List (List Mapping)) OpenFault → Outcome → Type 0
+OnSets loaded c power (Ok sets) outcome =
+    let areas = areas_in loaded.labels in Goes loaded areas (changes_in sets areas c) (refusal_in sets areas c) power outcome
+OnSets loaded c power (Err fault) outcome = outcome ≡ open_outcome fault
+
+-- what a command on namespaces may come to on a set that is loaded, whose label areas have a label area's size
+abbrev pub CommandComes : Command → Power → ImageSet → Outcome → Type 0
+CommandComes c power loaded outcome = OnSets loaded c power (sets_in loaded) outcome
+
+-- ---- what the table of exit statuses asks
+
+abbrev pub refuses_by : List (Option Area) → Command → Result (List (List Mapping)) OpenFault → Bool
+refuses_by areas c (Ok sets) = is_some (refusal_in sets areas c)
+refuses_by areas c (Err fault) = false
+
+-- a command is refused by its own rules, once recovery has made its changes
+abbrev pub refuses : ImageSet → Command → Bool
+refuses loaded c = refuses_by (areas_in loaded.labels) c (sets_in loaded)
+
+abbrev pub is_short_by : List (Option Area) → Command → Option ℕ → Result (List (List Mapping)) OpenFault → Bool
+is_short_by areas c steps (Ok sets) = not (lasts steps (steps_of_all areas (changes_in sets areas c)))
+is_short_by areas c steps (Err fault) = false
+
+-- its changes take more steps than power lasts for
+abbrev pub is_short : ImageSet → Command → Option ℕ → Bool
+is_short loaded c steps = is_short_by (areas_in loaded.labels) c steps (sets_in loaded)

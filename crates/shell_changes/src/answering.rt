@@ -1,0 +1,262 @@
+//! Recovery first, then the format and the labels, and what is saved then.
+ghost use Rattle.std.specs.Prelude.{◌≡◌, ◌≢◌, ◌<◌, ◌^◌, ℕ, true, false, List, Option, Some, None, Ok, Err, IfOk, length};
+ghost use Rattle.image_set.specs.Load.{image_set_in};
+ghost use Rattle.image_set.specs.Sound.{IsSound};
+ghost use Rattle.namespace_areas.specs.Seen.{AreHeld, AreLeft};
+ghost use Rattle.namespace_map.specs.Left.{AreRegions};
+ghost use Rattle.namespace_map.specs.declared.refused.OpRefused.{OpRefused as Refused};
+ghost use Rattle.namespace_ops.specs.Carried.{IsGoodName};
+ghost use Rattle.sector_namespaces.specs.Creation.{refusal_for};
+ghost use Rattle.sector_namespaces.specs.View.{AreUsable};
+ghost use Rattle.shell_reports.specs.Cut.{cut_text, done_text};
+ghost use Rattle.shell_reports.specs.Saved.{IsSaving, outcome_of};
+ghost use Rattle.shell_changes.specs.Refusals.{refused_outcome};
+ghost use Rattle.shell_changes.specs.Rest.{IsRest, objects_with};
+ghost use Rattle.shell_changes.specs.SectorGoing.{GoesFrom, GoesOn, IsSavedWith};
+ghost use Rattle.shell_changes.specs.Sectors.{SectorsCome};
+
+use crate::sector_saving::saved_answer;
+use crate::{Rest, refused_answer};
+use cut_words::{Fuse, PowerCut};
+use image_set::Loaded;
+use interleave::InterleaveSet;
+use namespace_areas::{Area, open_areas};
+use namespace_map::OpRefused;
+use namespace_ops::{Holding, Registry};
+use nvd_media::Chooser;
+use nvd_words::Items;
+use sector_namespaces::{NewSectors, create_sectors, loaded_sets_are_usable};
+use shell_reports::{Answer, Ending, Power, cut_line, fuse_of, open_fault_answer};
+use std::alloc::{AllocError, Global};
+
+/// Whether a refusal says that power was cut.
+fn is_cut(refused: OpRefused) -> bool
+    ensures cut { result ≡ true → refused ≡ OpRefused.PowerCut }
+    ensures not_cut { result ≡ false → refused ≢ OpRefused.PowerCut }
+{
+    matches!(refused, OpRefused::PowerCut)
+}
+
+/// The answer where power was cut in recovery, with what the cut leaves of the label areas as they then are.
+fn stopped_answer<C: Chooser>(
+    alloc: Global,
+    power: Power,
+    rest: Rest,
+    holding: Holding,
+    choose: &mut C,
+) -> Result<Answer, AllocError>
+    requires rest { IsRest rest }
+    requires count { length holding.areas ≡ length rest.contents }
+    ensures { IfOk result (λ answer. (rows : List (Option (List ℕ))) × AreLeft holding.areas rows × IsSaving Ending.PowerCut (cut_text power.steps) (objects_with rest rows) (outcome_of answer)) }
+{
+    choose.begin(power.seed);
+    let text = cut_line(alloc, power.steps)?;
+    crate::saved_answer(
+        alloc,
+        Ending::PowerCut,
+        text.into_bytes(),
+        rest,
+        Items::from_vec(holding.into_areas()),
+        choose,
+    )
+}
+
+/// The answer where power was cut in the format or in the labels' changes, with what the cut leaves.
+fn cut_answer<C: Chooser>(
+    alloc: Global,
+    power: Power,
+    rest: Rest,
+    holding: Holding,
+    choose: &mut C,
+) -> Result<Answer, AllocError>
+    requires bad { length rest.bad ≡ length rest.contents }
+    requires few { length rest.contents < 2 ^ 32 }
+    requires count { length holding.areas ≡ length rest.contents }
+    ensures { IfOk result (λ answer. IsSavedWith Ending.PowerCut (cut_text power.steps) rest holding.areas rest.contents (outcome_of answer)) }
+{
+    choose.begin(power.seed);
+    let text = cut_line(alloc, power.steps)?;
+    saved_answer(
+        alloc,
+        Ending::PowerCut,
+        text.into_bytes(),
+        rest,
+        Items::from_vec(holding.into_areas()),
+        choose,
+    )
+}
+
+/// The answer where the namespace was created.
+fn done_answer<C: Chooser>(
+    alloc: Global,
+    rest: Rest,
+    holding: Holding,
+    choose: &mut C,
+) -> Result<Answer, AllocError>
+    requires bad { length rest.bad ≡ length rest.contents }
+    requires few { length rest.contents < 2 ^ 32 }
+    requires count { length holding.areas ≡ length rest.contents }
+    ensures { IfOk result (λ answer. IsSavedWith Ending.Done done_text rest holding.areas rest.contents (outcome_of answer)) }
+{
+    let text = Vec::from_slice(alloc, b"ok\n")?;
+    saved_answer(
+        alloc,
+        Ending::Done,
+        text,
+        rest,
+        Items::from_vec(holding.into_areas()),
+        choose,
+    )
+}
+
+/// The answer to a create of which this became.
+fn created_answer<C: Chooser>(
+    alloc: Global,
+    created: Result<(), OpRefused>,
+    power: Power,
+    rest: Rest,
+    holding: Holding,
+    choose: &mut C,
+) -> Result<Answer, AllocError>
+    requires bad { length rest.bad ≡ length rest.contents }
+    requires few { length rest.contents < 2 ^ 32 }
+    requires count { length holding.areas ≡ length rest.contents }
+    ensures done { IfOk result (λ answer. created ≡ Ok tt → IsSavedWith Ending.Done done_text rest holding.areas rest.contents (outcome_of answer)) }
+    ensures cut { IfOk result (λ answer. created ≡ Err OpRefused.PowerCut → IsSavedWith Ending.PowerCut (cut_text power.steps) rest holding.areas rest.contents (outcome_of answer)) }
+    ensures refused { IfOk result (λ answer. (f : Refused) → created ≡ Err f → f ≢ OpRefused.PowerCut → outcome_of answer ≡ refused_outcome f) }
+    ensures memory { IfOk result (λ _. created ≢ Err OpRefused.OutOfMemory) }
+{
+    match created {
+        Ok(()) => done_answer(alloc, rest, holding, choose),
+        Err(refused) => {
+            if is_cut(refused) {
+                cut_answer(alloc, power, rest, holding, choose)
+            } else {
+                refused_answer(alloc, refused)
+            }
+        }
+    }
+}
+
+/// The answer to a create on what is held, under a fuse.
+fn held_answer<C: Chooser>(
+    alloc: Global,
+    holding: Holding,
+    fuse: Fuse,
+    new: &NewSectors,
+    power: Power,
+    rest: Rest,
+    choose: &mut C,
+) -> Result<Answer, AllocError>
+    requires running { holding.stopped ≡ false }
+    requires few_sets { length holding.sets < 2 ^ 32 }
+    requires name { IsGoodName new.now.name }
+    requires rest { IsRest rest }
+    requires count { length holding.areas ≡ length rest.contents }
+    requires usable { AreUsable holding.sets rest.contents }
+    ensures refused { IfOk result (λ answer. (f : Refused) → refusal_for holding.sets holding.areas new.now ≡ Some f → outcome_of answer ≡ refused_outcome f) }
+    ensures went { IfOk result (λ answer. refusal_for holding.sets holding.areas new.now ≡ None → GoesOn rest power holding.sets holding.areas fuse new.now (outcome_of answer)) }
+{
+    let mut holding = holding;
+    let mut fuse = fuse;
+    let Rest {
+        nfit_bytes,
+        contents,
+        bad,
+    } = rest;
+    let mut modules = contents.into_vec();
+    let created = create_sectors(alloc, &mut holding, &mut modules, &mut fuse, new);
+    let rest = Rest {
+        nfit_bytes,
+        contents: Items::from_vec(modules),
+        bad,
+    };
+    created_answer(alloc, created, power, rest, holding, choose)
+}
+
+/// The answer to a create on areas over interleave sets: recovery first.
+fn recovered_answer<C: Chooser>(
+    alloc: Global,
+    sets: Items<InterleaveSet>,
+    areas: Items<Area>,
+    new: &NewSectors,
+    power: Power,
+    rest: Rest,
+    choose: &mut C,
+) -> Result<Answer, AllocError>
+    requires few_sets { length sets < 2 ^ 32 }
+    requires regions { AreRegions sets }
+    requires held { AreHeld areas }
+    requires name { IsGoodName new.now.name }
+    requires rest { IsRest rest }
+    requires count { length areas ≡ length rest.contents }
+    requires usable { AreUsable sets rest.contents }
+    ensures { IfOk result (λ answer. GoesFrom rest power sets areas new.now (outcome_of answer)) }
+{
+    let mut holding = Holding::of(alloc, sets, areas.into_vec())?;
+    let mut fuse = fuse_of(power);
+    match holding.recover(&mut fuse) {
+        Ok(()) => held_answer(alloc, holding, fuse, new, power, rest, choose),
+        Err(PowerCut) => stopped_answer(alloc, power, rest, holding, choose),
+    }
+}
+
+/// The answer to a create on a registry that is opened.
+fn opened_answer<C: Chooser>(
+    alloc: Global,
+    registry: Registry,
+    new: &NewSectors,
+    power: Power,
+    rest: Rest,
+    choose: &mut C,
+) -> Result<Answer, AllocError>
+    requires few_sets { length registry.sets < 2 ^ 32 }
+    requires regions { AreRegions registry.sets }
+    requires held { AreHeld registry.areas }
+    requires name { IsGoodName new.now.name }
+    requires rest { IsRest rest }
+    requires count { length registry.areas ≡ length rest.contents }
+    requires usable { AreUsable registry.sets rest.contents }
+    ensures { IfOk result (λ answer. GoesFrom rest power registry.sets registry.areas new.now (outcome_of answer)) }
+{
+    let (sets, areas) = registry.into_parts();
+    recovered_answer(alloc, sets, areas, new, power, rest, choose)
+}
+
+/// The answer of `create --mode sector` on an image set: `ok` and the set with the changes of recovery, the formatted arena
+/// and the labels; `cut N` and what a power cut after N steps of these leaves of it; or the first reason for which the
+/// command is refused once recovery has made its changes, which saves nothing; or the first region that is no interleave
+/// set, or the least two UUIDs of which extents meet. Contents outside the namespace's extents are saved as they were
+/// loaded. (UEFI 2.10, sections 6.2 and 13.19; the refusals and the order of steps are this project's rules.)
+///
+/// The set was loaded, and the name has no zero byte. The one error is want of memory.
+pub fn sectors_answer<C: Chooser>(
+    alloc: Global,
+    new: &NewSectors,
+    power: Power,
+    loaded: Loaded,
+    choose: &mut C,
+) -> Result<Answer, AllocError>
+    requires sound { IsSound loaded }
+    requires name { IsGoodName new.now.name }
+    ensures { IfOk result (λ answer. SectorsCome new.now power (image_set_in loaded) (outcome_of answer)) }
+{
+    loaded_sets_are_usable();
+    let Loaded {
+        nfit,
+        nfit_bytes,
+        labels,
+        contents,
+        bad,
+    } = loaded;
+    let rest = Rest {
+        nfit_bytes,
+        contents,
+        bad,
+    };
+    let areas = open_areas(alloc, labels)?;
+    match Registry::open_all(alloc, nfit, areas) {
+        Ok(registry) => opened_answer(alloc, registry, new, power, rest, choose),
+        Err(fault) => open_fault_answer(alloc, fault),
+    }
+}

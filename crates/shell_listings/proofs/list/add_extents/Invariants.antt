@@ -1,6 +1,0 @@
-use Rattle.std.proofs.Common.{◌≡◌, ◌++◌, drop}
-use Rattle.shell_listings.specs.List.{extent_lines}
-use Rattle.shell_listings.proofs.list.add_extents.Given as goal
-
-abbrev pub invariant-loop-extent : goal.invariant-loop-extent
-invariant-loop-extent l = l.text.items ++ extent_lines (drop l.extent-index l.extents) ≡ l.fn.text.items ++ extent_lines l.extents

@@ -1,6 +1,0 @@
-use Rattle.std.proofs.Common.{◌≡◌, ◌*◌, ◌≤◌, ◌^◌, take}
-use Rattle.shell_listings.specs.List.{size_in}
-use Rattle.shell_listings.proofs.list.size_in.Given as goal
-
-abbrev pub invariant-loop-extent : goal.invariant-loop-extent
-invariant-loop-extent l = (l.size ≡ size_in (take l.extent-index l.extents)) × (l.size ≤ l.extent-index * 2 ^ 64)

@@ -1,3 +1,0 @@
-pub mod Labels
-pub mod Nfit
-pub mod List

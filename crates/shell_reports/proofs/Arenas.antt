@@ -1,0 +1,88 @@
+-- From the set that was loaded to a namespace's arenas.
+use Rattle.std.proofs.Common.{◌≡◌, ℕ, suc, List, [], ◌∷◌, map, Option, Some, None, Ok, Err, refl, sym, ap, ◌∙◌}
+use Rattle.std.specs.List.{All}
+use Rattle.std.specs.Option.{option_map}
+use Rattle.std.proofs.lemmas.Nat.{from_le_bytes-to_le_bytes_8}
+use Rattle.std.proofs.lemmas.List.Elements.{All-head, All-tail}
+use Rattle.nvd_words.specs.Checks.{value_unless}
+use Rattle.cut_words.specs.Words.{Words, settled}
+use Rattle.cut_words.specs.WordBytes.{bytes_of, words_in}
+use Rattle.nfit_reader.specs.declared.table.Nfit.{Nfit}
+use Rattle.interleave.proofs.Checked.{no_first, no_fault}
+use Rattle.label_set.specs.declared.placed.Placed.{Placed}
+use Rattle.namespace_areas.specs.declared.area.Area.{Area}
+use Rattle.namespace_areas.specs.Areas.{shown_in, labels_of}
+use Rattle.namespace_map.specs.Namespaces.{placed_of, entry_at}
+use Rattle.namespace_areas.specs.Finding.{found_of}
+use Rattle.namespace_ops.specs.declared.registry.OpenFault.{OpenFault}
+use Rattle.namespace_ops.specs.Opening.{Opened, opening, finding, set_fault_from, sets_of, overlap_fault}
+use Rattle.image_set.specs.declared.loading.Loaded.{Loaded}
+use Rattle.image_set.specs.Load.{bytes_kept, image_set_in}
+use Rattle.image_set.specs.Sound.{IsContents, AreWords}
+use Rattle.arena_open.specs.declared.state.ArenaState.{ArenaState}
+use Rattle.sector_namespaces.specs.View.{rows_of}
+use Rattle.shell_reports.specs.Outcome.{Outcome}
+use Rattle.shell_reports.specs.List.{shown_by, open_outcome}
+use Rattle.shell_reports.specs.Sectors.{on_found, on_sectors, registry_fault, unless_fault}
+
+-- ---- words of contents, and back
+
+words_back : (words : List ℕ) → AreWords words → words_in (bytes_of words) ≡ words
+words_back [] fit = refl
+words_back (w ∷ words) fit =
+    λ i. from_le_bytes-to_le_bytes_8 w (fit.each 0) i ∷ words_back words (record { each = λ k. fit.each (suc k) }) i
+
+pub rows_back : (contents : List Words) → All IsContents contents → rows_of (map bytes_kept contents) ≡ contents
+rows_back [] sound = refl
+rows_back (w ∷ contents) sound =
+    let here : IsContents w = All-head IsContents w contents sound in
+    let one : settled (words_in (bytes_of w.kept)) ≡ w = ap settled (words_back w.kept here.fit) ∙ sym here.kept in
+    λ i. one i ∷ rows_back contents (All-tail IsContents w contents sound) i
+
+-- ---- a registry that was opened
+
+pub record IsOpened (nfit : Nfit) (areas : List Area) (registry : Opened) : Type 0 where
+  pub none : registry_fault nfit (labels_of areas) ≡ None
+  pub is : registry ≡ record { sets = sets_of nfit; areas = areas }
+
+pub opened_is : (nfit : Nfit) (areas : List Area) (registry : Opened) → Ok registry ≡ opening nfit areas → IsOpened nfit areas registry
+unfolding opening
+opened_is nfit areas registry e =
+    let parts = no_fault (record { sets = sets_of nfit; areas = areas }) registry (registry_fault nfit (labels_of areas)) (sym e) in
+    record { none = parts.0; is = sym parts.1 }
+
+pub set_none : (nfit : Nfit) (labels : List Placed) → registry_fault nfit labels ≡ None → set_fault_from 0 nfit.regions ≡ None
+set_none nfit labels e = (no_first (set_fault_from 0 nfit.regions) (overlap_fault labels ∷ []) e).0
+
+fault_by : (value : Opened) (o : Option OpenFault) (fault : OpenFault) → Err fault ≡ value_unless value o → o ≡ Some fault
+fault_by value None fault e = absurd (let f = e in cc)
+fault_by value (Some found) fault e = (let same : found ≡ fault = cc in ap Some same)
+
+pub fault_is : (nfit : Nfit) (areas : List Area) (fault : OpenFault) → Err fault ≡ opening nfit areas → registry_fault nfit (labels_of areas) ≡ Some fault
+unfolding opening
+fault_is nfit areas fault e = fault_by (record { sets = sets_of nfit; areas = areas }) (registry_fault nfit (labels_of areas)) fault e
+
+-- ---- what a command comes to
+
+module _ (loaded : Loaded) (uuid : List ℕ) (areas : List Area) (shown : map shown_in areas ≡ map shown_by (map (option_map bytes_kept) loaded.labels)) where
+  labels_are : placed_of (map shown_by (map (option_map bytes_kept) loaded.labels)) ≡ labels_of areas
+  labels_are = ap placed_of (sym shown)
+
+  pub on_open : (registry : Opened) → Ok registry ≡ opening loaded.nfit areas → (f : List ArenaState → Outcome)
+      → on_found uuid f registry.sets (map bytes_kept loaded.contents) (finding registry uuid) ≡ on_sectors f (image_set_in loaded) uuid
+  unfolding on_sectors image_set_in finding
+  on_open registry e f =
+      let o : IsOpened loaded.nfit areas registry = opened_is loaded.nfit areas registry e in
+      ap (λ (r : Opened). on_found uuid f r.sets (map bytes_kept loaded.contents) (found_of r.sets (entry_at r.sets (labels_of r.areas) uuid))) o.is
+      ∙ ap (λ (fault : Option OpenFault). unless_fault fault (on_found uuid f (sets_of loaded.nfit) (map bytes_kept loaded.contents)
+      (found_of (sets_of loaded.nfit) (entry_at (sets_of loaded.nfit) (labels_of areas) uuid)))) (sym o.none)
+      ∙ ap (λ (labels : List Placed). unless_fault (registry_fault loaded.nfit labels) (on_found uuid f (sets_of loaded.nfit) (map bytes_kept loaded.contents)
+      (found_of (sets_of loaded.nfit) (entry_at (sets_of loaded.nfit) labels uuid)))) (sym labels_are)
+
+  pub on_fault : (fault : OpenFault) → Err fault ≡ opening loaded.nfit areas → (f : List ArenaState → Outcome) → on_sectors f (image_set_in loaded) uuid ≡ open_outcome fault
+  unfolding on_sectors image_set_in
+  on_fault fault e f =
+      ap (λ (labels : List Placed). unless_fault (registry_fault loaded.nfit labels) (on_found uuid f (sets_of loaded.nfit) (map bytes_kept loaded.contents)
+      (found_of (sets_of loaded.nfit) (entry_at (sets_of loaded.nfit) labels uuid)))) labels_are
+      ∙ ap (λ (o : Option OpenFault). unless_fault o (on_found uuid f (sets_of loaded.nfit) (map bytes_kept loaded.contents)
+      (found_of (sets_of loaded.nfit) (entry_at (sets_of loaded.nfit) (labels_of areas) uuid)))) (fault_is loaded.nfit areas fault e)

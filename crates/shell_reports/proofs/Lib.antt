@@ -1,0 +1,7 @@
+pub mod Utf8
+pub mod More
+pub mod Faults
+pub mod Regions
+pub mod Listing
+pub mod Arenas
+pub mod Causes

@@ -1,0 +1,51 @@
+-- What `list` answers, by the registry.
+use Rattle.std.proofs.Common.{◌≡◌, ◌≢◌, List, [], ◌∷◌, Option, Some, None, Result, Ok, Err, map, sym, ap, ◌∙◌}
+use Rattle.std.specs.Prelude.{IfOk}
+use Rattle.nvd_words.specs.Checks.{first_fault, value_unless}
+use Rattle.nfit_reader.specs.declared.table.Nfit.{Nfit}
+use Rattle.namespace_map.specs.declared.listed.Namespace.{Namespace}
+use Rattle.namespace_map.specs.Namespaces.{entries_of, namespace_of}
+use Rattle.namespace_areas.specs.declared.area.Area.{Area}
+use Rattle.namespace_areas.specs.Areas.{labels_of}
+use Rattle.namespace_ops.specs.declared.registry.OpenFault.{OpenFault}
+use Rattle.namespace_ops.specs.declared.registry.OpenFault.TheVariants.{OutOfMemory}
+use Rattle.namespace_ops.specs.Opening.{Opened, listing, opening, overlap_fault, set_fault_from, sets_of}
+use Rattle.shell_reports.specs.declared.outcome.Answer.{Answer}
+use Rattle.shell_reports.specs.Outcome.{Outcome}
+use Rattle.shell_reports.specs.Saved.{outcome_of}
+use Rattle.shell_reports.specs.List.{listed_by, open_outcome}
+
+module _ (nfit : Nfit) (areas : List Area) where
+  abbrev fault : Option OpenFault
+  fault = first_fault (set_fault_from 0 nfit.regions ∷ overlap_fault (labels_of areas) ∷ [])
+
+  abbrev all : Opened
+  all = record { sets = sets_of nfit; areas = areas }
+
+  abbrev names : List Namespace
+  names = map (λ e. namespace_of e 0) (entries_of (sets_of nfit) (labels_of areas))
+
+  lists_by : (o : Option OpenFault) (r : Opened) → Ok r ≡ value_unless all o → value_unless names o ≡ Ok (listing r)
+  unfolding listing
+  lists_by None r is = let same : r ≡ all = (let e = is in cc) in ap (λ (x : Opened). Ok (map (λ e. namespace_of e 0) (entries_of x.sets (labels_of x.areas)))) (sym same)
+  lists_by (Some f) r is = absurd (let e = is in cc)
+
+  refuses_by : (o : Option OpenFault) (f : OpenFault) → Err f ≡ value_unless all o → value_unless names o ≡ Err f
+  refuses_by None f is = absurd (let e = is in cc)
+  refuses_by (Some g) f is = ap (λ (x : OpenFault). Err x) (let e = is in cc)
+
+  -- a registry that is open lists what the labels make
+  pub lists : (r : Opened) → Ok r ≡ opening nfit areas → listed_by nfit (labels_of areas) ≡ Ok (listing r)
+  unfolding opening
+  lists r is = lists_by fault r is
+
+  -- one that isn't is refused for the same fault
+  pub refuses : (f : OpenFault) → Err f ≡ opening nfit areas → listed_by nfit (labels_of areas) ≡ Err f
+  unfolding opening
+  refuses f is = refuses_by fault f is
+
+-- the answer on a registry that isn't opened
+pub fault_said : {E : Type 0} (r : Result Answer E) (f : OpenFault) (due : Outcome) → (f ≢ OutOfMemory → open_outcome f ≡ due) → IfOk r (λ answer. outcome_of answer ≡ open_outcome f)
+    → IfOk r (λ _. f ≢ OutOfMemory) → IfOk r (λ answer. outcome_of answer ≡ due)
+fault_said (Ok answer) f due is said finding = said ∙ is finding
+fault_said (Err e) f due is said finding = tt

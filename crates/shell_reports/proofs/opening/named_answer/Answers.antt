@@ -1,0 +1,18 @@
+use Rattle.std.proofs.Common.{◌≡◌, ◌∙◌, map, ap, sym, subst}
+use Rattle.std.specs.Prelude.{IfOk}
+use Rattle.image_set.specs.Load.{bytes_kept}
+use Rattle.sector_namespaces.specs.View.{opened_view, view_words}
+use Rattle.shell_reports.specs.Outcome.{Outcome}
+use Rattle.shell_reports.specs.Saved.{outcome_of}
+use Rattle.shell_reports.specs.Asked.{asked}
+use Rattle.shell_reports.specs.Sectors.{on_arenas, on_found}
+use Rattle.shell_reports.proofs.Arenas.{rows_back}
+use Rattle.shell_reports.proofs.opening.named_answer.Goals as goal
+
+pub returns-in-Ok : goal.returns-in-Ok
+returns-in-Ok c =
+    let same : on_arenas c.args.uuid.now (asked c.args.ask) (opened_view (view_words c.args.registry.now.sets c.in-Ok.found c.args.contents) c.args.uuid.now)
+    ≡ on_found c.args.uuid.now (asked c.args.ask) c.args.registry.now.sets (map bytes_kept c.args.contents) _ =
+    (λ i. on_arenas c.args.uuid.now (asked c.args.ask) (opened_view (view_words c.args.registry.now.sets c.in-Ok.found (sym (rows_back c.args.contents c.requires.rows) i)) c.args.uuid.now))
+    ∙ ap (on_found c.args.uuid.now (asked c.args.ask) c.args.registry.now.sets (map bytes_kept c.args.contents)) c.in-Ok.ensures.found in
+    subst (λ (o : Outcome). IfOk c.found_answer.result (λ answer. outcome_of answer ≡ o)) same c.found_answer.ensures

@@ -1,0 +1,76 @@
+-- What is said of an arena that isn't opened, and of a command that is refused: this project's rules.
+use Rattle.std.specs.Prelude.{ℕ, List, [], ◌∷◌, ◌++◌, None, codes}
+use Rattle.std.specs.Fmt.{decimal}
+use Rattle.arena_layout.specs.declared.layout.LayoutField.{LayoutField}
+use Rattle.arena_layout.specs.declared.layout.LayoutField.TheVariants as field
+use Rattle.arena_layout.specs.declared.info.InfoFault.{InfoFault}
+use Rattle.arena_layout.specs.declared.info.InfoFault.TheVariants as info
+use Rattle.flog.specs.declared.group.FlogFault.{FlogFault}
+use Rattle.flog.specs.declared.group.FlogFault.TheVariants as flog
+use Rattle.map_table.specs.declared.check.BlockFault.{BlockFault}
+use Rattle.map_table.specs.declared.check.BlockFault.TheVariants as block
+use Rattle.arena_open.specs.declared.refused.OpenRefused.{OpenRefused}
+use Rattle.arena_open.specs.declared.refused.OpenRefused.TheVariants as open_refused
+use Rattle.arena_open.specs.declared.chain_refused.ChainRefused.{ChainRefused}
+use Rattle.namespace_map.specs.declared.refused.OpRefused.{OpRefused}
+use Rattle.namespace_map.specs.declared.refused.OpRefused.TheVariants as op
+use Rattle.shell_reports.specs.declared.status.Ending.TheVariants as ending
+use Rattle.shell_reports.specs.Outcome.{Outcome, image_fault, joined, lf}
+use Rattle.shell_reports.specs.Texts.{uuid_text}
+
+-- ---- faults of an arena
+
+abbrev pub field_text : LayoutField → List ℕ
+field_text field.Sector = codes "Sector"
+field_text field.Inner = codes "Inner"
+field_text field.Free = codes "Free"
+field_text field.Blocks = codes "Blocks"
+field_text field.Areas = codes "Areas"
+field_text field.Size = codes "Size"
+field_text field.Next = codes "Next"
+
+abbrev pub info_text : InfoFault → List ℕ
+info_text info.Signature = codes "Info Signature"
+info_text info.Checksum = codes "Info Checksum"
+info_text (info.Version major minor) = codes "Info Version " ++ (decimal major ++ (codes " " ++ decimal minor))
+info_text info.Parent = codes "Info Parent"
+info_text info.ErrorState = codes "Info ErrorState"
+info_text (info.Layout field) = codes "Info Layout " ++ field_text field
+
+abbrev pub flog_text : ℕ → FlogFault → List ℕ
+flog_text lane flog.Padding = codes "Flog " ++ (decimal lane ++ codes " Padding")
+flog_text lane (flog.Sequences a b) = codes "Flog " ++ (decimal lane ++ (codes " Sequences " ++ (decimal a ++ (codes " " ++ decimal b))))
+flog_text lane (flog.Range value) = codes "Flog " ++ (decimal lane ++ (codes " Range " ++ decimal value))
+
+-- want of memory is no finding and has no text
+abbrev pub block_text : BlockFault → List ℕ
+block_text (block.Range number) = codes "Block Range " ++ decimal number
+block_text (block.Twice number) = codes "Block Twice " ++ decimal number
+block_text (block.Count said had) = codes "Block Count " ++ (decimal said ++ (codes " " ++ decimal had))
+block_text block.OutOfMemory = []
+
+-- the commands open arenas with power that stays on, so no cut is told
+abbrev pub open_refused_text : OpenRefused → List ℕ
+open_refused_text (open_refused.Info fault) = info_text fault
+open_refused_text (open_refused.Flog lane fault) = flog_text lane fault
+open_refused_text (open_refused.Block fault) = block_text fault
+open_refused_text open_refused.PowerCut = codes "PowerCut"
+open_refused_text open_refused.OutOfMemory = []
+
+-- image arena UUID K FAULT
+abbrev pub arena_outcome : List ℕ → ChainRefused → Outcome
+arena_outcome uuid fault =
+    image_fault (codes "arena " ∷ uuid_text uuid ∷ codes " " ∷ decimal fault.arena ∷ codes " " ∷ open_refused_text fault.fault ∷ lf ∷ [])
+
+-- ---- refusals
+
+-- refused REFUSAL
+abbrev pub refused_outcome : List ℕ → Outcome
+refused_outcome refusal = record { ending = ending.Refused; text = joined (codes "refused " ∷ refusal ∷ lf ∷ []); saved = None }
+
+-- why a namespace isn't found; nothing else refuses to find one
+abbrev pub find_refusal : OpRefused → List ℕ
+find_refusal op.NoSuch = codes "NoSuch"
+find_refusal op.NotComplete = codes "NotComplete"
+find_refusal op.NotSector = codes "NotSector"
+find_refusal other = []

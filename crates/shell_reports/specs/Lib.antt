@@ -1,0 +1,12 @@
+pub mod Outcome
+pub mod Saved
+pub mod Texts
+pub mod LoadFaults
+pub mod Cut
+pub mod Labels
+pub mod Nfit
+pub mod List
+pub mod Faults
+pub mod Sectors
+pub mod Asked
+pub mod Causes

@@ -1,0 +1,126 @@
+//! The texts of why an arena isn't opened, and of why a namespace isn't found.
+ghost use Rattle.std.specs.Prelude.{◌≡◌, ◌≢◌, ◌∷◌, [], IfOk, None, codes, string_bytes};
+ghost use Rattle.shell_reports.specs.Outcome.{joined, lf};
+ghost use Rattle.shell_reports.specs.Saved.{outcome_of};
+ghost use Rattle.shell_reports.specs.Faults.{arena_outcome, block_text, field_text, find_refusal, flog_text, info_text, open_refused_text, refused_outcome};
+
+use crate::{Answer, Ending, image_answer};
+use arena_layout::{InfoFault, LayoutField};
+use arena_open::{ChainRefused, OpenRefused};
+use flog::FlogFault;
+use map_table::BlockFault;
+use namespace_map::OpRefused;
+use std::alloc::{AllocError, Global};
+use uuid::Uuid;
+
+/// The name of a part of the layout relation.
+fn field_text(field: LayoutField) -> &'static str
+    ensures { result.now ≡ field_text field }
+{
+    match field {
+        LayoutField::Sector => "Sector",
+        LayoutField::Inner => "Inner",
+        LayoutField::Free => "Free",
+        LayoutField::Blocks => "Blocks",
+        LayoutField::Areas => "Areas",
+        LayoutField::Size => "Size",
+        LayoutField::Next => "Next",
+    }
+}
+
+/// What is wrong with an info block.
+fn info_text(alloc: Global, fault: InfoFault) -> Result<String, AllocError>
+    ensures { IfOk result (λ text. string_bytes text ≡ info_text fault) }
+{
+    match fault {
+        InfoFault::Signature => String::from_str(alloc, "Info Signature"),
+        InfoFault::Checksum => String::from_str(alloc, "Info Checksum"),
+        InfoFault::Version { major, minor } => {
+            format!(in alloc; "Info Version {} {}", major, minor)
+        }
+        InfoFault::Parent => String::from_str(alloc, "Info Parent"),
+        InfoFault::ErrorState => String::from_str(alloc, "Info ErrorState"),
+        InfoFault::Layout { field } => format!(in alloc; "Info Layout {}", field_text(field)),
+    }
+}
+
+/// What is wrong with a lane's log group.
+fn flog_text(alloc: Global, lane: u32, fault: FlogFault) -> Result<String, AllocError>
+    ensures { IfOk result (λ text. string_bytes text ≡ flog_text lane fault) }
+{
+    match fault {
+        FlogFault::Padding => format!(in alloc; "Flog {} Padding", lane),
+        FlogFault::Sequences { a, b } => format!(in alloc; "Flog {} Sequences {} {}", lane, a, b),
+        FlogFault::Range { value } => format!(in alloc; "Flog {} Range {}", lane, value),
+    }
+}
+
+/// What is wrong with the blocks; want of memory is no finding.
+fn block_text(alloc: Global, fault: BlockFault) -> Result<String, AllocError>
+    ensures { IfOk result (λ text. string_bytes text ≡ block_text fault) }
+{
+    match fault {
+        BlockFault::Range { block } => format!(in alloc; "Block Range {}", block),
+        BlockFault::Twice { block } => format!(in alloc; "Block Twice {}", block),
+        BlockFault::Count { said, had } => format!(in alloc; "Block Count {} {}", said, had),
+        BlockFault::OutOfMemory => Err(AllocError),
+    }
+}
+
+/// Why an arena isn't opened; want of memory is no finding.
+fn open_refused_text(alloc: Global, refused: OpenRefused) -> Result<String, AllocError>
+    ensures text { IfOk result (λ text. string_bytes text ≡ open_refused_text refused) }
+    ensures finding { IfOk result (λ _. refused ≢ OpenRefused.OutOfMemory) }
+{
+    match refused {
+        OpenRefused::Info(fault) => info_text(alloc, fault),
+        OpenRefused::Flog { lane, fault } => flog_text(alloc, lane, fault),
+        OpenRefused::Block(fault) => block_text(alloc, fault),
+        OpenRefused::PowerCut => String::from_str(alloc, "PowerCut"),
+        OpenRefused::OutOfMemory => Err(AllocError),
+    }
+}
+
+/// The answer on a namespace whose arenas aren't opened.
+pub(crate) fn arena_answer(
+    alloc: Global,
+    uuid: &Uuid,
+    refused: ChainRefused,
+) -> Result<Answer, AllocError>
+    ensures text { IfOk result (λ answer. outcome_of answer ≡ arena_outcome uuid.now refused) }
+    ensures finding { IfOk result (λ _. refused.fault ≢ OpenRefused.OutOfMemory) }
+{
+    let fault = open_refused_text(alloc, refused.fault)?;
+    Ok(image_answer(format!(in alloc; "image arena {} {} {}\n", uuid, refused.arena, fault)?))
+}
+
+/// Why a namespace isn't found.
+fn find_refusal(refused: OpRefused) -> &'static str
+    ensures { result.now ≡ find_refusal refused }
+{
+    match refused {
+        OpRefused::NoSuch => "NoSuch",
+        OpRefused::NotComplete => "NotComplete",
+        OpRefused::NotSector => "NotSector",
+        _ => "",
+    }
+}
+
+/// The answer of a command that is refused.
+pub(crate) fn refused_answer(alloc: Global, refusal: &str) -> Result<Answer, AllocError>
+    ensures { IfOk result (λ answer. outcome_of answer ≡ refused_outcome refusal.now) }
+{
+    let text = format!(in alloc; "refused {}\n", refusal)?;
+    Ok(Answer {
+        ending: Ending::Refused,
+        text: text.into_bytes(),
+        saved: None,
+    })
+}
+
+/// The answer on a namespace that isn't found.
+pub(crate) fn unfound_answer(alloc: Global, refused: OpRefused) -> Result<Answer, AllocError>
+    ensures { IfOk result (λ answer. outcome_of answer ≡ refused_outcome (find_refusal refused)) }
+{
+    refused_answer(alloc, find_refusal(refused))
+}

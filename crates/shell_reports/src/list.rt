@@ -1,0 +1,266 @@
+//! The command `list`: the namespaces that the labels of all modules make.
+ghost use Rattle.std.specs.Prelude.{◌≡◌, ◌≢◌, ◌*◌, ◌++◌, ◌≤◌, ◌<◌, ◌^◌, ℕ, List, IfOk, OnOk, Result, Ok, Err, length, map, string_bytes};
+ghost use Rattle.std.specs.Option.{option_map};
+ghost use Rattle.std.specs.List.{All};
+ghost use Rattle.cut_words.specs.Words.{settled};
+ghost use Rattle.label_index.specs.Area.{IsAreaSize};
+ghost use Rattle.label_area.specs.Opened.{opened};
+ghost use Rattle.image_set.specs.Load.{bytes_kept, image_set_in};
+ghost use Rattle.image_set.specs.Sound.{IsArea, IsSound};
+ghost use Rattle.namespace_areas.specs.Areas.{AreRunning, IsRunning, shown_in};
+ghost use Rattle.namespace_ops.specs.Opening.{listing};
+ghost use Rattle.shell_reports.specs.Outcome.{printed};
+ghost use Rattle.shell_reports.specs.Saved.{outcome_of};
+ghost use Rattle.shell_reports.specs.List.{shown_by, why_text, field_text, status_text, region_text, size_in, facts_text, namespace_line, extent_line, extent_lines, namespace_lines, list_text, open_fault_text, open_outcome, list_outcome};
+
+use crate::nfit::set_fault_text;
+use crate::{Answer, image_answer, mode_text, name_text, printed_answer};
+use cut_words::CutWords;
+use image_set::Loaded;
+use interleave::SetFault;
+use label_area::{AreaFault, AreaRefused, open_area};
+use label_set::{Field, SetStatus, Why};
+use namespace_map::Namespace;
+use namespace_ops::{Area, OpenFault, Registry};
+use nvd_words::Items;
+use region_space::Extent;
+use std::alloc::{AllocError, Global};
+
+/// An area that isn't open: want of memory is no finding about it.
+fn refused_area(refused: AreaRefused) -> Result<Area, AllocError>
+    ensures same { IfOk result (λ area. area ≡ Area.Refused refused) }
+    ensures finding { IfOk result (λ _. refused.fault ≢ AreaFault.OutOfMemory) }
+{
+    match refused.fault {
+        AreaFault::OutOfMemory => Err(AllocError),
+        _ => Ok(Area::Refused(refused)),
+    }
+}
+
+/// The label area of a module that has one.
+fn opened_area(alloc: Global, words: CutWords) -> Result<Area, AllocError>
+    requires settled { words ≡ settled words.kept }
+    requires size { IsAreaSize (8 * length words.kept) }
+    ensures shown { IfOk result (λ area. shown_in area ≡ shown_by (Some (bytes_kept words))) }
+    ensures running { IfOk result IsRunning }
+{
+    match open_area(alloc, words) {
+        Ok(area) => Ok(Area::Ready(area)),
+        Err(refused) => refused_area(refused),
+    }
+}
+
+/// The label area of a module, if it has one.
+fn area_of(alloc: Global, area: Option<CutWords>) -> Result<Area, AllocError>
+    requires { IsArea area }
+    ensures shown { IfOk result (λ opened. shown_in opened ≡ shown_by (option_map bytes_kept area)) }
+    ensures running { IfOk result IsRunning }
+{
+    match area {
+        Some(words) => opened_area(alloc, words),
+        None => Ok(Area::Absent),
+    }
+}
+
+/// The label areas of all modules of a set that was loaded, so that each has a label area's size and no word of it is
+/// pending. An area that has no valid index block is refused, and its words stay with it. The one error is want of memory.
+pub fn areas_of(alloc: Global, labels: Items<Option<CutWords>>) -> Result<Items<Area>, AllocError>
+    requires { All IsArea labels }
+    ensures shown { IfOk result (λ areas. map shown_in areas ≡ map shown_by (map (option_map bytes_kept) labels)) }
+    ensures running { IfOk result AreRunning }
+    ensures count { IfOk result (λ areas. length areas ≡ length labels) }
+{
+    let mut areas = Items::new(alloc);
+    for area in labels.into_vec() {
+        areas.push(area_of(alloc, area)?)?;
+    }
+    Ok(areas)
+}
+
+fn field_text(field: Field) -> &'static str
+    ensures { result.now ≡ field_text field }
+{
+    match field {
+        Field::Count => "Count",
+        Field::Dpa => "Dpa",
+        Field::RawSize => "RawSize",
+        Field::LbaSize => "LbaSize",
+        Field::Guids => "Guids",
+        Field::Names => "Names",
+    }
+}
+
+/// Why labels make no namespace.
+fn why_text(alloc: Global, why: Why) -> Result<String, AllocError>
+    ensures { IfOk result (λ text. string_bytes text ≡ why_text why) }
+{
+    match why {
+        Why::Twice { module } => format!(in alloc; "Twice {}", module),
+        Why::Outside { module } => format!(in alloc; "Outside {}", module),
+        Why::Cookie { module, found } => format!(in alloc; "Cookie {} {}", module, found),
+        Why::Position { module, found } => format!(in alloc; "Position {} {}", module, found),
+        Why::Differs { field } => format!(in alloc; "Differs {}", field_text(field)),
+        Why::Unaligned { module } => format!(in alloc; "Unaligned {}", module),
+        Why::Missing { module } => format!(in alloc; "Missing {}", module),
+    }
+}
+
+/// Labels that make no namespace.
+fn incomplete_text(alloc: Global, why: Why) -> Result<String, AllocError>
+    ensures { IfOk result (λ text. string_bytes text ≡ status_text (SetStatus.Incomplete why)) }
+{
+    let why = why_text(alloc, why)?;
+    format!(in alloc; "incomplete {}", why)
+}
+
+/// What labels make.
+fn status_text(alloc: Global, status: &SetStatus) -> Result<String, AllocError>
+    ensures { IfOk result (λ text. string_bytes text ≡ status_text status.now) }
+{
+    match *status {
+        SetStatus::Complete { pending: false, .. } => String::from_str(alloc, "complete"),
+        SetStatus::Complete { pending: true, .. } => String::from_str(alloc, "complete pending"),
+        SetStatus::Unfinished => String::from_str(alloc, "unfinished"),
+        SetStatus::Local => String::from_str(alloc, "local"),
+        SetStatus::Incomplete { why } => incomplete_text(alloc, why),
+    }
+}
+
+/// The number of a region, or `-` where there is none.
+fn region_text(alloc: Global, region: Option<u32>) -> Result<String, AllocError>
+    ensures { IfOk result (λ text. string_bytes text ≡ region_text region) }
+{
+    match region {
+        Some(number) => format!(in alloc; "{}", number),
+        None => String::from_str(alloc, "-"),
+    }
+}
+
+/// The bytes of all extents.
+fn size_in(extents: &[Extent]) -> u128
+    requires { length extents.now < 2 ^ 63 }
+    ensures { result ≡ size_in extents.now }
+{
+    let mut size = 0;
+    for extent in extents {
+        size += u128::from(extent.length);
+    }
+    size
+}
+
+/// What a namespace's line says after its name.
+fn facts(alloc: Global, namespace: &Namespace) -> Result<String, AllocError>
+    ensures { IfOk result (λ text. string_bytes text ≡ facts_text namespace.now) }
+{
+    let region = region_text(alloc, namespace.region)?;
+    let mode = mode_text(alloc, namespace.mode)?;
+    let size = size_in(namespace.extents.as_slice());
+    let status = status_text(alloc, &namespace.status)?;
+    format!(in alloc;
+        " region {} mode {} lba {} size {} {}\n",
+        region, mode, namespace.lba, size, status
+    )
+}
+
+/// The line of a namespace.
+fn namespace_line(alloc: Global, namespace: &Namespace) -> Result<Vec<u8>, AllocError>
+    ensures { IfOk result (λ line. line.items ≡ namespace_line namespace.now) }
+{
+    let mut line = format!(in alloc; "ns {} ", namespace.uuid)?.into_bytes();
+    line.extend_from_slice(&name_text(alloc, namespace.name.bytes())?)?;
+    line.extend_from_slice(facts(alloc, namespace)?.as_bytes())?;
+    Ok(line)
+}
+
+/// The line of an extent.
+fn extent_line(alloc: Global, extent: &Extent) -> Result<String, AllocError>
+    ensures { IfOk result (λ text. string_bytes text ≡ extent_line extent.now) }
+{
+    format!(in alloc;
+        "extent {} {} {}\n",
+        extent.module, extent.start, extent.length
+    )
+}
+
+/// Adds the lines of extents.
+fn add_extents(alloc: Global, extents: &[Extent], text: &mut Vec<u8>) -> Result<(), AllocError>
+    ensures { OnOk result (text.new.items ≡ text.old.items ++ extent_lines extents.now) }
+{
+    for extent in extents {
+        text.extend_from_slice(extent_line(alloc, extent)?.as_bytes())?;
+    }
+    Ok(())
+}
+
+/// Adds the lines of a namespace.
+fn add_namespace(alloc: Global, namespace: &Namespace, text: &mut Vec<u8>) -> Result<(), AllocError>
+    ensures { OnOk result (text.new.items ≡ text.old.items ++ namespace_lines namespace.now) }
+{
+    text.extend_from_slice(&namespace_line(alloc, namespace)?)?;
+    add_extents(alloc, namespace.extents.as_slice(), text)
+}
+
+/// The lines of namespaces.
+fn list_text(alloc: Global, namespaces: &[Namespace]) -> Result<Vec<u8>, AllocError>
+    ensures { IfOk result (λ text. text.items ≡ list_text namespaces.now) }
+{
+    let mut text = Vec::new(alloc);
+    for namespace in namespaces {
+        add_namespace(alloc, namespace, &mut text)?;
+    }
+    Ok(text)
+}
+
+/// The answer on a registry that is open.
+fn open_answer(alloc: Global, registry: &Registry) -> Result<Answer, AllocError>
+    ensures { IfOk result (λ answer. outcome_of answer ≡ printed (list_text (listing registry.now))) }
+{
+    let namespaces = registry.list(alloc)?;
+    Ok(printed_answer(list_text(alloc, namespaces.as_slice())?))
+}
+
+/// A region that is no interleave set.
+fn set_text(alloc: Global, region: u32, fault: SetFault) -> Result<String, AllocError>
+    ensures { IfOk result (λ text. string_bytes text ≡ open_fault_text (OpenFault.Set region fault)) }
+{
+    let fault = set_fault_text(alloc, fault)?;
+    format!(in alloc; "region {} {}", region, fault)
+}
+
+/// Why a registry isn't opened.
+fn open_fault_text(alloc: Global, fault: OpenFault) -> Result<String, AllocError>
+    ensures text { IfOk result (λ text. string_bytes text ≡ open_fault_text fault) }
+    ensures finding { IfOk result (λ _. fault ≢ OpenFault.OutOfMemory) }
+{
+    match fault {
+        OpenFault::Set { region, fault } => set_text(alloc, region, fault),
+        OpenFault::Overlap { a, b } => format!(in alloc; "labels Overlap {} {}", a, b),
+        OpenFault::OutOfMemory => Err(AllocError),
+    }
+}
+
+/// The answer on a registry that isn't opened: the first region that is no interleave set with its fault, or the least two
+/// UUIDs of which extents meet.
+pub fn open_fault_answer(alloc: Global, fault: OpenFault) -> Result<Answer, AllocError>
+    ensures text { IfOk result (λ answer. outcome_of answer ≡ open_outcome fault) }
+    ensures finding { IfOk result (λ _. fault ≢ OpenFault.OutOfMemory) }
+{
+    let fault = open_fault_text(alloc, fault)?;
+    Ok(image_answer(format!(in alloc; "image {}\n", fault)?))
+}
+
+/// The answer of `list` on an image set: a line for each UUID that a label names, rising by the bytes of
+/// the UUIDs, with the lines of its extents; or the first region that is no interleave set, or the first two
+/// UUIDs of which extents meet. A label area that has no valid index block has no labels. The set was
+/// loaded, so each of its label areas has a label area's size. (UEFI 2.10, section 13.19.)
+pub fn list_answer(alloc: Global, loaded: Loaded) -> Result<Answer, AllocError>
+    requires { IsSound loaded }
+    ensures { IfOk result (λ answer. outcome_of answer ≡ list_outcome (image_set_in loaded)) }
+{
+    let Loaded { nfit, labels, .. } = loaded;
+    let areas = areas_of(alloc, labels)?;
+    match Registry::open_all(alloc, nfit, areas) {
+        Ok(registry) => open_answer(alloc, &registry),
+        Err(fault) => open_fault_answer(alloc, fault),
+    }
+}

@@ -1,0 +1,109 @@
+//! The texts of values that stand in lines.
+ghost use Rattle.std.specs.Prelude.{◌≡◌, ◌++◌, ◌∷◌, [], IfOk, string_bytes, codes};
+ghost use Rattle.std.specs.Str.{is_utf8};
+ghost use Rattle.std.specs.List.{list_all};
+ghost use Rattle.hex.specs.Hex.{encode_lower};
+ghost use Rattle.shell_reports.specs.Texts.{is_plain, is_printable, escaped, name_text, mode_text, label_fault_text};
+
+use label_codec::{LabelFault, Mode, SizeField};
+use std::alloc::{AllocError, Global};
+
+/// Whether bytes are UTF-8.
+fn is_text(bytes: &[u8]) -> bool
+    ensures { result ≡ is_utf8 bytes.now }
+{
+    match str::from_utf8(bytes) {
+        Ok(_) => true,
+        Err(_) => false,
+    }
+}
+
+/// Whether a byte isn't a control character of ASCII.
+fn is_plain(byte: u8) -> bool
+    ensures { result ≡ is_plain byte }
+{
+    32 <= byte && byte != 127
+}
+
+fn all_plain(bytes: &[u8]) -> bool
+    ensures { result ≡ list_all is_plain bytes.now }
+{
+    bytes.iter().all(|byte| is_plain(*byte))
+}
+
+/// Whether a name is UTF-8 without control characters.
+fn is_printable(name: &[u8]) -> bool
+    ensures { result ≡ is_printable name.now }
+{
+    is_text(name) && all_plain(name)
+}
+
+/// A text with a backslash before each quotation mark and each backslash.
+fn escaped(alloc: Global, text: &[u8]) -> Result<Vec<u8>, AllocError>
+    ensures { IfOk result (λ bytes. bytes.items ≡ escaped text.now) }
+{
+    let mut bytes = Vec::new(alloc);
+    let mut rest = text;
+    while let [byte, others @ ..] = rest {
+        if *byte == b'"' || *byte == b'\\' {
+            bytes.push(b'\\')?;
+        }
+        bytes.push(*byte)?;
+        rest = others;
+    }
+    Ok(bytes)
+}
+
+/// A name in quotation marks, or in hexadecimal digits where it isn't printable.
+pub fn name_text(alloc: Global, name: &[u8]) -> Result<Vec<u8>, AllocError>
+    ensures { IfOk result (λ bytes. bytes.items ≡ name_text name.now) }
+{
+    if is_printable(name) {
+        quoted(alloc, name)
+    } else {
+        in_digits(alloc, name)
+    }
+}
+
+fn quoted(alloc: Global, name: &[u8]) -> Result<Vec<u8>, AllocError>
+    ensures { IfOk result (λ bytes. bytes.items ≡ 34 ∷ escaped name.now ++ 34 ∷ []) }
+{
+    let inner = escaped(alloc, name)?;
+    let mut bytes = Vec::from_slice(alloc, b"\"")?;
+    bytes.extend_from_slice(&inner)?;
+    bytes.push(b'"')?;
+    Ok(bytes)
+}
+
+fn in_digits(alloc: Global, name: &[u8]) -> Result<Vec<u8>, AllocError>
+    ensures { IfOk result (λ bytes. bytes.items ≡ codes "hex:" ++ encode_lower name.now) }
+{
+    let digits = hex::encode(alloc, name)?;
+    Ok(format!(in alloc; "hex:{}", digits)?.into_bytes())
+}
+
+/// The text of a mode.
+pub fn mode_text(alloc: Global, mode: Mode) -> Result<String, AllocError>
+    ensures { IfOk result (λ text. string_bytes text ≡ mode_text mode) }
+{
+    match mode {
+        Mode::Raw => String::from_str(alloc, "raw"),
+        Mode::Sector => String::from_str(alloc, "sector"),
+        Mode::Sector1 => String::from_str(alloc, "sector1"),
+        Mode::Other(guid) => format!(in alloc; "other:{}", guid),
+    }
+}
+
+/// The text of why a slot has no valid label.
+pub fn label_fault_text(alloc: Global, fault: LabelFault) -> Result<String, AllocError>
+    ensures { IfOk result (λ text. string_bytes text ≡ label_fault_text fault) }
+{
+    match fault {
+        LabelFault::Checksum => String::from_str(alloc, "Checksum"),
+        LabelFault::Slot { said } => format!(in alloc; "Slot {}", said),
+        LabelFault::OddSize { field } => match field {
+            SizeField::Dpa => String::from_str(alloc, "OddSize Dpa"),
+            SizeField::RawSize => String::from_str(alloc, "OddSize RawSize"),
+        },
+    }
+}

@@ -1,5 +1,0 @@
-pub mod Causes
-mod Contents
-mod Saved
-mod Goes
-mod Held

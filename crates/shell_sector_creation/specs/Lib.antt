@@ -1,4 +1,0 @@
-pub mod Parts
-pub mod Sectors
-pub mod Going
-pub mod Words

@@ -1,2 +1,0 @@
-pub mod Arenas
-pub mod Causes

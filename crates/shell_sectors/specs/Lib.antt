@@ -1,4 +1,0 @@
-pub mod Faults
-pub mod Sectors
-pub mod Asked
-pub mod Causes
