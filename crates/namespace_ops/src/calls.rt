@@ -9,8 +9,8 @@ ghost use Rattle.namespace_ops.specs.Registered.{Entered};
 ghost use Rattle.namespace_ops.specs.Room.{room_of};
 
 use crate::journal::JournalEntry;
+use crate::journaling::{NamespaceRegistry, Opening};
 use crate::names::named;
-use crate::registry_registry::{NamespaceRegistry, Opening};
 use cut_words::Fuse;
 use namespace_map::{Command, CreateSpec, OpRefused};
 use nvd_words::Tag;
