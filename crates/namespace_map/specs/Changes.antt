@@ -1,5 +1,5 @@
 -- The label changes of the commands, in their order; this project's rules over UEFI 2.10, section 13.19 (Flags, UPDATING).
-use Rattle.std.specs.Prelude.{ℕ, ◌+◌, ◌%◌, ◌/◌, ◌==◌, nat_le, Bool, true, ◌&&◌, if◌then◌else◌, List, [], ◌∷◌, ◌++◌, length, map, filter, Option, Some, None}
+use Rattle.std.specs.Prelude.{ℕ, ◌+◌, nat_le, Bool, true, ◌&&◌, if◌then◌else◌, List, [], ◌∷◌, ◌++◌, length, map, filter, Option, Some, None}
 use Rattle.std.specs.Option.{option_map}
 use Rattle.std.specs.List.{flat_map, enumerate_from}
 use Rattle.nfit_reader.specs.declared.table.Mapping.{Mapping}

@@ -1,6 +1,6 @@
 -- The namespaces that the labels of all modules make: one entry for each UUID that a label names. UEFI 2.10, section 13.19
 -- (EFI_NVDIMM_LABEL: Uuid, Name, Flags, LbaSize, Dpa, RawSize, TypeGuid, AddressAbstractionGuid), with this project's rules.
-use Rattle.std.specs.Prelude.{ℕ, ◌-◌, ◌*◌, ◌/◌, ◌%◌, ◌==◌, Bool, not, if◌then◌else◌, List, [], ◌∷◌, map, filter, find, slice_get, Option, Some, None, unwrap_or}
+use Rattle.std.specs.Prelude.{ℕ, Bool, not, if◌then◌else◌, List, [], ◌∷◌, map, filter, find, slice_get, Option, Some, None, unwrap_or}
 use Rattle.std.specs.Option.{option_map}
 use Rattle.std.specs.List.{list_any, flat_map, filter_map, enumerate_from}
 use Rattle.std.specs.Str.{bytes_eq}
