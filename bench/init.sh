@@ -1,6 +1,6 @@
 #!/bin/sh
 # Times `init` on an image set of 512 MiB in one module beside `cp` of the set, `cp` with `sync` of the copy (a saved set
-# is on the disk when `init` is done), and `nfit`, which loads the set alone; each with the set read from the disk, and from
+# is on the disk when `init` is done), each with the set read from the disk, and from
 # the system's page cache. Least of four rounds.
 # usage: bench/init.sh   (wants the proved build: NVD_BUILD=proved ./nvd samples/small - list)
 # shellcheck source=bench/lib.sh
@@ -15,7 +15,7 @@ SIZE, ROUNDS = 512 << 20, 4
 source, copy = os.path.join(work, "set"), os.path.join(work, "copy")
 one_module(source, SIZE, filled=True)
 ways = {"cp": ["cp", "-r", source, copy], "cp and sync": ["sh", "-c", f"cp -r {source} {copy} && sync {copy}/*"],
-        "nfit": [program, source, "-", "nfit"], "init": [program, source, copy, "init", "0"]}
+        "init": [program, source, copy, "init", "0"]}
 
 
 def leave_cache():
@@ -41,6 +41,6 @@ memory = max(best["init", cached][1] for cached in (False, True))
 for cached, whence in ((False, "read from the disk"), (True, "read from the page cache")):
     took = {way: best[way, cached][0] for way in ways}
     row(f"init on a set of 512 MiB, {whence}", "at most 2.5 times cp", f"{took['init'] / took['cp']:.1f} times: {took['init']:.2f} s and {took['cp']:.2f} s; "
-        f"{took['init'] / took['cp and sync']:.1f} times cp and sync ({took['cp and sync']:.2f} s); loading {took['nfit']:.2f} s", took["init"] <= 2.5 * took["cp"])
+        f"{took['init'] / took['cp and sync']:.1f} times cp and sync ({took['cp and sync']:.2f} s)", took["init"] <= 2.5 * took["cp"])
 row("memory of init on it", "at most 1.8 GiB", f"{memory:.0f} MiB", memory <= 1.8 * 1024)
 PY

@@ -22,11 +22,11 @@ def timed(words, check=lambda text: True, status=0):
     return took, usage.ru_maxrss / 1024, text
 
 
-def median(words, runs, check=lambda text: True):
+def median(words, runs, check=lambda text: True, status=0):
     """The median time of so many runs, and the memory and text of the last."""
     times = []
     for _ in range(runs):
-        took, memory, text = timed(words, check)
+        took, memory, text = timed(words, check, status)
         times.append(took)
     return sorted(times)[runs // 2], memory, text
 
