@@ -32,8 +32,6 @@ mod session;
 mod shelf;
 mod switch;
 mod tally;
-#[cfg(test)]
-mod tests;
 mod turns;
 
 pub use counting::{count_turns, take_turns};

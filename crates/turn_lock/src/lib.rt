@@ -66,8 +66,6 @@ mod parted;
 mod pass;
 mod steps;
 mod table;
-#[cfg(test)]
-mod tests;
 mod turn;
 mod waiting;
 

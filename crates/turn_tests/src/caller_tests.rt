@@ -1,10 +1,10 @@
 //! What no clause says: that threads run at the same time, that each wait ends, and each public
 //! function once.
-use crate::{
+use std::test::Fail;
+use turn_callers::{
     Call, Desk, Order, ask_in_turn, count_turns, finish, run_scripts, run_shelf, stop_in_turn,
     wait_for_off,
 };
-use std::test::Fail;
 use turn_lock::Turn;
 
 // In one run for each thread the turn would change hands 3 times.
