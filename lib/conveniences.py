@@ -131,5 +131,21 @@ def main():
     return 1
 
 
+def told():
+    """The status of main, or 6 if standard output can't be written."""
+    try:
+        status = main()
+        sys.stdout.flush()
+        return status
+    except OSError as fault:
+        if fault.filename:
+            note(f"'{fault.filename}': {fault.strerror}")
+        elif not isinstance(fault, BrokenPipeError):
+            note("the text couldn't be written: see where standard output goes, and that there is room")
+        # what is left in the buffer has nowhere to go
+        os.dup2(os.open(os.devnull, os.O_WRONLY), 1)
+        return 6
+
+
 if __name__ == "__main__":
-    sys.exit(main())
+    sys.exit(told())

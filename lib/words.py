@@ -149,6 +149,7 @@ def completed(command, words, ask, draw, note):
             note(f"the set has {len(regions)} regions: choose one with --region, from {', '.join(map(str, regions))}")
     if "--uuid" not in names:
         uuid = draw()
-        note(f"--uuid isn't given: the new namespace's UUID is {uuid}")
         out += ["--uuid", uuid]
+        if not fault_of(command, out):
+            note(f"--uuid isn't given: the new namespace's UUID is {uuid}")
     return out

@@ -1,12 +1,12 @@
 #!/bin/sh
 # Shows what nvdimm_shell does: `nvd demo` runs this.
 #
-# In a temporary directory an image set of two blank modules is made; then it is initialised, namespaces are made, renamed
-# and deleted there, power is cut in the midst of it, and what the cut leaves is listed and recovered; where xz is there a
-# sector namespace that Linux wrote is read. Each command is shown with its output and its exit status. Nothing is left
-# behind. The exit status is 0 only if every command ended with the status that it had to end with.
+# It makes an image set of two blank modules in a temporary directory, initialises it, and creates, renames and deletes namespaces.
+# It cuts power in between, lists the state after the crash, and recovers. If xz is there, it reads a sector namespace that Linux
+# wrote. Each command is shown with its output and its exit status. Nothing is left behind. The exit status is 0 only if
+# every command ended with the right status.
 #
-# Colours come on a terminal alone, and not where NO_COLOR is set.
+# It shows colours on a terminal, unless NO_COLOR is set.
 set -eu
 top=$(CDPATH='' cd -- "$(dirname -- "$0")/.." && pwd)
 work=$(mktemp -d)
@@ -69,16 +69,16 @@ fi
 first=11111111-1111-4111-8111-111111111111
 second=22222222-2222-4222-8222-222222222222
 
-tell 'An image set of two modules to which nothing was written yet: one region, lines of 4,096 bytes in turn.'
+tell 'An image set of two blank modules: one region, in which the modules take turns every 4,096 bytes.'
 python3 "$top/samples/make_blank.py" blank --size 65536 --labels 4096
 step 0 blank - nfit
 step 3 blank - labels 0
 
-tell 'init writes the first index blocks of a label area, into a new set. A cut before the first block stands leaves none:'
+tell 'init writes the first index blocks into a new set. A crash before the first block is valid leaves none:'
 step 8 blank torn0 init 0 --cut 40
 step 3 torn0 - labels 0
 
-tell 'What a cut left is taken like any other set.'
+tell 'The set after a crash is a set like any other.'
 step 0 torn0 one init 0
 step 0 one ready init 1
 step 0 ready - labels 0
@@ -87,15 +87,15 @@ tell 'A namespace of 16 KiB over both modules:'
 step 0 ready made create --uuid $first --name data --region 0 --size 16384 --mode raw
 step 0 made - list
 
-tell 'A second one, and power is cut after 200 steps, with its label on one module alone:'
+tell 'A second namespace. Power is cut after 200 steps, when only one module has its label:'
 step 8 made torn1 create --uuid $second --name logs --region 0 --size 8192 --mode raw --cut 200
 step 0 torn1 - list
 
-tell 'The next command that changes something recovers first: the half-made namespace is taken back.'
+tell 'The next command that changes something recovers first: it removes the unfinished namespace.'
 step 0 torn1 renamed rename $first records
 step 0 renamed - list
 
-tell 'A rename that is cut stays pending until it is recovered, by its old name or its new one:'
+tell 'A rename that crashes stays pending. Recovery returns to its old name or its new one:'
 step 8 renamed torn2 rename $first 'Größe "q"' --cut 300
 step 0 torn2 - list
 step 0 torn2 both create --uuid $second --name logs --region 0 --size 8192 --mode raw
