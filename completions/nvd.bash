@@ -11,6 +11,7 @@ _nvd_options() {
     case $1 in
     create) options='--uuid --name --region --size --mode --sector --lanes --cut --evict' ;;
     init | delete | rename) options='--cut --evict' ;;
+    labels | nfit | list | free | info) options='--json' ;;
     esac
     for option in $options; do
         case " ${COMP_WORDS[*]:0:COMP_CWORD} " in
@@ -64,7 +65,7 @@ _nvd_words() {
 }
 
 _nvd() {
-    local commands='labels nfit list init create delete rename info read'
+    local commands='labels nfit list free init create delete rename info read sweep'
     local current=${COMP_WORDS[COMP_CWORD]} before='' command=${COMP_WORDS[3]:-} set=${COMP_WORDS[1]:-}
     [ "$COMP_CWORD" -lt 1 ] || before=${COMP_WORDS[COMP_CWORD - 1]}
     # bash parts a word at `=`: `--mode=r` comes as three words
@@ -76,14 +77,14 @@ _nvd() {
     COMPREPLY=()
     case $COMP_CWORD in
     1)
-        _nvd_words 'demo help' "$current"
+        _nvd_words 'demo help sweep' "$current"
         _nvd_directories "$current"
         compopt -o filenames 2>/dev/null || true
         return
         ;;
     2)
         if [ "$set" = help ]; then
-            _nvd_words "$commands" "$current"
+            _nvd_words "$commands FAULTS OUTPUT FROM_NDCTL" "$current"
         elif [ "$set" != demo ]; then
             _nvd_words - "$current"
             _nvd_directories "$current"
@@ -94,7 +95,7 @@ _nvd() {
     3)
         # a command that writes has an OUT, one that prints has `-`
         case ${COMP_WORDS[2]} in
-        -) _nvd_words 'labels nfit list info read' "$current" ;;
+        -) _nvd_words 'labels nfit list free info read' "$current" ;;
         *) _nvd_words 'init create delete rename' "$current" ;;
         esac
         return

@@ -32,19 +32,19 @@ def without(name):
     return {it: data for it, data in whole().items() if it != name}
 
 
-def image(text, files, words, hint="FAULTS"):
-    return files, words, 3, f"image {text}", hint
+def image(text, files, words, hint=None):
+    return files, words, 3, f"image {text}", hint or f"nvd: image {text}: "
 
 
 def refused(text, files, words):
-    return files, words, 4, f"refused {text}", "FAULTS"
+    return files, words, 4, f"refused {text}", f"nvd: refused {text}: "
 
 
 def usage():
     yield whole(), ["-"], 2, "usage", "nvd IN OUT COMMAND"
     for words in (["-", "lsit"], ["-", "--help", "list"]):
         yield whole(), words, 2, "usage", "they are labels"
-    for words in (["-", "labels"], ["-", "labels", "64"], ["-", "labels", "007"], ["-", "nfit", "x"], create("--mode", "fsdax"), CREATE[:-2],
+    for words in (["-", "labels"], ["-", "labels", "64"], ["-", "labels", "007"], ["-", "nfit", "x"], create("--mode", "fsdax"), [*CREATE[:-4], *CREATE[-2:]],
                   ["OUT", "delete", "no-uuid"], [*DELETE, "--cut", "-1"], [*DELETE, "--cut", "1", "--cut", "2"], [*INIT, "--force"]):
         yield whole(), words, 2, "usage", f"nvd help {words[1]}"
 

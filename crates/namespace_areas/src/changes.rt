@@ -12,7 +12,7 @@ use label_codec::Label;
 use std::marker::Model;
 use uuid::Uuid;
 
-/// A change of one module's labels. Contracts see it as the `Change` of `namespace_changes`.
+/// A change of one module's labels. Contracts see it as the `Change` of `namespace_map`.
 #[derive(Debug, Drop)]
 pub struct Change {
     /// The module.

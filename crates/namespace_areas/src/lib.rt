@@ -13,9 +13,7 @@
 //!
 //! # Changes of all label areas
 //!
-//! The label areas of all modules of an image set, changed one after another.
-//!
-//! A command on namespaces is a list of label **changes** (`namespace_changes`): on a module, the label of a UUID goes,
+//! A command on namespaces is a list of label **changes** (`namespace_map`): on a module, the label of a UUID goes,
 //! and a label comes. Here a change is carried out on the module's area, and stated is what became of all areas:
 //!
 //! ```text
@@ -31,7 +29,6 @@
 //! |---|---|---|
 //! | what became of areas and a fuse by a list of changes | [`change_label`] | `Went` of `specs/Went.antt` |
 //! | so for a list of them, of which each can be made when its turn comes | [`make_changes`] | `CanMake` of `specs/Went.antt` |
-//! | so for a list of them, of which each can be made when its turn comes | [`make_changes`] | `CanMake` of `specs/Went.antt` |
 //! | what a cut leaves of the areas' words | [`into_words`] | `words_of`, `AreLeft` of `specs/Seen.antt` |
 //! | areas are opened as their words show them | [`open_areas`] | `opened_as` of `specs/Opening.antt` |
 //! | no changes; lists of changes one after another; a cut in the first of them | - | `went_none`, `went_both`, `went_cut` of `proofs/Went.antt` |
@@ -39,9 +36,7 @@
 //!
 //! # Labels by namespace
 //!
-//! The labels of all modules by UUID, and what those of one make (UEFI 2.10, section 13.19).
-//!
-//! A namespace is what the labels of one UUID make (`namespaces`), and labels stand by module and slot. So
+//! A namespace is what the labels of one UUID make (`namespace_map`), and labels stand by module and slot. So
 //! whoever looks for a namespace sorts them first:
 //!
 //! ```text
@@ -60,13 +55,11 @@
 //! - [`LabelGroups::group_from`] gives one UUID's after another, rising: the entries of what stands from a place on are
 //!   that of the group there and those of what stands behind it (`IsNextGroup`).
 //! - [`region_of`], [`status_in`], [`shown_name`] and [`namespace_with`] say what the labels of a UUID make, each by the
-//!   definition of its name in `namespaces`.
+//!   definition of its name in `namespace_map`.
 //!
 //! # Finding a namespace
 //!
-//! Finding a sector namespace by its UUID.
-//!
-//! A namespace is what the labels of one UUID make (`namespaces`). [`find`] looks for one whose sectors are to be read:
+//! A namespace is what the labels of one UUID make (`namespace_map`). [`find`] looks for one whose sectors are to be read:
 //!
 //! ```text
 //! no label has the UUID        NoSuch
@@ -80,10 +73,8 @@
 //!
 //! # Refusals
 //!
-//! Why commands on the namespaces of an image set are refused, and where a new namespace lies.
-//!
 //! A command is refused by what the map of namespaces has, and what the modules' label areas have room for
-//! (`namespace_changes`, `refusal_of`). Here it is found out from the label areas that are open, and the labels by UUID:
+//! (`namespace_map`, `refusal_of`). Here it is found out from the label areas that are open, and the labels by UUID:
 //!
 //! ```text
 //! create   BadName  NoRegion  ModuleLabels  Exists  BadSize  NoSlot (two are wanted)  NoSpace
@@ -107,10 +98,10 @@ mod entries;
 mod filling;
 mod found;
 mod gather;
+mod group_labels;
 mod groups;
 mod modules;
 mod open;
-mod seen;
 mod words;
 
 pub use area::Area;
@@ -121,10 +112,10 @@ pub use entries::{delete_refusal, rename_refusal};
 pub use filling::slots_in;
 pub use found::{Found, find, first_arena};
 pub use gather::gathered;
-pub use groups::LabelGroups;
-pub use open::open_areas;
-pub use seen::{
+pub use group_labels::{
     add_namespace, extent_of, extents_of, namespace_with, number_of, region_of, shown_name,
     status_in,
 };
+pub use groups::LabelGroups;
+pub use open::open_areas;
 pub use words::into_words;

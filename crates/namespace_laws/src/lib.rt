@@ -1,9 +1,8 @@
-//! What a power cut leaves of the commands on namespaces.
+//! The state of the namespaces after a crash in a command, and after recovery.
 //!
-//! A command on a namespace is a list of changes of labels, module by module (`namespace_changes`). A cut ends
-//! the list somewhere. What is found then is not a list that ended, but labels; and what they make is decided
-//! by the rules for the labels of one UUID, each of which looks at all of them together. The laws here say that
-//! these rules never take what a cut left for something else:
+//! A command on a namespace is a list of label changes, module by module (`namespace_map`). A crash ends the list
+//! somewhere. The rules for the labels of one UUID, which look at all of them together, then say what is there. The laws
+//! here say that these rules never take an interrupted command for anything else:
 //!
 //! ```text
 //!            before      what is found after a cut                                   after
@@ -13,7 +12,7 @@
 //! ```
 //!
 //! They are laws about definitions, and no code is asked: whoever makes the changes in this order has them.
-//! `specs/Left.antt` says what is asked of the interleave sets and the labels (`AreRegions`, `AreRead`), and
+//! `specs/Left.antt` of `namespace_map` says what is asked of the interleave sets and the labels (`AreRegions`, `AreRead`), and
 //! what an entry in the middle of a command is (`IsPartOf`, `IsPending`).
 //!
 //! | promise | law | statement |
@@ -25,11 +24,9 @@
 //!
 //! # Recovery
 //!
-//! The recovery of namespaces, as a step on their map and as changes of labels.
-//!
-//! Recovery finishes what a power cut left of commands: it removes the labels of **unfinished** entries, and
+//! Recovery finishes the commands that a crash interrupted: it removes the labels of **unfinished** entries, and
 //! rewrites the labels of **pending** ones without UPDATING, under the entry's name. A label on a module
-//! without a free slot can't be rewritten and stays. It is defined twice (`namespace_changes`): as a step on
+//! without a free slot can't be rewritten and stays. It is defined twice (`namespace_map`): as a step on
 //! the map of entries, `recovered`, and as a list of label changes, `recovery_changes`, many UUIDs one after
 //! another. The first law here says that both come to the same, for any number of entries of any status.
 //!
@@ -44,8 +41,6 @@
 //!
 //! # The interleave sets of a table
 //!
-//! The regions of a firmware table share no bytes of a module.
-//!
 //! A table whose mappings of one module into two regions meet is refused (Alias; ACPI 6.5, section 5.2.25.2). So
 //! of a table that is read, the interleave sets of its regions have no byte of a module in common, and a label's extent,
 //! which lies inside one mapping, belongs to one region:
@@ -55,7 +50,7 @@
 //!   module 1  | region 0's mapping |   ..   | region 2's mapping |
 //! ```
 //!
-//! What is said of the commands on namespaces asks for this (`AreRegions` of `change_laws`).
+//! What is said of the commands on namespaces asks for this (`AreRegions` of `namespace_map`).
 //!
 //! | promise | law | statement |
 //! |---|---|---|
@@ -66,8 +61,8 @@ mod agreeing;
 mod changing;
 mod creating;
 mod recovering;
-mod regions;
 mod settling;
+mod table_sets;
 
 pub use agreeing::{
     commands_are_their_changes, commands_keep_entries_apart, commands_leave_others,
@@ -75,5 +70,5 @@ pub use agreeing::{
 pub use changing::{delete_is_cut, rename_is_cut};
 pub use creating::create_is_cut;
 pub use recovering::cuts_recover_to_either;
-pub use regions::tables_give_regions;
 pub use settling::{cut_recovery_resumes, recovery_is_its_changes};
+pub use table_sets::tables_give_regions;

@@ -1,6 +1,5 @@
 pub mod Grouped
 pub mod Listed
-pub mod Opening
 pub mod Sets
 pub mod Ordered
 pub mod Planned
@@ -24,3 +23,4 @@ pub mod Journaled
 pub mod Kept
 pub mod Shown
 pub mod Rows
+pub mod OpenSets

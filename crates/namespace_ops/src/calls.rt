@@ -9,8 +9,8 @@ ghost use Rattle.namespace_ops.specs.Registered.{Entered};
 ghost use Rattle.namespace_ops.specs.Room.{room_of};
 
 use crate::journal::JournalEntry;
+use crate::journaling::{NamespaceRegistry, Opening};
 use crate::names::named;
-use crate::registry_registry::{NamespaceRegistry, Opening};
 use cut_words::Fuse;
 use namespace_map::{Command, CreateSpec, OpRefused};
 use nvd_words::Tag;
@@ -18,7 +18,7 @@ use std::alloc::Global;
 use uuid::Uuid;
 
 impl<O: Opening> NamespaceRegistry<O> {
-    /// Creates a namespace on all modules of a region, as `Holding::create` of `namespace_commands` does.
+    /// Creates a namespace on all modules of a region, as `Holding::create` does.
     ///
     /// The tag's session has room for one more call. Refusals, after which nothing has changed: `BadName`, `NoRegion`,
     /// `ModuleLabels`, `Exists`, `BadSize`, `NoSlot`, `NoSpace`; `OutOfMemory` in place of any other answer. Else `PowerCut`
@@ -59,7 +59,7 @@ impl<O: Opening> NamespaceRegistry<O> {
         reply
     }
 
-    /// Deletes a namespace that isn't claimed, as `Holding::delete` of `namespace_commands` does.
+    /// Deletes a namespace that isn't claimed, as `Holding::delete` does.
     ///
     /// The tag's session has room for one more call. Refusals, after which nothing has changed: `NoSuch`, `NotComplete`,
     /// `Busy`, `ReadOnlyLabel`, `NoSlot`. Else `PowerCut` as for [`NamespaceRegistry::create`]. It takes no memory.
@@ -78,7 +78,7 @@ impl<O: Opening> NamespaceRegistry<O> {
         reply
     }
 
-    /// Renames a namespace, as `Holding::rename` of `namespace_commands` does.
+    /// Renames a namespace, as `Holding::rename` does.
     ///
     /// The tag's session has room for one more call. Refusals, after which nothing has changed: `BadName`, `NoSuch`,
     /// `NotComplete`, `ReadOnlyLabel`, `NoSlot`. Else `PowerCut` as for [`NamespaceRegistry::create`]. It takes no memory.

@@ -70,7 +70,7 @@ fn make_rounds(
 /// Deletes the namespace of a UUID: its labels get UPDATING, by position, and then each is removed. A single label
 /// is removed at once.
 ///
-/// It is refused as `delete_refusal` of `namespace_refusals` says, and nothing has changed then. Else the one error is
+/// It is refused as `delete_refusal` of `namespace_areas` says, and nothing has changed then. Else the one error is
 /// `PowerCut`: the fuse has fewer steps left than all changes take. As many were made as there were, and one area is
 /// stopped; what a cut leaves is what is left of the changes after these steps (`Went`). No area was stopped before, the
 /// groups are those of the areas' labels, and there is room for them. It takes no memory.
@@ -107,7 +107,7 @@ pub(crate) fn delete(
 /// Renames the namespace of a UUID: its labels get the name and UPDATING, by position, and then the name without
 /// UPDATING. A single label gets the name at once.
 ///
-/// It is refused as `rename_refusal` of `namespace_refusals` says, and nothing has changed then. Else the one error is
+/// It is refused as `rename_refusal` of `namespace_areas` says, and nothing has changed then. Else the one error is
 /// `PowerCut`, as for [`delete`]. Conditions as for [`delete`]; the name has no zero byte. It takes no memory.
 pub(crate) fn rename(
     sets: &[InterleaveSet],

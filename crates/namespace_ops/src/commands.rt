@@ -27,7 +27,7 @@ impl Holding {
     /// which it fits beside the extents of all labels.
     ///
     /// `size` is in bytes, those of all modules together. It isn't stopped, and the name has no zero byte, as `name_of`
-    /// of `label_codec` makes it. Refusals, after which nothing has changed (`create_offset` of `namespace_refusals`):
+    /// of `label_codec` makes it. Refusals, after which nothing has changed (`create_offset` of `namespace_areas`):
     /// `BadName`, `NoRegion`, `ModuleLabels`, `Exists`, `BadSize`, `NoSlot`, `NoSpace`. `OutOfMemory` may come in place of
     /// any other answer, and nothing has changed then. Else `PowerCut`, as for [`Holding::delete`].
     pub fn create(
@@ -68,7 +68,7 @@ impl Holding {
     /// Deletes the namespace of a UUID: its labels get UPDATING, by position, and then each is removed. A single label
     /// is removed at once.
     ///
-    /// It isn't stopped. Refusals, after which nothing has changed (`delete_refusal` of `namespace_refusals`): `NoSuch`,
+    /// It isn't stopped. Refusals, after which nothing has changed (`delete_refusal` of `namespace_areas`): `NoSuch`,
     /// `NotComplete`, `ReadOnlyLabel`, `NoSlot`. Else `PowerCut` comes exactly where the fuse has fewer steps left than
     /// these changes take, and then it is stopped: what a cut leaves of the areas is what it leaves of the changes. It
     /// takes no memory.
@@ -96,7 +96,7 @@ impl Holding {
     /// UPDATING. A single label gets the name at once.
     ///
     /// It isn't stopped, and the name has no zero byte, as `name_of` of `label_codec` makes it. Refusals, after which
-    /// nothing has changed (`rename_refusal` of `namespace_refusals`): `BadName`, `NoSuch`, `NotComplete`,
+    /// nothing has changed (`rename_refusal` of `namespace_areas`): `BadName`, `NoSuch`, `NotComplete`,
     /// `ReadOnlyLabel`, `NoSlot`. Else as for [`Holding::delete`].
     pub fn rename(&mut self, fuse: &mut Fuse, uuid: &Uuid, name: &Named) -> Result<(), OpRefused>
         requires running { self.old.stopped ≡ false }

@@ -3,7 +3,7 @@ ghost use Rattle.std.specs.Prelude.{◌≡◌, ◌+◌, ◌<◌, ◌≤◌, ◌^
 ghost use Rattle.std.specs.Vec.{vec_capacity};
 ghost use Rattle.namespace_ops.specs.Room.{room_of, taken, with_room};
 
-use crate::registry_room::Room;
+use crate::journal_room::Room;
 use namespace_map::{Command, OpRefused};
 use nvd_words::Tag;
 use std::alloc::{AllocError, Global};

@@ -2,11 +2,9 @@
 //!
 //! # Commands
 //!
-//! The commands on the namespaces of an image set, on the label areas of its modules.
-//!
-//! A command is a list of label changes, each of one module (`namespace_changes`). Which changes these are is decided
-//! before the first of them is made, in room that was made before any command runs, so that none of them can fail for
-//! want of memory:
+//! A command is a list of label changes, each of one module (`namespace_map`). Which changes these are is decided
+//! before the first of them is made, in room that was made before any command runs, so none of them can
+//! run out of memory:
 //!
 //! ```text
 //! labels by UUID  ->  the labels of a UUID, by position  ->  a list of changes  ->  made under a fuse
@@ -15,7 +13,7 @@
 //!
 //! # Recovery
 //!
-//! What a cut left of a command says by bit 3 of its labels' Flags, UPDATING, which way to go. In a first round every
+//! Bit 3 of a label's Flags, UPDATING, tells which way an interrupted command has to go. In a first round every
 //! **unfinished** namespace, rising by UUID, loses its labels: some are missing, and all that are there have UPDATING. In a
 //! second round every complete one that is **pending**, rising, has each label with UPDATING rewritten under its name and
 //! without it, on each module with a free slot. Both rounds are lists of changes, planned on the areas that they find.
@@ -23,13 +21,11 @@
 //! | promise | call | definition |
 //! |---|---|---|
 //! | what is held, and what is kept of it | [`Holding`] | `Held`, `IsHolding` of `specs/Held.antt` |
-//! | recovery's changes are made, cut or not; the namespaces after it | [`Holding::recover`] | `recovery_changes`, `recovered` of `namespace_changes`; `Went` of `area_changes` |
-//! | a command's refusal, or its changes, cut or not; the namespaces after it | [`Holding::create`], [`Holding::delete`], [`Holding::rename`] | `Carried` of `specs/Carried.antt`; `done` of `namespace_changes` |
-//! | whether a namespace may be claimed; what a command asks | [`Holding::claim`], [`Holding::carry_out`] | `claim_refusal` of `namespace_changes`; `Carried` |
+//! | recovery's changes are made, cut or not; the namespaces after it | [`Holding::recover`] | `recovery_changes`, `recovered` of `namespace_map`; `Went` of `namespace_areas` |
+//! | a command's refusal, or its changes, cut or not; the namespaces after it | [`Holding::create`], [`Holding::delete`], [`Holding::rename`] | `Carried` of `specs/Carried.antt`; `done` of `namespace_map` |
+//! | whether a namespace may be claimed; what a command asks | [`Holding::claim`], [`Holding::carry_out`] | `claim_refusal` of `namespace_map`; `Carried` |
 //!
 //! # Calls of many sessions
-//!
-//! The registry of the namespaces of an image set: commands of many sessions, claims, and a journal.
 //!
 //! A server of sessions changes namespaces while others use them. So the registry counts who uses a namespace, and writes
 //! down what was asked and answered:
@@ -52,10 +48,10 @@
 //!
 //! | promise | call | definition |
 //! |---|---|---|
-//! | replies, and what becomes of the namespaces, the label areas and the claims | the calls with a tag | `Answered` of `specs/Counted.antt`: `refusal_of` and `done` of `namespace_changes`, on the map with the counts of claims |
+//! | replies, and what becomes of the namespaces, the label areas and the claims | the calls with a tag | `Answered` of `specs/Counted.antt`: `refusal_of` and `done` of `namespace_map`, on the map with the counts of claims |
 //! | the journal has this entry more, and the tag's session has room for one less | the same | `Entered` of `specs/Registered.antt` |
 //! | the journal replays | [`NamespaceRegistry::journal`] | `IsJournaled` of `specs/Registered.antt`, `Gives` of `specs/Replay.antt` |
-//! | what a power cut leaves | the same | `WasCut` of `specs/Registered.antt` |
+//! | the state after a power loss | the same | `WasCut` of `specs/Registered.antt` |
 #![tactic(auto)]
 
 mod calls;
@@ -65,17 +61,17 @@ mod claims;
 mod commands;
 mod counted;
 mod creating;
+mod entry_listing;
 mod grouping;
 mod holding;
 mod journal;
+mod journal_room;
+mod journaling;
 mod listing;
 mod making;
 mod names;
 mod recovering;
 mod registry;
-mod registry_listing;
-mod registry_registry;
-mod registry_room;
 mod removing;
 mod room;
 mod settling;
@@ -83,7 +79,7 @@ mod turns;
 
 pub use holding::Holding;
 pub use journal::JournalEntry;
+pub use journaling::{NamespaceRegistry, Opening};
 pub use namespace_areas::Area;
 pub use nvd_words::Tag;
 pub use registry::{OpenFault, Registry};
-pub use registry_registry::{NamespaceRegistry, Opening};

@@ -79,7 +79,7 @@ fn create_at(
 /// of their words is pending. The holding isn't stopped, and the name has no zero byte. A set that was loaded has all this
 /// (`crate::loaded_sets_are_usable`).
 ///
-/// Refusals, after which nothing has changed, the fuse neither: those of `create_offset` of `namespace_refusals`. Else the
+/// Refusals, after which nothing has changed, the fuse neither: those of `create_offset` of `namespace_areas`. Else the
 /// steps of the format are counted first, two for each word of the map area, the log area and both info blocks, and then
 /// those of the labels' changes; `PowerCut` comes exactly where the fuse has fewer left. Within the format the label areas
 /// are as they were, and the holding isn't stopped: it is the answer that says that power is off. Words beside the

@@ -1,6 +1,6 @@
 use Rattle.std.proofs.Common.{◌∙◌, Err, ap, sym}
 use Rattle.namespace_ops.specs.declared.registry.OpenFault.{OpenFault}
-use Rattle.namespace_ops.proofs.Opening.{set_refused, set_accepted}
+use Rattle.namespace_ops.proofs.OpenSets.{set_refused, set_accepted}
 use Rattle.namespace_ops.proofs.registry.Registry.open_all.Goals as goal
 
 pub returns-in-Ok : goal.returns-in-Ok

@@ -1,0 +1,24 @@
+use Rattle.std.proofs.Common.{◌≤◌, None, sym, subst}
+use Rattle.namespace_map.specs.declared.commands.Command.TheVariants as command
+use Rattle.namespace_ops.specs.Counted.{Answered}
+use Rattle.namespace_ops.specs.Counting.{counted_in}
+use Rattle.namespace_ops.specs.Registered.{Registered}
+use Rattle.namespace_ops.specs.Room.{room_of}
+use Rattle.namespace_ops.proofs.Kept.{few_claims, kept_by_call}
+use Rattle.namespace_ops.proofs.journaling.NamespaceRegistry.claim.Goals as goal
+
+pub invariant_of-self : goal.invariant_of-self
+invariant_of-self g c =
+    let r : Registered = record { counted = counted_in c.self.inside.namespaces; journal = c.self.inside.journal.entries; room = c.self.inside.journal.room } in
+    let some : 1 ≤ room_of r.room c.args.tag.session = subst (λ (x : Registered). 1 ≤ room_of x.room c.args.tag.session) (sym c.self.view_is) c.requires.room in
+    kept_by_call g.O.Opening.sets g.O.Opening.areas r (counted_in c.claim-reply.new.self) None None c.args.tag (command.Claim c.args.uuid.now) c.claim-reply.result c.enter.new.self.entries c.enter.new.self.room c.self.inside.namespaces.claims.room c.claim-reply.new.self.claims.room
+    c.self.invariant some (c.claim-reply.ensures.answered None) c.enter.ensures.entries c.enter.ensures.room (c.claim-reply.ensures.room)
+
+pub returns-clause-answered : goal.returns-clause-answered
+returns-clause-answered g c fuse = subst (λ (x : Registered). Answered x.counted (counted_in c.claim-reply.new.self) fuse fuse (command.Claim c.args.uuid.now) c.claim-reply.result) c.self.view_is (c.claim-reply.ensures.answered fuse)
+
+pub claim-reply-requires-clause-few : goal.claim-reply-requires-clause-few
+claim-reply-requires-clause-few g c =
+    let r : Registered = record { counted = counted_in c.self.inside.namespaces; journal = c.self.inside.journal.entries; room = c.self.inside.journal.room } in
+    let some : 1 ≤ room_of r.room c.args.tag.session = subst (λ (x : Registered). 1 ≤ room_of x.room c.args.tag.session) (sym c.self.view_is) c.requires.room in
+    few_claims g.O.Opening.sets g.O.Opening.areas r c.self.inside.namespaces.claims.room c.args.tag.session c.args.uuid.now c.self.invariant some

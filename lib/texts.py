@@ -1,0 +1,88 @@
+"""Reads the lines that nvdimm_shell prints, by the grammar of docs/commands/OUTPUT.md."""
+import re
+
+NUMBER, UUID, HEX = r"(\d+)", r"([0-9a-f]{8}(?:-[0-9a-f]{4}){3}-[0-9a-f]{12})", r"([0-9a-f]{16})"
+NAME = r'("(?:[^"\\]|\\.)*"|hex:(?:[0-9a-f]{2})*)'
+MODE = r"(raw|sector1?|other:\S+)"
+
+# Each kind of line: its keys, and its form with a group for each key.
+LINES = {
+    "index": (["side", "seq", "slots", "free"], f"index {NUMBER} seq {NUMBER} slots {NUMBER} free {NUMBER}"),
+    "label": (
+        ["slot", "uuid", "name", "pos", "of", "dpa", "size", "flags", "lba", "mode", "cookie"],
+        f"label {NUMBER} {UUID} {NAME} pos {NUMBER} of {NUMBER} dpa {NUMBER} size {NUMBER} flags {NUMBER} lba {NUMBER} mode {MODE} cookie {HEX}"),
+    "bad": (["slot", "fault"], rf"bad {NUMBER} (Checksum|Slot \d+|OddSize (?:Dpa|RawSize))"),
+    "module": (["module", "handle"], f"module {NUMBER} handle {NUMBER}"),
+    "region": (
+        ["region", "index", "base", "length", "modules", "cookie", "unit"],
+        rf"region {NUMBER} index {NUMBER} base {NUMBER} length {NUMBER} modules((?: \d+)*) cookie {HEX} unit {NUMBER}"),
+    "region fault": (["region", "index", "fault"], rf"region {NUMBER} index {NUMBER} fault (\w+(?: \d+)+)"),
+    "ns": (
+        ["uuid", "name", "region", "mode", "lba", "size", "status"],
+        rf"ns {UUID} {NAME} region (\d+|-) mode {MODE} lba {NUMBER} size {NUMBER} (complete(?: pending)?|unfinished|local|incomplete \w+(?: \w+)*)"),
+    "extent": (["module", "start", "length"], f"extent {NUMBER} {NUMBER} {NUMBER}"),
+    "arena": (
+        ["arena", "sector", "sectors", "blocks", "lanes", "moves"],
+        f"arena {NUMBER} sector {NUMBER} sectors {NUMBER} blocks {NUMBER} lanes {NUMBER} moves {NUMBER}"),
+}
+TEXTS = {"uuid", "mode", "status", "fault", "cookie"}
+
+
+class NoLine(Exception):
+    """A line that the grammar doesn't have."""
+
+
+def name_of(text):
+    """The key and value of a name: text, or hexadecimal digits if its bytes are no text."""
+    if text.startswith("hex:"):
+        return "name_hex", text[4:]
+    return "name", re.sub(r"\\(.)", r"\1", text[1:-1])
+
+
+def value_of(key, text):
+    if key in TEXTS:
+        return text
+    if key == "modules":
+        return [int(it) for it in text.split()]
+    return None if text == "-" else int(text)
+
+
+def record_of(line):
+    """The kind of a line, and what it says."""
+    for kind, (keys, form) in LINES.items():
+        found = re.fullmatch(form, line)
+        if found:
+            fields = {}
+            for key, text in zip(keys, found.groups()):
+                if key == "name":
+                    key, text = name_of(text)
+                    fields[key] = text
+                else:
+                    fields[key] = value_of(key, text)
+            return kind.split()[0], with_both_bases(fields)
+    raise NoLine(line)
+
+
+def with_both_bases(fields):
+    """Adds the hexadecimal form of the one cookie that a text has in decimal."""
+    found = re.fullmatch(r"incomplete Cookie \d+ (\d+)", fields.get("status", ""))
+    return {**fields, "found_cookie": f"{int(found.group(1)):016x}"} if found else fields
+
+
+def records_of(text):
+    return [record_of(line) for line in text.splitlines()]
+
+
+def document_of(command, text):
+    """What a command's whole text says, as one value for JSON."""
+    out = {"labels": {"index": None, "labels": [], "bad": []}, "nfit": {"modules": [], "regions": []},
+           "list": {"namespaces": []}, "info": {"arenas": []}}[command]
+    places = {"label": "labels", "bad": "bad", "module": "modules", "region": "regions", "ns": "namespaces", "arena": "arenas"}
+    for kind, fields in records_of(text):
+        if kind == "index":
+            out["index"] = fields
+        elif kind == "extent":
+            out["namespaces"][-1]["extents"].append(fields)
+        else:
+            out[places[kind]].append({**fields, "extents": []} if kind == "ns" else fields)
+    return out

@@ -1,0 +1,154 @@
+"""The words of a command line: which of them is wrong, and those that nvd adds or puts in another form."""
+import re
+
+UUID = re.compile(r"(?:urn:uuid:)?[0-9a-fA-F]{8}(?:-[0-9a-fA-F]{4}){3}-[0-9a-fA-F]{12}|\{[0-9a-fA-F]{8}(?:-[0-9a-fA-F]{4}){3}-[0-9a-fA-F]{12}\}|[0-9a-fA-F]{32}")
+UNITS = {"K": 1 << 10, "M": 1 << 20, "G": 1 << 30}
+MOST = (1 << 64) - 1
+CUT = {"--cut": ("a number", 0, MOST), "--evict": ("a number", 0, MOST)}
+# Each command: its places by name, and its options. A kind is "UUID", "text", or a number with its least and greatest value.
+COMMANDS = {
+    "labels": ([("MODULE", ("a number", 0, 63))], {}),
+    "nfit": ([], {}),
+    "list": ([], {}),
+    "init": ([("MODULE", ("a number", 0, 63))], CUT),
+    "create": ([], {
+        "--uuid": "UUID", "--name": "text", "--region": ("a number", 0, (1 << 32) - 1), "--size": ("a size", 0, MOST), "--mode": "mode",
+        "--sector": ("a number", 0, (1 << 32) - 1), "--lanes": ("a number", 1, 256), **CUT}),
+    "delete": ([("UUID", "UUID")], CUT),
+    "rename": ([("UUID", "UUID"), ("NAME", "text")], CUT),
+    "info": ([("UUID", "UUID")], {}),
+    "read": ([("UUID", "UUID"), ("SECTOR", ("a number", 0, MOST))], {}),
+}
+NEEDED = ["--uuid", "--name", "--region", "--size", "--mode"]
+
+
+def is_uuid(text):
+    return bool(UUID.fullmatch(text))
+
+
+def bytes_of(text):
+    """A size in plain bytes: 16K is 16384. None if it is no size with a unit."""
+    found = re.fullmatch(r"(0|[1-9]\d*)([KMGkmg])(?:i?[Bb])?", text)
+    return int(found.group(1)) * UNITS[found.group(2).upper()] if found else None
+
+
+def taken(command, words):
+    """The places and options that words give: (at, name, value, index of the value); a fault is what stops it, or None."""
+    places, options = COMMANDS[command]
+    got, at, count, only_places = [], 0, 0, False
+    while at < len(words):
+        word = words[at]
+        if only_places or not word.startswith("-"):
+            if count == len(places):
+                return got, f"'{word}' is one word too many"
+            got.append((places[count][0], word, at, False))
+            count += 1
+        elif word == "--":
+            only_places = True
+        else:
+            name, has_value, value = word.partition("=")
+            if name not in options:
+                known = " ".join(options) or "none"
+                return got, f"'{command}' has no option '{name}': its options are {known}"
+            if any(it[0] == name for it in got):
+                return got, f"'{name}' is given twice"
+            if has_value:
+                got.append((name, value, at, True))
+            elif at + 1 == len(words) or words[at + 1].startswith("-"):
+                return got, f"'{name}' has no value behind it (a value that begins with - stands as {name}=-1)"
+            else:
+                at += 1
+                got.append((name, words[at], at, False))
+        at += 1
+    return got, None
+
+
+def kind_of(command, name):
+    places, options = COMMANDS[command]
+    return dict(places).get(name) or options[name]
+
+
+def fault_of_value(command, name, value):
+    """What is wrong with a value, and the remedy; None if nothing is."""
+    kind = kind_of(command, name)
+    if kind == "text":
+        return None
+    if kind == "UUID":
+        return None if is_uuid(value) else f"'{value}' is no UUID, and no namespace alone has this name: 'nvd IN - list' shows both"
+    if kind == "mode":
+        if value in ("raw", "sector"):
+            return None
+        hint = "; set it up inside the machine, with ndctl" if value in ("fsdax", "devdax", "memory", "dax") else ""
+        return f"'--mode {value}' isn't made here: give raw or sector{hint}"
+    what, low, high = kind
+    if re.fullmatch(r"0|[1-9][0-9]*", value):
+        return None if low <= int(value) <= high else f"'{name}' takes a number from {low} to {high}, and {value} isn't one"
+    size = bytes_of(value)
+    if size is not None:
+        return None if what == "a size" and size <= high else f"'{name} {value}': give it as a plain number: {size}"
+    if re.fullmatch(r"0[xX][0-9a-fA-F]+", value):
+        return f"'{name} {value}': give it in decimal digits: {int(value, 16)}"
+    if re.fullmatch(r"[+]?0*[0-9]+", value):
+        return f"'{name} {value}': give it without sign and leading zeros: {int(value)}"
+    units = ", or with K, M or G behind it" if what == "a size" else ""
+    return f"'{name} {value}': {value or 'nothing'} is no number; give decimal digits{units}"
+
+
+def fault_of(command, words):
+    """What is wrong with the words behind a command's name, the first thing; None if nothing is."""
+    got, fault = taken(command, words)
+    for name, value, _, _ in got:
+        wrong = fault_of_value(command, name, value)
+        if wrong:
+            return wrong
+    if fault:
+        return fault
+    names = [it[0] for it in got]
+    places, _ = COMMANDS[command]
+    for name in [*(it[0] for it in places), *(NEEDED if command == "create" else [])]:
+        if name not in names:
+            return f"{name} is missing"
+    return None
+
+
+def names_in(records):
+    """The UUIDs of each name in the records of a list."""
+    found = {}
+    for kind, fields in records:
+        if kind == "ns" and "name" in fields:
+            found.setdefault(fields["name"], []).append(fields["uuid"])
+    return found
+
+
+def completed(command, words, ask, draw, note):
+    """The words with names as UUIDs, sizes in bytes and, for create, what wasn't given. ask(COMMAND) gives the records of a command."""
+    got, fault = taken(command, words)
+    out = list(words)
+    for name, value, at, joined in got:
+        new = None
+        if kind_of(command, name) == "UUID" and name == "UUID" and not is_uuid(value):
+            uuids = names_in(ask("list")).get(value, [])
+            if len(uuids) > 1:
+                note(f"{len(uuids)} namespaces have the name '{value}': give one of the UUIDs {' '.join(uuids)}")
+            new = uuids[0] if len(uuids) == 1 else None
+        elif name == "--size":
+            size = bytes_of(value)
+            new = str(size) if size is not None else None
+        if new is not None:
+            out[at] = f"{name}={new}" if joined else new
+    if command != "create" or fault:
+        return out
+    names = [it[0] for it in got]
+    if "--mode" not in names:
+        out += ["--mode", "raw"]
+    if "--region" not in names:
+        regions = [fields["region"] for kind, fields in ask("nfit") if kind == "region"]
+        if len(regions) == 1:
+            out += ["--region", str(regions[0])]
+        elif regions:
+            note(f"the set has {len(regions)} regions: choose one with --region, from {', '.join(map(str, regions))}")
+    if "--uuid" not in names:
+        uuid = draw()
+        note(f"--uuid isn't given: the new namespace's UUID is {uuid}")
+        out += ["--uuid", uuid]
+    return out
