@@ -1,5 +1,4 @@
 //! The file of an object while it is written.
-ghost use Rattle.std.specs.Prelude.{◌≡◌};
 
 use nvd_media::Object;
 use std::fs::{File, OpenOptions};
