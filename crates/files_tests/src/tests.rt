@@ -5,7 +5,9 @@ use std::{fs, io};
 
 /// Two blocks of zero bytes, five bytes, a block of zero bytes, and seven zero bytes.
 const ZEROS: [u8; 8192] = [0; 8192];
+
 const TAIL: [u8; 4103] = [0; 4103];
+
 const CONTENTS: Object = Object::Contents(3);
 
 /// A set is written and read back, in pieces that go to and fro.
@@ -41,7 +43,11 @@ fn a_set_is_read_as_it_was_written(rt: HostRuntime) {
         (Object::Nfit, 0, b"table an"),
         (CONTENTS, 12292, b"\0\0\0\0\0\0\0\0"),
     ] {
-        assert_eq!(rt; source.read(object, at, &mut room), Ok(()), "{object:?} {at}");
+        assert_eq!(rt;
+            source.read(object, at, &mut room),
+            Ok(()),
+            "{object:?} {at}"
+        );
         assert_eq!(rt; &room, bytes);
     }
 }
@@ -58,7 +64,11 @@ fn what_is_no_object_is_refused(rt: HostRuntime) -> io::Result<()> {
     let mut room = [1u8; 6];
     for object in [Object::Nfit, Object::Labels(0), Object::Labels(1)] {
         assert_eq!(rt; source.length(object), Err(Failed), "{object:?}");
-        assert_eq!(rt; source.read(object, 0, &mut room), Err(Failed), "{object:?}");
+        assert_eq!(rt;
+            source.read(object, 0, &mut room),
+            Err(Failed),
+            "{object:?}"
+        );
     }
     let contents = Object::Contents(0);
     assert_eq!(rt; source.length(contents), Ok(Some(5)));
@@ -86,7 +96,11 @@ fn where_no_set_is_made(rt: HostRuntime) -> io::Result<()> {
         ("new", "."),
     ] {
         let mut sink = DirSink::new(&rt, directory, source);
-        assert_eq!(rt; sink.write(Object::Nfit, 0, b"table"), Err(Failed), "{directory}");
+        assert_eq!(rt;
+            sink.write(Object::Nfit, 0, b"table"),
+            Err(Failed),
+            "{directory}"
+        );
         assert_eq!(rt; sink.finish(), Err(Failed), "{directory}");
     }
     for path in ["around/new", "around/below/new", "around/complete", "new"] {

@@ -1,4 +1,4 @@
-use Rattle.std.proofs.Common.{length, ◌-◌, ◌≡◌, ℕ, ◌+◌, ◌*◌, ◌<◌, ◌≤◌}
+use Rattle.std.proofs.Common.{length, ◌-◌, ◌≤◌}
 use Rattle.nvd_files.proofs.object_file.ObjectFile.add.Given as goal
 
 abbrev pub invariant-loop-at : goal.invariant-loop-at
