@@ -6,7 +6,7 @@
 # shellcheck source=bench/lib.sh
 . "$(dirname -- "$0")/lib.sh"
 want python3
-scratch load_bench nvd_words nvd_media cut_words image_set
+scratch load_bench nvd_words nvd_media nvd_files cut_words image_set
 # shellcheck disable=SC2034
 given=pipe
 build

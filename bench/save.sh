@@ -7,7 +7,7 @@
 # shellcheck source=bench/lib.sh
 . "$(dirname -- "$0")/lib.sh"
 want python3
-scratch save_bench nvd_words nvd_media cut_words power_cut image_set
+scratch save_bench nvd_words nvd_media nvd_files cut_words power_cut image_set
 build
 python3 - "$PWD/out/save_bench" "$work/set" <<'PY'
 import filecmp, os, shutil, subprocess, sys, time

@@ -53,21 +53,32 @@ mod tests;
 mod top;
 mod words;
 
-use nvd_files::{DirImages, StdText};
+use nvd_files::{DirSink, DirSource, StdText};
 use nvd_media::{NoGate, SeedChooser, TextSink};
 use shell_reports::Status;
-use std::alloc::AllocError;
 use std::env;
 use std::fs::File;
+use std::io::{Eprint, ErrorKind};
 use std::process::ExitCode;
 use std::rt::{Env, Files};
 use std::sync::Wait;
 use std::thread::Threads;
 
-/// The words of the command line after the program's name. `None` where one isn't text.
-fn command_line(rt: &(impl Env + AllocGlobal)) -> Option<Result<Vec<String>, AllocError>> {
-    let args = env::args(rt).ok()?;
-    Some(args.skip(1).collect(rt.alloc()))
+/// Why the words of the command line can't be looked at.
+#[derive(Clone, Copy, Debug, PartialEq, Eq)]
+enum Unread {
+    /// One of them isn't UTF-8.
+    NotText,
+    OutOfMemory,
+}
+
+/// The words of the command line after the program's name.
+fn command_line(rt: &(impl Env + AllocGlobal)) -> Result<Vec<String>, Unread> {
+    match env::args(rt) {
+        Ok(args) => args.skip(1).collect(rt.alloc()).map_err(|_| Unread::OutOfMemory),
+        Err(e) if e.kind() == ErrorKind::InvalidData => Err(Unread::NotText),
+        Err(_) => Err(Unread::OutOfMemory),
+    }
 }
 
 /// Ends a run whose words aren't a command line.
@@ -76,6 +87,12 @@ fn usage<O: TextSink>(text: &mut O) -> Status {
         Ok(()) => Status::Usage,
         Err(_) => Status::WriteFault,
     }
+}
+
+/// Ends a run with a word that isn't UTF-8, and says so on standard error, as far as that can be written.
+fn not_text(rt: &(impl Print + Eprint + Input)) -> Status {
+    let _ = eprintln!(rt; "nvdimm_shell: a word of the command line isn't UTF-8");
+    usage(&mut StdText::new(rt))
 }
 
 /// Runs the command of a command line on the directories that it names.
@@ -87,16 +104,16 @@ fn status_of<R: Files<File = File> + AllocGlobal + Print + Input + Threads + Wai
     let [source, sink, command @ ..] = words else {
         return usage(&mut text);
     };
-    if command.is_empty() {
+    if source.is_empty() || sink.is_empty() || command.is_empty() {
         return usage(&mut text);
     }
     top::run(
         rt,
         rt.alloc(),
         command,
-        &mut DirImages::new(rt, source.as_str()),
+        &mut DirSource::new(rt, source.as_str()),
         &mut StdText::new(rt),
-        &mut DirImages::new(rt, sink.as_str()),
+        &mut DirSink::new(rt, sink.as_str(), source.as_str()),
         &mut text,
         &mut SeedChooser::new(0),
         &NoGate,
@@ -105,9 +122,9 @@ fn status_of<R: Files<File = File> + AllocGlobal + Print + Input + Threads + Wai
 
 fn main(rt: HostRuntime) -> ExitCode {
     let status = match command_line(&rt) {
-        Some(Ok(words)) => status_of(&rt, &words),
-        Some(Err(_)) => Status::OutOfMemory,
-        None => usage(&mut StdText::new(&rt)),
+        Ok(words) => status_of(&rt, &words),
+        Err(Unread::NotText) => not_text(&rt),
+        Err(Unread::OutOfMemory) => Status::OutOfMemory,
     };
     ExitCode::from(status.exit_status())
 }

@@ -1,0 +1,198 @@
+//! An image set that is made as a directory.
+ghost use Rattle.std.specs.Prelude.{◌≡◌, ◌≤◌, None};
+ghost use Rattle.nvd_media.specs.Causes.{Rose};
+
+use crate::object_file::ObjectFile;
+use crate::paths::{above, file_path, stands_in};
+use nvd_media::{Failed, ImageSink, Object};
+use std::fs::{File, OpenOptions};
+use std::rt::Files;
+use std::thread::Threads;
+use std::{fs, io};
+
+/// How far a directory was made.
+#[derive(Drop)]
+enum Progress {
+    /// The directory isn't there yet.
+    Untouched,
+    /// The directory was made inside the one that is open here, and every call so far was done.
+    Made(File),
+    /// A call failed, so the set is never finished.
+    Broken,
+}
+
+/// A directory that becomes an image set, a file for each object.
+///
+/// It tells nothing of their bytes. The first write makes the directory. These are counted failures, before anything is
+/// made: a directory that is there already, one inside the directory that is read, one in a directory that can't be opened
+/// to be synced, and the directory `-`, which stands for none. Once a call failed, all later ones do.
+///
+/// What was written of an object is on the disk, as far as the system's sync calls say so, before another object is written.
+/// `finish` returns Ok once all of the set is on the disk, its mark last. Where that fails after the mark was made, it
+/// removes the mark again; only where the system refuses that too may the mark be there after `Failed`.
+#[derive(Drop)]
+pub struct DirSink<'a, R: Files<File = File> + AllocGlobal + Threads> {
+    rt: &'a R,
+    directory: &'a str,
+    /// The directory that is read meanwhile.
+    source: &'a str,
+    progress: Progress,
+    /// The object that was written last.
+    last: Option<ObjectFile>,
+    faults: u64,
+}
+
+impl<'a, R: Files<File = File> + AllocGlobal + Threads> DirSink<'a, R> {
+    /// An image set in a directory that isn't there yet, outside the directory `source`. Nothing is made before the first
+    /// write.
+    pub fn new(rt: &'a R, directory: &'a str, source: &'a str) -> DirSink<'a, R> {
+        DirSink {
+            rt,
+            directory,
+            source,
+            progress: Progress::Untouched,
+            last: None,
+            faults: 0,
+        }
+    }
+
+    fn path(&self, object: Object) -> io::Result<String> {
+        file_path(self.rt.alloc(), self.directory, object)
+    }
+
+    /// Makes the directory, and opens the one above it.
+    fn make(&self) -> io::Result<File> {
+        let above = above(self.directory);
+        if self.directory == "-" || stands_in(self.rt, above, self.source)? {
+            return Err(io::Error::from(io::ErrorKind::InvalidInput));
+        }
+        let parent = fs::open(self.rt, above)?;
+        fs::create_dir(self.rt, self.directory)?;
+        Ok(parent)
+    }
+
+    /// Makes the directory before the first file in it.
+    fn begin(&mut self) -> io::Result<()>
+        ensures { self.new.faults ≡ self.old.faults }
+    {
+        match &self.progress {
+            Progress::Made(_) => Ok(()),
+            Progress::Broken => Err(io::Error::from(io::ErrorKind::Other)),
+            Progress::Untouched => {
+                self.progress = Progress::Made(self.make()?);
+                Ok(())
+            }
+        }
+    }
+
+    /// Puts what was written of the last object on the disk.
+    fn settle(&mut self) -> io::Result<()>
+        ensures { self.new.faults ≡ self.old.faults }
+    {
+        match self.last.take() {
+            Some(file) => file.settle(self.rt),
+            None => Ok(()),
+        }
+    }
+
+    /// The file of an object. The one of another object is put on the disk before.
+    fn object_file(&mut self, object: Object) -> io::Result<ObjectFile>
+        ensures { self.new.faults ≡ self.old.faults }
+    {
+        match self.last.take() {
+            Some(file) if file.object == object => return Ok(file),
+            Some(file) => file.settle(self.rt)?,
+            None => {}
+        }
+        ObjectFile::open(self.rt, object, &self.path(object)?)
+    }
+
+    /// Writes behind what an object has so far. Large objects are put on the disk as they grow.
+    fn put(&mut self, object: Object, bytes: &[u8]) -> io::Result<()>
+        ensures { self.new.faults ≡ self.old.faults }
+    {
+        self.begin()?;
+        let mut file = self.object_file(object)?;
+        file.add(bytes)?;
+        file.settle_behind(self.rt)?;
+        self.last = Some(file);
+        Ok(())
+    }
+
+    fn sync_directory(&self) -> io::Result<()> {
+        fs::open(self.rt, self.directory)?.sync_all()
+    }
+
+    /// The directory, with what was written in it, is on the disk, and then the one above it, which names it.
+    fn sync_names(&self) -> io::Result<()> {
+        self.sync_directory()?;
+        match &self.progress {
+            Progress::Made(parent) => parent.sync_all(),
+            _ => Err(io::Error::from(io::ErrorKind::Other)),
+        }
+    }
+
+    /// Makes the mark, and puts it on the disk before its name.
+    fn make_mark(&self, path: &str) -> io::Result<()> {
+        let mark = OpenOptions::new()
+            .write(true)
+            .create(true)
+            .open(self.rt, path)?;
+        mark.sync_all()?;
+        self.sync_directory()
+    }
+
+    /// Removes the mark again, as far as the system does so.
+    fn take_back_mark(&self, path: &str) {
+        if fs::remove_file(self.rt, path).is_ok() {
+            let _ = self.sync_directory();
+        }
+    }
+
+    /// All of the set is on the disk before its mark is made.
+    fn mark(&mut self) -> io::Result<()>
+        ensures { self.new.faults ≡ self.old.faults }
+    {
+        self.begin()?;
+        self.settle()?;
+        self.sync_names()?;
+        let path = self.path(Object::Mark)?;
+        let made = self.make_mark(&path);
+        if made.is_err() {
+            self.take_back_mark(&path);
+        }
+        made
+    }
+
+    /// Counts a failure after which the set is never finished.
+    fn break_off(&mut self) -> Failed
+        ensures later { self.old.faults ≤ self.new.faults }
+        ensures rose { Rose self.old.faults self.new.faults }
+    {
+        self.progress = Progress::Broken;
+        self.faults = self.faults.saturating_add(1);
+        Failed
+    }
+}
+
+impl<R: Files<File = File> + AllocGlobal + Threads> ImageSink for DirSink<'_, R> {
+    ghost made = { λ _. None };
+
+    ghost kept = { λ _. None };
+
+    ghost faults = { λ images. images.faults };
+
+    fn write(&mut self, object: Object, _at: u64, bytes: &[u8]) -> Result<(), Failed> {
+        match self.put(object, bytes) {
+            Ok(()) => Ok(()),
+            Err(_) => Err(self.break_off()),
+        }
+    }
+
+    fn finish(&mut self) -> Result<(), Failed> {
+        match self.mark() {
+            Ok(()) => Ok(()),
+            Err(_) => Err(self.break_off()),
+        }
+    }
+}

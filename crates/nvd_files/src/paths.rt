@@ -1,0 +1,87 @@
+//! The paths of an image directory.
+ghost use Rattle.std.specs.Prelude.{◌≡◌, IfOk, string_bytes};
+ghost use Rattle.nvd_files.specs.Files.{file_name_of};
+
+use nvd_media::Object;
+use std::alloc::{AllocError, Global};
+use std::os::unix::fs::MetadataExt;
+use std::path::Path;
+use std::rt::Files;
+use std::{fs, io};
+
+/// How many directories may stand above one another: more than a path of the system's longest, 4,096 bytes, can go up.
+const DEEPEST: usize = 1366;
+
+/// The name of the file in which an image directory has an object.
+pub fn file_name(alloc: Global, object: Object) -> Result<String, AllocError>
+    ensures { IfOk result (λ name. string_bytes name ≡ file_name_of object) }
+{
+    match object {
+        Object::Mark => String::from_str(alloc, "complete"),
+        Object::Nfit => String::from_str(alloc, "nfit.bin"),
+        Object::Labels(module) => format!(in alloc; "labels-{}.bin", module),
+        Object::Contents(module) => format!(in alloc; "contents-{}.bin", module),
+        Object::BadRanges(module) => format!(in alloc; "badranges-{}.bin", module),
+    }
+}
+
+/// The path of an object's file in an image directory.
+pub(crate) fn file_path(alloc: Global, directory: &str, object: Object) -> io::Result<String> {
+    let name = file_name(alloc, object)?;
+    Ok(format!(in alloc; "{}/{}", directory, name)?)
+}
+
+/// The path of the directory in which a path's last name stands.
+pub(crate) fn above(path: &str) -> &str {
+    match Path::new(path).parent() {
+        Some(parent) if parent.as_str().is_empty() => ".",
+        Some(parent) => parent.as_str(),
+        None => path,
+    }
+}
+
+/// The device and the inode of a directory: two paths have the same ones exactly where they lead to one directory.
+#[derive(Clone, Copy, Debug, PartialEq, Eq)]
+struct DirectoryId {
+    device: u64,
+    inode: u64,
+}
+
+fn id_of(rt: &impl Files, path: &str) -> io::Result<DirectoryId> {
+    let metadata = fs::metadata(rt, path)?;
+    if !metadata.is_dir() {
+        return Err(io::Error::from(io::ErrorKind::NotADirectory));
+    }
+    Ok(DirectoryId {
+        device: metadata.dev(),
+        inode: metadata.ino(),
+    })
+}
+
+/// Whether a directory is another one, or stands somewhere below it.
+///
+/// It goes up by `..` and compares directories, not their names: so links don't matter, and neither do names above that
+/// aren't UTF-8. A directory that the caller may not look into ends the way up.
+pub(crate) fn stands_in<R: Files + AllocGlobal>(
+    rt: &R,
+    directory: &str,
+    other: &str,
+) -> io::Result<bool> {
+    let other = id_of(rt, other)?;
+    let mut path = String::from_str(rt.alloc(), directory)?;
+    let mut here = id_of(rt, &path)?;
+    for _ in 0..DEEPEST {
+        if here == other {
+            return Ok(true);
+        }
+        path.push_str("/..")?;
+        match id_of(rt, &path) {
+            // the root is its own parent
+            Ok(up) if up == here => return Ok(false),
+            Ok(up) => here = up,
+            Err(e) if e.kind() == io::ErrorKind::PermissionDenied => return Ok(false),
+            Err(e) => return Err(e),
+        }
+    }
+    Err(io::Error::from(io::ErrorKind::InvalidInput))
+}
