@@ -1,0 +1,9 @@
+pub mod Areas
+pub mod History
+pub mod Machine
+pub mod Invariant
+pub mod Runs
+pub mod Cut
+pub mod Opening
+pub mod Finished
+pub mod Laws
