@@ -17,4 +17,7 @@ pub mod Formatting
 pub mod Counting
 pub mod Finishing
 pub mod Laws
+pub mod Places
+pub mod Shapes
+pub mod Elsewhere
 pub mod Rows

@@ -6,4 +6,5 @@ pub mod Runs
 pub mod Cut
 pub mod Opening
 pub mod Finished
+pub mod Places
 pub mod Laws

@@ -1,5 +1,6 @@
 //! The laws about the steps of lanes. Each is a function that does nothing; what it ensures is the law (`specs/Laws.antt`).
 ghost use Rattle.lane_core.specs.History.{SomeMayGo};
+ghost use Rattle.lane_core.specs.Places.{PlacesAreApart};
 ghost use Rattle.lane_core.specs.Laws.{CallsAreGivenUp, CutsReopen, DataKeep, DataLoad, DataStore, EachIsNamed, EveryAccount, EveryCut, EveryRun, FlogAKeep, FlogAStore, FlogBKeep, FlogBStore, FormattedIsOpen, LockFree, LockTake, MapCheck, MapKeep, MapLoad, MapLook, MapStore, OneIsCurrent, OpenedIsSound, ReadBegins, RttClear, RttScan, RttSet, UnloggedWritesAreLost, WriteBegins};
 
 /// A law: a write begins in an idle lane.
@@ -157,4 +158,10 @@ pub fn every_account()
 /// A law: calls that change nothing may be left out of a history. It stays legal and has the same end.
 pub fn some_calls_may_be_left_out()
     ensures { SomeMayGo }
+{}
+
+/// A law: no two places of a state share a word of the row that shows it, and each place has one.
+#[tactic(auto, using(crate::proofs::Places::places_are_apart))]
+pub fn places_are_apart()
+    ensures { PlacesAreApart }
 {}

@@ -44,6 +44,7 @@ mod history;
 mod lane;
 mod law;
 mod phase;
+mod shape;
 
 pub use history::{Act, Entry};
 pub use lane::Lane;
@@ -55,8 +56,9 @@ pub use law::{
     flog_b_store_keeps_the_invariant, formatted_is_open, lock_free_keeps_the_invariant,
     lock_take_keeps_the_invariant, map_check_keeps_the_invariant, map_keep_keeps_the_invariant,
     map_load_keeps_the_invariant, map_look_keeps_the_invariant, map_store_keeps_the_invariant,
-    one_half_is_current, opened_is_sound, read_begins, rtt_clear_keeps_the_invariant,
+    one_half_is_current, opened_is_sound, places_are_apart, read_begins, rtt_clear_keeps_the_invariant,
     rtt_scan_keeps_the_invariant, rtt_set_keeps_the_invariant, some_calls_may_be_left_out,
     unlogged_writes_are_lost, write_begins,
 };
 pub use phase::Phase;
+pub use shape::Shape;
