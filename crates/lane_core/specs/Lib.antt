@@ -7,4 +7,6 @@ pub mod Cut
 pub mod Opening
 pub mod Finished
 pub mod Places
+pub mod Rows
+pub mod Lines
 pub mod Laws

@@ -40,11 +40,19 @@
 //! | a new arena is one of which all this speaks | [`formatted_is_open`], [`opened_is_sound`] | `IsOpen` |
 #![tactic(auto)]
 
+mod buffer;
 mod history;
 mod lane;
 mod law;
+mod calls;
+mod lines;
 mod phase;
+mod looks;
+mod now;
+mod pieces;
+mod row;
 mod shape;
+mod words;
 
 pub use history::{Act, Entry};
 pub use lane::Lane;
