@@ -19,5 +19,6 @@ pub mod Finishing
 pub mod Laws
 pub mod Places
 pub mod Shapes
+pub mod Readies
 pub mod Elsewhere
 pub mod Rows

@@ -104,5 +104,22 @@ put_again f l v e = λ i k. put_elim (λ k w. w ≡ f k) f l v e (λ k ne. refl)
 pub put_mine : {A : Type 0} (f : ℕ → A) (l : ℕ) (v : A) → put f l (put f l v l) ≡ put f l v
 put_mine f l v = ap (put f l) (put_at f l v)
 
+-- the words of seen places stand in the first part of the row
+pub seen_data_low : (x : Shape) → IsShape x → (b k : ℕ) → IsIn x (SeenData b k) → word_of x (SeenData b k) < x.total
+seen_data_low x h b k i = let c = in_order x h in let r = bounds x h (SeenData b k) i in omega (arith, c, r.1)
+
+pub seen_map_low : (x : Shape) → IsShape x → (m : ℕ) → IsIn x (SeenMap m) → word_of x (SeenMap m) < x.total
+seen_map_low x h m i = let c = in_order x h in let r = bounds x h (SeenMap m) i in omega (arith, c, r.1)
+
+pub seen_a_low : (x : Shape) → IsShape x → (l side : ℕ) → IsIn x (SeenA l side) → word_of x (SeenA l side) < x.total
+seen_a_low x h l side i = let c = in_order x h in let r = bounds x h (SeenA l side) i in omega (arith, c, r.1)
+
+pub seen_b_low : (x : Shape) → IsShape x → (l side : ℕ) → IsIn x (SeenB l side) → word_of x (SeenB l side) < x.total
+seen_b_low x h l side i = let c = in_order x h in let r = bounds x h (SeenB l side) i in omega (arith, c, r.1)
+
+-- a whole sector's words stand before the end of the row
+pub data_ends : (x : Shape) → IsShape x → 0 < x.lanes → (b : ℕ) → b < x.sectors + x.lanes → word_of x (SeenData b 0) + x.width < row_size x
+data_ends x h some b lb = let w = h.wide in let c = in_order x h in let bl = h.blocks in let r : b * x.inner + x.inner ≤ (x.sectors + x.lanes) * x.inner = row_end b (x.sectors + x.lanes) x.inner lb in omega (arith, w, c, bl, r, some)
+
 pub places_are_apart : PlacesAreApart
 places_are_apart x h = record { apart = same_place x h; inside = in_table x h }

@@ -9,4 +9,6 @@ pub mod Finished
 pub mod Places
 pub mod Rows
 pub mod Lines
+pub mod After
+pub mod Ready
 pub mod Laws

@@ -52,6 +52,8 @@ mod now;
 mod pieces;
 mod row;
 mod shape;
+mod stepped;
+mod steps;
 mod words;
 
 pub use history::{Act, Entry};
@@ -70,3 +72,4 @@ pub use law::{
 };
 pub use phase::Phase;
 pub use shape::Shape;
+pub use stepped::{Answer, Step, Stepped};
