@@ -20,5 +20,7 @@ pub mod Laws
 pub mod Places
 pub mod Shapes
 pub mod Readies
+pub mod Showing
+pub mod Simulated
 pub mod Elsewhere
 pub mod Rows

@@ -11,4 +11,5 @@ pub mod Rows
 pub mod Lines
 pub mod After
 pub mod Ready
+pub mod Showing
 pub mod Laws
