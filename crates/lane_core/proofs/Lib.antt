@@ -22,5 +22,6 @@ pub mod Shapes
 pub mod Readies
 pub mod Showing
 pub mod Simulated
+pub mod Cores
 pub mod Elsewhere
 pub mod Rows

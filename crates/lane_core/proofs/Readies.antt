@@ -8,7 +8,8 @@ use Rattle.lane_core.specs.Machine.{lock_of, other, other_lane}
 use Rattle.lane_core.specs.Places.{IsShape, Place, SeenData, SeenMap, SeenA, SeenB, Reader, Lock, IsIn, word_of, row_size, geometry}
 use Rattle.lane_core.specs.Rows.{RowWords, IsRow}
 use Rattle.lane_core.specs.Lines.{HasWord, HasArenaWord, looked_now}
-use Rattle.lane_core.specs.After.{has_sector, uses_words, uses_cell, uses_looked, wants_lock}
+use Rattle.lane_core.specs.Invariant.{uses_sector}
+use Rattle.lane_core.specs.After.{uses_words, uses_cell, uses_looked, wants_lock}
 use Rattle.lane_core.specs.Ready.{IsReady, StagesWord, HasCell, ReadsWord}
 use Rattle.lane_core.proofs.Places.{in_table, seen_data_low, seen_map_low, seen_a_low, seen_b_low, data_ends}
 
@@ -39,10 +40,10 @@ module _ (x : Shape) (r : RowWords) (l : ℕ) (p : LaneNow) (left : ℕ) (h : Is
   half_word : (t : ℕ) → t < x.sectors → 2 * (t / 2) < x.sectors
   half_word t lt = omega arith
 
-  pub map_in : has_sector p.phase ≡ true → HasArenaWord x r (SeenMap (p.sector / 2))
+  pub map_in : uses_sector p.phase ≡ true → HasArenaWord x r (SeenMap (p.sector / 2))
   map_in e = let i = half_word p.sector (h.sector e) in arena_in x r h.shape h.row (SeenMap (p.sector / 2)) i (seen_map_low x h.shape (p.sector / 2) i)
 
-  pub map_word_in : has_sector p.phase ≡ true → HasWord x r (SeenMap (p.sector / 2))
+  pub map_word_in : uses_sector p.phase ≡ true → HasWord x r (SeenMap (p.sector / 2))
   map_word_in e = word_in x r h.shape h.row (SeenMap (p.sector / 2)) (half_word p.sector (h.sector e))
 
   pub some_lane : 0 < x.lanes
@@ -84,14 +85,14 @@ module _ (x : Shape) (r : RowWords) (l : ℕ) (p : LaneNow) (left : ℕ) (h : Is
 
   pub has_cell : p.phase ≡ Published → 0 < x.width → HasCell x r p
   has_cell e some = record {
-    first = word_in x r h.shape h.row (SeenData (looked_now p) 0) (h.looked (ap uses_looked e), some);
-    words = subst (λ n. word_of x (SeenData (looked_now p) 0) + x.width < n) (sym h.row.size) (data_ends x h.shape some_lane (looked_now p) (h.looked (ap uses_looked e)));
+    first = word_in x r h.shape h.row (SeenData (looked_now p) 0) (h.filled.looked (ap uses_looked e), some);
+    words = subst (λ n. word_of x (SeenData (looked_now p) 0) + x.width < n) (sym h.row.size) (data_ends x h.shape some_lane (looked_now p) (h.filled.looked (ap uses_looked e)));
     cell = h.filled.cell (ap uses_cell e);
   }
 
   pub reads_word : (k : ℕ) → p.phase ≡ Reading k → ReadsWord x r l p k
   reads_word k e = record {
-    word = λ lt. word_in x r h.shape h.row (SeenData (looked_now p) k) (h.looked (ap uses_looked e), lt);
+    word = λ lt. word_in x r h.shape h.row (SeenData (looked_now p) k) (h.filled.looked (ap uses_looked e), lt);
     reader = reader_in;
     words = h.filled.words (ap uses_words e);
     few = let a = h.reads k e in let b = h.shape.short in omega arith;

@@ -16,12 +16,12 @@ use Rattle.lane_core.specs.declared.shape.Shape.{Shape}
 use Rattle.lane_core.specs.Areas.{put, block_in, kind_in, normal, next_seq, word_a, word_b, entry_at}
 use Rattle.lane_core.specs.History.{listed}
 use Rattle.lane_core.specs.Machine.{State, lock_of, other, other_lane, looked, wrote, read, scan_again, scan_on, data_store, data_keep, lock_take, map_load, log_a_store, log_a_keep, log_b_store, log_b_keep, map_store, map_keep, lock_free, look, look_cell, rtt_set, check_same, check_moved, clear_moved, data_load, clear_done}
-use Rattle.lane_core.specs.Invariant.{stored}
+use Rattle.lane_core.specs.Invariant.{stored, uses_sector}
 use Rattle.lane_core.specs.Runs.{stepped, took, found}
 use Rattle.lane_core.specs.Places.{IsShape, Place, SeenData, KeptData, SeenMap, KeptMap, SeenA, KeptA, SeenB, KeptB, Reader, Lock, IsIn, word_of, row_size, value_of, geometry}
 use Rattle.lane_core.specs.Rows.{RowWords, Recorded, grown, stored_in, kept_in, put_in}
 use Rattle.lane_core.specs.Lines.{looked_now, read_now, wrote_now, word_at, kept_phase, scanned}
-use Rattle.lane_core.specs.After.{row_after, lane_after, past_after, lane_looked, past_looked, kind_found, map_found, is_free, is_unmoved, lock_wanted, cell_found, uses_words, uses_cell, uses_looked, has_sector}
+use Rattle.lane_core.specs.After.{row_after, lane_after, past_after, lane_looked, past_looked, kind_found, map_found, is_free, is_unmoved, lock_wanted, cell_found, uses_words, uses_cell, uses_looked}
 use Rattle.lane_core.specs.Ready.{IsReady}
 use Rattle.lane_core.specs.Showing.{Shown, loads, lane_at, lane_of, line_of}
 use Rattle.lane_core.proofs.Put.{put_at, put2_at}
@@ -94,7 +94,7 @@ module _ (x : Shape) (row : RowWords) (lanes : List LaneNow) (past : Recorded) (
       h.history
 
   -- the map word of the lane's sector
-  map_in : has_sector p.phase ≡ true → IsIn x (SeenMap (p.sector / 2))
+  map_in : uses_sector p.phase ≡ true → IsIn x (SeenMap (p.sector / 2))
   map_in e = let a = ready.sector e in omega arith
 
   all_words : uses_words p.phase ≡ true → take x.width p.words ≡ p.words
@@ -107,7 +107,7 @@ module _ (x : Shape) (row : RowWords) (lanes : List LaneNow) (past : Recorded) (
       (record (s.lanes l) { phase = Switched; block = looked (s.lanes l); words = []; log = (s.lanes l).log ++ wrote l (s.lanes l) ∷ [] }) (past.entries ++ wrote_now l p ∷ [])
       (row_after x l row p Logged) (SeenMap (p.sector / 2)) (with_entry p.loaded p.sector (normal p.block)) refl
       (ap (λ (a : Lane). record a { phase = Switched; block = looked a; words = []; log = (s.lanes l).log ++ wrote l (s.lanes l) ∷ [] }) m)
-      (map_in (ap has_sector e))
+      (map_in (ap uses_sector e))
       refl
       (length-set row.pending (word_of x (SeenMap (p.sector / 2))) true)
       (ap (λ (a : Lane). value_of (map_store (geometry x) s l) (SeenMap (a.sector / 2))) (sym m) ∙ put_at s.seen.map_at ((s.lanes l).sector / 2) _ ∙ ap (λ (a : Lane). with_entry a.loaded a.sector (normal a.block)) m)
@@ -118,7 +118,7 @@ module _ (x : Shape) (row : RowWords) (lanes : List LaneNow) (past : Recorded) (
   switched : p.phase ≡ Switched → After Switched (map_keep (geometry x) s l)
   switched e =
       let m = me Switched e in
-      let i : IsIn x (SeenMap (p.sector / 2)) = map_in (ap has_sector e) in
+      let i : IsIn x (SeenMap (p.sector / 2)) = map_in (ap uses_sector e) in
       moves x row lanes past.entries s l p hs h at (map_keep (geometry x) s l) (record p { phase = Kept }) (record (s.lanes l) { phase = Kept }) past.entries
       (row_after x l row p Switched) (KeptMap (p.sector / 2)) (word_at x row (SeenMap (p.sector / 2))) refl
       (ap (λ (a : Lane). record a { phase = Kept }) m)
@@ -169,7 +169,7 @@ module _ (x : Shape) (row : RowWords) (lanes : List LaneNow) (past : Recorded) (
       h.history
 
   -- the map word that the state has
-  found_is : (e : has_sector p.phase ≡ true) → map_found x l row p ≡ s.seen.map_at (p.sector / 2)
+  found_is : (e : uses_sector p.phase ≡ true) → map_found x l row p ≡ s.seen.map_at (p.sector / 2)
   found_is e = h.words (SeenMap (p.sector / 2)) (map_in e)
 
   locked : p.phase ≡ Locked → After Locked (map_load (geometry x) s l)
@@ -178,7 +178,7 @@ module _ (x : Shape) (row : RowWords) (lanes : List LaneNow) (past : Recorded) (
       still x row lanes past.entries s l p hs h at (map_load (geometry x) s l) (record p { phase = Known; loaded = map_found x l row p })
       (record (s.lanes l) { phase = Known; loaded = s.seen.map_at ((s.lanes l).sector / 2) }) past.entries refl
       (ap (λ (a : Lane). record a { phase = Known; loaded = s.seen.map_at (a.sector / 2) }) m
-      ∙ ap (λ w. record (lane_at x.width p Known (s.lanes l).log) { loaded = w }) (sym (found_is (ap has_sector e))))
+      ∙ ap (λ w. record (lane_at x.width p Known (s.lanes l).log) { loaded = w }) (sym (found_is (ap uses_sector e))))
       (λ r. nowhere x s (map_load (geometry x) s l).lanes s.history r)
       h.history
 
@@ -326,7 +326,7 @@ module _ (x : Shape) (row : RowWords) (lanes : List LaneNow) (past : Recorded) (
       still x row lanes past.entries s l p hs h at (look (geometry x) s l) (record p { phase = Looking; loaded = map_found x l row p })
       (record (s.lanes l) { phase = Looking; loaded = s.seen.map_at ((s.lanes l).sector / 2) }) past.entries refl
       (ap (λ (a : Lane). record a { phase = Looking; loaded = s.seen.map_at (a.sector / 2) }) (me Called e)
-      ∙ ap (λ w. record (lane_at x.width p Looking (s.lanes l).log) { loaded = w }) (sym (found_is (ap has_sector e))))
+      ∙ ap (λ w. record (lane_at x.width p Looking (s.lanes l).log) { loaded = w }) (sym (found_is (ap uses_sector e))))
       (λ r. nowhere x s (look (geometry x) s l).lanes s.history r)
       h.history
 
@@ -351,7 +351,7 @@ module _ (x : Shape) (row : RowWords) (lanes : List LaneNow) (past : Recorded) (
   called e = subst (λ k. Shown x row (slice_set lanes l (lane_after x l row p Called)) (past_after x l row p past Called).entries (found (geometry x) s l k)) same (called_by (kind_found x l row p) e)
     where
       same : kind_found x l row p ≡ kind_in (entry_at s.seen.map_at (s.lanes l).sector)
-      same = ap (λ w. kind_in (entry_in w p.sector)) (found_is (ap has_sector e)) ∙ ap (λ (a : Lane). kind_in (entry_at s.seen.map_at a.sector)) (sym (me Called e))
+      same = ap (λ w. kind_in (entry_in w p.sector)) (found_is (ap uses_sector e)) ∙ ap (λ (a : Lane). kind_in (entry_at s.seen.map_at a.sector)) (sym (me Called e))
 
   -- the words of a block in the row
   block_word : (b k : ℕ) → b < x.sectors + x.lanes → k < x.width → s.seen.data_at b k ≡ get_or (drop (word_of x (SeenData b 0)) row.words) k 0
@@ -375,7 +375,7 @@ module _ (x : Shape) (row : RowWords) (lanes : List LaneNow) (past : Recorded) (
       (ap (λ (a : Lane). record a { phase = Reading 0; got = [] }) (me Published e))
       (λ r. nowhere x s (check_same (geometry x) s l).lanes (check_same (geometry x) s l).history r)
       (entry_is Published _ (cell_found x l row p) e
-          (ap (λ (a : Lane). cell.Bytes (listed x.width (s.seen.data_at (looked a)))) (me Published e) ∙ ap cell.Bytes (block_words (looked_now p) (ready.looked (ap uses_looked e)))))
+          (ap (λ (a : Lane). cell.Bytes (listed x.width (s.seen.data_at (looked a)))) (me Published e) ∙ ap cell.Bytes (block_words (looked_now p) (ready.filled.looked (ap uses_looked e)))))
 
   checks_moved : p.phase ≡ Published → Shown x row (slice_set lanes l (record p { phase = Moved })) past.entries (check_moved (geometry x) s l)
   checks_moved e =
@@ -390,7 +390,7 @@ module _ (x : Shape) (row : RowWords) (lanes : List LaneNow) (past : Recorded) (
       (by (is_unmoved x l row p))
     where
       same : is_unmoved x l row p ≡ (entry_at s.seen.map_at (s.lanes l).sector == entry_in (s.lanes l).loaded (s.lanes l).sector)
-      same = ap (λ w. entry_in w p.sector == entry_in p.loaded p.sector) (found_is (ap has_sector e)) ∙ ap (λ (a : Lane). entry_at s.seen.map_at a.sector == entry_in a.loaded a.sector) (sym (me Published e))
+      same = ap (λ w. entry_in w p.sector == entry_in p.loaded p.sector) (found_is (ap uses_sector e)) ∙ ap (λ (a : Lane). entry_at s.seen.map_at a.sector == entry_in a.loaded a.sector) (sym (me Published e))
 
       by : (b : Bool) → Shown x row (slice_set lanes l (if b then record p { phase = Reading 0; cell = [] } else record p { phase = Moved }))
           (if b then grown past (read_now l p (cell_found x l row p)) else past).entries (if b then check_same (geometry x) s l else check_moved (geometry x) s l)
@@ -404,7 +404,7 @@ module _ (x : Shape) (row : RowWords) (lanes : List LaneNow) (past : Recorded) (
       still x row lanes past.entries s l p hs h at (data_load (geometry x) s l k) (record p { phase = Reading (k + 1); words = slice_set p.words k w })
       (record (s.lanes l) { phase = Reading (k + 1); got = (s.lanes l).got ++ s.seen.data_at (looked (s.lanes l)) k ∷ [] }) past.entries refl
       (ap (λ (a : Lane). record a { phase = Reading (k + 1); got = a.got ++ s.seen.data_at (looked a) k ∷ [] }) m
-      ∙ ap (λ ws. record (lane_at x.width p (Reading (k + 1)) (s.lanes l).log) { words = []; got = ws }) (more w (sym (h.words (SeenData (looked_now p) k) (ready.looked (ap uses_looked e), lt)))))
+      ∙ ap (λ ws. record (lane_at x.width p (Reading (k + 1)) (s.lanes l).log) { words = []; got = ws }) (more w (sym (h.words (SeenData (looked_now p) k) (ready.filled.looked (ap uses_looked e), lt)))))
       (λ r. nowhere x s (data_load (geometry x) s l k).lanes s.history r)
       h.history
     where

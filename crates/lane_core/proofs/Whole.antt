@@ -40,11 +40,11 @@ module _ (g : Geometry) (o : ℕ → Cell) (s : State) (l : ℕ) (h : IsSound g 
   written_sound Idle e = begin_write_sound g o s l h ll e
   written_sound _ e = h
 
-  came_sound : (w : ℕ) (ph : Phase) → (s.lanes l).phase ≡ ph → IsSound g o (came g s l w ph)
+  pub came_sound : (w : ℕ) (ph : Phase) → (s.lanes l).phase ≡ ph → IsSound g o (came g s l w ph)
   came_sound w (Staging k) e = chosen (IsSound g o) (nat_lt k g.width) _ _ (λ q. data_store_sound g o s l k w h ll e (below_true k g.width q)) (λ q. h)
   came_sound w _ e = h
 
-  took_sound : (tag : Tag) (sector : ℕ) → sector < g.sectors → (ph : Phase) → (s.lanes l).phase ≡ ph → IsSound g o (took g s l tag sector ph)
+  pub took_sound : (tag : Tag) (sector : ℕ) → sector < g.sectors → (ph : Phase) → (s.lanes l).phase ≡ ph → IsSound g o (took g s l tag sector ph)
   took_sound tag sector ls Staged e = chosen (IsSound g o) (s.locks (lock_of g sector) == 0) _ _ (λ q. lock_take_sound g o s l h ll tag sector e ls (equal_true (s.locks (lock_of g sector)) 0 q)) (λ q. h)
   took_sound tag sector ls _ e = h
 
@@ -64,7 +64,7 @@ module _ (g : Geometry) (o : ℕ → Cell) (s : State) (l : ℕ) (h : IsSound g 
   found_sound kind.Initial e q = look_sound g o s l h ll e (ap has_bytes q)
   found_sound kind.Normal e q = look_sound g o s l h ll e (ap has_bytes q)
 
-  stepped_sound : (ph : Phase) → (s.lanes l).phase ≡ ph → IsSound g o (stepped g s l ph)
+  pub stepped_sound : (ph : Phase) → (s.lanes l).phase ≡ ph → IsSound g o (stepped g s l ph)
   stepped_sound Idle e = h
   stepped_sound (Scanning j) e = chosen (IsSound g o) (s.readers (other_lane l j) == suc (s.lanes l).block) _ _ (λ q. scan_again_sound g o s l h ll j e) (λ q. scan_on_sound g o s l h ll j e (equal_false _ _ q))
   stepped_sound (Staging k) e = chosen (IsSound g o) (nat_lt k g.width) _ _ (λ q. h) (λ q. data_keep_sound g o s l k h ll e (below_false k g.width q))

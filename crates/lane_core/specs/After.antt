@@ -179,14 +179,7 @@ owes_entry _ = true
 
 -- the block of the loaded entry is used
 abbrev pub uses_looked : Phase → Bool
+uses_looked Looking = true
 uses_looked Published = true
 uses_looked (Reading k) = true
 uses_looked _ = false
-
--- the sector of the call is that of the lane
-abbrev pub has_sector : Phase → Bool
-has_sector Idle = false
-has_sector (Scanning j) = false
-has_sector (Staging k) = false
-has_sector Staged = false
-has_sector _ = true

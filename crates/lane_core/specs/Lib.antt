@@ -12,4 +12,5 @@ pub mod Lines
 pub mod After
 pub mod Ready
 pub mod Showing
+pub mod Cores
 pub mod Laws

@@ -6,13 +6,16 @@ use Rattle.lane_core.specs.declared.shape.Shape.{Shape}
 use Rattle.lane_core.specs.Places.{IsShape, word_of, SeenData, Reader}
 use Rattle.lane_core.specs.Rows.{RowWords, IsRow}
 use Rattle.lane_core.specs.Lines.{looked_now, HasArenaWord, HasWord}
-use Rattle.lane_core.specs.After.{wants_lock, uses_words, uses_cell, owes_entry, uses_looked, has_sector}
+use Rattle.lane_core.specs.Invariant.{uses_sector}
+use Rattle.lane_core.specs.After.{wants_lock, uses_words, uses_cell, owes_entry, uses_looked}
 
--- what the core itself keeps of a lane: the words of its call, or the room for them, and the sector of a staged write
+-- what the core itself keeps of a lane: the words of its call, or the room for them, the sector of a staged write, and that the
+-- block that a read looks at is one of the arena
 pub record IsFilled (x : Shape) (p : LaneNow) : Type 0 where
   pub words : uses_words p.phase ≡ true → length p.words ≡ x.width
   pub cell : uses_cell p.phase ≡ true → length p.cell ≡ x.width
   pub next : wants_lock p.phase ≡ true → p.next_sector < x.sectors
+  pub looked : uses_looked p.phase ≡ true → looked_now p < x.sectors + x.lanes
 
 -- the rest follows from the invariant
 pub record IsReady (x : Shape) (r : RowWords) (l : ℕ) (p : LaneNow) (left : ℕ) : Type 0 where
@@ -28,8 +31,7 @@ pub record IsReady (x : Shape) (r : RowWords) (l : ℕ) (p : LaneNow) (left : �
   pub scans : (j : ℕ) → p.phase ≡ Scanning j → j + 2 ≤ x.lanes
   pub stages : (k : ℕ) → p.phase ≡ Staging k → k < 2 * x.width
   pub reads : (k : ℕ) → p.phase ≡ Reading k → k ≤ x.width
-  pub sector : has_sector p.phase ≡ true → p.sector < x.sectors
-  pub looked : uses_looked p.phase ≡ true → looked_now p < x.sectors + x.lanes
+  pub sector : uses_sector p.phase ≡ true → p.sector < x.sectors
 
 -- ---- what single lines need
 
