@@ -23,5 +23,7 @@ pub mod Readies
 pub mod Showing
 pub mod Simulated
 pub mod Cores
+pub mod Nothing
+pub mod Stepping
 pub mod Elsewhere
 pub mod Rows

@@ -13,4 +13,5 @@ pub mod After
 pub mod Ready
 pub mod Showing
 pub mod Cores
+pub mod Machines
 pub mod Laws

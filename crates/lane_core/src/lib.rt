@@ -48,6 +48,7 @@ mod calls;
 mod lines;
 mod phase;
 mod looks;
+mod machine;
 mod now;
 mod pieces;
 mod row;
@@ -58,6 +59,7 @@ mod words;
 
 pub use history::{Act, Entry};
 pub use lane::Lane;
+pub use machine::Core;
 pub use law::{
     calls_are_given_up, cuts_reopen, data_keep_keeps_the_invariant, data_load_keeps_the_invariant,
     data_store_keeps_the_invariant, each_block_is_named, every_account, every_cut_survives,
