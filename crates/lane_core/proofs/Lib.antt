@@ -22,6 +22,7 @@ pub mod Shapes
 pub mod Readies
 pub mod Showing
 pub mod Simulated
+pub mod Groups
 pub mod Cores
 pub mod Nothing
 pub mod Stepping

@@ -14,4 +14,5 @@ pub mod Ready
 pub mod Showing
 pub mod Cores
 pub mod Machines
+pub mod Arenas
 pub mod Laws
