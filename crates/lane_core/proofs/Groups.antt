@@ -90,3 +90,68 @@ module _ (l : Layout) (words : List ℕ) (lane : ℕ) where
     pub half : g.half ≡ half_at areas lane g.side
     pub current : IsCurrent areas lane g.side
     pub sized : Sized (record { width = l.sector / 8; sectors = l.external; lanes = l.lanes }) g.half
+
+  pub lane_read : (g : Group) → l.internal ≡ l.external + l.lanes → StandsFor (group_words l words lane) l.external l.internal g → LaneRead g
+  lane_read g inner stands = by (is_newer (group_half (group_words l words lane) 0).seq (group_half (group_words l words lane) 1).seq) refl
+    where
+      r : Read (group_words l words lane) l.external l.internal g
+      r = read_group (group_words l words lane) l.external l.internal g stands
+
+      sized : Sized (record { width = l.sector / 8; sectors = l.external; lanes = l.lanes }) g.half
+      sized = record { old = subst (λ n. g.half.old < n) inner r.range.0; new = subst (λ n. g.half.new < n) inner r.range.1; lba = r.range.2 }
+
+      by : (b : Bool) → is_newer (group_half (group_words l words lane) 0).seq (group_half (group_words l words lane) 1).seq ≡ b → LaneRead g
+      by true e =
+          let side : g.side ≡ 1 = ap (λ (k : Group). k.side) (sym r.is) ∙ side_is true e in
+          let half : g.half ≡ half_at areas lane 1 = ap (λ (k : Group). k.half) (sym r.is) ∙ ap (group_half (group_words l words lane)) (side_is true e) ∙ half_one in
+          record {
+            half = half ∙ ap (half_at areas lane) (sym side);
+            current = subst (IsCurrent areas lane) (sym side) (record { two = omega arith; newer = newer_is (seq_in (areas.log_b lane 0)) (seq_in (areas.log_b lane 1)) (ap₂ (λ (a b : Half). is_newer a.seq b.seq) (sym half_zero) (sym half_one) ∙ e) });
+            sized = sized;
+          }
+      by false e =
+          let side : g.side ≡ 0 = ap (λ (k : Group). k.side) (sym r.is) ∙ side_is false e in
+          let half : g.half ≡ half_at areas lane 0 = ap (λ (k : Group). k.half) (sym r.is) ∙ ap (group_half (group_words l words lane)) (side_is false e) ∙ half_zero in
+          let newest : is_newer (half_at areas lane 1).seq (half_at areas lane 0).seq ≡ true =
+          ap₂ (λ (a b : Half). is_newer a.seq b.seq) (sym half_one) (sym half) ∙ subst (λ s. IsTrue (is_newer (group_half (group_words l words lane) (other_side s)).seq g.half.seq)) side r.newer_half in
+          record {
+            half = half ∙ ap (half_at areas lane) (sym side);
+            current = subst (IsCurrent areas lane) (sym side) (record { two = omega arith; newer = newer_is (seq_in (areas.log_b lane 1)) (seq_in (areas.log_b lane 0)) newest });
+            sized = sized;
+          }
+
+-- ---- all groups
+
+abbrev got : List Group → Result (List Group) OpenRefused → List Group
+got gs (Ok found) = found
+got gs (Err fault) = gs
+
+record Parted (r : Result Group FlogFault) (t : Result (List Group) OpenRefused) (gs : List Group) : Type 0 where
+  first : Group
+  rest : List Group
+  is_first : r ≡ Ok first
+  is_rest : t ≡ Ok rest
+  all : gs ≡ first ∷ rest
+
+parted : (lane : ℕ) (r : Result Group FlogFault) (t : Result (List Group) OpenRefused) (gs : List Group) → with_group lane r t ≡ Ok gs → Parted r t gs
+parted lane (Err f) t gs e = cc
+parted lane (Ok g) (Err f) gs e = cc
+parted lane (Ok g) (Ok more) gs e = record { first = g; rest = more; is_first = refl; is_rest = refl; all = cc }
+
+module _ (l : Layout) (words : List ℕ) where
+  each_of : (lane n : ℕ) (gs : List Group) → groups_of l words (range_with_len lane n) ≡ Ok gs
+      → (length gs ≡ n) × ((k : ℕ) → k < n → StandsFor (group_words l words (lane + k)) l.external l.internal (get_or gs k no_group))
+  each_of lane zero gs e = (ap length (sym (ap (got gs) e)), λ k lt. absurd (omega arith))
+  each_of lane (suc n) gs e =
+      let d = parted lane (group_reading (group_words l words lane) l.external l.internal) (groups_of l words (range_with_len (lane + 1) n)) gs e in
+      let r = each_of (lane + 1) n d.rest d.is_rest in
+      (ap length d.all ∙ ap suc r.0, at d.first d.rest d.all d.is_first r.1)
+    where
+      at : (first : Group) (rest : List Group) → gs ≡ first ∷ rest → group_reading (group_words l words lane) l.external l.internal ≡ Ok first
+          → ((k : ℕ) → k < n → StandsFor (group_words l words (lane + 1 + k)) l.external l.internal (get_or rest k no_group))
+          → (k : ℕ) → k < suc n → StandsFor (group_words l words (lane + k)) l.external l.internal (get_or gs k no_group)
+      at first rest all one more zero lt = subst₂ (λ i gs. StandsFor (group_words l words i) l.external l.internal (get_or gs 0 no_group)) (omega arith) (sym all) one
+      at first rest all one more (suc k) lt = subst₂ (λ i gs. StandsFor (group_words l words i) l.external l.internal (get_or gs (suc k) no_group)) (omega arith) (sym all) (more k (omega arith))
+
+  pub groups_each : (gs : List Group) → groups_in l words ≡ Ok gs → (length gs ≡ l.lanes) × ((k : ℕ) → k < l.lanes → StandsFor (group_words l words k) l.external l.internal (get_or gs k no_group))
+  groups_each gs e = let r = each_of 0 l.lanes gs e in (r.0, λ k lt. subst (λ i. StandsFor (group_words l words i) l.external l.internal (get_or gs k no_group)) (omega arith) (r.1 k lt))

@@ -23,6 +23,7 @@ pub mod Readies
 pub mod Showing
 pub mod Simulated
 pub mod Groups
+pub mod Openings
 pub mod Cores
 pub mod Nothing
 pub mod Stepping

@@ -12,6 +12,10 @@ short_sector : (bytes : ℕ) → IsTrue (is_sector bytes) → bytes ≤ 4224
 unfolding is_sector
 short_sector bytes h = grind arith
 
+pub long_sector : (bytes : ℕ) → IsTrue (is_sector bytes) → 0 < bytes / 8
+unfolding is_sector
+long_sector bytes h = grind arith
+
 pub shape_is : (l : Layout) → IsLayout l → IsShape (shape_of l)
 shape_is l h =
     let inner : l.inner ≡ 8 * (l.inner / 8) = omega (arith, h.inner_whole) in
