@@ -13,6 +13,7 @@ pub mod After
 pub mod Ready
 pub mod Showing
 pub mod Cores
+pub mod Idle
 pub mod Machines
 pub mod Arenas
 pub mod Laws

@@ -1,10 +1,14 @@
 -- The core: what it keeps, and what one step does to it.
-use Rattle.std.specs.Prelude.{◌≡◌, ℕ, ◌<◌, slice_get, slice_set, Some}
+use Rattle.std.specs.Prelude.{◌≡◌, ℕ, ◌<◌, [], map, slice_get, slice_set, Some}
 use Rattle.lane_core.specs.declared.machine.Core.{Core}
 use Rattle.lane_core.specs.declared.now.LaneNow.{LaneNow}
 use Rattle.lane_core.specs.declared.phase.Phase.TheVariants.{Idle}
 use Rattle.lane_core.specs.declared.stepped.Stepped.{Stepped}
 use Rattle.lane_core.specs.declared.stepped.Stepped.TheVariants as stepped
+use Rattle.arena_open.specs.declared.state.ArenaState.{ArenaState}
+use Rattle.lane_core.specs.Arenas.{shape_in}
+use Rattle.lane_core.specs.Idle.{idle_of}
+use Rattle.lane_core.specs.Rows.{new_row}
 use Rattle.lane_core.specs.History.{Cells}
 use Rattle.lane_core.specs.Machine.{State}
 use Rattle.lane_core.specs.After.{answer_after, lane_after, past_after, row_after}
@@ -29,3 +33,11 @@ pub record StepsOnce (old new : Core) (l : ℕ) (p : LaneNow) (result : Stepped)
   pub line : (s : State) → CoreShows old s → CoreShows new (line_of old.shape s l p p.phase)  -- of every state that it showed
   pub nothing : result ≡ stepped.Nothing → p.phase ≡ Idle
   pub idle : p.phase ≡ Idle → result ≡ stepped.Nothing
+
+-- a core of an arena in which nothing was called yet
+pub record IsFresh (state : ArenaState) (core : Core) : Type 0 where
+  pub info : core.info ≡ state.info
+  pub shape : core.shape ≡ shape_in state
+  pub row : core.row ≡ new_row state.words state.info.layout.lanes
+  pub lanes : core.lanes.items ≡ map idle_of state.lanes
+  pub history : core.history.entries ≡ []

@@ -1,5 +1,5 @@
 -- The row of words of a core, and its history with the room that is kept for entries.
-use Rattle.std.specs.Prelude.{◌≡◌, ℕ, ◌+◌, ◌-◌, ◌<◌, ◌≤◌, ◌^◌, Bool, true, false, List, [], ◌∷◌, ◌++◌, length, slice_index, slice_set}
+use Rattle.std.specs.Prelude.{◌≡◌, ℕ, ◌+◌, ◌-◌, ◌*◌, ◌<◌, ◌≤◌, ◌^◌, Bool, true, false, List, [], ◌∷◌, ◌++◌, length, replicate, slice_index, slice_set}
 use Rattle.lane_core.specs.declared.history.Entry.{Entry}
 use Rattle.lane_core.specs.declared.shape.Shape.{Shape}
 use Rattle.lane_core.specs.Places.{Place, word_of, row_size}
@@ -8,6 +8,10 @@ use Rattle.lane_core.specs.Places.{Place, word_of, row_size}
 pub record RowWords : Type 0 where
   pub words : List ℕ
   pub pending : List Bool
+
+-- the row of an arena's words with so many lanes, none of which reads or has a lock
+abbrev pub new_row : List ℕ → ℕ → RowWords
+new_row words lanes = record { words = words ++ words ++ replicate (2 * lanes) 0; pending = replicate (length words) false }
 
 -- after a reader word or a lock was set
 abbrev pub put_in : RowWords → ℕ → ℕ → RowWords

@@ -1,5 +1,5 @@
 ghost use Rattle.std.specs.Prelude.{◌≡◌, ◌<◌, ◌+◌, ◌^◌, ◌++◌, length, replicate, slice_index, take, drop, IfOk};
-ghost use Rattle.lane_core.specs.Rows.{kept_in, put_in, stored_in};
+ghost use Rattle.lane_core.specs.Rows.{kept_in, new_row, put_in, stored_in};
 
 use nvd_words::Flags;
 use std::alloc::{AllocError, Global};
@@ -25,6 +25,24 @@ impl Model for Row {
 }
 
 impl Row {
+    /// The row of an arena's words, none of them stored since its last keep, with so many lanes.
+    pub fn new(alloc: Global, words: &[u64], lanes: u32) -> Result<Row, AllocError>
+        ensures { IfOk result (λ row. row ≡ new_row words.now lanes) }
+    {
+        let count = words.len();
+        let free = 2 * lanes as usize;
+        let pending = Flags::new(alloc, count)?;
+        let tables = vec![in alloc; 0; free]?;
+        let mut row = Vec::new(alloc);
+        row.extend_from_slice(words)?;
+        row.extend_from_slice(words)?;
+        row.extend_from_slice(&tables)?;
+        Ok(Row {
+            words: row,
+            pending,
+        })
+    }
+
     /// The word that stands there.
     #[inline]
     pub fn load(&self, at: u64) -> u64
