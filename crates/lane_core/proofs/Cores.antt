@@ -226,7 +226,7 @@ module _ (x : Shape) (row : RowWords) (lanes : List LaneNow) (past : Recorded) (
   left_at Moved e = record { filled = with_cell _ (f.words (ap uses_words e)) (f.cell (ap uses_cell e)) refl (λ u. never u); room = owes Moved _ past.room e (omega arith) }
   left_at (Reading k) e = left_reading k e
 
-  filled_set : (q : LaneNow) → IsFilled x q → (i : ℕ) (r : LaneNow) → slice_get (slice_set lanes l q) i ≡ Some r → IsFilled x r
+  pub filled_set : (q : LaneNow) → IsFilled x q → (i : ℕ) (r : LaneNow) → slice_get (slice_set lanes l q) i ≡ Some r → IsFilled x r
   filled_set q fq i r is = elim (same_or_not i l) [
     | inl e ↦ subst (IsFilled x) (sym (get_or-set_same lanes l q r (slice_get_within lanes l p at)) ∙ ap (λ j. get_or (slice_set lanes l q) j r) (sym e) ∙ get_or_from_slice_get (slice_set lanes l q) i r r is) fq
     | inr ne ↦ h.filled i r (slice_get-get_or lanes i r (subst (λ n. i < n) (length-set lanes l q) (slice_get_within (slice_set lanes l q) i r is))

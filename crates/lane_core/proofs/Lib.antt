@@ -26,6 +26,7 @@ pub mod Groups
 pub mod Openings
 pub mod Fresh
 pub mod Cores
+pub mod Callings
 pub mod Nothing
 pub mod Stepping
 pub mod Elsewhere

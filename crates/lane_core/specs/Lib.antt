@@ -16,4 +16,5 @@ pub mod Cores
 pub mod Idle
 pub mod Machines
 pub mod Arenas
+pub mod Begins
 pub mod Laws

@@ -40,7 +40,9 @@
 //! | a new arena is one of which all this speaks | [`formatted_is_open`], [`opened_is_sound`] | `IsOpen` |
 #![tactic(auto)]
 
+mod begin;
 mod buffer;
+mod call;
 mod history;
 mod lane;
 mod law;
@@ -57,6 +59,7 @@ mod stepped;
 mod steps;
 mod words;
 
+pub use call::{Begun, Call};
 pub use history::{Act, Entry};
 pub use lane::Lane;
 pub use machine::Core;
