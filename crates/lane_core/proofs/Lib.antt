@@ -27,6 +27,7 @@ pub mod Openings
 pub mod Fresh
 pub mod Cores
 pub mod Callings
+pub mod Rooms
 pub mod Nothing
 pub mod Stepping
 pub mod Elsewhere

@@ -1,8 +1,11 @@
 -- How a call begins.
-use Rattle.std.specs.Prelude.{◌≡◌, ℕ, ◌<◌, ◌≤◌, Bool, true, false, List, length, replicate, slice_get, slice_set, Some, Result, Ok, Err}
+use Rattle.std.specs.Prelude.{◌≡◌, ◌⊎◌, ℕ, ◌<◌, ◌≤◌, Bool, true, false, List, length, replicate, slice_get, slice_set, Some, Result, Ok, Err}
 use Rattle.nvd_words.specs.declared.tag.Tag.{Tag}
 use Rattle.lane_core.specs.declared.call.Call.{Call}
 use Rattle.lane_core.specs.declared.call.Call.TheVariants as call
+use Rattle.lane_core.specs.declared.call.Begun.{Begun}
+use Rattle.lane_core.specs.declared.call.Begun.TheVariants as begun
+use Rattle.lane_core.specs.declared.phase.Phase.{Phase}
 use Rattle.lane_core.specs.declared.machine.Core.{Core}
 use Rattle.lane_core.specs.declared.now.LaneNow.{LaneNow}
 use Rattle.lane_core.specs.declared.phase.Phase.TheVariants.{Idle, Called}
@@ -46,3 +49,26 @@ pub record WriteStarts (old new : Core) (lane : ℕ) (tag : Tag) (sector : ℕ) 
   pub rest : KeepsRest old new
   pub lanes : (p : LaneNow) → slice_get old.lanes.items lane ≡ Some p → new.lanes.items ≡ slice_set old.lanes.items lane (write_begun old.shape p tag sector words)
   pub line : (s : State) → CoreShows old s → CoreShows new (begin_write (geometry old.shape) s lane)
+
+-- a lane began a read, with room for as many words as a sector has
+abbrev pub ReadBegins : Core → Core → ℕ → Tag → ℕ → Type 0
+ReadBegins old new lane tag sector = ReadStarts old new lane tag sector (replicate old.shape.width 0) (replicate old.shape.width 0)
+
+-- the call is on a sector of the arena, and a value has as many words as a sector
+abbrev pub FitsCall : Shape → Call → Type 0
+FitsCall x (call.Read sector) = sector < x.sectors
+FitsCall x (call.Write sector words) = (sector < x.sectors) × (length words.items ≡ x.width)
+
+abbrev pub CallBegins : Core → Core → ℕ → Tag → Call → Type 0
+CallBegins old new lane tag (call.Read sector) = ReadBegins old new lane tag sector
+CallBegins old new lane tag (call.Write sector words) = WriteStarts old new lane tag sector words.items
+
+abbrev pub is_idle : Phase → Bool
+is_idle Idle = true
+is_idle other = false
+
+-- a lane is refused as busy exactly where it isn't idle
+abbrev pub BusyExactly : Core → ℕ → Result (Unit {0}) Begun → Type 0
+BusyExactly core lane result =
+    (p : LaneNow) → slice_get core.lanes.items lane ≡ Some p
+    → (is_idle p.phase ≡ false → result ≡ Err (begun.LaneBusy p.phase)) × (is_idle p.phase ≡ true → (result ≡ Ok tt) ⊎ (result ≡ Err begun.OutOfMemory))

@@ -19,6 +19,14 @@ use Rattle.lane_core.specs.Cores.{ShowsSound}
 abbrev pub IsCore : Cells → Core → Type 0
 IsCore opening core = (s : State) × ShowsSound core.shape core.row core.lanes.items core.history opening s
 
+-- the same, whatever the contents at its opening were
+abbrev pub IsSomeCore : Core → Type 0
+IsSomeCore core = (opening : Cells) × IsCore opening core
+
+-- it still does, with the same contents at its opening
+abbrev pub KeepsCore : Core → Core → Type 0
+KeepsCore old new = (opening : Cells) → IsCore opening old → IsCore opening new
+
 abbrev pub CoreShows : Core → State → Type 0
 CoreShows core s = Shown core.shape core.row core.lanes.items core.history.entries s
 

@@ -35,6 +35,7 @@ impl History {
     pub fn reserve(&mut self, more: usize) -> Result<(), AllocError>
         ensures entries { self.new.entries ≡ self.old.entries }
         ensures room { OnOk result (more ≤ self.new.room) }
+        ensures grows { self.old.room ≤ self.new.room }
         ensures kept { OnErr result (self.new ≡ self.old) }
     {
         self.entries.reserve(more)

@@ -1,10 +1,9 @@
 ghost use Rattle.std.specs.Prelude.{◌≡◌, ◌<◌, map, slice_get, Some, IfOk};
-ghost use Rattle.lane_core.specs.History.{Cells};
 ghost use Rattle.arena_layout.specs.Layout.{IsLayout};
 ghost use Rattle.arena_open.specs.Moves.{IsOpenState};
 ghost use Rattle.lane_core.specs.Arenas.{cells_in};
 ghost use Rattle.lane_core.specs.Idle.{idle_of};
-ghost use Rattle.lane_core.specs.Machines.{IsCore, IsFresh, StepsOnce};
+ghost use Rattle.lane_core.specs.Machines.{IsCore, IsFresh, IsSomeCore, KeepsCore, StepsOnce};
 
 use crate::buffer::Buffer;
 use crate::calls::History;
@@ -101,10 +100,9 @@ impl Core {
     ///
     /// `Nothing` comes exactly where the lane is idle. Condition: the lane exists.
     pub fn step(&mut self, lane: u32) -> Stepped
-        ghost opening: { Cells }
-        requires core { IsCore opening self.old }
+        requires core { IsSomeCore self.old }
         requires lane { lane < self.old.shape.lanes }
-        ensures core { IsCore opening self.new }
+        ensures core { KeepsCore self.old self.new }
         ensures line { (p : LaneNow) → slice_get self.old.lanes.items lane ≡ Some p → StepsOnce self.old self.new lane p result }
     {
         let mine = &mut self.lanes[lane as usize];
@@ -120,8 +118,7 @@ impl Core {
 
     /// Where a lane stands. Condition: the lane exists.
     pub fn phase(&self, lane: u32) -> Phase
-        ghost opening: { Cells }
-        requires core { IsCore opening self.now }
+        requires core { IsSomeCore self.now }
         requires lane { lane < self.now.shape.lanes }
         ensures { (p : LaneNow) → slice_get self.now.lanes.items lane ≡ Some p → result ≡ p.phase }
     {
