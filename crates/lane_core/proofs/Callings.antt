@@ -1,5 +1,5 @@
 -- A call that begins keeps what a core keeps.
-use Rattle.std.proofs.Common.{◌≡◌, ℕ, ◌+◌, ◌*◌, ◌/◌, ◌<◌, ◌≤◌, ◌==◌, if◌then◌else◌, Bool, true, false, List, [], ◌∷◌, length, get_or, take, slice_get, slice_set, Some, refl, sym, ap, ◌∙◌, subst, arith, length-set}
+use Rattle.std.proofs.Common.{◌≡◌, ℕ, ◌+◌, ◌*◌, ◌/◌, ◌<◌, ◌≤◌, ◌==◌, if◌then◌else◌, zero, suc, Bool, true, false, List, [], ◌∷◌, length, get_or, take, slice_get, slice_set, Some, refl, sym, ap, ◌∙◌, subst, arith, length-set}
 use Rattle.nvd_words.specs.declared.tag.Tag.{Tag}
 use Rattle.lane_core.specs.declared.history.Entry.{Entry}
 use Rattle.lane_core.specs.declared.lane.Lane.{Lane}
@@ -16,7 +16,7 @@ use Rattle.lane_core.specs.After.{uses_cell, uses_looked}
 use Rattle.lane_core.specs.Ready.{IsFilled}
 use Rattle.lane_core.specs.Showing.{Shown, lane_at, lane_of}
 use Rattle.lane_core.specs.Cores.{owing, ShowsSound}
-use Rattle.lane_core.specs.Begins.{read_begun, write_begun}
+use Rattle.lane_core.specs.Begins.{is_idle, read_begun, write_begun}
 use Rattle.lane_core.proofs.Put.{never}
 use Rattle.lane_core.proofs.Elsewhere.{nowhere}
 use Rattle.lane_core.proofs.Showing.{lane_is, lane_lt, still}
@@ -93,3 +93,12 @@ module _ (x : Shape) (row : RowWords) (lanes : List LaneNow) (past past' : Recor
       no_looked : (b : Bool) → uses_looked (if b then Staging 0 else Scanning 0) ≡ false
       no_looked true = refl
       no_looked false = refl
+
+pub some_lane : (xs : List LaneNow) (l : ℕ) → l < length xs → (p : LaneNow) × (slice_get xs l ≡ Some p)
+some_lane [] l lt = absurd (omega arith)
+some_lane (x ∷ xs) zero lt = (x, refl)
+some_lane (x ∷ xs) (suc l) lt = some_lane xs l (omega arith)
+
+pub idle_is : (ph : Phase) → is_idle ph ≡ true → ph ≡ Idle
+idle_is Idle e = refl
+idle_is _ e = never e

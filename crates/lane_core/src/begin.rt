@@ -129,6 +129,21 @@ impl Core {
         true
     }
 
+    /// An idle lane begins a call. It answers whether memory was found.
+    fn begin_idle(&mut self, alloc: Global, lane: u32, tag: Tag, call: Call) -> bool
+        requires core { IsSomeCore self.old }
+        requires lane { IsIdleLane self.old lane }
+        requires call { FitsCall self.old.shape call }
+        ensures core { KeepsCore self.old self.new }
+        ensures refused { result ≡ false → self.new ≡ self.old }
+        ensures begun { result ≡ true → CallBegins self.old self.new lane tag call }
+    {
+        match call {
+            Call::Read { sector } => self.begin_read(alloc, lane, tag, sector),
+            Call::Write { sector, words } => self.begin_write(lane, tag, sector, words),
+        }
+    }
+
     /// Begins a call in a lane, with room for its entry and its answer, so that no step needs memory.
     ///
     /// Refusals: `LaneBusy`, exactly where the lane isn't idle; `OutOfMemory`. After a refusal nothing changed. Conditions: the
@@ -142,14 +157,15 @@ impl Core {
         ensures refused { OnErr result (self.new ≡ self.old) }
         ensures begun { OnOk result (CallBegins self.old self.new lane tag call) }
     {
-        let phase = self.lanes[lane as usize].phase;
-        if !is_idle(phase) {
-            return Err(Begun::LaneBusy { phase });
+        let phase = self.phase(lane);
+        if is_idle(phase) {
+            if self.begin_idle(alloc, lane, tag, call) {
+                Ok(())
+            } else {
+                Err(Begun::OutOfMemory)
+            }
+        } else {
+            Err(Begun::LaneBusy { phase })
         }
-        let made = match call {
-            Call::Read { sector } => self.begin_read(alloc, lane, tag, sector),
-            Call::Write { sector, words } => self.begin_write(lane, tag, sector, words),
-        };
-        if made { Ok(()) } else { Err(Begun::OutOfMemory) }
     }
 }
