@@ -1,0 +1,5 @@
+use Rattle.lane_core.proofs.Laws.{flog_a_keep}
+use Rattle.lane_core.proofs.law.flog_a_keep_keeps_the_invariant.Goals as goal
+
+pub returns : goal.returns
+returns c = flog_a_keep

@@ -1,0 +1,11 @@
+use Rattle.std.proofs.Common.{◌<◌, length, sym, ap, ◌∙◌, subst}
+use Rattle.lane_core.specs.Begins.{is_idle}
+use Rattle.lane_core.proofs.Callings.{some_lane, idle_is}
+use Rattle.lane_core.proofs.machine.Core.begin.Goals as goal
+
+pub begin_idle-requires-clause-lane : goal.begin_idle-requires-clause-lane
+begin_idle-requires-clause-lane c =
+    let core = c.args.self.now in
+    let h = c.requires.core.1.1 in
+    let p = some_lane core.lanes.items c.args.lane (subst (λ n. c.args.lane < n) (sym h.shown.count) c.requires.lane) in
+    (p.0, p.1, idle_is p.0.phase (ap is_idle (sym (c.phase-phase.ensures p.0 p.1)) ∙ sym c.is_idle.ensures ∙ c.if-is_idle.true))

@@ -1,0 +1,49 @@
+use Rattle.std.proofs.Common.{◌≡◌, ◌<◌, slice_get, slice_set, length, Some, sym, ap, ◌∙◌, subst, refl}
+use Rattle.lane_core.specs.declared.now.LaneNow.{LaneNow}
+use Rattle.lane_core.specs.After.{answer_after, lane_after, past_after, row_after}
+use Rattle.lane_core.proofs.Cores.{ready}
+use Rattle.lane_core.proofs.Nothing.{nothing_idle}
+use Rattle.lane_core.proofs.Stepping.{lane_there, there_is, stepped_parts, line_shown}
+use Rattle.lane_core.proofs.machine.Core.step.Goals as goal
+
+pub step_lane-requires : goal.step_lane-requires
+step_lane-requires c =
+    let core = c.args.self.now in
+    let mine = c.index_mut-mine.result.now in
+    let s = c.requires.core.1.0 in
+    let h = c.requires.core.1.1 in
+    let at : slice_get core.lanes.items c.args.lane ≡ Some mine = lane_there core.lanes.items c.args.lane mine (subst (λ n. c.args.lane < n) (sym h.shown.count) c.requires.lane) c.index_mut-mine.ensures.value in
+    record { ready = ready core.shape core.row core.lanes.items core.history c.requires.core.0 s c.args.lane mine h at }
+
+pub returns-clause-core : goal.returns-clause-core
+returns-clause-core c = λ o core_is.
+    let core = c.args.self.now in
+    let mine = c.index_mut-mine.result.now in
+    let s = core_is.0 in
+    let h = core_is.1 in
+    let at : slice_get core.lanes.items c.args.lane ≡ Some mine = lane_there core.lanes.items c.args.lane mine (subst (λ n. c.args.lane < n) (sym h.shown.count) c.requires.lane) c.index_mut-mine.ensures.value in
+    (_, stepped_parts core.shape core.row c.step_lane.new.row core.lanes.items core.history c.step_lane.new.history o s c.args.lane mine c.step_lane.new.mine h at c.step_lane.ensures.row c.step_lane.ensures.lane c.step_lane.ensures.history)
+
+pub returns-clause-line : goal.returns-clause-line
+returns-clause-line c = λ p here.
+    let core = c.args.self.now in
+    let mine = c.index_mut-mine.result.now in
+    let s = c.requires.core.1.0 in
+    let h = c.requires.core.1.1 in
+    let at : slice_get core.lanes.items c.args.lane ≡ Some mine = lane_there core.lanes.items c.args.lane mine (subst (λ n. c.args.lane < n) (sym h.shown.count) c.requires.lane) c.index_mut-mine.ensures.value in
+    let same : mine ≡ p = there_is (sym at ∙ here) in
+    let row = c.step_lane.ensures.row ∙ ap (λ (p : LaneNow). row_after core.shape c.args.lane core.row p p.phase) same in
+    let lane = c.step_lane.ensures.lane ∙ ap (λ (p : LaneNow). lane_after core.shape c.args.lane core.row p p.phase) same in
+    let past = c.step_lane.ensures.history ∙ ap (λ (p : LaneNow). past_after core.shape c.args.lane core.row p core.history p.phase) same in
+    let answer = c.step_lane.ensures.answer ∙ ap (λ (p : LaneNow). answer_after core.shape c.args.lane core.row p p.phase) same in
+    record {
+      shape = refl;
+      info = refl;
+      row = row;
+      lanes = ap (λ q. slice_set core.lanes.items c.args.lane q) lane;
+      history = past;
+      answer = answer;
+      line = λ t shown. line_shown core.shape core.row c.step_lane.new.row core.lanes.items core.history c.step_lane.new.history c.requires.core.0 s t c.args.lane p c.step_lane.new.mine h here row lane past shown;
+      nothing = λ e. nothing_idle core.shape c.args.lane core.row p p.phase (sym answer ∙ e);
+      idle = λ e. answer ∙ ap (λ ph. answer_after core.shape c.args.lane core.row p ph) e;
+    }

@@ -1,0 +1,22 @@
+use crate::phase::Phase;
+
+/// A call on a sector.
+#[derive(Debug, Drop)]
+pub enum Call {
+    Read {
+        sector: u32,
+    },
+    Write {
+        sector: u32,
+        /// As many as a sector has.
+        words: Vec<u64>,
+    },
+}
+
+/// Why a call isn't begun.
+#[derive(Clone, Copy, Debug, PartialEq, Eq)]
+pub enum Begun {
+    /// The lane is in a call.
+    LaneBusy { phase: Phase },
+    OutOfMemory,
+}

@@ -1,0 +1,80 @@
+//! The lanes of an arena: the algorithm of Linux's BTT document (Documentation/driver-api/nvdimm/btt.rst) as a machine
+//! that steps one word at a time, and its theorem.
+//!
+//! A **lane** makes one call at a time. It owns one **free block** and one **log group** of two halves, of which the
+//! newer is **current**. A write never changes a block that a sector has. It fills the free block, logs the move in
+//! the half that isn't current, and switches the sector's **map entry** to the new block:
+//!
+//! ```text
+//!  write   scan ── store and keep the words ── lock ── load map ── log A ── log B ── store map ── keep ── unlock
+//!          others                              of the              each stored     |
+//!          readers                             map word            and then kept   the write stands
+//!
+//!  read    load map ── publish block ── load map again ── load the words ── clear
+//!                                       |
+//!                                       same entry: the read stands; else clear and begin again
+//! ```
+//!
+//! **Why a write scans.** Lane 0 reads sector 0 and is about to load block 3. Lane 1 writes the sector: it switches
+//! the map to its own block and gets block 3 as its free block. If it began its next write at once, lane 0 would load
+//! half of that. So a reader says in the **reader table** which block it loads, and a writer looks at all others' words
+//! until none has its free block. **Why a read checks the map again:** the scan may have passed before the reader's
+//! word was set. Then the entry has changed, and the second look shows it. `proofs/Rows.antt` works out this race.
+//!
+//! **Why the log has two words and an order.** A word that was stored and not yet **kept** is old or new after a power
+//! cut. Word A is kept before word B is stored, and B has the sequence number, so a half is current only once it is
+//! whole; the map word is stored only after that. Opening makes a logged move good that the map doesn't show.
+//!
+//! **The theorem.** Calls stand in one **history** (`specs/History.antt`): a write from the store of its map word on, a
+//! read from its second look at the map on. `specs/Machine.antt` has the state and a step for each line,
+//! `specs/Invariant.antt` the invariant `IsSound`, `specs/Cut.antt` what a cut leaves.
+//!
+//! | promise | law | definition |
+//! |---|---|---|
+//! | each line keeps the invariant | [`data_store_keeps_the_invariant`] and 19 more | `IsSound` |
+//! | whatever lanes step in whatever order, the history is legal and gives the sectors' cells | [`every_run_keeps_the_invariant`] | `IsLegal`, `end_of` |
+//! | wherever power is cut, each sector is as the history ends or as one write in flight | [`every_cut_survives`] | `Recovers`, `Survives` |
+//! | a write whose second log word was never stored is lost | [`unlogged_writes_are_lost`] | the same |
+//! | what a cut left opens again, with these contents | [`cuts_reopen`] | `IsReopened` |
+//! | reads that were cut may be left out | [`every_account`], [`some_calls_may_be_left_out`] | `IsAccount`, `SomeMayGo` |
+//! | a new arena is one of which all this speaks | [`formatted_is_open`], [`opened_is_sound`] | `IsOpen` |
+#![tactic(auto)]
+
+mod begin;
+mod buffer;
+mod call;
+mod history;
+mod lane;
+mod law;
+mod calls;
+mod lines;
+mod phase;
+mod looks;
+mod machine;
+mod now;
+mod pieces;
+mod row;
+mod shape;
+mod stepped;
+mod steps;
+mod words;
+
+pub use call::{Begun, Call};
+pub use history::{Act, Entry};
+pub use lane::Lane;
+pub use machine::Core;
+pub use law::{
+    calls_are_given_up, cuts_reopen, data_keep_keeps_the_invariant, data_load_keeps_the_invariant,
+    data_store_keeps_the_invariant, each_block_is_named, every_account, every_cut_survives,
+    every_run_keeps_the_invariant, flog_a_keep_keeps_the_invariant,
+    flog_a_store_keeps_the_invariant, flog_b_keep_keeps_the_invariant,
+    flog_b_store_keeps_the_invariant, formatted_is_open, lock_free_keeps_the_invariant,
+    lock_take_keeps_the_invariant, map_check_keeps_the_invariant, map_keep_keeps_the_invariant,
+    map_load_keeps_the_invariant, map_look_keeps_the_invariant, map_store_keeps_the_invariant,
+    one_half_is_current, opened_is_sound, places_are_apart, read_begins, rtt_clear_keeps_the_invariant,
+    rtt_scan_keeps_the_invariant, rtt_set_keeps_the_invariant, some_calls_may_be_left_out,
+    unlogged_writes_are_lost, write_begins,
+};
+pub use phase::Phase;
+pub use shape::Shape;
+pub use stepped::{Answer, Step, Stepped};

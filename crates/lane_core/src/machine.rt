@@ -1,0 +1,134 @@
+ghost use Rattle.std.specs.Prelude.{◌≡◌, ◌<◌, map, slice_get, Some, IfOk};
+ghost use Rattle.arena_layout.specs.Layout.{IsLayout};
+ghost use Rattle.arena_open.specs.Moves.{IsOpenState};
+ghost use Rattle.lane_core.specs.Arenas.{cells_in};
+ghost use Rattle.lane_core.specs.Idle.{idle_of};
+ghost use Rattle.lane_core.specs.Machines.{IsCore, IsFresh, IsSomeCore, KeepsCore, StepsOnce};
+
+use crate::buffer::Buffer;
+use crate::calls::History;
+use crate::history::Entry;
+use crate::now::LaneNow;
+use crate::phase::Phase;
+use crate::row::Row;
+use crate::shape::Shape;
+use crate::stepped::Stepped;
+use crate::steps::step_lane;
+use arena_layout::Info;
+use arena_open::{ArenaState, LaneState};
+use nvd_words::Tag;
+use std::alloc::{AllocError, Global};
+
+/// An arena whose lanes step one word at a time, and the calls that stand.
+#[derive(Drop)]
+pub struct Core {
+    pub(crate) alloc: Global,
+    /// What the arena's info block says.
+    pub info: Info,
+    /// Where its words stand.
+    pub shape: Shape,
+    pub(crate) row: Row,
+    pub(crate) lanes: Vec<LaneNow>,
+    pub(crate) history: History,
+}
+
+/// A lane without a call.
+fn idle_lane(alloc: Global, lane: &LaneState) -> LaneNow
+    ensures { result ≡ idle_of lane.now }
+{
+    LaneNow {
+        block: lane.free,
+        side: lane.group.side,
+        half: lane.group.half,
+        phase: Phase::Idle,
+        tag: Tag {
+            session: 0,
+            call: 0,
+        },
+        sector: 0,
+        loaded: 0,
+        words: Buffer::none(alloc),
+        cell: Buffer::none(alloc),
+        next: Tag {
+            session: 0,
+            call: 0,
+        },
+        next_sector: 0,
+    }
+}
+
+fn idle_lanes(alloc: Global, lanes: &[LaneState]) -> Result<Vec<LaneNow>, AllocError>
+    ensures { IfOk result (λ made. made.items ≡ map idle_of lanes.now) }
+{
+    lanes
+        .iter()
+        .map(|lane| idle_lane(alloc, lane))
+        .collect(alloc)
+}
+
+/// The core of an arena in which nothing was called.
+fn fresh(alloc: Global, state: ArenaState) -> Result<Core, AllocError>
+    requires layout { IsLayout state.info.layout }
+    ensures { IfOk result (IsFresh state) }
+{
+    let shape = Shape::of(&state.info.layout);
+    let row = Row::new(alloc, state.words.as_slice(), shape.lanes)?;
+    let lanes = idle_lanes(alloc, state.lanes.as_slice())?;
+    Ok(Core {
+        alloc,
+        info: state.info,
+        shape,
+        row,
+        lanes,
+        history: History::none(alloc),
+    })
+}
+
+impl Core {
+    /// The core of an arena: all lanes are idle, and no call stands.
+    ///
+    /// Condition: the state is as `open_arena` gives it. The one refusal is out of memory.
+    pub fn of(alloc: Global, state: ArenaState) -> Result<Core, AllocError>
+        requires state { IsOpenState state }
+        ensures core { IfOk result (IsCore (cells_in state)) }
+        ensures fresh { IfOk result (IsFresh state) }
+    {
+        fresh(alloc, state)
+    }
+
+    /// One step of a lane: the line of its phase. It takes no memory.
+    ///
+    /// `Nothing` comes exactly where the lane is idle. Condition: the lane exists.
+    pub fn step(&mut self, lane: u32) -> Stepped
+        requires core { IsSomeCore self.old }
+        requires lane { lane < self.old.shape.lanes }
+        ensures core { KeepsCore self.old self.new }
+        ensures line { (p : LaneNow) → slice_get self.old.lanes.items lane ≡ Some p → StepsOnce self.old self.new lane p result }
+    {
+        let mine = &mut self.lanes[lane as usize];
+        step_lane(
+            &mut self.row,
+            mine,
+            &mut self.history,
+            &self.shape,
+            lane,
+            self.alloc,
+        )
+    }
+
+    /// Where a lane stands. Condition: the lane exists.
+    pub fn phase(&self, lane: u32) -> Phase
+        requires core { IsSomeCore self.now }
+        requires lane { lane < self.now.shape.lanes }
+        ensures { (p : LaneNow) → slice_get self.now.lanes.items lane ≡ Some p → result ≡ p.phase }
+    {
+        self.lanes[lane as usize].phase
+    }
+
+    /// The calls that stand, oldest first.
+    pub fn history(&self) -> &[Entry]
+        ensures { result.now ≡ self.now.history.entries }
+    {
+        self.history.as_slice()
+    }
+}

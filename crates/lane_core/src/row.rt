@@ -1,0 +1,96 @@
+ghost use Rattle.std.specs.Prelude.{◌≡◌, ◌<◌, ◌+◌, ◌^◌, ◌++◌, length, replicate, slice_index, take, drop, IfOk};
+ghost use Rattle.lane_core.specs.Rows.{kept_in, new_row, put_in, stored_in};
+
+use nvd_words::Flags;
+use std::alloc::{AllocError, Global};
+use std::marker::Model;
+
+/// The words of an arena as a load gives them, the same words as they are kept, and behind these the reader table and the
+/// map locks. Of each of the arena's words it knows whether it was stored since its last keep.
+#[derive(Debug, Drop)]
+pub struct Row {
+    words: Vec<u64>,
+    pending: Flags,
+}
+
+impl Model for Row {
+    ghost use Rattle.std.specs.Prelude.{◌≤◌, ◌*◌, length};
+    ghost use Rattle.lane_core.specs.Rows.{RowWords};
+
+    ghost Value = { RowWords };
+
+    ghost view = { λ row. record { words = row.words.items; pending = row.pending } };
+
+    ghost invariant = { λ row. 2 * length row.pending ≤ length row.words.items };
+}
+
+impl Row {
+    /// The row of an arena's words, none of them stored since its last keep, with so many lanes.
+    pub fn new(alloc: Global, words: &[u64], lanes: u32) -> Result<Row, AllocError>
+        ensures { IfOk result (λ row. row ≡ new_row words.now lanes) }
+    {
+        let count = words.len();
+        let free = 2 * lanes as usize;
+        let pending = Flags::new(alloc, count)?;
+        let tables = vec![in alloc; 0; free]?;
+        let mut row = Vec::new(alloc);
+        row.extend_from_slice(words)?;
+        row.extend_from_slice(words)?;
+        row.extend_from_slice(&tables)?;
+        Ok(Row {
+            words: row,
+            pending,
+        })
+    }
+
+    /// The word that stands there.
+    #[inline]
+    pub fn load(&self, at: u64) -> u64
+        requires there { at < length self.now.words }
+        ensures { result ≡ slice_index self.now.words at }
+    {
+        self.words[at as usize]
+    }
+
+    /// A reader word or a lock gets a value.
+    #[inline]
+    pub fn put(&mut self, at: u64, value: u64)
+        requires there { at < length self.old.words }
+        ensures { self.new ≡ put_in self.old at value }
+    {
+        self.words[at as usize] = value;
+    }
+
+    /// A word of the arena gets a value.
+    #[inline]
+    pub fn store(&mut self, at: u64, value: u64)
+        requires there { at < length self.old.pending }
+        ensures { self.new ≡ stored_in self.old at value }
+    {
+        self.words[at as usize] = value;
+        self.pending.set(at as usize);
+    }
+
+    /// A word of the arena is kept.
+    #[inline]
+    pub fn keep(&mut self, at: u64)
+        requires there { at < length self.old.pending }
+        ensures { self.new ≡ kept_in self.old at }
+    {
+        let at = at as usize;
+        let kept = self.pending.len() + at;
+        self.words[kept] = self.words[at];
+        self.pending.clear(at);
+    }
+
+    /// So many words from a place on.
+    #[inline]
+    pub fn slice(&self, at: u64, count: u32) -> &[u64]
+        requires there { at + count < length self.now.words }
+        ensures words { result.now ≡ take count (drop at self.now.words) }
+        ensures count { length result.now ≡ count }
+    {
+        let first = at as usize;
+        &self.words[first..first + count as usize]
+    }
+}

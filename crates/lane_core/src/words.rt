@@ -1,0 +1,53 @@
+//! Where the words of a row stand.
+ghost use Rattle.std.specs.Prelude.{◌≡◌, ◌<◌, ◌^◌, ◌%◌, ◌/◌};
+ghost use Rattle.lane_core.specs.Machine.{lock_of};
+ghost use Rattle.lane_core.specs.Places.{geometry, word_of, SeenData, SeenMap, SeenA, Reader, Lock};
+
+use crate::shape::Shape;
+
+/// Word `k` of a block.
+#[inline]
+pub fn data_word(shape: &Shape, block: u32, k: u32) -> u64
+    requires { word_of shape.now (SeenData block k) < 2 ^ 60 }
+    ensures { result ≡ word_of shape.now (SeenData block k) }
+{
+    shape.data_at + u64::from(block) * shape.inner + u64::from(k)
+}
+
+/// The map word of a sector.
+#[inline]
+pub fn map_word(shape: &Shape, sector: u32) -> u64
+    requires { word_of shape.now (SeenMap (sector / 2)) < 2 ^ 60 }
+    ensures { result ≡ word_of shape.now (SeenMap (sector / 2)) }
+{
+    shape.map_at + u64::from(sector / 2)
+}
+
+/// Word A of the half at a side of a lane's group. Word B stands behind it.
+#[inline]
+pub fn log_word(shape: &Shape, lane: u32, side: u32) -> u64
+    requires word { word_of shape.now (SeenA lane side) < 2 ^ 60 }
+    ensures { result ≡ word_of shape.now (SeenA lane side) }
+{
+    shape.log_at + 8 * u64::from(lane) + 2 * u64::from(side)
+}
+
+/// The reader word of a lane.
+#[inline]
+pub fn reader_word(shape: &Shape, lane: u32) -> u64
+    requires { word_of shape.now (Reader lane) < 2 ^ 60 }
+    ensures { result ≡ word_of shape.now (Reader lane) }
+{
+    2 * shape.total + u64::from(lane)
+}
+
+/// The lock of a sector's map word.
+#[inline]
+#[tactic(auto, unfolding(crate::specs::Machine::lock_of))]
+pub fn lock_word(shape: &Shape, sector: u32) -> u64
+    requires lanes { 0 < shape.now.lanes }
+    requires word { word_of shape.now (Lock (lock_of (geometry shape.now) sector)) < 2 ^ 60 }
+    ensures { result ≡ word_of shape.now (Lock (lock_of (geometry shape.now) sector)) }
+{
+    2 * shape.total + u64::from(shape.lanes) + u64::from(sector / 2 % shape.lanes)
+}
