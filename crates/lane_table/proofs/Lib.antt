@@ -1,0 +1,4 @@
+pub mod Moves
+pub mod WriteLines
+pub mod Burning
+pub mod Splits
