@@ -1,16 +1,19 @@
 -- The rule of the table: its words show a state of the lanes' machine that meets the machine's invariant, and each lane of this
 -- state is what the seat that has it knows. No view has the history; it stands in that state alone.
-use Rattle.std.specs.Prelude.{◌≡◌, ℕ, ◌+◌, ◌*◌, ◌<◌, List, [], ◌∷◌, ◌++◌, length, true, false, Bool, suc, slice_index}
+use Rattle.std.specs.Prelude.{◌≡◌, ℕ, ◌+◌, ◌*◌, ◌<◌, List, [], ◌∷◌, ◌++◌, length, true, false, Bool, zero, suc, slice_index, slice_index_or}
 use lib.ListN.{get_elem?}
 use mathlib.Core.Option.{some}
 use Rattle.atomic_table.specs.Table.{State as TableState}
 use Rattle.arena_open.specs.declared.cell.Cell.{Cell}
+use Rattle.arena_open.specs.declared.opened.LaneState.{LaneState}
 use Rattle.lane_core.specs.declared.lane.Lane.{Lane}
 use Rattle.lane_core.specs.declared.phase.Phase.TheVariants.{Idle}
 use Rattle.lane_core.specs.declared.shape.Shape.{Shape}
+use Rattle.lane_core.specs.Areas.{Areas}
 use Rattle.lane_core.specs.History.{cell_of}
 use Rattle.lane_core.specs.Invariant.{IsSound}
 use Rattle.lane_core.specs.Machine.{State}
+use Rattle.lane_core.specs.Opening.{opened_lane}
 use Rattle.lane_core.specs.Places.{Shows, geometry, row_size, IsShape}
 use Rattle.lane_table.specs.declared.table.Count.{Count}
 use Rattle.lane_table.specs.declared.table.Key.{Key}
@@ -44,9 +47,25 @@ pub record Tells (x : Shape) (opening : ℕ → Cell) (words : List ℕ) (views 
 abbrev pub Holds : Shape → (ℕ → Cell) → List ℕ → List View → Type 0
 Holds x opening words views = (s : State) × Tells x opening words views s
 
--- the cells of the words at first
+-- the areas that an arena's words show
+abbrev pub areas_in : Shape → List ℕ → Areas
+areas_in x words = record {
+  data_at = λ b j. slice_index words (x.data_at + b * x.inner + j);
+  map_at = λ m. slice_index words (x.map_at + m);
+  log_a = λ l side. slice_index words (x.log_at + 8 * l + 2 * side);
+  log_b = λ l side. slice_index words (x.log_at + 8 * l + 2 * side + 1);
+}
+
+-- the cells that they give
+abbrev pub cells_in : Shape → List ℕ → ℕ → Cell
+cells_in x words = cell_of (geometry x) (areas_in x words).data_at (areas_in x words).map_at
+
+-- the words of the arena as it was opened, and their cells
+abbrev pub words_of : Key → List ℕ
+words_of k = k.words.value
+
 abbrev pub opening_of : Key → ℕ → Cell
-opening_of k = cell_of (geometry k.shape) (λ b j. slice_index k.words (k.shape.data_at + b * k.shape.inner + j)) (λ m. slice_index k.words (k.shape.map_at + m))
+opening_of k = cells_in k.shape (words_of k)
 
 abbrev pub holds : {S : Type 0} → Key → TableState S View → Type 0
 holds k t = Holds k.shape (opening_of k) t.words t.views
@@ -73,13 +92,25 @@ spent = keeper []
 abbrev pub seated : Owned → View
 seated o = record { live = true; number = o.number; lane = o.lane; shape = o.shape; rest = []; count = no_steps }
 
-abbrev pub numbered : ℕ → Shape → List Lane → List Owned
-numbered n x [] = []
-numbered n x (p ∷ ps) = record { number = n; lane = p; shape = x } ∷ numbered (suc n) x ps
+-- the side of lane l's current half, as the arena was opened
+abbrev pub no_state : LaneState
+no_state = record { free = 0; group = record { side = 0; half = record { lba = 0; old = 0; new = 0; seq = 1 } } }
+
+abbrev pub side_of : Key → ℕ → ℕ
+side_of k l = (slice_index_or k.lanes.value l no_state).group.side
+
+-- lane l as it was opened
+abbrev pub opened_owned : Key → ℕ → Owned
+opened_owned k l = record { number = l; lane = opened_lane (areas_in k.shape (words_of k)) l (side_of k l); shape = k.shape }
+
+-- so many lanes from lane n on
+abbrev pub opened_from : Key → ℕ → ℕ → List Owned
+opened_from k n zero = []
+opened_from k n (suc c) = opened_owned k n ∷ opened_from k (suc n) c
 
 -- the first seat has every lane to hand out
 abbrev pub first : Key → View
-first k = keeper (numbered 0 k.shape k.lanes)
+first k = keeper (opened_from k 0 k.shape.lanes)
 
 -- ---- SplitSeat and JoinSeat
 

@@ -1,8 +1,10 @@
 //! The table that lanes share: the rule of its words, and what each seat knows.
+use arena_open::LaneState;
 use atomic_table::{Seat, Shared, Table, TableRule};
 use lane_core::{Lane, Shape};
-use nvd_words::Tag;
+use nvd_words::{Items, Tag};
 use std::alloc::Global;
+use std::snapshot::Snapshot;
 
 /// A call of a session on a sector. A lane learns it in the step that tells it: LockTake for a write, the beginning for a read.
 #[derive(Clone, Copy, Debug, PartialEq, Eq)]
@@ -37,13 +39,14 @@ pub struct View {
     pub count: Count,
 }
 
-/// What a table is made with. No value of it is ever made.
+/// What a table is made with.
+#[derive(Drop)]
 pub struct Key {
     pub shape: Shape,
-    /// Its words at first.
-    pub words: [u64; 0],
-    /// The lanes as they were opened, by their numbers.
-    pub lanes: [Lane; 0],
+    /// The words of the arena, as it was opened.
+    pub words: Snapshot<Items<u64>>,
+    /// Its lanes, by their numbers.
+    pub lanes: Snapshot<Items<LaneState>>,
 }
 
 /// The rule that every step keeps: `Holds` of specs/Law.antt.
