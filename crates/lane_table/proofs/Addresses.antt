@@ -1,8 +1,8 @@
 -- The words of a table at the places of its shape.
-use Rattle.std.proofs.Common.{◌≡◌, ℕ, ◌+◌, ◌-◌, ◌*◌, ◌/◌, ◌^◌, ◌<◌, ◌≤◌, sym, ap, ◌∙◌, subst, arith}
+use Rattle.std.proofs.Common.{◌≡◌, ℕ, ◌+◌, ◌-◌, ◌/◌, ◌^◌, ◌<◌, sym, ap, ◌∙◌, subst, arith}
 use Rattle.atomic_table.specs.Seated.{TableId}
 use Rattle.lane_core.specs.declared.shape.Shape.{Shape}
-use Rattle.lane_core.specs.Machine.{lock_of, other}
+use Rattle.lane_core.specs.Machine.{lock_of}
 use Rattle.lane_core.specs.Places.{IsShape, Place, SeenA, KeptA, SeenB, KeptB, SeenMap, KeptMap, Lock, IsIn, word_of, row_size, geometry}
 use Rattle.lane_core.proofs.Places.{in_table}
 use Rattle.lane_table.specs.declared.committing.CommitWords.{CommitWords}

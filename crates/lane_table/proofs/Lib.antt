@@ -4,3 +4,6 @@ pub mod Burning
 pub mod Splits
 pub mod Starts
 pub mod Addresses
+pub mod Dealt
+pub mod Gathers
+pub mod Closes

@@ -1,5 +1,5 @@
 -- A step on one word and one view is the step of the state.
-use Rattle.std.proofs.Common.{◌≡◌, ℕ, ◌+◌, ◌<◌, ◌≢◌, inl, inr, true, List, [], ◌∷◌, ◌++◌, length, refl, sym, ap, ◌∙◌, subst, slice_index, slice_set, length-set, arith, zero, suc}
+use Rattle.std.proofs.Common.{◌≡◌, ℕ, ◌<◌, ◌≢◌, inl, inr, true, List, ◌∷◌, length, refl, sym, ap, ◌∙◌, subst, slice_index, slice_set, length-set, arith, zero, suc}
 use lib.ListN.{get_elem?}
 use mathlib.Core.Option.{some, some-injective}
 use Rattle.atomic_table.specs.Table.{State as TableState, Allows, Me, keeps}
@@ -17,7 +17,7 @@ use Rattle.lane_core.proofs.Places.{shows_stored, in_table}
 use Rattle.lane_table.specs.declared.table.Count.{Count}
 use Rattle.lane_table.specs.declared.table.Owned.{Owned}
 use Rattle.lane_table.specs.declared.table.View.{View}
-use Rattle.lane_table.specs.Law.{Holds, Tells, Seats, owned, owned_by, with_by, with, found, counted, looks}
+use Rattle.lane_table.specs.Law.{Holds, Seats, owned, owned_by, with_by}
 
 -- the table's fact: its words and views tell a state
 abbrev pub rule : {S : Type 0} → Shape → (ℕ → Cell) → TableState S View → Type 0

@@ -1,5 +1,5 @@
 -- The rule holds of a table that was just made.
-use Rattle.std.proofs.Common.{◌≡◌, ℕ, ◌+◌, ◌*◌, ◌-◌, ◌/◌, ◌<◌, ◌≤◌, zero, suc, List, [], ◌∷◌, ◌++◌, length, refl, sym, ap, ◌∙◌, subst, arith, get_or, slice_index, replicate, length-append}
+use Rattle.std.proofs.Common.{◌≡◌, ℕ, ◌+◌, ◌*◌, ◌<◌, zero, suc, List, [], ◌∷◌, ◌++◌, length, refl, sym, ap, ◌∙◌, subst, arith, get_or, slice_index, replicate, length-append}
 use Rattle.std.proofs.lemmas.List.{get_or_append_left, get_or-append-add, length-replicate, get_or-replicate}
 use mathlib.Core.Option.{some, some-injective, some-ne-none}
 use lib.ListN.{get_elem?}
@@ -7,7 +7,7 @@ use Rattle.atomic_table.specs.Table.{opening}
 use Rattle.lane_core.specs.declared.shape.Shape.{Shape}
 use Rattle.lane_core.specs.Machine.{State}
 use Rattle.lane_core.specs.Opening.{opened}
-use Rattle.lane_core.specs.Places.{IsShape, SeenData, KeptData, SeenMap, KeptMap, SeenA, KeptA, SeenB, KeptB, Reader, Lock, IsIn, word_of, row_size, Shows, geometry}
+use Rattle.lane_core.specs.Places.{IsShape, SeenData, KeptData, SeenMap, KeptMap, SeenA, KeptA, SeenB, KeptB, Reader, Lock, row_size, Shows, geometry}
 use Rattle.lane_core.proofs.Beginning.{opened_sound}
 use Rattle.lane_core.proofs.Places.{data_in}
 use Rattle.lane_table.specs.declared.table.Key.{Key}
@@ -58,13 +58,13 @@ right a b c = omega arith
 in_locks : (n l : ℕ) → l < n → n + l < 2 * n
 in_locks n l lt = omega arith
 
-map_low : (x : Shape) → IsShape x → (m : ℕ) → 2 * m < x.sectors → x.map_at + m < x.total
+pub map_low : (x : Shape) → IsShape x → (m : ℕ) → 2 * m < x.sectors → x.map_at + m < x.total
 map_low x h m i = omega (arith, h.map, h.log)
 
 log_low : (x : Shape) → IsShape x → (l side : ℕ) → l < x.lanes → side < 2 → x.log_at + 8 * l + 2 * side + 1 < x.total
 log_low x h l side i j = omega (arith, h.log)
 
-data_low : (x : Shape) → IsShape x → (b j : ℕ) → b < x.sectors + x.lanes → j < x.width → x.data_at + b * x.inner + j < x.total
+pub data_low : (x : Shape) → IsShape x → (b j : ℕ) → b < x.sectors + x.lanes → j < x.width → x.data_at + b * x.inner + j < x.total
 data_low x h b j lb lj = let d = data_in x h b j lb lj in omega (arith, d, h.map, h.log)
 
 less : {a b : ℕ} → a + 1 < b → a < b

@@ -1,5 +1,5 @@
 -- The lines of a write, each as a step on one word.
-use Rattle.std.proofs.Common.{◌≡◌, ℕ, ◌+◌, ◌-◌, ◌*◌, ◌/◌, ◌^◌, ◌<◌, ◌≤◌, ◌≢◌, ◌==◌, if◌then◌else◌, inl, inr, zero, suc, true, List, [], ◌∷◌, ◌++◌, get_or, refl, sym, ap, ◌∙◌, subst, arith, mod-lt}
+use Rattle.std.proofs.Common.{◌≡◌, ℕ, ◌+◌, ◌-◌, ◌*◌, ◌/◌, ◌^◌, ◌<◌, ◌≤◌, ◌≢◌, ◌==◌, if◌then◌else◌, inl, inr, zero, suc, true, [], ◌∷◌, ◌++◌, get_or, refl, sym, ap, ◌∙◌, subst, arith, mod-lt}
 use mathlib.Core.Option.{some}
 use prog.Atomic.{either}
 use Rattle.atomic_table.specs.Table.{Allows, Me}
@@ -13,9 +13,9 @@ use Rattle.lane_core.specs.Areas.{Geometry, put, block_in, normal, word_a, word_
 use Rattle.lane_core.specs.Machine as machine
 use Rattle.lane_core.specs.Machine.{State, lock_of, other, other_lane, looked, wrote}
 use Rattle.lane_core.specs.Invariant.{IsSound, uses_sector, stored, is_known, has_log_a, is_log_b_stored, is_switched}
-use Rattle.lane_core.specs.Places.{Place, SeenData, KeptData, SeenMap, KeptMap, SeenA, KeptA, SeenB, KeptB, Reader, Lock, IsIn, word_of, value_of, geometry}
+use Rattle.lane_core.specs.Places.{Place, SeenData, KeptData, SeenMap, KeptMap, SeenA, KeptA, SeenB, KeptB, Reader, Lock, word_of, value_of, geometry}
 use Rattle.lane_core.proofs.Put.{put_at, put2_at, same_or_not}
-use Rattle.lane_core.proofs.Places.{put_again, put_mine}
+use Rattle.lane_core.proofs.Places.{put_again}
 use Rattle.lane_core.proofs.Elsewhere.{nowhere, but_seen_data, but_kept_data, but_seen_map, but_kept_map, but_seen_a, but_seen_b, but_kept_a, but_kept_b, but_lock}
 use Rattle.lane_core.proofs.Turns.{lock_take_sound, scan_again_sound, scan_on_sound, map_load_sound, lock_free_sound}
 use Rattle.lane_core.proofs.Staging.{data_store_sound, data_keep_sound}
@@ -24,9 +24,9 @@ use Rattle.lane_core.proofs.Switching.{map_store_sound, map_keep_sound}
 use Rattle.lane_table.specs.declared.table.Call.{Call}
 use Rattle.lane_table.specs.declared.table.Key.{Key}
 use Rattle.lane_table.specs.declared.table.View.{View}
-use Rattle.lane_table.specs.Law.{holds, opening_of, with_by, with, found, counted, looks}
+use Rattle.lane_table.specs.Law.{holds, opening_of, with, found, counted, looks}
 use Rattle.lane_table.specs.Told.{tracked, scanned, with_word, with_keep, kept_phase, locked, missed, known, a_stored, a_kept, b_stored, b_kept, switched, map_kept, freed, blocks}
-use Rattle.lane_table.proofs.Moves.{allows_step, allows_line, allows_weaker, phase_of, rule, Stands, Goes, Line}
+use Rattle.lane_table.proofs.Moves.{allows_step, allows_line, allows_weaker, phase_of, Stands}
 
 pub lock_in : (g : Geometry) (sector : ℕ) → 0 < g.lanes → lock_of g sector < g.lanes
 unfolding lock_of

@@ -1,10 +1,9 @@
 -- What each step asks of its caller.
-use Rattle.std.specs.Prelude.{◌≡◌, ℕ, ◌<◌, ◌≤◌, Bool, true, [], Vec, vec_capacity}
+use Rattle.std.specs.Prelude.{◌≡◌, ℕ, ◌<◌, ◌≤◌, true, [], Vec, vec_capacity}
 use Rattle.atomic_table.specs.Seated.{TableId}
 use Rattle.atomic_table.specs.Table.{Me}
 use Rattle.lane_core.specs.declared.phase.Phase.{Phase}
 use Rattle.lane_core.specs.declared.shape.Shape.{Shape}
-use Rattle.lane_core.specs.Machine.{lock_of}
 use Rattle.lane_core.specs.Places.{Place, word_of}
 use Rattle.lane_table.specs.declared.pieces.Mine.{Mine}
 use Rattle.lane_table.specs.declared.table.View.{View}

@@ -1,5 +1,5 @@
 -- Fuses: a fuse that is set falls by one with each step, and a step that is due while none is left is not made.
-use Rattle.std.specs.Prelude.{◌≡◌, ℕ, ◌+◌, Bool, true, false, Option, Some, None, if◌then◌else◌}
+use Rattle.std.specs.Prelude.{◌≡◌, ℕ, ◌+◌, Bool, true, false, Option, Some, None}
 use Rattle.lane_table.specs.declared.fuse.Fuse.{Fuse}
 
 abbrev pub left_by : Bool → ℕ → Option ℕ

@@ -1,7 +1,5 @@
 -- What contracts say of lanes and of their arena.
-use Rattle.std.specs.Prelude.{◌≡◌, ℕ, ◌<◌, List, [], ◌∷◌, length}
-use mathlib.Core.Option.{some}
-use lib.ListN.{get_elem?}
+use Rattle.std.specs.Prelude.{◌≡◌, List}
 use Rattle.atomic_table.specs.Seated.{TableId}
 use Rattle.lane_core.specs.declared.history.Entry.{Entry}
 use Rattle.lane_core.specs.declared.shape.Shape.{Shape}

@@ -94,7 +94,7 @@ seated o = record { live = true; number = o.number; lane = o.lane; shape = o.sha
 
 -- the side of lane l's current half, as the arena was opened
 abbrev pub no_state : LaneState
-no_state = record { free = 0; group = record { side = 0; half = record { lba = 0; old = 0; new = 0; seq = 1 } } }
+no_state = record { free = 0; group = record { side = 0; half = record { lba = 0; old = 0; new = 0; seq = 0 } } }
 
 abbrev pub side_of : Key → ℕ → ℕ
 side_of k l = (slice_index_or k.lanes.value l no_state).group.side

@@ -6,3 +6,4 @@ pub mod Committed
 pub mod Begun
 pub mod Kits
 pub mod Outcomes
+pub mod Closed

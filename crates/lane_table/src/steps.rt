@@ -22,7 +22,14 @@ use crate::table::{Call, LaneSeat, Words};
 /// LockTake: one compare-and-exchange of the lock of the map word, which tells the write's call. It returns what was found: 0 if the
 /// lane has the lock now, else one more than the lane that has it. `None` if the fuse was spent.
 #[inline]
-pub fn lock_take(table: &Words, seat: &mut LaneSeat, fuse: &mut Fuse, at: usize, number: u32, call: Call) -> Option<u64>
+pub fn lock_take(
+    table: &Words,
+    seat: &mut LaneSeat,
+    fuse: &mut Fuse,
+    at: usize,
+    number: u32,
+    call: Call,
+) -> Option<u64>
     requires seat { IsSeated Staged table.now.table_id seat.old.table_id seat.old.me }
     requires number { seat.old.me.0.number ≡ number }
     requires sector { call.sector < table.now.key.shape.sectors }
@@ -58,7 +65,13 @@ pub fn map_load(table: &Words, seat: &mut LaneSeat, fuse: &mut Fuse, at: usize) 
 
 /// FlogAStore: stores word A (Lba, OldMap) of the half that isn't current.
 #[inline]
-pub fn flog_a_store(table: &Words, seat: &mut LaneSeat, fuse: &mut Fuse, at: usize, value: u64) -> bool
+pub fn flog_a_store(
+    table: &Words,
+    seat: &mut LaneSeat,
+    fuse: &mut Fuse,
+    at: usize,
+    value: u64,
+) -> bool
     requires seat { IsSeated Known table.now.table_id seat.old.table_id seat.old.me }
     requires side { seat.old.me.0.lane.side < 2 }
     requires at { IsWord table.now.table_id table.now.key.shape at (SeenA seat.old.me.0.number (other seat.old.me.0.lane.side)) }
@@ -76,7 +89,13 @@ pub fn flog_a_store(table: &Words, seat: &mut LaneSeat, fuse: &mut Fuse, at: usi
 
 /// FlogAKeep: keeps word A.
 #[inline]
-pub fn flog_a_keep(table: &Words, seat: &mut LaneSeat, fuse: &mut Fuse, at: usize, value: u64) -> bool
+pub fn flog_a_keep(
+    table: &Words,
+    seat: &mut LaneSeat,
+    fuse: &mut Fuse,
+    at: usize,
+    value: u64,
+) -> bool
     requires seat { IsSeated LogAStored table.now.table_id seat.old.table_id seat.old.me }
     requires side { seat.old.me.0.lane.side < 2 }
     requires at { IsWord table.now.table_id table.now.key.shape at (KeptA seat.old.me.0.number (other seat.old.me.0.lane.side)) }
@@ -94,7 +113,13 @@ pub fn flog_a_keep(table: &Words, seat: &mut LaneSeat, fuse: &mut Fuse, at: usiz
 
 /// FlogBStore: stores word B (NewMap and the next Seq) of that half.
 #[inline]
-pub fn flog_b_store(table: &Words, seat: &mut LaneSeat, fuse: &mut Fuse, at: usize, value: u64) -> bool
+pub fn flog_b_store(
+    table: &Words,
+    seat: &mut LaneSeat,
+    fuse: &mut Fuse,
+    at: usize,
+    value: u64,
+) -> bool
     requires seat { IsSeated LogA table.now.table_id seat.old.table_id seat.old.me }
     requires side { seat.old.me.0.lane.side < 2 }
     requires at { IsWord table.now.table_id table.now.key.shape at (SeenB seat.old.me.0.number (other seat.old.me.0.lane.side)) }
@@ -112,7 +137,13 @@ pub fn flog_b_store(table: &Words, seat: &mut LaneSeat, fuse: &mut Fuse, at: usi
 
 /// FlogBKeep: keeps word B. From then on that half is current.
 #[inline]
-pub fn flog_b_keep(table: &Words, seat: &mut LaneSeat, fuse: &mut Fuse, at: usize, value: u64) -> bool
+pub fn flog_b_keep(
+    table: &Words,
+    seat: &mut LaneSeat,
+    fuse: &mut Fuse,
+    at: usize,
+    value: u64,
+) -> bool
     requires seat { IsSeated LogBStored table.now.table_id seat.old.table_id seat.old.me }
     requires side { seat.old.me.0.lane.side < 2 }
     requires at { IsWord table.now.table_id table.now.key.shape at (KeptB seat.old.me.0.number (other seat.old.me.0.lane.side)) }

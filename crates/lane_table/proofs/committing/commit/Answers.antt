@@ -1,4 +1,4 @@
-use Rattle.std.proofs.Common.{ℕ, ◌<◌, ap, ◌∙◌, arith}
+use Rattle.std.proofs.Common.{◌<◌, ap, ◌∙◌, arith}
 use Rattle.lane_table.specs.Told.{path, known}
 use Rattle.lane_table.proofs.Burning.{burnt_later, way_on}
 use Rattle.lane_table.proofs.committing.commit.Goals as goal
