@@ -44,7 +44,7 @@ high x (KeptB l side) = x.total + x.total
 high x (Reader l) = 2 * x.total + x.lanes
 high x (Lock k) = 2 * x.total + x.lanes + x.lanes
 
-data_in : (x : Shape) → IsShape x → (b k : ℕ) → b < x.sectors + x.lanes → k < x.width → x.data_at + b * x.inner + k < x.map_at
+pub data_in : (x : Shape) → IsShape x → (b k : ℕ) → b < x.sectors + x.lanes → k < x.width → x.data_at + b * x.inner + k < x.map_at
 data_in x h b k lb lk = let w = h.wide in let bl = h.blocks in let r : b * x.inner + x.inner ≤ (x.sectors + x.lanes) * x.inner = row_end b (x.sectors + x.lanes) x.inner lb in omega arith
 
 bounds : (x : Shape) → IsShape x → (p : Place) → IsIn x p → (low x p ≤ word_of x p) × (word_of x p < high x p)

@@ -1,0 +1,9 @@
+pub mod Moves
+pub mod WriteLines
+pub mod Burning
+pub mod Splits
+pub mod Starts
+pub mod Addresses
+pub mod Dealt
+pub mod Gathers
+pub mod Closes

@@ -1,0 +1,64 @@
+-- What a table is made from: the words of an opened arena, twice, and no reader and no lock.
+use Rattle.std.specs.Prelude.{◌≡◌, ℕ, ◌*◌, ◌<◌, List, [], ◌++◌, length, replicate, slice_index_or, true, false}
+use mathlib.Core.Option.{some}
+use lib.ListN.{get_elem?}
+use Rattle.atomic_table.specs.Seated.{TableId}
+use Rattle.atomic_table.specs.Table.{Me}
+use Rattle.arena_open.specs.declared.opened.LaneState.{LaneState}
+use Rattle.lane_core.specs.declared.phase.Phase.TheVariants.{Idle}
+use Rattle.lane_core.specs.declared.shape.Shape.{Shape}
+use Rattle.lane_core.specs.Cut.{half_at}
+use Rattle.lane_core.specs.Opening.{IsOpen}
+use Rattle.lane_core.specs.Places.{IsShape, geometry}
+use Rattle.lane_table.specs.declared.lanes.Lane.{Lane}
+use Rattle.lane_table.specs.declared.table.Key.{Key}
+use Rattle.lane_table.specs.declared.table.View.{View}
+use Rattle.lane_table.specs.Conditions.{IsMine}
+use Rattle.lane_table.specs.Kits.{IsAt, owned_in}
+use Rattle.lane_table.specs.Law.{areas_in, no_state, words_of, opened_owned}
+use Rattle.lane_table.specs.Told.{blocks}
+
+-- the row of a table of these words
+abbrev pub row_of : Shape → List ℕ → List ℕ
+row_of x words = words ++ words ++ replicate (2 * x.lanes) 0
+
+-- lane l of a list of lanes
+abbrev pub state_at : List LaneState → ℕ → LaneState
+state_at lanes l = slice_index_or lanes l no_state
+
+-- an arena of this shape with these words and lanes, as opening gives it
+pub record IsOpenArena (x : Shape) (words : List ℕ) (lanes : List LaneState) : Type 0 where
+  pub shape : IsShape x
+  pub size : length words ≡ x.total
+  pub count : length lanes ≡ x.lanes
+  pub opens : IsOpen (geometry x) (areas_in x words) (λ l. (state_at lanes l).group.side)
+  pub halves : (l : ℕ) → l < x.lanes → (state_at lanes l).group.half ≡ half_at (areas_in x words) l (state_at lanes l).group.side
+  pub free : (l : ℕ) → l < x.lanes → (state_at lanes l).free ≡ (state_at lanes l).group.half.old
+
+-- a table is made of such an arena
+abbrev pub IsBegun : Key → Type 0
+IsBegun k = IsOpenArena k.shape (words_of k) k.lanes.value
+
+-- ---- the lanes of a new table
+
+-- a seat as `seated` takes it: one idle lane, which has answered no call
+pub record IsNew {S : Type 0} (number : ℕ) (state : LaneState) (me : Me S View) : Type 0 where
+  pub live : me.0.live ≡ true
+  pub numbered : (me.0.number ≡ number) × (number < me.0.shape.lanes)
+  pub alone : (me.0.rest ≡ []) × (me.1 ≡ [])
+  pub log : me.0.lane.log ≡ []
+  pub phase : me.0.lane.phase ≡ Idle
+  pub mine : IsMine (record { number = number; block = state.free; side = state.group.side; seq = state.group.half.seq }) me.0
+  pub in_range : state.free < blocks me.0.shape
+
+-- lane l of a new table
+pub record IsFresh (table : TableId) (k : Key) (l : ℕ) (lane : Lane) : Type 0 where
+  pub at : IsAt table k.shape lane.kit
+  pub number : lane.kit.number ≡ l
+  pub owned : owned_in lane.kit ≡ opened_owned k l
+  pub no_fuse : lane.kit.fuse.set ≡ false
+
+-- each lane stands at its number
+pub record AreFresh (table : TableId) (k : Key) (lanes : List Lane) : Type 0 where
+  pub count : length lanes ≡ k.shape.lanes
+  pub each : (l : ℕ) (lane : Lane) → get_elem? lanes l ≡ some lane → IsFresh table k l lane

@@ -1,0 +1,46 @@
+-- What an arena leaves when it is closed.
+use Rattle.std.specs.Prelude.{◌≡◌, ℕ, ◌<◌, ◌≤◌, List, [], length, map, take, drop}
+use mathlib.Core.Option.{some}
+use lib.ListN.{get_elem?}
+use Rattle.lane_core.specs.declared.history.Entry.{Entry}
+use Rattle.lane_core.specs.Areas.{Areas}
+use Rattle.lane_core.specs.Cut.{AreLeft, IsCurrent, Recovers}
+use Rattle.lane_core.specs.History.{end_of, of_lane, IsLegal}
+use Rattle.lane_core.specs.Invariant.{IsSound}
+use Rattle.lane_core.specs.Machine.{State}
+use Rattle.lane_core.specs.Places.{Shows, geometry, row_size}
+use Rattle.lane_table.specs.declared.closing.Closed.{Closed}
+use Rattle.lane_table.specs.declared.lanes.LaneEnd.{LaneEnd}
+use Rattle.lane_table.specs.declared.table.Key.{Key}
+use Rattle.lane_table.specs.Kits.{kit_in}
+use Rattle.lane_table.specs.Law.{opening_of, cells_in}
+
+-- every lane of n, each at its number
+pub record AreInOrder (n : ℕ) (ends : List LaneEnd) : Type 0 where
+  pub count : length ends ≡ n
+  pub each : (l : ℕ) (e : LaneEnd) → get_elem? ends l ≡ some e → (kit_in e).number ≡ l
+
+pub record IsClosed (k : Key) (ends : List LaneEnd) (c : Closed) : Type 0 where
+  -- the words show a state of the lanes' machine, which meets the invariant
+  pub state : State
+  pub sound : IsSound (geometry k.shape) (opening_of k) state
+  pub row : List ℕ
+  pub size : length row ≡ row_size k.shape
+  pub shown : Shows k.shape row state
+  pub seen : c.seen.items ≡ take k.shape.total row
+  pub kept : c.kept.items ≡ take k.shape.total (drop k.shape.total row)
+  -- each lane of this state is what its seat knew
+  pub lanes : (l : ℕ) (e : LaneEnd) → get_elem? ends l ≡ some e → state.lanes l ≡ (kit_in e).seat.me.0.lane
+  -- one legal history has the calls of the lanes' logs, each lane's in their order, and no others
+  pub history : List Entry
+  pub legal : IsLegal (opening_of k) history
+  pub logs : c.logs.items ≡ map (λ e. (kit_in e).log) ends
+  pub each : (l : ℕ) (e : LaneEnd) → get_elem? ends l ≡ some e → of_lane l history ≡ (kit_in e).log.items
+  pub no_other : (l : ℕ) → k.shape.lanes ≤ l → of_lane l history ≡ []
+  -- it leaves the cells that the seen words give
+  pub leaves : (t : ℕ) → t < k.shape.sectors → end_of (opening_of k) history t ≡ cells_in k.shape c.seen.items t
+  pub same_end : (t : ℕ) → t < k.shape.sectors → end_of (opening_of k) history t ≡ end_of (opening_of k) state.history t
+  -- whatever a cut leaves of the words recovers: each lane has a current half, and each sector is as the history ends or as one write in flight
+  pub survives : (left : Areas) → AreLeft state.seen state.kept left
+      → ((l : ℕ) → l < k.shape.lanes → (side : ℕ) × IsCurrent left l side)
+      × ((after : ℕ → ℕ) → ((l : ℕ) → l < k.shape.lanes → IsCurrent left l (after l)) → Recovers (geometry k.shape) (opening_of k) state left after)

@@ -1,0 +1,155 @@
+-- What each kind of step does to the seat that makes it: `before` and `after` are the seat's view with the slots that it holds
+-- (none here), and n is what the step found.
+use Rattle.std.specs.Prelude.{◌≡◌, ◌≢◌, ℕ, ◌+◌, ◌*◌, ◌^◌, ◌<◌, ◌≤◌, ◌==◌, if◌then◌else◌, List, [], ◌∷◌, ◌++◌, zero, suc}
+use mathlib.Core.Option.{some}
+use Rattle.atomic_table.specs.Table.{Me, Step}
+use Rattle.lane_core.specs.declared.lane.Lane.{Lane}
+use Rattle.lane_core.specs.declared.phase.Phase.{Phase}
+use Rattle.lane_core.specs.declared.phase.Phase.TheVariants.{Idle, Scanning, Staging, Staged, Locked, Known, Called, LogAStored, LogA, LogBStored, Logged, Switched, Kept}
+use Rattle.lane_core.specs.declared.shape.Shape.{Shape}
+use Rattle.lane_core.specs.Areas.{next_seq}
+use Rattle.lane_core.specs.Machine.{other, looked, wrote}
+use Rattle.lane_table.specs.declared.table.Call.{Call}
+use Rattle.lane_table.specs.declared.table.Count.{Count}
+use Rattle.lane_table.specs.declared.table.View.{View}
+use Rattle.lane_table.specs.Law.{spent, with, with_by, found, uncounted}
+
+-- blocks of an arena of a shape: each sector has one, and so has each lane
+abbrev pub blocks : Shape → ℕ
+blocks x = x.sectors + x.lanes
+
+-- where a write goes on after the keep of word k - width
+abbrev pub kept_phase : Shape → ℕ → Phase
+kept_phase x k = if k + 1 == 2 * x.width then Staged else Staging (k + 1)
+
+-- k steps more
+abbrev pub more : ℕ → ℕ → Count → Count
+more k n c = record c { steps = c.steps + k }
+
+module _ {S : Type 0} where
+  -- the seat after a store, and after a look that found n
+  abbrev pub on : Me S View → Lane → Me S View
+  on me p = (with me.0 p, me.1)
+
+  abbrev pub on_found : ℕ → Me S View → Lane → Me S View
+  on_found n me p = (found n me.0 p, me.1)
+
+  -- ---- a seat that comes
+
+  abbrev pub comes : Step S → Me S View → ℕ → Me S View → Type 0
+  comes step before n after = after ≡ (spent, [])
+
+  -- ---- a write, up to Staged
+
+  -- after a scan that found the reader of the free block
+  abbrev pub tracked : ℕ → Me S View → Me S View
+  tracked n me = on_found n me (record (me.0.lane) { phase = Scanning 0 })
+
+  -- after a scan of the j-th other lane, which doesn't read the free block
+  abbrev pub scanned : ℕ → ℕ → Me S View → Me S View
+  scanned j n me = on_found n me (record (me.0.lane) { phase = if j + 2 == me.0.shape.lanes then Staging 0 else Scanning (j + 1); words = [] })
+
+  abbrev pub rtt_scan : Step S → Me S View → ℕ → Me S View → Type 0
+  rtt_scan step before n after =
+      (j : ℕ) → before.0.lane.phase ≡ Scanning j
+      → (n ≡ suc before.0.lane.block → after ≡ tracked n before) × (n ≢ suc before.0.lane.block → after ≡ scanned j n before)
+
+  -- after the first k stores of these words
+  abbrev pub with_words : Me S View → ℕ → List ℕ → Me S View
+  with_words me k ws = (with_by (more k) 0 me.0 (record (me.0.lane) { phase = Staging k; words = ws }), me.1)
+
+  abbrev pub with_word : Me S View → ℕ → ℕ → Me S View
+  with_word me k w = on me (record (me.0.lane) { phase = Staging (k + 1); words = me.0.lane.words ++ w ∷ [] })
+
+  abbrev pub data_store : Step S → Me S View → ℕ → Me S View → Type 0
+  data_store step before n after = (k : ℕ) → before.0.lane.phase ≡ Staging k → after ≡ with_word before k n
+
+  abbrev pub with_keep : Me S View → ℕ → Me S View
+  with_keep me k = on me (record (me.0.lane) { phase = kept_phase me.0.shape k })
+
+  abbrev pub data_keep : Step S → Me S View → ℕ → Me S View → Type 0
+  data_keep step before n after = (k : ℕ) → before.0.lane.phase ≡ Staging k → after ≡ with_keep before k
+
+  -- ---- a commit: the lock and the map word
+
+  abbrev pub locked : Call → Me S View → Me S View
+  locked t me = on_found 0 me (record (me.0.lane) { phase = Locked; tag = t.tag; sector = t.sector })
+
+  -- the lock is another's: a counted step that changed nothing
+  abbrev pub missed : ℕ → Me S View → Me S View
+  missed n me = on_found n me me.0.lane
+
+  abbrev pub known : ℕ → Me S View → Me S View
+  known n me = on_found n me (record (me.0.lane) { phase = Known; loaded = n })
+
+  -- the entry's block is one of the arena
+  abbrev pub map_load : Step S → Me S View → ℕ → Me S View → Type 0
+  map_load step before n after = (after ≡ known n before) × (looked (record (before.0.lane) { loaded = n }) < blocks before.0.shape)
+
+  -- ---- a commit: the seven stores
+
+  abbrev pub a_stored : Me S View → Me S View
+  a_stored me = on me (record (me.0.lane) { phase = LogAStored })
+
+  abbrev pub a_kept : Me S View → Me S View
+  a_kept me = on me (record (me.0.lane) { phase = LogA })
+
+  abbrev pub b_stored : Me S View → Me S View
+  b_stored me = on me (record (me.0.lane) { phase = LogBStored })
+
+  abbrev pub b_kept : Me S View → Me S View
+  b_kept me = on me (record (me.0.lane) { phase = Logged; side = other me.0.lane.side; half = record { lba = me.0.lane.sector; old = looked me.0.lane; new = me.0.lane.block; seq = next_seq me.0.lane.half.seq } })
+
+  abbrev pub switched : Me S View → Me S View
+  switched me = on me (record (me.0.lane) { phase = Switched; block = looked me.0.lane; words = []; log = me.0.lane.log ++ wrote me.0.number me.0.lane ∷ [] })
+
+  abbrev pub map_kept : Me S View → Me S View
+  map_kept me = on me (record (me.0.lane) { phase = Kept })
+
+  abbrev pub freed : Me S View → Me S View
+  freed me = on me (record (me.0.lane) { phase = Idle })
+
+  abbrev pub flog_a_store : Step S → Me S View → ℕ → Me S View → Type 0
+  flog_a_store step before n after = after ≡ a_stored before
+
+  abbrev pub flog_a_keep : Step S → Me S View → ℕ → Me S View → Type 0
+  flog_a_keep step before n after = after ≡ a_kept before
+
+  abbrev pub flog_b_store : Step S → Me S View → ℕ → Me S View → Type 0
+  flog_b_store step before n after = after ≡ b_stored before
+
+  abbrev pub flog_b_keep : Step S → Me S View → ℕ → Me S View → Type 0
+  flog_b_keep step before n after = after ≡ b_kept before
+
+  abbrev pub map_store : Step S → Me S View → ℕ → Me S View → Type 0
+  map_store step before n after = after ≡ switched before
+
+  abbrev pub map_keep : Step S → Me S View → ℕ → Me S View → Type 0
+  map_keep step before n after = after ≡ map_kept before
+
+  abbrev pub lock_free : Step S → Me S View → ℕ → Me S View → Type 0
+  lock_free step before n after = after ≡ freed before
+
+  -- the seat after k of these stores
+  abbrev pub path : ℕ → Me S View → Me S View
+  path zero me = me
+  path (suc zero) me = a_stored me
+  path (suc (suc zero)) me = a_kept (a_stored me)
+  path (suc (suc (suc zero))) me = b_stored (a_kept (a_stored me))
+  path (suc (suc (suc (suc zero)))) me = b_kept (b_stored (a_kept (a_stored me)))
+  path (suc (suc (suc (suc (suc zero))))) me = switched (b_kept (b_stored (a_kept (a_stored me))))
+  path (suc (suc (suc (suc (suc (suc zero)))))) me = map_kept (switched (b_kept (b_stored (a_kept (a_stored me)))))
+  path (suc (suc (suc (suc (suc (suc (suc k))))))) me = freed (map_kept (switched (b_kept (b_stored (a_kept (a_stored me))))))
+
+  -- ---- a read
+
+  abbrev pub called : Call → Me S View → Me S View
+  called t me = (with_by uncounted 0 me.0 (record (me.0.lane) { phase = Called; tag = t.tag; sector = t.sector }), me.1)
+
+-- ---- the steps that tell a call
+
+abbrev pub lock_take : Step Call → Me Call View → ℕ → Me Call View → Type 0
+lock_take step before n after = (t : Call) → step.said ≡ some t → (n ≡ 0 → after ≡ locked t before) × (n ≢ 0 → (after ≡ missed n before) × (n ≤ before.0.shape.lanes) × (n ≤ 2 ^ 30))
+
+abbrev pub read_begin : Step Call → Me Call View → ℕ → Me Call View → Type 0
+read_begin step before n after = (t : Call) → step.said ≡ some t → after ≡ called t before

@@ -1,0 +1,94 @@
+//! A lane with its seat, in each of its states. A call takes the lane in one state and gives it back in another, so what can't be
+//! called in a state has no method there.
+ghost use Rattle.std.specs.Prelude.{◌≡◌, ◌+◌, ◌<◌, ◌≤◌, true, [], All, vec_len, vec_capacity};
+ghost use Rattle.lane_core.specs.declared.phase.Phase.TheVariants.{Idle as IsIdle, Staged as IsStaged};
+ghost use Rattle.lane_table.specs.Conditions.{IsMine, IsRoom};
+ghost use Rattle.lane_table.specs.Told.{blocks};
+
+use crate::fuse::Fuse;
+use crate::pieces::Mine;
+use crate::table::LaneSeat;
+use lane_core::Entry;
+
+/// What a lane has in every state.
+#[derive(Drop)]
+pub struct Kit {
+    pub(crate) seat: LaneSeat,
+    pub(crate) number: u32,
+    pub(crate) fuse: Fuse,
+    /// Its calls that stand in the history, oldest first.
+    pub(crate) log: Vec<Entry>,
+    /// Room for the words of calls to come, each of a sector.
+    pub(crate) rooms: Vec<Vec<u64>>,
+    ghost live: { seat.me.0.live ≡ true },
+    ghost numbered: { (seat.me.0.number ≡ number) × (number < seat.me.0.shape.lanes) },
+    ghost alone: { (seat.me.0.rest ≡ []) × (seat.me.1 ≡ []) },
+    ghost logged: { seat.me.0.lane.log ≡ log.items },
+    ghost room: { vec_len log + vec_len rooms ≤ vec_capacity log },
+    ghost rooms_are: { All (IsRoom seat.me.0.shape.width) rooms.items },
+}
+
+/// A lane without a call.
+#[derive(Drop)]
+pub struct Lane {
+    pub(crate) kit: Kit,
+    pub(crate) mine: Mine,
+    ghost idle: { kit.seat.me.0.lane.phase ≡ IsIdle },
+    ghost mine_is: { IsMine mine kit.seat.me.0 },
+    ghost in_range: { mine.block < blocks kit.seat.me.0.shape },
+}
+
+/// A lane whose free block has the words of a write, seen and kept.
+#[derive(Drop)]
+pub struct Staged {
+    pub(crate) kit: Kit,
+    pub(crate) mine: Mine,
+    pub(crate) words: Vec<u64>,
+    ghost staged: { kit.seat.me.0.lane.phase ≡ IsStaged },
+    ghost mine_is: { IsMine mine kit.seat.me.0 },
+    ghost in_range: { mine.block < blocks kit.seat.me.0.shape },
+    ghost words_are: { kit.seat.me.0.lane.words ≡ words.items },
+    ghost spare: { vec_len kit.log + vec_len kit.rooms < vec_capacity kit.log },
+}
+
+/// A lane whose fuse was spent when a step was due. It stays in that step.
+#[derive(Drop)]
+pub struct Stopped {
+    pub(crate) kit: Kit,
+}
+
+/// A lane at the end of a run.
+#[derive(Drop)]
+pub enum LaneEnd {
+    Idle(Lane),
+    Staged(Staged),
+    Stopped(Stopped),
+}
+
+impl LaneEnd {
+    ghost use Rattle.lane_table.specs.Kits.{kit_in};
+
+    /// What the lane has.
+    pub(crate) fn into_kit(self) -> Kit
+        ensures { result ≡ kit_in self }
+    {
+        match self {
+            LaneEnd::Idle(lane) => {
+                let Lane { kit, mine: _ } = lane;
+                kit
+            }
+            LaneEnd::Staged(staged) => {
+                let Staged {
+                    kit,
+                    mine: _,
+                    words: _,
+                } = staged;
+                kit
+            }
+            LaneEnd::Stopped(stopped) => {
+                let Stopped { kit } = stopped;
+                kit
+            }
+        }
+    }
+}

@@ -1,0 +1,65 @@
+//! An arena's lanes at once, on words that they share: the steps of `lane_core`, each one atomic step of a table.
+//!
+//! Lanes run in threads of their own. They copy data without locks; only the map word of a sector has a lock, and it is held for
+//! nine steps. Still each lane takes exactly the steps of the proved algorithm, one word each, whatever the others do in between.
+//!
+//! # The words
+//!
+//! ```text
+//!   0                total              2 * total       + lanes        + lanes
+//!   +----------------+------------------+---------------+--------------+
+//!   | the arena, as  | the same words,  | reader word   | lock of map  |
+//!   | a load gives   | as they are      | of each lane: | word k:      |
+//!   | them           | kept             | 0, block + 1  | 0, lane + 1  |
+//!   +----------------+------------------+---------------+--------------+
+//! ```
+//!
+//! To **keep** a word of the arena is one store into its kept word. A lane keeps a word that it stored itself, so it stores its own
+//! value there, and needs no load.
+//!
+//! # The rule
+//!
+//! The words are a table (of the crate `atomic_table`). Each lane steps with its **seat**, which knows one lane's state, its **view**;
+//! a step changes one word and one view. The rule (`Holds` of specs/Law.antt) is: there is a state of the machine in
+//! `lane_core`'s specs/Machine.antt that meets that crate's invariant, that the words show, and whose lanes are what the seats know.
+//! No view has the history: it stands in that state alone. proofs/WriteLines.antt shows for each kind of step that it is a step of
+//! that state; so every run of lanes in threads is a run of the machine, of which `lane_core` has the theorem.
+//!
+//! A write's call joins its lane's view at LockTake, and its words one by one as they are stored: until then no step can tell them.
+//!
+//! # The promises
+//!
+//! | promise | call | definition |
+//! |---|---|---|
+//! | the rule holds of a new table, and each lane's seat knows its lane | [`Arena::of`] | `IsOpenArena`, `AreFresh` of specs/Begun.antt |
+//! | a commit is the nine steps in order, or one step that found the lock's holder, or as many as the fuse had | [`Staged::try_commit`] | `Commits` of specs/Outcomes.antt, `way` of specs/Committed.antt |
+//! | a refused commit gives the lane back with its words | the same | `Commits`, case MapBusy |
+//! | a fuse that is set falls by one with each step; a step that is due without one isn't made | each step | `Fell`, `Burnt` of specs/Fuse.antt |
+//! | the words at the end meet the invariant with the lanes' ends, the logs are one legal history, and what a cut leaves survives | [`Arena::close`] | `IsClosed` of specs/Closed.antt |
+//!
+//! Nothing is said of progress: not that a lock comes free, nor that a lane that was refused gets on later.
+#![tactic(auto)]
+
+mod arena;
+mod closing;
+mod committing;
+mod dealing;
+mod fuse;
+mod gathering;
+mod kinds;
+mod lanes;
+mod opening;
+mod outcome;
+mod pieces;
+mod spots;
+mod steps;
+mod table;
+mod words;
+mod writing;
+
+pub use arena::Arena;
+pub use closing::{CloseRefused, Closed};
+pub use fuse::Fuse;
+pub use lanes::{Kit, Lane, LaneEnd, Staged, Stopped};
+pub use outcome::CommitOutcome;
+pub use table::{Call, Count, Key, LaneSeat, Law, Owned, View, WordTable, Words};

@@ -1,0 +1,53 @@
+//! A table is made of an arena.
+ghost use Rattle.std.specs.Prelude.{◌≡◌, ◌<◌, ◌+◌, ◌*◌, ◌^◌, ◌++◌, length, replicate, IfOk};
+ghost use Rattle.lane_table.specs.Begun.{row_of, IsOpenArena, AreFresh};
+ghost use Rattle.lane_table.specs.Kits.{arena_id};
+ghost use Rattle.lane_table.specs.Law.{words_of};
+
+use crate::arena::Arena;
+use crate::dealing::deal;
+use crate::lanes::Lane;
+use crate::table::{Key, WordTable};
+use arena_open::LaneState;
+use lane_core::Shape;
+use nvd_words::Items;
+use std::alloc::{AllocError, Global};
+use std::snapshot::Snapshot;
+
+/// The words of a table: the arena's as they are seen, the same as they are kept, and zeros, the reader words and the locks.
+pub(crate) fn row(alloc: Global, words: &[u64], lanes: u32) -> Result<Vec<u64>, AllocError>
+    requires few { (length words.now < 2 ^ 40) × (lanes < 2 ^ 31) }
+    ensures { IfOk result (λ v. v.items ≡ words.now ++ words.now ++ replicate (2 * lanes) 0) }
+{
+    let mut row = Vec::new(alloc);
+    row.extend_from_slice(words)?;
+    row.extend_from_slice(words)?;
+    let zeros: Vec<u64> = vec![in alloc; 0; 2 * lanes as usize]?;
+    row.extend_from_slice(zeros.as_slice())?;
+    Ok(row)
+}
+
+impl Arena {
+    /// The arena of this shape with these words, and its lanes in the order of their numbers, each with its seat. The arena is as
+    /// opening gives it. The one refusal is out of memory.
+    pub fn of(
+        alloc: Global,
+        shape: Shape,
+        words: Items<u64>,
+        states: Items<LaneState>,
+    ) -> Result<(Arena, Vec<Lane>), AllocError>
+        requires open { IsOpenArena shape words states }
+        ensures shape { IfOk result (λ r. (r.0.shape ≡ shape) × (words_of r.0.table.shared.key ≡ words)) }
+        ensures lanes { IfOk result (λ r. AreFresh (arena_id r.0) r.0.table.shared.key r.1.items) }
+    {
+        let key = Key {
+            shape,
+            words: Snapshot::of(&words),
+            lanes: Snapshot::of(&states),
+        };
+        let first = row(alloc, words.as_slice(), shape.lanes)?;
+        let (table, mut dealer) = WordTable::of_words(alloc, first.as_slice(), &key)?;
+        let lanes = deal(alloc, &table.shared, &mut dealer, states.as_slice())?;
+        Ok((Arena { table, shape }, lanes))
+    }
+}

@@ -1,0 +1,211 @@
+//! The steps of a lane, one function each. A step takes one from the fuse; if none is left it isn't made.
+//!
+//! Each store has its condition in two clauses: `at` says which word it is of, and `value` what is stored. A keep stores the lane's
+//! own value in the kept word.
+ghost use Rattle.std.specs.Prelude.{◌≡◌, ◌≢◌, ◌+◌, ◌-◌, ◌*◌, ◌/◌, ◌^◌, ◌<◌, ◌≤◌, true, false, suc, slice_index, IfSome, IfNone, Some, None};
+ghost use Rattle.lane_core.specs.declared.phase.Phase.TheVariants.{Idle, Staging, Staged, Locked, Known, LogAStored, LogA, LogBStored, Logged, Switched, Kept};
+ghost use Rattle.map_table.specs.Entry.{with_entry};
+ghost use Rattle.lane_core.specs.Areas.{word_a, word_b, next_seq, normal};
+ghost use Rattle.lane_core.specs.Machine.{other, looked, lock_of};
+ghost use Rattle.lane_core.specs.Places.{geometry, SeenData, KeptData, SeenA, KeptA, SeenB, KeptB, SeenMap, KeptMap, Reader, Lock};
+ghost use Rattle.lane_table.specs.Conditions.{IsSeated, IsWord};
+ghost use Rattle.lane_table.specs.Fuse.{Fell, Burnt};
+ghost use Rattle.lane_table.specs.Told.{with_word, with_keep, locked, missed, known, a_stored, a_kept, b_stored, b_kept, switched, map_kept, freed, called, blocks};
+
+use crate::fuse::Fuse;
+use crate::kinds::{
+    DataKeep, DataStore, FlogAKeep, FlogAStore, FlogBKeep, FlogBStore, LockFree, LockTake, MapKeep,
+    MapLoad, MapStore, ReadBegin,
+};
+use crate::table::{Call, LaneSeat, Words};
+
+/// LockTake: one compare-and-exchange of the lock of the map word, which tells the write's call. It returns what was found: 0 if the
+/// lane has the lock now, else one more than the lane that has it. `None` if the fuse was spent.
+#[inline]
+pub fn lock_take(
+    table: &Words,
+    seat: &mut LaneSeat,
+    fuse: &mut Fuse,
+    at: usize,
+    number: u32,
+    call: Call,
+) -> Option<u64>
+    requires seat { IsSeated Staged table.now.table_id seat.old.table_id seat.old.me }
+    requires number { seat.old.me.0.number ≡ number }
+    requires sector { call.sector < table.now.key.shape.sectors }
+    requires at { IsWord table.now.table_id table.now.key.shape at (Lock (lock_of (geometry table.now.key.shape) call.sector)) }
+    ensures table { seat.new.table_id ≡ seat.old.table_id }
+    ensures taken { IfSome result (λ n. n ≡ 0 → seat.new.me ≡ locked call seat.old.me) }
+    ensures busy { IfSome result (λ n. n ≢ 0 → (seat.new.me ≡ missed n seat.old.me) × (n ≤ seat.old.me.0.shape.lanes) × (n ≤ 2 ^ 30)) }
+    ensures made { IfSome result (λ n. Fell 1 fuse.old fuse.new) }
+    ensures cut { result ≡ None → (seat.new.me ≡ seat.old.me) × Burnt 0 fuse.old fuse.new }
+{
+    if !fuse.spend() {
+        return None;
+    }
+    Some(table.compare_exchange_with::<LockTake>(seat, at, 0, u64::from(number) + 1, &call))
+}
+
+/// MapLoad: loads the map word of the sector, under its lock.
+#[inline]
+pub fn map_load(table: &Words, seat: &mut LaneSeat, fuse: &mut Fuse, at: usize) -> Option<u64>
+    requires seat { IsSeated Locked table.now.table_id seat.old.table_id seat.old.me }
+    requires at { IsWord table.now.table_id table.now.key.shape at (SeenMap (seat.old.me.0.lane.sector / 2)) }
+    ensures table { seat.new.table_id ≡ seat.old.table_id }
+    ensures known { IfSome result (λ n. seat.new.me ≡ known n seat.old.me) }
+    ensures in_range { IfSome result (λ n. looked (record (seat.old.me.0.lane) { loaded = n }) < blocks seat.old.me.0.shape) }
+    ensures made { IfSome result (λ n. Fell 1 fuse.old fuse.new) }
+    ensures cut { result ≡ None → (seat.new.me ≡ seat.old.me) × Burnt 0 fuse.old fuse.new }
+{
+    if !fuse.spend() {
+        return None;
+    }
+    Some(table.load::<MapLoad>(seat, at))
+}
+
+/// FlogAStore: stores word A (Lba, OldMap) of the half that isn't current.
+#[inline]
+pub fn flog_a_store(
+    table: &Words,
+    seat: &mut LaneSeat,
+    fuse: &mut Fuse,
+    at: usize,
+    value: u64,
+) -> bool
+    requires seat { IsSeated Known table.now.table_id seat.old.table_id seat.old.me }
+    requires side { seat.old.me.0.lane.side < 2 }
+    requires at { IsWord table.now.table_id table.now.key.shape at (SeenA seat.old.me.0.number (other seat.old.me.0.lane.side)) }
+    requires value { value ≡ word_a seat.old.me.0.lane.sector (looked seat.old.me.0.lane) }
+    ensures table { seat.new.table_id ≡ seat.old.table_id }
+    ensures made { result ≡ true → (seat.new.me ≡ a_stored seat.old.me) × Fell 1 fuse.old fuse.new }
+    ensures cut { result ≡ false → (seat.new.me ≡ seat.old.me) × Burnt 0 fuse.old fuse.new }
+{
+    if !fuse.spend() {
+        return false;
+    }
+    table.store::<FlogAStore>(seat, at, value);
+    true
+}
+
+/// FlogAKeep: keeps word A.
+#[inline]
+pub fn flog_a_keep(
+    table: &Words,
+    seat: &mut LaneSeat,
+    fuse: &mut Fuse,
+    at: usize,
+    value: u64,
+) -> bool
+    requires seat { IsSeated LogAStored table.now.table_id seat.old.table_id seat.old.me }
+    requires side { seat.old.me.0.lane.side < 2 }
+    requires at { IsWord table.now.table_id table.now.key.shape at (KeptA seat.old.me.0.number (other seat.old.me.0.lane.side)) }
+    requires value { value ≡ word_a seat.old.me.0.lane.sector (looked seat.old.me.0.lane) }
+    ensures table { seat.new.table_id ≡ seat.old.table_id }
+    ensures made { result ≡ true → (seat.new.me ≡ a_kept seat.old.me) × Fell 1 fuse.old fuse.new }
+    ensures cut { result ≡ false → (seat.new.me ≡ seat.old.me) × Burnt 0 fuse.old fuse.new }
+{
+    if !fuse.spend() {
+        return false;
+    }
+    table.store::<FlogAKeep>(seat, at, value);
+    true
+}
+
+/// FlogBStore: stores word B (NewMap and the next Seq) of that half.
+#[inline]
+pub fn flog_b_store(
+    table: &Words,
+    seat: &mut LaneSeat,
+    fuse: &mut Fuse,
+    at: usize,
+    value: u64,
+) -> bool
+    requires seat { IsSeated LogA table.now.table_id seat.old.table_id seat.old.me }
+    requires side { seat.old.me.0.lane.side < 2 }
+    requires at { IsWord table.now.table_id table.now.key.shape at (SeenB seat.old.me.0.number (other seat.old.me.0.lane.side)) }
+    requires value { value ≡ word_b seat.old.me.0.lane.block (next_seq seat.old.me.0.lane.half.seq) }
+    ensures table { seat.new.table_id ≡ seat.old.table_id }
+    ensures made { result ≡ true → (seat.new.me ≡ b_stored seat.old.me) × Fell 1 fuse.old fuse.new }
+    ensures cut { result ≡ false → (seat.new.me ≡ seat.old.me) × Burnt 0 fuse.old fuse.new }
+{
+    if !fuse.spend() {
+        return false;
+    }
+    table.store::<FlogBStore>(seat, at, value);
+    true
+}
+
+/// FlogBKeep: keeps word B. From then on that half is current.
+#[inline]
+pub fn flog_b_keep(
+    table: &Words,
+    seat: &mut LaneSeat,
+    fuse: &mut Fuse,
+    at: usize,
+    value: u64,
+) -> bool
+    requires seat { IsSeated LogBStored table.now.table_id seat.old.table_id seat.old.me }
+    requires side { seat.old.me.0.lane.side < 2 }
+    requires at { IsWord table.now.table_id table.now.key.shape at (KeptB seat.old.me.0.number (other seat.old.me.0.lane.side)) }
+    requires value { value ≡ word_b seat.old.me.0.lane.block (next_seq seat.old.me.0.lane.half.seq) }
+    ensures table { seat.new.table_id ≡ seat.old.table_id }
+    ensures made { result ≡ true → (seat.new.me ≡ b_kept seat.old.me) × Fell 1 fuse.old fuse.new }
+    ensures cut { result ≡ false → (seat.new.me ≡ seat.old.me) × Burnt 0 fuse.old fuse.new }
+{
+    if !fuse.spend() {
+        return false;
+    }
+    table.store::<FlogBKeep>(seat, at, value);
+    true
+}
+
+/// MapStore: stores the map word with the new entry. With that the write stands in the history.
+#[inline]
+pub fn map_store(table: &Words, seat: &mut LaneSeat, fuse: &mut Fuse, at: usize, value: u64) -> bool
+    requires seat { IsSeated Logged table.now.table_id seat.old.table_id seat.old.me }
+    requires at { IsWord table.now.table_id table.now.key.shape at (SeenMap (seat.old.me.0.lane.sector / 2)) }
+    requires value { value ≡ with_entry seat.old.me.0.lane.loaded seat.old.me.0.lane.sector (normal seat.old.me.0.lane.block) }
+    ensures table { seat.new.table_id ≡ seat.old.table_id }
+    ensures made { result ≡ true → (seat.new.me ≡ switched seat.old.me) × Fell 1 fuse.old fuse.new }
+    ensures cut { result ≡ false → (seat.new.me ≡ seat.old.me) × Burnt 0 fuse.old fuse.new }
+{
+    if !fuse.spend() {
+        return false;
+    }
+    table.store::<MapStore>(seat, at, value);
+    true
+}
+
+/// MapKeep: keeps the map word.
+#[inline]
+pub fn map_keep(table: &Words, seat: &mut LaneSeat, fuse: &mut Fuse, at: usize, value: u64) -> bool
+    requires seat { IsSeated Switched table.now.table_id seat.old.table_id seat.old.me }
+    requires at { IsWord table.now.table_id table.now.key.shape at (KeptMap (seat.old.me.0.lane.sector / 2)) }
+    requires value { value ≡ with_entry seat.old.me.0.lane.loaded seat.old.me.0.lane.sector (normal seat.old.me.0.lane.half.new) }
+    ensures table { seat.new.table_id ≡ seat.old.table_id }
+    ensures made { result ≡ true → (seat.new.me ≡ map_kept seat.old.me) × Fell 1 fuse.old fuse.new }
+    ensures cut { result ≡ false → (seat.new.me ≡ seat.old.me) × Burnt 0 fuse.old fuse.new }
+{
+    if !fuse.spend() {
+        return false;
+    }
+    table.store::<MapKeep>(seat, at, value);
+    true
+}
+
+/// LockFree: gives the lock back.
+#[inline]
+pub fn lock_free(table: &Words, seat: &mut LaneSeat, fuse: &mut Fuse, at: usize, value: u64) -> bool
+    requires seat { IsSeated Kept table.now.table_id seat.old.table_id seat.old.me }
+    requires at { IsWord table.now.table_id table.now.key.shape at (Lock (lock_of (geometry table.now.key.shape) seat.old.me.0.lane.sector)) }
+    requires value { value ≡ 0 }
+    ensures table { seat.new.table_id ≡ seat.old.table_id }
+    ensures made { result ≡ true → (seat.new.me ≡ freed seat.old.me) × Fell 1 fuse.old fuse.new }
+    ensures cut { result ≡ false → (seat.new.me ≡ seat.old.me) × Burnt 0 fuse.old fuse.new }
+{
+    if !fuse.spend() {
+        return false;
+    }
+    table.store::<LockFree>(seat, at, value);
+    true
+}
