@@ -34,15 +34,6 @@ module _ {C : Type 0} (picks : C → ℕ → Bool → C → Type 0) (rest : Rest
   contents_kept : images.contents ≡ map kept_in rest.contents
   contents_kept = (kept_rows picks rest.contents images.contents asked.between after (all_settled rest.contents is_rest.words) asked.contents).0
 
-  pub can_be_saved : length labels ≡ length rest.contents → IsSavable (record { nfit = rest.nfit_bytes; images = images; bad = rest.bad })
-  can_be_saved count =
-      let labels : length images.labels ≡ length labels = each_length IsLeftOf labels images.labels left.labels in
-      let contents : length images.contents ≡ length rest.contents = ap length contents_kept ∙ length-map rest.contents kept_in in
-      record {
-        modules = record { labels = labels ∙ count ∙ sym contents; ranges = is_rest.bad ∙ sym contents };
-        few = subst (λ n. n < 2 ^ 32) (sym contents) is_rest.few;
-      }
-
   pub same_objects : IsSameSet (set_of rest.nfit_bytes images rest.bad) (objects_with rest images.labels)
   unfolding set_of objects_with
   same_objects object.Mark = refl

@@ -52,15 +52,12 @@ mod changing;
 mod init;
 mod refusals;
 mod saving;
-mod sector_saving;
 mod sector_words;
 mod words;
 
-pub use answer::{InitAnswer, SavedOutline};
+pub use answer::{Answer, Left, SavedSet, without_set};
 pub use answering::sectors_answer;
 pub use changing::change_answer;
 pub use init::init_answer;
-pub use refusals::refused_answer;
-pub use saving::{Rest, saved_answer};
 pub use sector_words::{Created, created_in};
 pub use words::{create_in, delete_in, named, rename_in};

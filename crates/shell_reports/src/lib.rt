@@ -1,6 +1,6 @@
 //! What a command of `nvdimm_shell` comes to, and the texts that all commands share.
 //!
-//! A handler of a command makes an [`Answer`] from the set that was loaded: how it ends, the bytes of its text, and the
+//! A handler of a command makes an [`Report`] from the set that was loaded: how it ends, the bytes of its text, and the
 //! image set that it saves, if it saves one. It knows no source, no sink and no exit status:
 //!
 //! ```text
@@ -62,7 +62,7 @@ pub use labels::{fault_answer, labels_answer, missing_answer};
 pub use list::{areas_of, list_answer, open_fault_answer};
 pub use load_faults::load_answer;
 pub use nfit::{nfit_answer, set_fault_text};
-pub use outcome::{Answer, SavedSet, image_answer, printed_answer, usage_answer};
+pub use outcome::{Report, image_answer, printed_answer, usage_answer};
 pub use power::{Power, cut_line, fuse_of};
 pub use read::read_answer;
 pub use status::{Ending, Status, Stop};
