@@ -1,5 +1,6 @@
 -- The flags of a label (UEFI 2.10, section 13.19, Flags): ROLABEL is bit 0, LOCAL bit 1, UPDATING bit 3. All other bits are kept.
 use Rattle.std.specs.Prelude.{ℕ, Bool, ◌+◌, ◌-◌, ◌*◌, ◌/◌, ◌%◌, ◌==◌}
+use Rattle.label_codec.specs.declared.label.Label.{Label}
 
 -- the namespace may only be read
 abbrev pub has_rolabel : ℕ → Bool
@@ -20,3 +21,11 @@ without_updating flags = flags - flags / 8 % 2 * 8
 -- the flags with UPDATING set
 abbrev pub with_updating : ℕ → ℕ
 with_updating flags = without_updating flags + 8
+
+-- a label with UPDATING set, and all else kept
+abbrev pub updating : Label → Label
+updating l = record l { flags = with_updating l.flags }
+
+-- a label with UPDATING cleared, and all else kept
+abbrev pub settled : Label → Label
+settled l = record l { flags = without_updating l.flags }

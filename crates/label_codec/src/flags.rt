@@ -1,7 +1,7 @@
 //! The flags of a label (UEFI 2.10, section 13.19, Flags).
 
 ghost use Rattle.std.specs.Prelude.{◌≡◌};
-ghost use Rattle.label_codec.specs.Flags.{has_rolabel, has_local, has_updating, without_updating, with_updating};
+ghost use Rattle.label_codec.specs.Flags.{has_rolabel, has_local, has_updating, without_updating, with_updating, updating, settled};
 
 use crate::label::Label;
 
@@ -15,20 +15,40 @@ pub const LOCAL: u32 = 2;
 pub const UPDATING: u32 = 8;
 
 /// Flags with UPDATING cleared, and all other bits kept.
-pub fn without_updating(flags: u32) -> u32
+fn without_updating(flags: u32) -> u32
     ensures { result ≡ without_updating flags }
 {
     flags - flags / UPDATING % 2 * UPDATING
 }
 
 /// Flags with UPDATING set, and all other bits kept.
-pub fn with_updating(flags: u32) -> u32
+fn with_updating(flags: u32) -> u32
     ensures { result ≡ with_updating flags }
 {
     flags - flags / UPDATING % 2 * UPDATING + UPDATING
 }
 
 impl Label {
+    /// The label with UPDATING set; all else is kept.
+    pub fn with_updating(&self) -> Label
+        ensures { result ≡ updating self.now }
+    {
+        Label {
+            flags: with_updating(self.flags),
+            ..*self
+        }
+    }
+
+    /// The label with UPDATING cleared; all else is kept.
+    pub fn without_updating(&self) -> Label
+        ensures { result ≡ settled self.now }
+    {
+        Label {
+            flags: without_updating(self.flags),
+            ..*self
+        }
+    }
+
     /// Whether the flag ROLABEL is set.
     pub fn is_read_only(&self) -> bool
         ensures { result ≡ has_rolabel self.now.flags }

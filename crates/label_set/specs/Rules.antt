@@ -5,6 +5,7 @@ use Rattle.std.specs.List.{list_any, list_all}
 use Rattle.std.specs.Option.{option_map}
 use Rattle.std.specs.Str.{bytes_eq}
 use Rattle.nfit_reader.specs.declared.table.Mapping.{Mapping}
+use Rattle.label_codec.specs.Flags.{has_local, has_updating}
 use Rattle.interleave.specs.Places.{cookie_of, unit_of}
 use Rattle.interleave.specs.Sound.{span_of}
 use Rattle.label_set.specs.declared.placed.Placed.{Placed}
@@ -52,13 +53,13 @@ modules_of set = map (λ m. m.«module») set
 abbrev pub least_missing : List Placed → List Mapping → Option ℕ
 least_missing labels set = least_where (λ number. number) (λ number. count_on labels number == 0) (modules_of set)
 
--- ---- flags of a label: ROLABEL is bit 0, LOCAL bit 1, UPDATING bit 3
+-- ---- flags of a label
 
 abbrev pub is_local : Placed → Bool
-is_local p = p.label.flags / 2 % 2 == 1
+is_local p = has_local p.label.flags
 
 abbrev pub is_updating : Placed → Bool
-is_updating p = p.label.flags / 8 % 2 == 1
+is_updating p = has_updating p.label.flags
 
 -- it has UPDATING, or hasn't
 abbrev pub is_marked : Bool → Placed → Bool

@@ -5,12 +5,6 @@ ghost use Rattle.label_set.specs.Rules.{mapping_of, relative_of, is_past, is_out
 use crate::placed::{Field, Placed, Why};
 use interleave::InterleaveSet;
 
-/// The bit of Flags that says that a namespace is one module's own (UEFI 2.10, section 13.19, LOCAL).
-const LOCAL: u32 = 1;
-
-/// The bit of Flags that says that a change isn't finished (UEFI 2.10, section 13.19, UPDATING).
-const UPDATING: u32 = 3;
-
 /// What a single label may break, next to its interleave set.
 #[derive(Clone, Copy, Debug, PartialEq, Eq)]
 pub enum Rule {
@@ -28,14 +22,14 @@ pub enum Rule {
 pub fn is_local(placed: &Placed) -> bool
     ensures { result ≡ is_local placed.now }
 {
-    (placed.label.flags >> LOCAL) & 1 == 1
+    placed.label.is_local()
 }
 
 /// Whether a label has the flag UPDATING.
 pub fn is_updating(placed: &Placed) -> bool
     ensures { result ≡ is_updating placed.now }
 {
-    (placed.label.flags >> UPDATING) & 1 == 1
+    placed.label.is_updating()
 }
 
 /// The first device address of a module's mapping.

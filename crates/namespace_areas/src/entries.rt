@@ -15,14 +15,11 @@ use label_set::{Placed, SetStatus};
 use namespace_map::{Named, OpRefused};
 use uuid::Uuid;
 
-/// The bit of Flags that says that a label isn't to be changed (UEFI 2.10, section 13.19, ROLABEL).
-const READ_ONLY: u32 = 1;
-
 /// Whether a label has the flag ROLABEL.
 fn is_read_only(placed: &Placed) -> bool
     ensures { result ≡ is_read_only placed.now }
 {
-    placed.label.flags & READ_ONLY != 0
+    placed.label.is_read_only()
 }
 
 /// The module of the first label that has ROLABEL.

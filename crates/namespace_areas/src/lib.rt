@@ -110,7 +110,7 @@ mod gather;
 mod groups;
 mod modules;
 mod open;
-mod seen;
+mod group_labels;
 mod words;
 
 pub use area::Area;
@@ -123,7 +123,7 @@ pub use found::{Found, find, first_arena};
 pub use gather::gathered;
 pub use groups::LabelGroups;
 pub use open::open_areas;
-pub use seen::{
+pub use group_labels::{
     add_namespace, extent_of, extents_of, namespace_with, number_of, region_of, shown_name,
     status_in,
 };

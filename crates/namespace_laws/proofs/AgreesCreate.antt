@@ -14,7 +14,8 @@ use Rattle.namespace_map.specs.declared.commands.Make.{Make}
 use Rattle.namespace_map.specs.declared.commands.Named.{Named}
 use Rattle.namespace_map.specs.Areas.{Area, Change, slots_on, free_in, all_changed}
 use Rattle.namespace_map.specs.Commands.{count_in, done, name_in, refusal_of}
-use Rattle.namespace_map.specs.Changes.{namespaces_of, changes_of, updating, settled}
+use Rattle.namespace_map.specs.Changes.{namespaces_of, changes_of}
+use Rattle.label_codec.specs.Flags.{updating, settled}
 use Rattle.namespace_map.specs.CommandLaws.{IsOf}
 use Rattle.namespace_map.proofs.Slots.{owned}
 use Rattle.namespace_map.proofs.Areas.{Fitting, moved_all, sum_kept}

@@ -14,7 +14,8 @@ use Rattle.namespace_map.specs.declared.commands.Named.{Named}
 use Rattle.namespace_map.specs.declared.commands.Command.TheVariants as command
 use Rattle.namespace_map.specs.Areas.{Area, Change, slots_of, slots_on, free_in, changed, all_changed, replaced, slot_of}
 use Rattle.namespace_map.specs.Commands.{count_in, given_to, done, name_in, refusal_of, entry_modules, renamed, deleted_entry, renamed_entry}
-use Rattle.namespace_map.specs.Changes.{namespaces_of, changes_of, placed_in_all, change_to, in_two, settled}
+use Rattle.namespace_map.specs.Changes.{namespaces_of, changes_of, placed_in_all, change_to, in_two}
+use Rattle.label_codec.specs.Flags.{settled}
 use Rattle.namespace_map.proofs.Slots.{owned, remove_count}
 use Rattle.namespace_map.proofs.Areas.{proper_after as areas_proper_after, Proper, Fitting, moved, moved_all, sum_kept, slots_of_changed, area_of_other}
 use Rattle.namespace_map.specs.Left.{AreRegions, AreRead}

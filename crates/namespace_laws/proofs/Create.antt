@@ -14,7 +14,8 @@ use Rattle.label_set.specs.declared.placed.SetStatus.{SetStatus}
 use Rattle.label_set.specs.declared.placed.SetStatus.TheVariants.{Complete, Unfinished}
 use Rattle.label_set.specs.Rules.{is_updating}
 use Rattle.label_set.specs.Status.{status_of}
-use Rattle.namespace_map.specs.Changes.{change_to, in_two, updating, settled}
+use Rattle.namespace_map.specs.Changes.{change_to, in_two}
+use Rattle.label_codec.specs.Flags.{updating, settled}
 use Rattle.namespace_map.specs.CommandLaws.{IsOf}
 use Rattle.namespace_map.proofs.Areas.{Proper, HasRoom, Fitting, moved_all, proper_after, moved_keeps, all_of_front}
 use Rattle.namespace_map.proofs.Rising.{all_pass_to}

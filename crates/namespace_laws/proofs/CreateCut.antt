@@ -10,7 +10,8 @@ use Rattle.namespace_map.specs.declared.commands.Make.{Make}
 use Rattle.namespace_map.specs.declared.commands.Named.{Named}
 use Rattle.namespace_map.specs.Areas.{Area, Change, after_steps}
 use Rattle.namespace_map.specs.Commands.{name_in, refusal_of}
-use Rattle.namespace_map.specs.Changes.{namespaces_of, changes_of, in_two, updating, settled}
+use Rattle.namespace_map.specs.Changes.{namespaces_of, changes_of, in_two}
+use Rattle.label_codec.specs.Flags.{updating, settled}
 use Rattle.namespace_map.proofs.Fronts.{cut_is_front, IsFront}
 use Rattle.namespace_map.specs.Left.{AreRegions}
 use Rattle.namespace_laws.specs.Laws.{CutOfCreate, CutOfCreateAlone}

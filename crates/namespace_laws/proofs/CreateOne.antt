@@ -11,7 +11,8 @@ use Rattle.label_set.specs.declared.placed.SetStatus.TheVariants.{Complete}
 use Rattle.label_set.specs.Rules.{is_updating}
 use Rattle.namespace_map.proofs.Rising.{all_pass_to}
 use Rattle.namespace_map.specs.Areas.{Area, Change, all_changed, after_steps}
-use Rattle.namespace_map.specs.Changes.{change_to, in_two, updating, settled}
+use Rattle.namespace_map.specs.Changes.{change_to, in_two}
+use Rattle.label_codec.specs.Flags.{updating, settled}
 use Rattle.namespace_map.proofs.Areas.{Proper, moved_all, proper_after}
 use Rattle.namespace_map.proofs.Fronts.{cut_is_front, IsFront}
 use Rattle.namespace_laws.proofs.Whole.{none_passes, any_of, AllLab, own_of, own_each}

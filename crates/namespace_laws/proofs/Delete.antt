@@ -11,7 +11,8 @@ use Rattle.label_set.specs.declared.placed.SetStatus.{SetStatus}
 use Rattle.label_set.specs.declared.placed.SetStatus.TheVariants.{Complete, Unfinished}
 use Rattle.label_set.specs.Rules.{is_updating}
 use Rattle.label_set.specs.Status.{status_of}
-use Rattle.namespace_map.specs.Changes.{in_two, updating}
+use Rattle.namespace_map.specs.Changes.{in_two}
+use Rattle.label_codec.specs.Flags.{updating}
 use Rattle.namespace_map.proofs.Areas.{Proper, all_of_front}
 use Rattle.namespace_map.proofs.Rising.{all_pass_to}
 use Rattle.namespace_laws.proofs.Whole.{any_of, AllLab, own_of, own_each}

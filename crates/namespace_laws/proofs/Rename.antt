@@ -9,7 +9,8 @@ use Rattle.namespace_map.specs.Areas.{Area, after_steps}
 use Rattle.label_set.specs.declared.placed.Placed.{Placed}
 use Rattle.label_set.specs.declared.placed.SetStatus.TheVariants.{Complete}
 use Rattle.label_set.specs.Rules.{is_updating}
-use Rattle.namespace_map.specs.Changes.{in_two, updating, settled}
+use Rattle.namespace_map.specs.Changes.{in_two}
+use Rattle.label_codec.specs.Flags.{updating, settled}
 use Rattle.namespace_map.proofs.Areas.{Proper, all_of_front}
 use Rattle.namespace_map.proofs.Rising.{all_pass_to}
 use Rattle.namespace_laws.proofs.Whole.{none_passes, any_of, AllLab, own_of, own_each}

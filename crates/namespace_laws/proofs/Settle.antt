@@ -15,7 +15,8 @@ use Rattle.label_set.specs.Status.{naming_of, named_by, half_named}
 use Rattle.namespace_map.specs.Namespaces.{is_read_only}
 use Rattle.namespace_map.proofs.Rising.{all_pass_to}
 use Rattle.namespace_map.specs.Areas.{Area, Change, slots_on, free_in, all_changed}
-use Rattle.namespace_map.specs.Changes.{own_labels, change_to, settled, with_name, is_unsettled}
+use Rattle.namespace_map.specs.Changes.{own_labels, change_to, with_name, is_unsettled}
+use Rattle.label_codec.specs.Flags.{settled}
 use Rattle.namespace_map.specs.CommandLaws.{IsOf}
 use Rattle.namespace_map.proofs.Slots.{owned}
 use Rattle.namespace_map.proofs.Areas.{Proper, moved_all, proper_after, sum_kept}

@@ -14,7 +14,8 @@ use Rattle.namespace_map.specs.Namespaces.{Namespaces, Entry}
 use Rattle.namespace_map.specs.Laws.{IsRising}
 use Rattle.namespace_map.specs.Areas.{Area, Change, slots_on, free_in, all_changed}
 use Rattle.namespace_map.specs.Commands.{area_of, is_complete, settled_status, settled_entry}
-use Rattle.namespace_map.specs.Changes.{own_labels, change_to, settled, with_name, is_unsettled, settling_changes}
+use Rattle.namespace_map.specs.Changes.{own_labels, change_to, with_name, is_unsettled, settling_changes}
+use Rattle.label_codec.specs.Flags.{settled}
 use Rattle.namespace_map.specs.Left.{AreRegions, AreRead}
 use Rattle.namespace_laws.proofs.Whole.{own_of}
 use Rattle.namespace_laws.proofs.Staged.{all_changed_append}

@@ -11,7 +11,8 @@ use Rattle.namespace_map.specs.Namespaces.{AreaState, Entry, Namespaces}
 use Rattle.namespace_map.proofs.Rising.{rising_entries}
 use Rattle.namespace_map.specs.Areas.{Area, Change, slots_on, slots_of, free_in, area_at, all_changed}
 use Rattle.namespace_map.specs.Commands.{no_area, area_of, unfinished_gone, recovered}
-use Rattle.namespace_map.specs.Changes.{namespaces_of, placed_in_all, area_state, own_labels, change_to, settled, with_name, is_unsettled}
+use Rattle.namespace_map.specs.Changes.{namespaces_of, placed_in_all, area_state, own_labels, change_to, with_name, is_unsettled}
+use Rattle.label_codec.specs.Flags.{settled}
 use Rattle.namespace_map.specs.Left.{AreRegions, AreRead}
 use Rattle.namespace_laws.proofs.Staged.{Apart, names}
 use Rattle.namespace_laws.proofs.Two.{length_kept}

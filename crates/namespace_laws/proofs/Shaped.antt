@@ -14,7 +14,8 @@ use Rattle.label_set.specs.declared.placed.SetStatus.TheVariants.{Complete, Unfi
 use Rattle.label_set.specs.declared.placed.Why.TheVariants.{Missing}
 use Rattle.label_set.specs.Rules.{least_where, lesser, modules_of, module_of, count_on, is_updating, least_missing}
 use Rattle.label_set.specs.Status.{missing_finding, naming_of, short_of}
-use Rattle.namespace_map.specs.Namespaces.{Part, Entry, part_of, entry_with, region_of, shown_name, is_read_only, lookup, without_updating}
+use Rattle.namespace_map.specs.Namespaces.{Part, Entry, part_of, entry_with, region_of, shown_name, is_read_only, lookup}
+use Rattle.label_codec.specs.Flags.{without_updating}
 use Rattle.namespace_map.proofs.Entries.{lookup_entries}
 use Rattle.namespace_map.proofs.Rising.{all_pass_to}
 use Rattle.label_area.specs.Area.{SlotState}

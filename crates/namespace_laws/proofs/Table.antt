@@ -10,10 +10,10 @@ use Rattle.label_set.specs.declared.placed.SetStatus.{SetStatus}
 use Rattle.label_set.specs.declared.placed.SetStatus.TheVariants.{Complete, Unfinished}
 use Rattle.label_set.specs.Rules.{is_updating, least_missing}
 use Rattle.label_set.specs.Status.{missing_finding, naming_of, status_of}
-use Rattle.namespace_map.specs.Namespaces.{without_updating}
+use Rattle.label_codec.specs.Flags.{without_updating, updating, settled}
 use Rattle.namespace_map.proofs.Rising.{all_pass_to}
 use Rattle.namespace_map.specs.Areas.{Area}
-use Rattle.namespace_map.specs.Changes.{updating, settled, with_name}
+use Rattle.namespace_map.specs.Changes.{with_name}
 use Rattle.namespace_map.proofs.Areas.{Proper}
 use Rattle.namespace_laws.proofs.Whole.{own_of, own_each, AllLab, any_of, any_none}
 use Rattle.namespace_laws.proofs.Apart.{own_apart, on_module}

@@ -66,7 +66,7 @@ mod agreeing;
 mod changing;
 mod creating;
 mod recovering;
-mod regions;
+mod table_sets;
 mod settling;
 
 pub use agreeing::{
@@ -75,5 +75,5 @@ pub use agreeing::{
 pub use changing::{delete_is_cut, rename_is_cut};
 pub use creating::create_is_cut;
 pub use recovering::cuts_recover_to_either;
-pub use regions::tables_give_regions;
+pub use table_sets::tables_give_regions;
 pub use settling::{cut_recovery_resumes, recovery_is_its_changes};

@@ -5,10 +5,11 @@ use Rattle.std.specs.List.{flat_map, enumerate_from}
 use Rattle.nfit_reader.specs.declared.table.Mapping.{Mapping}
 use Rattle.interleave.specs.Places.{cookie_of}
 use Rattle.label_codec.specs.declared.label.Label.{Label}
+use Rattle.label_codec.specs.Flags.{has_updating, updating, settled}
 use Rattle.label_codec.specs.Mode.{persistent_memory, no_abstraction, btt_2_0}
 use Rattle.label_area.specs.Area.{labels_in}
 use Rattle.label_set.specs.declared.placed.Placed.{Placed}
-use Rattle.namespace_map.specs.Namespaces.{Entry, AreaState, Namespaces, placed_of, labels_with, entries_of, without_updating}
+use Rattle.namespace_map.specs.Namespaces.{Entry, AreaState, Namespaces, placed_of, labels_with, entries_of}
 use Rattle.namespace_map.specs.declared.commands.Make.{Make}
 use Rattle.namespace_map.specs.declared.commands.Make.TheVariants as make
 use Rattle.namespace_map.specs.declared.commands.Command.{Command}
@@ -35,12 +36,6 @@ abbrev pub namespaces_of : List (List Mapping) → List (Option Area) → Namesp
 namespaces_of sets areas = record { sets = sets; areas = map area_state areas; entries = entries_of sets (placed_in_all areas); claims = [] }
 
 -- ---- changes
-
-abbrev pub updating : Label → Label
-updating l = record l { flags = without_updating l.flags + 8 }
-
-abbrev pub settled : Label → Label
-settled l = record l { flags = without_updating l.flags }
 
 abbrev pub with_name : List ℕ → Label → Label
 with_name name l = record l { name = name }
@@ -119,7 +114,7 @@ gone_changes areas e = if is_unfinished e.status then map (change_to (λ l. None
 
 -- a label with UPDATING on a module with a free slot
 abbrev pub is_unsettled : List (Option Area) → ℕ × Label → Bool
-is_unsettled areas p = (p.1.flags / 8 % 2 == 1) && nat_le 1 (free_in (slots_on areas p.0))
+is_unsettled areas p = has_updating p.1.flags && nat_le 1 (free_in (slots_on areas p.0))
 
 -- those of a complete entry are rewritten without UPDATING, under the entry's name
 abbrev pub settling_changes : List (Option Area) → Entry → List Change

@@ -10,6 +10,7 @@ use Rattle.nfit_reader.specs.declared.table.Mapping.{Mapping}
 use Rattle.label_codec.specs.declared.label.Label.{Label}
 use Rattle.label_codec.specs.declared.mode.Mode.{Mode}
 use Rattle.label_codec.specs.Mode.{mode_of}
+use Rattle.label_codec.specs.Flags.{has_rolabel, without_updating}
 use Rattle.label_set.specs.declared.placed.Placed.{Placed}
 use Rattle.label_set.specs.declared.placed.SetStatus.{SetStatus}
 use Rattle.label_set.specs.declared.placed.SetStatus.TheVariants.{Complete, Local, Incomplete}
@@ -41,13 +42,8 @@ uuid_of p = p.label.uuid
 abbrev pub extent_of : Placed → Extent
 extent_of p = record { owner = p.label.uuid; «module» = p.«module»; start = p.label.dpa; length = p.label.raw }
 
--- ROLABEL is bit 0 of Flags
 abbrev pub is_read_only : Placed → Bool
-is_read_only p = p.label.flags % 2 == 1
-
--- Flags without UPDATING, which is bit 3
-abbrev pub without_updating : ℕ → ℕ
-without_updating flags = flags - flags / 8 % 2 * 8
+is_read_only p = has_rolabel p.label.flags
 
 -- ---- an entry
 

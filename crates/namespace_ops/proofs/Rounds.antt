@@ -22,7 +22,8 @@ use Rattle.namespace_areas.specs.declared.area.Area.{Area}
 use Rattle.namespace_areas.specs.Areas.{labels_of}
 use Rattle.namespace_map.specs.Areas.{Area as SeenArea, free_in, slots_on}
 use Rattle.namespace_map.specs.Commands.{is_complete, is_unfinished}
-use Rattle.namespace_map.specs.Changes.{placed_in_all, by_position, change_to, settled, with_name, is_unsettled, gone_changes, settling_changes, own_labels}
+use Rattle.namespace_map.specs.Changes.{placed_in_all, by_position, change_to, with_name, is_unsettled, gone_changes, settling_changes, own_labels}
+use Rattle.label_codec.specs.Flags.{settled}
 use Rattle.namespace_laws.proofs.Staged.{all_map}
 use Rattle.namespace_laws.proofs.Position.{by_position_all}
 use Rattle.namespace_laws.proofs.Complete.{facts}

@@ -11,7 +11,8 @@ use Rattle.namespace_map.specs.declared.commands.Named.TheVariants as named
 use Rattle.namespace_map.specs.declared.refused.OpRefused.{OpRefused}
 use Rattle.namespace_map.specs.declared.refused.OpRefused.TheVariants.{PowerCut}
 use Rattle.namespace_map.specs.Commands.{refusal_of}
-use Rattle.namespace_map.specs.Changes.{changes_of, in_two, own_labels, settled, updating, with_name}
+use Rattle.namespace_map.specs.Changes.{changes_of, in_two, own_labels, with_name}
+use Rattle.label_codec.specs.Flags.{settled, updating}
 use Rattle.namespace_map.specs.Areas.{Area as SeenArea, Change}
 use Rattle.namespace_areas.specs.Seen.{areas_seen}
 use Rattle.namespace_areas.specs.Went.{Went}

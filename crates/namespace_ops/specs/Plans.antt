@@ -7,7 +7,8 @@ use Rattle.label_set.specs.declared.placed.Placed.{Placed}
 use Rattle.namespace_map.specs.Namespaces.{Entry, labels_with, entries_of}
 use Rattle.namespace_map.specs.Areas.{Area, Change}
 use Rattle.namespace_map.specs.Commands.{is_complete, is_unfinished}
-use Rattle.namespace_map.specs.Changes.{by_position, change_to, settled, with_name, is_unsettled, namespaces_of, gone_changes, settling_changes}
+use Rattle.namespace_map.specs.Changes.{by_position, change_to, with_name, is_unsettled, namespaces_of, gone_changes, settling_changes}
+use Rattle.label_codec.specs.Flags.{settled}
 
 -- labels with their modules
 abbrev pub pairs_of : List Placed → List (ℕ × Label)

@@ -1,9 +1,10 @@
 //! The label changes of pending namespaces.
 ghost use Rattle.std.specs.Prelude.{◌≡◌, ◌+◌, ◌≤◌, ◌<◌, ◌^◌, ◌++◌, ◌∷◌, [], nat_le, length, vec_len, Some};
 ghost use Rattle.std.specs.Vec.{vec_capacity};
-ghost use Rattle.namespace_map.specs.Namespaces.{entry_with, without_updating};
+ghost use Rattle.namespace_map.specs.Namespaces.{entry_with};
+ghost use Rattle.label_codec.specs.Flags.{settled};
 ghost use Rattle.namespace_map.specs.Areas.{free_in, slots_of, slots_on};
-ghost use Rattle.namespace_map.specs.Changes.{change_to, is_unsettled, settled, with_name};
+ghost use Rattle.namespace_map.specs.Changes.{change_to, is_unsettled, with_name};
 ghost use Rattle.namespace_areas.specs.Seen.{AreHeld, IsHeld, area_seen, areas_seen};
 ghost use Rattle.namespace_ops.specs.Plans.{all_settling, settling_of, settlings};
 
@@ -13,21 +14,13 @@ use label_codec::{Label, Name};
 use label_set::{Placed, SetStatus};
 use namespace_areas::{Area, Change, LabelGroups, region_of, status_in};
 
-/// Flags without UPDATING.
-fn without_updating(flags: u32) -> u32
-    ensures { result ≡ without_updating flags }
-{
-    flags - flags / 8 % 2 * 8
-}
-
 /// A label without UPDATING, and with a name; all else is kept.
 fn settled_label(label: &Label, name: &Name) -> Label
     ensures { result ≡ with_name name.now (settled label.now) }
 {
     Label {
         name: *name,
-        flags: without_updating(label.flags),
-        ..*label
+        ..label.without_updating()
     }
 }
 
@@ -58,7 +51,7 @@ fn is_unsettled(areas: &[Area], label: &Placed) -> bool
     requires { AreHeld areas.now }
     ensures { result ≡ is_unsettled (areas_seen areas.now) (label.now.«module», label.now.label) }
 {
-    label.label.flags / 8 % 2 == 1 && is_free_on(areas, label.module)
+    label.label.is_updating() && is_free_on(areas, label.module)
 }
 
 /// Adds the change by which a label is settled.

@@ -1,7 +1,8 @@
 //! The label changes of a command, in two rounds over the labels of a UUID.
 ghost use Rattle.std.specs.Prelude.{◌≡◌, ◌+◌, ◌*◌, ◌≤◌, ◌++◌, ◌∷◌, [], length, map, vec_len};
 ghost use Rattle.std.specs.Vec.{vec_capacity};
-ghost use Rattle.namespace_map.specs.Changes.{change_to, in_two, settled, updating};
+ghost use Rattle.namespace_map.specs.Changes.{change_to, in_two};
+ghost use Rattle.label_codec.specs.Flags.{settled, updating};
 ghost use Rattle.namespace_ops.specs.Carried.{becomes};
 ghost use Rattle.namespace_ops.specs.Plans.{pairs_of};
 
@@ -25,43 +26,20 @@ pub(crate) enum Round {
     Remove,
 }
 
-/// The weight of UPDATING, which is bit 3 of Flags (UEFI 2.10, section 13.19).
-const UPDATING: u32 = 8;
-
-/// A label with UPDATING; all else is kept.
-fn updating(label: &Label) -> Label
-    ensures { result ≡ updating label.now }
-{
-    Label {
-        flags: label.flags - label.flags / UPDATING % 2 * UPDATING + UPDATING,
-        ..*label
-    }
-}
-
-/// A label without UPDATING; all else is kept.
-fn settled(label: &Label) -> Label
-    ensures { result ≡ settled label.now }
-{
-    Label {
-        flags: label.flags - label.flags / UPDATING % 2 * UPDATING,
-        ..*label
-    }
-}
-
 /// What a round makes of a label.
 fn turned(round: &Round, label: &Label) -> Option<Label>
     ensures { result ≡ becomes round.now label.now }
 {
     match round {
-        Round::Mark => Some(updating(label)),
-        Round::Settle => Some(settled(label)),
+        Round::Mark => Some(label.with_updating()),
+        Round::Settle => Some(label.without_updating()),
         Round::MarkAs(name) => Some(Label {
             name: *name,
-            ..updating(label)
+            ..label.with_updating()
         }),
         Round::SettleAs(name) => Some(Label {
             name: *name,
-            ..settled(label)
+            ..label.without_updating()
         }),
         Round::Remove => None,
     }

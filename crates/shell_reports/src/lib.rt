@@ -44,7 +44,7 @@
 //! no image set is written. All are this project's rules over UEFI 2.10, chapter 6.
 #![tactic(auto)]
 
-mod faults;
+mod sector_faults;
 mod info;
 mod labels;
 mod list;

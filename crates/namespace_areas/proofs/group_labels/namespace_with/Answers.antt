@@ -3,7 +3,7 @@ use Rattle.std.specs.Option.{option_map}
 use Rattle.namespace_map.specs.Namespaces.{status_in}
 use Rattle.namespace_areas.specs.GroupSeen.{number_in}
 use Rattle.namespace_areas.proofs.Named.{made}
-use Rattle.namespace_areas.proofs.seen.namespace_with.Goals as goal
+use Rattle.namespace_areas.proofs.group_labels.namespace_with.Goals as goal
 
 pub returns : goal.returns
 returns c =
