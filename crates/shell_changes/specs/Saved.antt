@@ -1,5 +1,5 @@
 -- The image set that an answer saves: it is in memory, or its contents are copied from the source.
-use Rattle.std.specs.Prelude.{◌≡◌, ℕ, ⊤, Bool, true, false, List, length, Option, Some, None}
+use Rattle.std.specs.Prelude.{◌≡◌, ℕ, ⊤, Bool, true, false, List, length, Option, Some, None, IfSome}
 use Rattle.std.specs.Option.{ForSome}
 use Rattle.nvd_media.specs.Images.{Images}
 use Rattle.image_set.specs.Changed.{IsSavable, objects_in}
@@ -31,6 +31,10 @@ AreSaved held (Some left) saved = (set : Images) × AreObjects held left set × 
 abbrev pub HasItsContents : Left → Images → Type 0
 HasItsContents (Whole left) source = ⊤
 HasItsContents (Copied left) source = HasContents left.sizes source
+
+-- so have those of a set that is saved, if there is one
+abbrev pub HasContentsOf : Option Images → Option Left → Type 0
+HasContentsOf held saved = ForSome held (λ source. IfSome saved (λ left. HasItsContents left source))
 
 -- the sizes of the contents that are copied are these
 abbrev pub HasSize : List ℕ → Left → Type 0
