@@ -20,7 +20,7 @@ use Rattle.shell_changes.specs.declared.answer.Left.TheVariants.{Whole, Copied}
 use Rattle.shell_changes.specs.Answers.{ComesFrom, HasSizes, outcome_with, whole_outcome}
 use Rattle.shell_changes.specs.Saved.{AreSaved, HasContentsOf, HasItsContents, HasSize, copies_contents, objects_saved}
 use Rattle.nvdimm_shell.specs.declared.words.Command.{Command}
-use Rattle.nvdimm_shell.specs.Run.{ComesTold, IsDue, LoadedComes, OnLoaded, copies, copies_by, copies_found}
+use Rattle.nvdimm_shell.specs.Run.{ComesTold, IsDue, LoadedComes, OnLoaded, copies, copies_by, copies_found, needs_contents}
 use Rattle.nvdimm_shell.specs.Words.{command_of}
 
 -- ---- the outcome of an answer
@@ -63,8 +63,8 @@ from_none held answer outcome due none says comes = from_whole held [] answer ou
 -- an answer that is a report
 pub reported_with : {E F X : Type 0} (r : Result Report E) (a : Result Answer F) (due : X → Outcome) → IfOk a (λ answer. r ≡ Ok answer.report) → IfOk a (λ answer. answer.saved ≡ None)
     → IfOk r (λ report. (x : X) → outcome_of report ≡ due x) → IfOk a (λ answer. (x : X) (contents : List (List ℕ)) → outcome_with answer contents ≡ due x)
-reported_with {E} r (Ok answer) due same none says = λ x contents.
-    let said : (x : _) → outcome_of answer.report ≡ due x = subst (λ (y : Result Report E). IfOk y (λ report. (x : _) → outcome_of report ≡ due x)) same says in
+reported_with {E} {F} {X} r (Ok answer) due same none says = λ x contents.
+    let said : (x : X) → outcome_of answer.report ≡ due x = subst (λ (y : Result Report E). IfOk y (λ report. (x : X) → outcome_of report ≡ due x)) same says in
     ap (λ (saved : Option Left). record { ending = answer.report.ending; text = answer.report.text.items; saved = option_map (objects_saved contents) saved }) none ∙ said x
 reported_with r (Err e) due same none says = tt
 
@@ -84,6 +84,32 @@ if_then P Q (Err e) then p = tt
 pub if_both : {A E : Type 0} (P Q R : A → Type 0) (r : Result A E) → ((x : A) → P x → Q x → R x) → IfOk r P → IfOk r Q → IfOk r R
 if_both P Q R (Ok x) both p q = both x p q
 if_both P Q R (Err e) both p q = tt
+
+-- ---- by the command
+
+module _ (leaves : ℕ → List (Option Words) → List (Option (List ℕ)) → Type 0) (command like : Command) (is : command ≡ like) where
+  pub outlined_by : {E : Type 0} (outline : Outline) (r : Result Answer E) → IfOk r (λ answer. (contents : List (List ℕ)) → LoadedComes leaves like (image_set_with outline contents) (outcome_with answer contents))
+      → IfOk r (λ answer. (contents : List (List ℕ)) → LoadedComes leaves command (image_set_with outline contents) (outcome_with answer contents))
+  outlined_by outline r comes = subst (λ (c : Command). IfOk r (λ answer. (contents : List (List ℕ)) → LoadedComes leaves c (image_set_with outline contents) (outcome_with answer contents))) (sym is) comes
+
+  pub loaded_by : {E : Type 0} (loaded : ImageSet) (r : Result Answer E) → IfOk r (λ answer. LoadedComes leaves like loaded (whole_outcome answer)) → IfOk r (λ answer. LoadedComes leaves command loaded (whole_outcome answer))
+  loaded_by loaded r comes = subst (λ (c : Command). IfOk r (λ answer. LoadedComes leaves c loaded (whole_outcome answer))) (sym is) comes
+
+  pub copies_by_it : {E : Type 0} (r : Result Answer E) → copies like ≡ true → IfOk r (λ answer. IsTrue (copies_contents answer.saved) → IsTrue (copies command))
+  copies_by_it r does = if_all (λ (answer : Answer). IsTrue (copies_contents answer.saved) → IsTrue (copies command)) r (λ answer copied. subst (λ (b : Bool). IsTrue b) (sym (ap copies is ∙ does)) refl)
+
+  pub needs_it : (b : Bool) → needs_contents command ≡ b → needs_contents like ≡ b
+  needs_it b needs = ap needs_contents (sym is) ∙ needs
+
+-- a report
+pub report_comes : {E F : Type 0} (r : Result Report E) (a : Result Answer F) (due : List (List ℕ) → Outcome) → IfOk a (λ answer. r ≡ Ok answer.report) → IfOk a (λ answer. answer.saved ≡ None)
+    → IfOk r (λ report. (contents : List (List ℕ)) → outcome_of report ≡ due contents) → IfOk a (λ answer. (contents : List (List ℕ)) → outcome_with answer contents ≡ due contents)
+report_comes r a due same none says = if_then _ _ a (λ answer all contents. all contents contents) (reported_with r a due same none says)
+
+pub report_is : {E F : Type 0} (r : Result Report E) (a : Result Answer F) (due : Outcome) → IfOk a (λ answer. r ≡ Ok answer.report) → IfOk a (λ answer. answer.saved ≡ None)
+    → IfOk r (λ report. outcome_of report ≡ due) → IfOk a (λ answer. (contents : List (List ℕ)) → outcome_with answer contents ≡ due)
+report_is {E} r a due same none says =
+    report_comes r a (λ _. due) same none (if_then _ (λ report. (contents : List (List ℕ)) → outcome_of report ≡ due) r (λ report said contents. said) says)
 
 -- ---- contents that are copied
 
@@ -180,16 +206,15 @@ command_copies words command (Err e) said does = tt
 -- where a set was to be saved, an outcome with a set was due
 saved_due : (held : Option Images) (saved : Option Left) → IsSome saved → (set : Images) × AreSaved held saved (Some set)
 saved_due held None some = absurd (let e = some in cc)
-saved_due held (Some (Whole left)) some = (objects_saved [] (Whole left), objects_saved [] (Whole left), refl, refl)
-saved_due None (Some (Copied left)) some = (objects_with left [], objects_with left [], (λ source is. absurd (let e = is in cc)), refl)
-saved_due (Some source) (Some (Copied left)) some = (
-  objects_with left (contents_in source (length left.sizes)),
-  objects_with left (contents_in source (length left.sizes)),
-  (λ source' is.
-      let same : source ≡ source' = (let e = is in cc) in
-      ap (λ (s : Images). objects_with left (contents_in s (length left.sizes))) same),
-  refl,
-)
+saved_due held (Some (Whole left)) some = (objects_saved [] (Whole left), (objects_saved [] (Whole left), refl, refl))
+saved_due None (Some (Copied left)) some = (objects_with left [], (objects_with left [], (λ source is. absurd (let e = is in cc)), refl))
+saved_due (Some source) (Some (Copied left)) some =
+    let set : Images = objects_with left (contents_in source (length left.sizes)) in
+    (set, (set,
+    (λ source' is.
+        let same : source ≡ source' = (let e = is in cc) in
+        ap (λ (s : Images). objects_with left (contents_in s (length left.sizes))) same),
+    refl))
 
 pub some_due : (held : Option Images) (answer : Answer) → IsSome answer.saved → (outcome : Outcome) × ComesFrom held answer outcome × IsSome outcome.saved
 some_due held answer some =

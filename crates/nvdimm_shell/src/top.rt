@@ -6,9 +6,13 @@ ghost use Rattle.nvd_media.specs.Images.{Images, Becomes, IsEmptySet, IsUnfinish
 ghost use Rattle.image_set.specs.Load.{image_set_in};
 ghost use Rattle.image_set.specs.Outline.{IsOutlined, image_set_with};
 ghost use Rattle.image_set.specs.Sound.{IsSound};
+ghost use Rattle.shell_reports.specs.Labels.{labels_outcome};
+ghost use Rattle.shell_reports.specs.List.{list_outcome};
 ghost use Rattle.shell_reports.specs.LoadFaults.{load_outcome};
+ghost use Rattle.shell_reports.specs.Nfit.{nfit_outcome};
 ghost use Rattle.shell_reports.specs.Outcome.{Outcome, lf, status_of, usage};
 ghost use Rattle.shell_reports.specs.Saved.{Saves};
+ghost use Rattle.shell_reports.specs.Sectors.{info_outcome, read_outcome};
 ghost use Rattle.shell_changes.specs.Answers.{ComesFrom, HasSizes, outcome_with, whole_outcome};
 ghost use Rattle.shell_changes.specs.Remains.{LeavesBy};
 ghost use Rattle.shell_changes.specs.Saved.{AreSaved, HasContentsOf, copies_contents};
@@ -29,6 +33,7 @@ use shell_reports::{
 use std::alloc::{AllocError, Global};
 use std::sync::Wait;
 use std::thread::Threads;
+use uuid::Uuid;
 
 /// The answer of a handler, or the stop for want of memory.
 fn found_memory(answer: Result<Answer, AllocError>) -> Result<Answer, Stop>
@@ -50,6 +55,56 @@ fn reported(report: Result<Report, AllocError>) -> Result<Answer, AllocError>
         Ok(report) => Ok(without_set(report)),
         Err(error) => Err(error),
     }
+}
+
+/// The answer of `labels`.
+fn labels_found(alloc: Global, module: u32, outline: &Outline) -> Result<Answer, AllocError>
+    requires { IsOutlined outline.now }
+    ensures comes { IfOk result (λ answer. (contents : List (List ℕ)) → outcome_with answer contents ≡ labels_outcome «module» (image_set_with outline.now contents)) }
+    ensures saved { IfOk result (λ answer. answer.saved ≡ None) }
+{
+    let report = labels_answer(alloc, module, outline)?;
+    Ok(without_set(report))
+}
+
+/// The answer of `nfit`.
+fn table_found(alloc: Global, outline: &Outline) -> Result<Answer, AllocError>
+    requires { IsOutlined outline.now }
+    ensures comes { IfOk result (λ answer. (contents : List (List ℕ)) → outcome_with answer contents ≡ nfit_outcome (image_set_with outline.now contents)) }
+    ensures saved { IfOk result (λ answer. answer.saved ≡ None) }
+{
+    let report = nfit_answer(alloc, &outline.nfit)?;
+    Ok(without_set(report))
+}
+
+/// The answer of `list`.
+fn list_found(alloc: Global, outline: Outline) -> Result<Answer, AllocError>
+    requires { IsOutlined outline }
+    ensures comes { IfOk result (λ answer. (contents : List (List ℕ)) → outcome_with answer contents ≡ list_outcome (image_set_with outline contents)) }
+    ensures saved { IfOk result (λ answer. answer.saved ≡ None) }
+{
+    let report = list_answer(alloc, outline)?;
+    Ok(without_set(report))
+}
+
+/// The answer of `info`.
+fn arenas_found(alloc: Global, uuid: &Uuid, loaded: Loaded) -> Result<Answer, AllocError>
+    requires { IsSound loaded }
+    ensures comes { IfOk result (λ answer. whole_outcome answer ≡ info_outcome uuid.now (image_set_in loaded)) }
+    ensures saved { IfOk result (λ answer. answer.saved ≡ None) }
+{
+    let report = info_answer(alloc, uuid, loaded)?;
+    Ok(without_set(report))
+}
+
+/// The answer of `read`.
+fn sector_found(alloc: Global, uuid: &Uuid, sector: u64, loaded: Loaded) -> Result<Answer, AllocError>
+    requires { IsSound loaded }
+    ensures comes { IfOk result (λ answer. whole_outcome answer ≡ read_outcome uuid.now sector (image_set_in loaded)) }
+    ensures saved { IfOk result (λ answer. answer.saved ≡ None) }
+{
+    let report = read_answer(alloc, uuid, sector, loaded)?;
+    Ok(without_set(report))
 }
 
 /// Whether a command works on the contents of modules.
@@ -83,9 +138,9 @@ fn outlined_answer<C: Chooser>(
     ensures copying { IfOk result (λ answer. IsTrue (copies_contents answer.saved) → IsTrue (copies command)) }
 {
     match command {
-        Command::Labels(module) => reported(labels_answer(alloc, module, &outline)),
-        Command::Nfit => reported(nfit_answer(alloc, &outline)),
-        Command::List => reported(list_answer(alloc, outline)),
+        Command::Labels(module) => labels_found(alloc, module, &outline),
+        Command::Nfit => table_found(alloc, &outline),
+        Command::List => list_found(alloc, outline),
         Command::Init(module, power) => init_answer(alloc, module, power, outline, choose),
         Command::Change(change, power) => change_answer(alloc, &change, power, outline, choose),
         Command::CreateSectors(_, _) => unreachable!(),
@@ -114,8 +169,8 @@ fn loaded_answer<C: Chooser>(
         Command::Init(_, _) => unreachable!(),
         Command::Change(_, _) => unreachable!(),
         Command::CreateSectors(new, power) => sectors_answer(alloc, &new, power, loaded, choose),
-        Command::Info(uuid) => reported(info_answer(alloc, &uuid, loaded)),
-        Command::Read(uuid, sector) => reported(read_answer(alloc, &uuid, sector, loaded)),
+        Command::Info(uuid) => arenas_found(alloc, &uuid, loaded),
+        Command::Read(uuid, sector) => sector_found(alloc, &uuid, sector, loaded),
     }
 }
 

@@ -126,9 +126,6 @@ module _ (leaves : ℕ → List (Option Words) → List (Option (List ℕ)) → 
   unfolding image_set_with
   nfit_is = refl
 
-  abbrev is_set : IsSavedAs (image_set_with outline contents) outline.labels (objects_by (outline_rest outline) contents)
-  is_set = outline_as outline contents
-
   -- a registry that is opened, and a command on what it holds
   pub comes : (registry : Opened) → Ok registry ≡ opening outline.nfit (map opened_as outline.labels)
       → GoesFrom leaves (objects_by (outline_rest outline) contents) power registry.sets registry.areas c outcome → CommandComes leaves c power set outcome

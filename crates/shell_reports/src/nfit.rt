@@ -1,13 +1,12 @@
 //! The lines of the command `nfit`: the modules and regions of a firmware table.
-ghost use Rattle.std.specs.Prelude.{◌≡◌, ◌≢◌, ◌<◌, ◌^◌, ◌++◌, ℕ, List, IfOk, OnOk, Result, Ok, Err, length, slice_index_or, string_bytes};
+ghost use Rattle.std.specs.Prelude.{◌≡◌, ◌≢◌, ◌<◌, ◌^◌, ◌++◌, IfOk, OnOk, Result, Ok, Err, length, slice_index_or, string_bytes};
 ghost use Rattle.nfit_reader.specs.declared.table.Region.{Region};
 ghost use Rattle.nfit_reader.specs.Counted.{AreCounted};
-ghost use Rattle.image_set.specs.Outline.{IsOutlined, image_set_with};
-ghost use Rattle.shell_reports.specs.Nfit.{module_line, module_lines, set_fault_text, members_text, range_text, set_text, reading_text, region_start, region_line, region_lines, nfit_text, nfit_outcome};
+ghost use Rattle.shell_reports.specs.Outcome.{printed};
+ghost use Rattle.shell_reports.specs.Nfit.{module_line, module_lines, set_fault_text, members_text, range_text, set_text, reading_text, region_start, region_line, region_lines, nfit_text};
 ghost use Rattle.shell_reports.specs.Saved.{outcome_of};
 
 use crate::{Report, printed_answer};
-use image_set::Outline;
 use interleave::{InterleaveSet, SetFault, interleave_set};
 use nfit_reader::{Nfit, Region};
 use std::alloc::{AllocError, Global};
@@ -145,14 +144,13 @@ fn nfit_text(alloc: Global, nfit: &Nfit) -> Result<String, AllocError>
     Ok(text)
 }
 
-/// The answer of `nfit` on an image set: a line for each module and each region of its firmware table. A region that
-/// is no interleave set has a line that says why. The set was loaded but for its contents. (The table: ACPI 6.5,
-/// section 5.2.25.)
-#[tactic(auto, unfolding(image_set::specs::Outline::image_set_with))]
-pub fn nfit_answer(alloc: Global, outline: &Outline) -> Result<Report, AllocError>
-    requires { IsOutlined outline.now }
-    ensures { IfOk result (λ answer. (contents : List (List ℕ)) → outcome_of answer ≡ nfit_outcome (image_set_with outline.now contents)) }
+/// The answer of `nfit` on a firmware table: a line for each module and each region. A region that is no
+/// interleave set has a line that says why. (The table: ACPI 6.5, section 5.2.25.)
+pub fn nfit_answer(alloc: Global, nfit: &Nfit) -> Result<Report, AllocError>
+    requires counted { AreCounted nfit.now }
+    requires few { length nfit.now.regions < 2 ^ 32 }
+    ensures { IfOk result (λ answer. outcome_of answer ≡ printed (nfit_text nfit.now)) }
 {
-    let text = nfit_text(alloc, &outline.nfit)?;
+    let text = nfit_text(alloc, nfit)?;
     Ok(printed_answer(text.into_bytes()))
 }
