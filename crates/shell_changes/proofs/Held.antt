@@ -33,7 +33,7 @@ pub if_three : {A E : Type 0} (P Q R S : A → Type 0) (r : Result A E) → ((x 
 if_three P Q R S (Ok x) all p q s = all x p q s
 if_three P Q R S (Err e) all p q s = tt
 
-err_same : (f g : OpRefused) → ◌≡◌ {A = Result (Unit {0}) OpRefused} (Err f) (Err g) → f ≡ g
+pub err_same : (f g : OpRefused) → ◌≡◌ {A = Result (Unit {0}) OpRefused} (Err f) (Err g) → f ≡ g
 err_same f g e = let e' = e in cc
 
 -- a set is saved with the words that are handed on, whatever others the rest has

@@ -34,7 +34,7 @@ use Rattle.shell_changes.specs.Rest.{IsRest, objects_by, objects_with}
 use Rattle.shell_changes.specs.Saved.{HasSize, copies_contents, objects_saved}
 use Rattle.shell_changes.specs.SectorGoing.{IsSavedWith}
 use Rattle.shell_changes.specs.Parts.{with_rows}
-use Rattle.shell_changes.proofs.Left.{same_objects}
+use Rattle.shell_changes.proofs.Settled.{same_objects}
 use Rattle.shell_changes.proofs.Saved.{same_objects as same_parts}
 
 sizes_by : (sizes : List ℕ) (answer : Answer) (set : Left) → answer.saved ≡ Some set → HasSize sizes set → HasSizes sizes answer

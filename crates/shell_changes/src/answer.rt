@@ -129,6 +129,7 @@ pub struct Answer {
 pub fn without_set(report: Report) -> Answer
     ensures same { (contents : List (List ℕ)) → outcome_with result contents ≡ outcome_of report }
     ensures saved { result.saved ≡ None }
+    ensures told { result.report ≡ report }
 {
     Answer {
         report,

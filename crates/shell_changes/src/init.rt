@@ -34,7 +34,7 @@ fn cut_area_answer<C: Chooser>(
     requires sound { IsOutlined rest }
     requires there { «module» < length rest.labels }
     ensures comes { IfOk result (λ answer. (contents : List (List ℕ)) → RefusedArea (LeavesBy C.begins C.picks choose.old) «module» power (image_set_with rest contents) words AreaFault.PowerCut (outcome_with answer contents)) }
-    ensures sizes { IfOk result (HasSizes rest.sizes) }
+    ensures sizes { IfOk result (λ answer. HasSizes rest.sizes answer) }
 {
     cut_answer(alloc, power, Remains::Area(rest, module, words), choose)
 }
@@ -52,7 +52,7 @@ fn done_area_answer<C: Chooser>(
     requires settled { area.words ≡ settled area.words.kept }
     ensures comes { IfOk result (λ answer. (contents : List (List ℕ))
         → IsSaving Ending.Done done_text (objects_of (with_area (image_set_with rest contents) «module» (bytes_of area.words.kept))) (outcome_with answer contents)) }
-    ensures sizes { IfOk result (HasSizes rest.sizes) }
+    ensures sizes { IfOk result (λ answer. HasSizes rest.sizes answer) }
 {
     done_answer(alloc, Remains::Area(rest, module, area.into_words()), choose)
 }
@@ -94,7 +94,7 @@ fn refused_answer<C: Chooser>(
     requires there { «module» < length rest.labels }
     ensures comes { IfOk result (λ answer. (contents : List (List ℕ)) → RefusedArea (LeavesBy C.begins C.picks choose.old) «module» power (image_set_with rest contents) refused.words refused.fault (outcome_with answer contents)) }
     ensures finding { IfOk result (λ _. refused.fault ≢ AreaFault.OutOfMemory) }
-    ensures sizes { IfOk result (HasSizes rest.sizes) }
+    ensures sizes { IfOk result (λ answer. HasSizes rest.sizes answer) }
 {
     let AreaRefused { words, fault } = refused;
     match fault {
@@ -117,7 +117,7 @@ fn area_answer<C: Chooser>(
     requires settled { words ≡ settled words.kept }
     requires size { IsAreaSize (8 * length words.kept) }
     ensures comes { IfOk result (λ answer. (contents : List (List ℕ)) → InitArea (LeavesBy C.begins C.picks choose.old) «module» power (image_set_with rest contents) (initialised words.kept power.steps) (outcome_with answer contents)) }
-    ensures sizes { IfOk result (HasSizes rest.sizes) }
+    ensures sizes { IfOk result (λ answer. HasSizes rest.sizes answer) }
 {
     let mut fuse = fuse_of(power);
     match init_area(alloc, words, &mut fuse) {
@@ -151,7 +151,7 @@ pub fn init_answer<C: Chooser>(
 ) -> Result<Answer, AllocError>
     requires { IsOutlined outline }
     ensures comes { IfOk result (λ answer. (contents : List (List ℕ)) → InitComes (LeavesBy C.begins C.picks choose.old) «module» power (image_set_with outline contents) (outcome_with answer contents)) }
-    ensures sizes { IfOk result (HasSizes outline.sizes) }
+    ensures sizes { IfOk result (λ answer. HasSizes outline.sizes answer) }
 {
     let (rest, area) = outline.take_area(module);
     match area {
