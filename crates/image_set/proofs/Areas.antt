@@ -42,6 +42,9 @@ none_is_area = record { sized = λ words is. absurd cc; kept = λ words is. absu
 
 pub outlined_without : (outline : Outline) (m : ℕ) → IsOutlined outline → IsOutlined (without outline m)
 outlined_without outline m sound = record {
+  table = sound.table;
+  counted = sound.counted;
+  regions = sound.regions;
   labels = length-set outline.labels m None ∙ sound.labels;
   bad = sound.bad;
   few = sound.few;
@@ -102,7 +105,7 @@ same_objects outline m row labels are contents (object.Contents k) = refl
 same_objects outline m row labels are contents (object.BadRanges k) = refl
 
 -- after the last label area no question is asked
-none_asked : {C : Type 0} (picks : C → ℕ → Bool → C → Type 0) (left : List (List ℕ)) (between after : C) → InTurn (LeavesWords picks) [] left between after → after ≡ between
+pub none_asked : {C : Type 0} (picks : C → ℕ → Bool → C → Type 0) (left : List (List ℕ)) (between after : C) → InTurn (LeavesWords picks) [] left between after → after ≡ between
 none_asked picks left between after turn = turn.1
 
 pub area_left : {C : Type 0} (picks : C → ℕ → Bool → C → Type 0) (outline : Outline) (m : ℕ) (area : Words) (images : Left) (before after : C) → IsOutlined outline → m < length outline.labels

@@ -123,7 +123,3 @@ unfolding image_set_with image_set_of
 outline_is set nfit n k bytes labels sizes bad count long table areas ranges = rw long (rw (← count) (rw (table, areas, ranges) refl))
 
 -- ---- one label area
-
-pub area_is : (loaded : Loaded) (m : ℕ) (area : Option Words) → area ≡ get_or loaded.labels m None → option_map bytes_kept area ≡ area_of (image_set_in loaded) m
-unfolding image_set_in
-area_is loaded m area is = ap (option_map bytes_kept) is ∙ sym (get_or-map (option_map bytes_kept) loaded.labels m None)

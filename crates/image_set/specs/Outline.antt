@@ -1,5 +1,5 @@
 -- An image set whose contents stay where they are, and what is saved of it once they are copied: this project's rules.
-use Rattle.std.specs.Prelude.{◌≡◌, ℕ, ◌≤◌, Bool, List, [], length, map, take, drop, slice_get, slice_index_or, Option, Some, None, Result, OnOk, MatchResult}
+use Rattle.std.specs.Prelude.{◌≡◌, ℕ, ◌^◌, ◌<◌, ◌≤◌, Bool, List, [], length, map, take, drop, slice_get, slice_index_or, Option, Some, None, Result, Ok, OnOk, MatchResult}
 use Rattle.std.specs.Option.{ForSome, option_map}
 use Rattle.std.specs.Result.{result_map_both}
 use Rattle.std.specs.List.{All, range_with_len}
@@ -8,10 +8,13 @@ use Rattle.nvd_media.specs.declared.object.Object.TheVariants as object
 use Rattle.nvd_media.specs.Images.{Images, IsEmptySet, IsSameSet, Becomes, Keeps, IsUnfinished, bytes_of as bytes_in, with_more}
 use Rattle.cut_words.specs.Words.{Words, IsLeft}
 use Rattle.cut_words.specs.WordBytes.{bytes_of}
-use Rattle.power_cut.specs.Left.{LeavesWords}
+use Rattle.power_cut.specs.Left.{Each, InTurn, IsLeftOf, LeavesOption, LeavesWords}
+use Rattle.nfit_reader.specs.Table.{nfit_reading}
+use Rattle.nfit_reader.specs.Counted.{AreCounted}
 use Rattle.image_set.specs.declared.fault.LoadFault.{LoadFault}
 use Rattle.image_set.specs.declared.outline.Outline.{Outline}
 use Rattle.image_set.specs.declared.changing.OutlineLeft.{OutlineLeft}
+use Rattle.image_set.specs.declared.changing.OutlineRest.{OutlineRest}
 use Rattle.image_set.specs.Load.{AnswersRead, ImageSet, bytes_kept, loading}
 use Rattle.image_set.specs.Changed.{objects_of, with_area}
 use Rattle.image_set.specs.Save.{front_of, with_module}
@@ -43,6 +46,10 @@ Outlines result set = AnswersRead (result_map_both (λ outline. image_set_with o
 
 -- What holds of an outline, whatever its source tells.
 pub record IsOutlined (outline : Outline) : Type 0 where
+  -- the table is the one that the bytes spell
+  pub table : nfit_reading outline.nfit_bytes ≡ Ok outline.nfit
+  pub counted : AreCounted outline.nfit
+  pub regions : length outline.nfit.regions < 2 ^ 32
   -- one of each for each module
   pub labels : length outline.labels ≡ length outline.sizes
   pub bad : length outline.bad ≡ length outline.sizes
@@ -73,6 +80,20 @@ pub record LeavesOutline {C : Type 0} (picks : C → ℕ → Bool → C → Type
   pub asked : LeavesWords picks area row before after
   pub left_of : IsLeft area row
   pub objects : (contents : List (List ℕ)) → IsSameSet (objects_with left contents) (objects_of (with_area (image_set_with outline contents) m (bytes_of row)))
+
+-- What is left of an outline's rest with these label areas: the chooser is asked for one area after another, rising by module, and
+-- all other objects are left as they were.
+pub record LeavesAreas {C : Type 0} (picks : C → ℕ → Bool → C → Type 0) (rest : OutlineRest) (labels : List (Option Words)) (before after : C) (left : OutlineLeft) : Type 0 where
+  pub asked : InTurn (LeavesOption picks) labels left.labels before after
+  pub left_of : Each IsLeftOf labels left.labels
+  pub nfit : left.nfit ≡ rest.nfit_bytes
+  pub sizes : left.sizes ≡ rest.sizes
+  pub bad : left.bad ≡ rest.bad
+
+-- there is one of each for each module
+pub record IsOutlineRest (rest : OutlineRest) : Type 0 where
+  pub bad : length rest.bad ≡ length rest.sizes
+  pub few : length rest.sizes ≤ 64
 
 -- ---- copying
 

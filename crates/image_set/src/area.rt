@@ -1,12 +1,13 @@
 //! One label area of a loaded set, as bytes.
-ghost use Rattle.std.specs.Prelude.{◌≡◌, IfOk, IfSome, length};
+ghost use Rattle.std.specs.Prelude.{◌≡◌, ℕ, List, IfOk, IfSome, length};
 ghost use Rattle.std.specs.Option.{option_map};
 ghost use Rattle.cut_words.specs.Words.{settled};
 ghost use Rattle.label_index.specs.Area.{IsAreaSize};
-ghost use Rattle.image_set.specs.Load.{bytes_kept, image_set_in, area_of};
-ghost use Rattle.image_set.specs.Sound.{IsArea, IsSound};
+ghost use Rattle.image_set.specs.Load.{bytes_kept, area_of};
+ghost use Rattle.image_set.specs.Outline.{IsOutlined, image_set_with};
+ghost use Rattle.image_set.specs.Sound.{IsArea};
 
-use crate::loading::Loaded;
+use crate::outline::Outline;
 use cut_words::{CutWords, WordSpace};
 use std::alloc::{AllocError, Global};
 
@@ -35,15 +36,15 @@ fn area_bytes(alloc: Global, area: &Option<CutWords>) -> Result<Option<Vec<u8>>,
     }
 }
 
-impl Loaded {
+impl Outline {
     /// The bytes of a module's label area (UEFI 2.10, section 13.19), `None` where the table doesn't
     /// name the module, or it has no label area. Their length is a label area's size. The one error is
     /// want of memory.
     pub fn area(&self, alloc: Global, module: u32) -> Result<Option<Vec<u8>>, AllocError>
-        requires { IsSound self.now }
+        requires { IsOutlined self.now }
         ensures area { IfOk result
-            (λ found. option_map (λ bytes. bytes.items) found ≡ area_of (image_set_in self.now)
-            «module») }
+            (λ found. (contents : List (List ℕ)) → option_map (λ bytes. bytes.items) found
+            ≡ area_of (image_set_with self.now contents) «module») }
         ensures sized { IfOk result
             (λ found. IfSome found (λ bytes. IsAreaSize (length bytes.items))) }
     {

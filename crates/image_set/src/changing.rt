@@ -5,7 +5,7 @@ ghost use Rattle.nvd_media.specs.Causes.{Rose};
 ghost use Rattle.nvd_media.specs.Images.{Becomes, Keeps, IsEmptySet, IsSameSet, IsUnfinished};
 ghost use Rattle.image_set.specs.Changed.{IsSavable, objects_in, with_area};
 ghost use Rattle.image_set.specs.Load.{area_of, bytes_kept};
-ghost use Rattle.image_set.specs.Outline.{IsCopyable, IsOutlined, LeavesOutline, image_set_with};
+ghost use Rattle.image_set.specs.Outline.{IsCopyable, IsOutlineRest, IsOutlined, LeavesAreas, LeavesOutline, image_set_with};
 ghost use Rattle.image_set.specs.Sound.{IsArea};
 
 use crate::fault::SaveFault;
@@ -24,6 +24,17 @@ pub struct SetLeft {
     pub nfit: Items<u8>,
     /// The words of the modules' label areas and contents.
     pub images: Images,
+    /// The bytes of the modules' lists of bad ranges.
+    pub bad: Items<Option<Items<u8>>>,
+}
+
+/// What an outline has beside its table's meaning and its label areas.
+#[derive(Debug, Drop)]
+pub struct OutlineRest {
+    /// The bytes of the firmware's table.
+    pub nfit_bytes: Items<u8>,
+    /// How many bytes the contents of each module have.
+    pub sizes: Items<u64>,
     /// The bytes of the modules' lists of bad ranges.
     pub bad: Items<Option<Items<u8>>>,
 }
@@ -119,6 +130,33 @@ impl Outline {
         ensures sizes { IfOk result (λ left. left.sizes ≡ self.sizes) }
     {
         let labels = with_area(self.labels, module, area);
+        let images = leave_all(alloc, labels, Items::new(alloc), Vec::new(alloc), choose)?;
+        Ok(OutlineLeft {
+            nfit: self.nfit_bytes,
+            labels: images.labels,
+            sizes: self.sizes,
+            bad: self.bad,
+        })
+    }
+}
+
+impl OutlineRest {
+    /// What a power cut leaves of the set in which these are the label areas, by the numbers of the modules. Words of
+    /// which none is pending stay as they are.
+    ///
+    /// `left`: the chooser is asked for one area after another, rising by module; all other objects are left as they
+    /// were. The one error is want of memory.
+    pub fn leave_areas<C: Chooser>(
+        self,
+        alloc: Global,
+        labels: Items<Option<CutWords>>,
+        choose: &mut C,
+    ) -> Result<OutlineLeft, AllocError>
+        requires rest { IsOutlineRest self }
+        requires count { length labels ≡ length self.sizes }
+        ensures left { IfOk result (LeavesAreas C.picks self labels choose.old choose.new) }
+        ensures copyable { IfOk result IsCopyable }
+    {
         let images = leave_all(alloc, labels, Items::new(alloc), Vec::new(alloc), choose)?;
         Ok(OutlineLeft {
             nfit: self.nfit_bytes,

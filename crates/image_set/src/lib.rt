@@ -24,10 +24,11 @@
 //! and the mark last, so that a set that isn't whole is never taken for one. Words are turned into bytes
 //! piece by piece, so saving takes no second copy.
 //!
-//! A command that changes one label area needs no contents in memory. [`load_outline`] gives the set but for them, after
-//! the same checks, with the sizes that they have; the command takes the area out ([`Outline::take_area`]) and leaves the
-//! set with what became of it ([`Outline::leave_area`]); and [`OutlineLeft::save`] copies the contents from the source to
-//! the sink as it writes the other objects, 256 KiB at a time:
+//! A command that changes label areas alone needs no contents in memory. [`load_outline`] gives the set but for them, after
+//! the same checks, with the sizes that they have. The command takes one area out ([`Outline::take_area`]) and leaves the
+//! set with what became of it ([`Outline::leave_area`]), or it takes all of them and leaves them ([`OutlineRest::leave_areas`]).
+//! Then [`OutlineLeft::save`] copies the contents from the source to the sink as it writes the other objects, 256 KiB at a
+//! time:
 //!
 //! ```text
 //! source ── mark, table, sizes, labels, bad ranges ──► outline ──► what is left of it ──┐
@@ -57,7 +58,7 @@ mod saving;
 mod sizes;
 mod writing;
 
-pub use changing::{OutlineLeft, SetLeft};
+pub use changing::{OutlineLeft, OutlineRest, SetLeft};
 pub use fault::{CopyFault, LoadFault, SaveFault};
 pub use loading::{Loaded, load};
 pub use outline::{Outline, load_outline};

@@ -1,10 +1,11 @@
 //! An image set of which all but the contents is loaded: its contents stay where they are until they are copied.
-ghost use Rattle.std.specs.Prelude.{◌≡◌, ◌≢◌, ◌≤◌, length, map, IfOk, Ok, Err};
+ghost use Rattle.std.specs.Prelude.{◌≡◌, ◌≢◌, ◌^◌, ◌<◌, ◌≤◌, length, map, IfOk, Ok, Err};
 ghost use Rattle.std.specs.Option.{ForSome};
 ghost use Rattle.std.specs.List.{All};
 ghost use Rattle.nvd_media.specs.Causes.{Rose};
 ghost use Rattle.nvd_media.specs.Images.{bytes_of};
-ghost use Rattle.nfit_reader.specs.Counted.{NamesItsModules};
+ghost use Rattle.nfit_reader.specs.Table.{nfit_reading};
+ghost use Rattle.nfit_reader.specs.Counted.{AreCounted, NamesItsModules};
 ghost use Rattle.image_set.specs.Load.{image_set_of};
 ghost use Rattle.image_set.specs.Outline.{HasContents, IsOutlined, Outlines, contents_in, image_set_with};
 ghost use Rattle.image_set.specs.Sizes.{contents_of, AreSizesOf, AreSized};
@@ -55,6 +56,9 @@ fn read_outline<S: ImageSource>(
     nfit_bytes: Vec<u8>,
     sizes: &[Sizes],
 ) -> Result<Outline, Stop>
+    requires table { nfit_reading nfit_bytes.items ≡ Ok nfit }
+    requires counted { AreCounted nfit }
+    requires regions { length nfit.regions < 2 ^ 32 }
     requires modules { NamesItsModules nfit }
     requires count { length sizes.now ≡ length nfit.modules }
     requires sized { AreSized sizes.now }

@@ -104,7 +104,7 @@ data InitCase (steps : Option ℕ) (found : Option (List ℕ)) (e : Ending) : Ty
   is_blank : IsBlankArea found → is_short steps found ≡ false → e ≡ ending.Done → InitCase steps found e
   is_blank_short : IsBlankArea found → is_short steps found ≡ true → e ≡ ending.PowerCut → InitCase steps found e
 
-module _ (leaves : ℕ → Words → List ℕ → Type 0) (m : ℕ) (power : Power) (loaded : ImageSet) (outcome : Outcome) where
+module _ (leaves : ℕ → List (Option Words) → List (Option (List ℕ)) → Type 0) (m : ℕ) (power : Power) (loaded : ImageSet) (outcome : Outcome) where
   blank_case : (values area : List ℕ) → bytes_of values ≡ area → block_in area ≡ Err NoIndex → (b : Bool) → lasts power.steps (init_count (length values)) ≡ b
       → InitArea leaves m power loaded (initialised_by values power.steps (Err NoIndex)) outcome → InitCase power.steps (Some area) outcome.ending
   blank_case values area is none true long comes =
@@ -135,7 +135,7 @@ init_command m power loaded e (is_blank_short blank short cut) = is_cut_short bl
 
 -- ---- commands on namespaces
 
-module _ (c : NamespaceCommand) (power : Power) (loaded : ImageSet) (outcome : Outcome) where
+module _ (leaves : ℕ → List (Option Words) → List (Option (List ℕ)) → Type 0) (c : NamespaceCommand) (power : Power) (loaded : ImageSet) (outcome : Outcome) where
   abbrev seen : List (Option Area)
   seen = areas_in loaded.labels
 
@@ -147,12 +147,12 @@ module _ (c : NamespaceCommand) (power : Power) (loaded : ImageSet) (outcome : O
       is_turned_down (sets, are) long (ap (refuses_by seen c) are ∙ ap (λ (o : Option OpRefused). is_some o) some) (ending_of outcome (refused_outcome f) ends)
 
   lasting_case : (sets : List (List Mapping)) → sets_in loaded ≡ Ok sets → (b : Bool) → lasts power.steps (steps_of_all seen (changes_in sets seen c)) ≡ b
-      → MatchBool b (namespaces.Ends loaded seen (changes_in sets seen c) (refusal_in sets seen c) outcome) (namespaces.IsCut loaded seen (changes_in sets seen c) power outcome)
+      → MatchBool b (namespaces.Ends loaded seen (changes_in sets seen c) (refusal_in sets seen c) outcome) (namespaces.IsCut leaves loaded seen (changes_in sets seen c) power outcome)
       → CommandCase (Change c power) (Ok loaded) outcome.ending
   lasting_case sets are true long ends = whole_case sets are (refusal_in sets seen c) refl (ap (namespaces.is_short_by seen c power.steps) are ∙ ap not long) ends
   lasting_case sets are false short cut = is_cut_short (sets, are) (ap (namespaces.is_short_by seen c power.steps) are ∙ ap not short) (cut.saves.ends)
 
-  change_case : (found : Result (List (List Mapping)) OpenFault) → sets_in loaded ≡ found → namespaces.OnSets loaded c power found outcome → CommandCase (Change c power) (Ok loaded) outcome.ending
+  change_case : (found : Result (List (List Mapping)) OpenFault) → sets_in loaded ≡ found → namespaces.OnSets leaves loaded c power found outcome → CommandCase (Change c power) (Ok loaded) outcome.ending
   change_case (Ok sets) are comes = lasting_case sets are (lasts power.steps (steps_of_all seen (changes_in sets seen c))) refl comes
   change_case (Err fault) are comes = is_refused (fault, are) (ending_of outcome (open_outcome fault) comes)
 
@@ -202,7 +202,7 @@ not_both_sectors uuid loaded (inr (found, is, (fault, read))) (none, inr (also, 
 
 -- ---- any command
 
-module _ (leaves : ℕ → Words → List ℕ → Type 0) where
+module _ (leaves : ℕ → List (Option Words) → List (Option (List ℕ)) → Type 0) where
   command_case : (command : Command) (found : Result ImageSet LoadFault) (outcome : Outcome) → OnLoaded (LoadedComes leaves command) found outcome → CommandCase command found outcome.ending
   command_case command (Err fault) outcome comes = is_refused tt (ending_of outcome _ comes)
   command_case (Labels m) (Ok loaded) outcome comes =
@@ -211,8 +211,8 @@ module _ (leaves : ℕ → Words → List ℕ → Type 0) where
   command_case command.List (Ok loaded) outcome comes =
       subst (λ (e : Ending). CommandCase command.List (Ok loaded) e) (sym (ending_of outcome _ comes)) (list_case loaded (listed_of loaded) refl)
   command_case (Init m power) (Ok loaded) outcome comes = init_command m power loaded outcome.ending (init_case leaves m power loaded outcome (area_of loaded m) comes)
-  command_case (Change c power) (Ok loaded) outcome comes = change_case c power loaded outcome (sets_in loaded) refl comes
-  command_case (CreateSectors new power) (Ok loaded) outcome comes = sectors_made new power loaded outcome (create_case new power loaded outcome comes)
+  command_case (Change c power) (Ok loaded) outcome comes = change_case leaves c power loaded outcome (sets_in loaded) refl comes
+  command_case (CreateSectors new power) (Ok loaded) outcome comes = sectors_made new power loaded outcome (create_case leaves new power loaded outcome comes)
   command_case (Info uuid) (Ok loaded) outcome comes = info_case uuid loaded outcome (sectors_case (λ states. printed (arena_lines 0 states)) loaded uuid outcome comes)
   command_case (Read uuid sector) (Ok loaded) outcome comes = read_case uuid sector loaded outcome (sectors_case (sector_outcome sector) loaded uuid outcome comes)
 

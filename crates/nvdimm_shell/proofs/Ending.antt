@@ -52,12 +52,12 @@ ends_stopped copying due made text text' s stop.OutOfMemory memory read = ends_m
 ends_stopped copying due made text text' s stop.ReadFault memory read = ends_read copying due made text text' s (read refl)
 
 -- reading failed while contents were copied
-pub ends_unread : (due : Outcome → Type 0) (made made' : Option Images) (text text' : Option (List ℕ)) (s : Status) (outcome : Outcome)
-    → due outcome → IsSome outcome.saved → Becomes made made' IsUnfinished
+pub ends_unread : (copying : Bool) (due : Outcome → Type 0) (made made' : Option Images) (text text' : Option (List ℕ)) (s : Status) (outcome : Outcome)
+    → IsTrue copying → due outcome → IsSome outcome.saved → Becomes made made' IsUnfinished
     → ((s ≡ status.WriteFault) × AppendsPart text text' (codes "read fault" ++ lf)) ⊎ ((s ≡ status.ReadFault) × Appends text text' (codes "read fault" ++ lf))
-    → Ends true due made made' text text' s
-ends_unread due made made' text text' s outcome is some unfinished (inl w) = rw w.0 (inr (inr (inr (refl, (outcome, is, some, unfinished)), w.1)))
-ends_unread due made made' text text' s outcome is some unfinished (inr r) = rw r.0 (inr (refl, (outcome, is, some, unfinished)), r.1)
+    → Ends copying due made made' text text' s
+ends_unread copying due made made' text text' s outcome does is some unfinished (inl w) = rw w.0 (inr (inr (inr (does, (outcome, is, some, unfinished)), w.1)))
+ends_unread copying due made made' text text' s outcome does is some unfinished (inr r) = rw r.0 (inr (does, (outcome, is, some, unfinished)), r.1)
 
 -- ---- a text that is printed
 

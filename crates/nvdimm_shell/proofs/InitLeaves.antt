@@ -24,7 +24,8 @@ use Rattle.shell_reports.specs.declared.power.Power.{Power}
 use Rattle.shell_reports.specs.Outcome.{Outcome}
 use Rattle.shell_reports.specs.Saved.{IsSaving}
 use Rattle.shell_changes.specs.Init.{InitArea, InitModule, not_initialised}
-use Rattle.shell_reports.specs.Cut.{LeavesBy}
+use Rattle.shell_changes.specs.Remains.{LeavesBy}
+use Rattle.shell_changes.proofs.Remains.{row_alone}
 use Rattle.nvdimm_shell.specs.Laws.{IsLeftByInit, InitLeavesWhole}
 use Rattle.nvdimm_shell.proofs.Causes.{words_in_area}
 
@@ -58,7 +59,7 @@ module _ (values : List ℕ) (fuse : Option ℕ) (ok : IsInit values (size_for (
       short_whole (full_words values size slots) (subst (λ (w : Words). IsLeft w (full_words values size slots)) (sym full) (record { same_length = refl; each = λ i. inl refl }))
 
 module _ {C : Type 0} (begins : C → ℕ → C → Type 0) (picks : C → ℕ → Bool → C → Type 0) (choose : C) (m : ℕ) (power : Power) (loaded : ImageSet) (outcome : Outcome) (set : Images) (saved : outcome.saved ≡ Some set) where
-  abbrev leaves : ℕ → Words → List ℕ → Type 0
+  abbrev leaves : ℕ → List (Option Words) → List (Option (List ℕ)) → Type 0
   leaves = LeavesBy begins picks choose
 
   not_saved : (o : Outcome) → o.saved ≡ None → outcome ≡ o → ⊥
@@ -104,7 +105,7 @@ module _ {C : Type 0} (begins : C → ℕ → C → Type 0) (picks : C → ℕ �
         let made = allowed power.steps (steps values power.steps ok) in
         let sized_words : length words.stored ≡ length words.kept =
         length_stored made (settled values) ∙ length-replicate (length values) None ∙ sym (length_kept made (settled values)) in
-        (bytes_of left, saved_is _ _ (objects_of (with_area loaded m (bytes_of left))) cut, by_area left (short_whole values power.steps ok left (is_left picks words left begun after sized_words leaves_from)))
+        (bytes_of left, saved_is _ _ (objects_of (with_area loaded m (bytes_of left))) cut, by_area left (short_whole values power.steps ok left (is_left picks words left begun after sized_words (row_alone picks words left begun after leaves_from))))
 
     found_left : (found : Result IndexBlock AreaFault) → block_in area ≡ found → InitArea leaves m power loaded (initialised_by values power.steps found) outcome → Left area
     found_left (Ok block) read comes = absurd (not_saved _ (kept_saves_none (AlreadyInitialised block.seq)) comes)

@@ -1,5 +1,4 @@
 pub mod Comes
-pub mod Copies
 pub mod Ending
 pub mod Causes
 pub mod InitLeaves

@@ -30,7 +30,7 @@ use Rattle.shell_reports.specs.declared.power.Power.{Power}
 use Rattle.nvdimm_shell.specs.Words.{command_of}
 use Rattle.shell_reports.specs.Outcome.{Outcome}
 use Rattle.shell_changes.specs.Init.{InitComes}
-use Rattle.shell_reports.specs.Cut.{LeavesBy}
+use Rattle.shell_changes.specs.Remains.{LeavesBy}
 use Rattle.shell_reports.specs.List.{listed_of}
 use Rattle.shell_reports.specs.Causes.{IsBroken, IsReadable, refuses_info, refuses_read}
 use Rattle.nvdimm_shell.specs.Run.{IsDue, Ends, copies_by}
@@ -107,7 +107,7 @@ HasTableCause words set status.PowerCut = (command : Command) × (command_of wor
 HasTableCause words set other = ⊤
 
 -- each status has only the cause that the table gives it
-abbrev pub EachStatusHasItsCause : (ℕ → Words → List ℕ → Type 0) → Type 0
+abbrev pub EachStatusHasItsCause : (ℕ → List (Option Words) → List (Option (List ℕ)) → Type 0) → Type 0
 EachStatusHasItsCause leaves = (words : List (List ℕ)) (set : Images) (left : Option (List ℕ)) (made made' : Option Images) (text text' : Option (List ℕ)) (s : Status)
     → Ends (copies_by words) (IsDue leaves words (Some set) left) made made' text text' s → HasTableCause words set s
 
@@ -120,7 +120,7 @@ IsFromOutside other = ⊥
 
 -- where the words are a command line, the images are accepted for the command, it isn't refused and power lasts, the status is Ok, or it comes
 -- from outside
-abbrev pub AcceptedIsOk : (ℕ → Words → List ℕ → Type 0) → Type 0
+abbrev pub AcceptedIsOk : (ℕ → List (Option Words) → List (Option (List ℕ)) → Type 0) → Type 0
 AcceptedIsOk leaves = (words : List (List ℕ)) (command : Command) (set : Images) (left : Option (List ℕ)) (made made' : Option Images) (text text' : Option (List ℕ)) (s : Status)
     → command_of words ≡ Some command → IsAcceptedFor command (loading set) → is_cut command (loading set) ≡ false → is_barred command (loading set) ≡ false
     → Ends (copies_by words) (IsDue leaves words (Some set) left) made made' text text' s → (s ≡ status.Ok) ⊎ IsFromOutside s

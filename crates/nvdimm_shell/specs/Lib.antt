@@ -1,5 +1,4 @@
 pub mod Commands
 pub mod Words
-pub mod Found
 pub mod Run
 pub mod Laws

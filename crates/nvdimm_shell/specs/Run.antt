@@ -24,15 +24,15 @@ use Rattle.shell_changes.specs.Sectors.{SectorsCome}
 
 -- ---- a case for each command
 
--- what a command may come to on the set that it loads; `leaves` says what a power cut may leave of words, by the number from
--- which the chooser is begun
-abbrev pub LoadedComes : (ℕ → Words → List ℕ → Type 0) → Command → ImageSet → Outcome → Type 0
+-- what a command may come to on the set that it loads; `leaves` says what a power cut may leave of the words of label areas, by
+-- the number from which the chooser is begun
+abbrev pub LoadedComes : (ℕ → List (Option Words) → List (Option (List ℕ)) → Type 0) → Command → ImageSet → Outcome → Type 0
 LoadedComes leaves (Labels m) loaded outcome = outcome ≡ labels_outcome m loaded
 LoadedComes leaves Nfit loaded outcome = outcome ≡ nfit_outcome loaded
 LoadedComes leaves command.List loaded outcome = outcome ≡ list_outcome loaded
 LoadedComes leaves (Init m power) loaded outcome = InitComes leaves m power loaded outcome
-LoadedComes leaves (Change c power) loaded outcome = CommandComes c power loaded outcome
-LoadedComes leaves (CreateSectors new power) loaded outcome = SectorsCome new power loaded outcome
+LoadedComes leaves (Change c power) loaded outcome = CommandComes leaves c power loaded outcome
+LoadedComes leaves (CreateSectors new power) loaded outcome = SectorsCome leaves new power loaded outcome
 LoadedComes leaves (Info uuid) loaded outcome = outcome ≡ info_outcome uuid loaded
 LoadedComes leaves (Read uuid sector) loaded outcome = outcome ≡ read_outcome uuid sector loaded
 
@@ -42,7 +42,7 @@ OnLoaded comes (Ok loaded) outcome = comes loaded outcome
 OnLoaded comes (Err fault) outcome = outcome ≡ load_outcome fault
 
 -- what a command may come to, for images and a script: the whole set is loaded first
-abbrev pub Comes : (ℕ → Words → List ℕ → Type 0) → Command → Images → List ℕ → Outcome → Type 0
+abbrev pub Comes : (ℕ → List (Option Words) → List (Option (List ℕ)) → Type 0) → Command → Images → List ℕ → Outcome → Type 0
 Comes leaves command set script outcome = OnLoaded (LoadedComes leaves command) (loading set) outcome
 
 -- whether a command reads the script
@@ -62,12 +62,23 @@ copies (Labels m) = false
 copies Nfit = false
 copies command.List = false
 copies (Init m power) = true
-copies (Change c power) = false
+copies (Change c power) = true
 copies (CreateSectors new power) = false
 copies (Info uuid) = false
 copies (Read uuid sector) = false
 
--- whether the words are those of a command that does
+-- whether a command works on the contents of modules, so that they are loaded
+abbrev pub needs_contents : Command → Bool
+needs_contents (Labels m) = false
+needs_contents Nfit = false
+needs_contents command.List = false
+needs_contents (Init m power) = false
+needs_contents (Change c power) = false
+needs_contents (CreateSectors new power) = true
+needs_contents (Info uuid) = true
+needs_contents (Read uuid sector) = true
+
+-- whether the words are those of a command that copies contents
 abbrev pub copies_found : Option Command → Bool
 copies_found None = false
 copies_found (Some command) = copies command
@@ -78,12 +89,12 @@ copies_by words = copies_found (command_of words)
 -- ---- once for all commands
 
 -- a command comes to this, whatever images and script are told
-abbrev pub ComesTold : (ℕ → Words → List ℕ → Type 0) → Command → Option Images → Option (List ℕ) → Outcome → Type 0
+abbrev pub ComesTold : (ℕ → List (Option Words) → List (Option (List ℕ)) → Type 0) → Command → Option Images → Option (List ℕ) → Outcome → Type 0
 ComesTold leaves command held left outcome =
     (set : Images) (script : List ℕ) → held ≡ Some set → (IsTrue (reads_script command) → left ≡ Some script) → Comes leaves command set script outcome
 
 -- what the words come to
-abbrev pub IsDue : (ℕ → Words → List ℕ → Type 0) → List (List ℕ) → Option Images → Option (List ℕ) → Outcome → Type 0
+abbrev pub IsDue : (ℕ → List (Option Words) → List (Option (List ℕ)) → Type 0) → List (List ℕ) → Option Images → Option (List ℕ) → Outcome → Type 0
 IsDue leaves words held left outcome = MatchOption (command_of words) (outcome ≡ usage) (λ command. ComesTold leaves command held left outcome)
 
 -- the script is as it was, unless the words are those of a command that reads it

@@ -1,5 +1,5 @@
 //! Laws about the definitions of a run. Each is a function that does nothing; what it ensures is the law.
-ghost use Rattle.shell_reports.specs.Cut.{LeavesBy};
+ghost use Rattle.shell_changes.specs.Remains.{LeavesBy};
 ghost use Rattle.nvdimm_shell.specs.Laws.{EachStatusHasItsCause, AcceptedIsOk, InitLeavesWhole};
 
 use nvd_media::Chooser;

@@ -16,10 +16,11 @@
 //! contract says all of it, and `main` gives it the real objects.
 //!
 //! A command is an entry of the table in `specs/Commands.antt`, a case of `Comes` in `specs/Run.antt`, and
-//! a handler that makes an [`outcome::Answer`] from the set that was loaded, without a source or a sink.
+//! a handler that makes an answer or a report from the set that was loaded, without a source or a sink.
 //! Loading, faults of reading and writing and want of memory are handled once, for all commands, by
-//! `on_loaded`, by `Ends` and in `top`. `init` needs no contents: they stay in IN, and are copied as the set is saved, so
-//! reading may still fail then (`copies` and `FailedToRead` of `specs/Run.antt`).
+//! `OnLoaded`, by `Ends` and in `top`. Only `info`, `read` and `create --mode sector` have contents in memory
+//! (`needs_contents`). For all others they stay in IN, and are copied as a set is saved, so reading may still fail then
+//! (`copies` and `FailedToRead` of `specs/Run.antt`).
 #![tactic(auto)]
 
 #[cfg(test)]
@@ -27,8 +28,6 @@ mod areas;
 #[cfg(test)]
 mod change_tests;
 mod commands;
-mod copying;
-mod found;
 #[cfg(test)]
 mod init_tests;
 mod laws;

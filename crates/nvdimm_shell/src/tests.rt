@@ -266,8 +266,8 @@ fn each_call_on_the_images_fails_in_turn(rt: HostRuntime) -> Result<(), AllocErr
                 assert_eq!(rt; got, Status::Ok);
             }
         }
-        // the mark, the table, two areas, two contents and two lists are asked for, and four are read
-        assert!(rt; failed >= 12);
+        // the mark, the table, two areas, two contents and two lists are asked for, and the table and an area are read
+        assert!(rt; failed >= 10);
     }
     Ok(())
 }

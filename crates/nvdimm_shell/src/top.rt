@@ -1,33 +1,39 @@
-ghost use Rattle.std.specs.Prelude.{◌≡◌, ◌≢◌, ◌⊎◌, ◌++◌, ◌≤◌, codes, map, string_bytes, true, false, IfOk, IfSome, IsSome, IsTrue, OnOk, Some, None, Err};
-ghost use Rattle.std.specs.Option.{ForSome, option_map};
+ghost use Rattle.std.specs.Prelude.{◌≡◌, ◌≢◌, ◌⊎◌, ◌++◌, ◌≤◌, ℕ, List, codes, map, string_bytes, true, false, IfOk, IsSome, IsTrue, OnOk, None, Ok, Err, Option};
+ghost use Rattle.std.specs.Option.{ForSome};
 ghost use Rattle.std.specs.Io.KnownBytes.{Appends};
 ghost use Rattle.nvd_media.specs.Causes.{Rose};
 ghost use Rattle.nvd_media.specs.Images.{Images, Becomes, IsEmptySet, IsUnfinished};
-ghost use Rattle.image_set.specs.Load.{image_set_in, loading};
+ghost use Rattle.image_set.specs.Load.{image_set_in};
+ghost use Rattle.image_set.specs.Outline.{IsOutlined, image_set_with};
 ghost use Rattle.image_set.specs.Sound.{IsSound};
-ghost use Rattle.image_set.specs.Changed.{objects_in};
-ghost use Rattle.shell_reports.specs.Outcome.{Outcome, lf, status_of};
+ghost use Rattle.shell_reports.specs.Labels.{labels_outcome};
+ghost use Rattle.shell_reports.specs.List.{list_outcome};
 ghost use Rattle.shell_reports.specs.LoadFaults.{load_outcome};
-ghost use Rattle.shell_reports.specs.Cut.{LeavesBy};
-ghost use Rattle.nvdimm_shell.specs.Found.{ComesOf, HasItsContents, copied_of, is_copied, whole_of};
-ghost use Rattle.nvdimm_shell.specs.Run.{LoadedComes, OnLoaded, ComesTold, reads_script, copies, copies_by, IsDue, LeavesScript, Ends, AppendsPart};
+ghost use Rattle.shell_reports.specs.Nfit.{nfit_outcome};
+ghost use Rattle.shell_reports.specs.Outcome.{Outcome, lf, status_of, usage};
+ghost use Rattle.shell_reports.specs.Saved.{Saves};
+ghost use Rattle.shell_reports.specs.Sectors.{info_outcome, read_outcome};
+ghost use Rattle.shell_changes.specs.Answers.{ComesFrom, HasSizes, outcome_with, whole_outcome};
+ghost use Rattle.shell_changes.specs.Remains.{LeavesBy};
+ghost use Rattle.shell_changes.specs.Saved.{AreSaved, HasContentsOf, copies_contents};
+ghost use Rattle.nvdimm_shell.specs.Run.{ComesTold, Ends, AppendsPart, IsDue, LeavesScript, LoadedComes, copies, copies_by, needs_contents, reads_script};
 ghost use Rattle.nvdimm_shell.specs.Words.{GivesGoodName};
-ghost use Rattle.shell_reports.specs.Saved.{Saves, outcome_of};
 
-use crate::copying::copy_if;
-use crate::found::Found;
 use crate::words::{Command, command_from};
 use command_words::WordsFault;
-use image_set::{CopyFault, LoadFault, Loaded, SaveFault, load, load_outline};
+use image_set::{CopyFault, LoadFault, Loaded, Outline, load, load_outline};
 use nvd_media::{Chooser, Gate, ImageSink, ImageSource, TextSink, TextSource};
-use shell_changes::{InitAnswer, change_answer, init_answer, sectors_answer};
+use shell_changes::{
+    Answer, SavedSet, change_answer, init_answer, sectors_answer, without_set,
+};
 use shell_reports::{
-    Answer, Ending, Power, SavedSet, Status, Stop, info_answer, labels_answer, list_answer,
-    load_answer, nfit_answer, read_answer, usage_answer,
+    Ending, Report, Status, Stop, info_answer, labels_answer, list_answer, load_answer,
+    nfit_answer, read_answer, usage_answer,
 };
 use std::alloc::{AllocError, Global};
 use std::sync::Wait;
 use std::thread::Threads;
+use uuid::Uuid;
 
 /// The answer of a handler, or the stop for want of memory.
 fn found_memory(answer: Result<Answer, AllocError>) -> Result<Answer, Stop>
@@ -40,48 +46,110 @@ fn found_memory(answer: Result<Answer, AllocError>) -> Result<Answer, Stop>
     }
 }
 
-/// The answer of a handler whose set, if one is saved, is in memory, or why there is none.
-fn whole(answer: Result<Answer, Stop>) -> Result<Found, Stop>
-    ensures same { result ≡ whole_of answer }
-    ensures failed { result ≡ Err Stop.ReadFault → answer ≡ Err Stop.ReadFault }
+/// The answer of a handler that saves nothing.
+fn reported(report: Result<Report, AllocError>) -> Result<Answer, AllocError>
+    ensures same { IfOk result (λ answer. report ≡ Ok answer.report) }
+    ensures saved { IfOk result (λ answer. answer.saved ≡ None) }
 {
-    match answer {
-        Ok(answer) => Ok(Found::Whole(answer)),
-        Err(stop) => Err(stop),
+    match report {
+        Ok(report) => Ok(without_set(report)),
+        Err(error) => Err(error),
     }
 }
 
-/// The answer of a handler whose set, if one is saved, gets its contents from the source, or the stop for want of
-/// memory.
-fn copied(answer: Result<InitAnswer, AllocError>) -> Result<Found, Stop>
-    ensures same { result ≡ copied_of answer }
-    ensures memory { result ≢ Err Stop.ReadFault }
+/// The answer of `labels`.
+fn labels_found(alloc: Global, module: u32, outline: &Outline) -> Result<Answer, AllocError>
+    requires { IsOutlined outline.now }
+    ensures comes { IfOk result (λ answer. (contents : List (List ℕ)) → outcome_with answer contents ≡ labels_outcome «module» (image_set_with outline.now contents)) }
+    ensures saved { IfOk result (λ answer. answer.saved ≡ None) }
 {
-    match answer {
-        Ok(answer) => Ok(Found::Copied(answer)),
-        Err(_) => Err(Stop::OutOfMemory),
+    let report = labels_answer(alloc, module, outline)?;
+    Ok(without_set(report))
+}
+
+/// The answer of `nfit`.
+fn table_found(alloc: Global, outline: &Outline) -> Result<Answer, AllocError>
+    requires { IsOutlined outline.now }
+    ensures comes { IfOk result (λ answer. (contents : List (List ℕ)) → outcome_with answer contents ≡ nfit_outcome (image_set_with outline.now contents)) }
+    ensures saved { IfOk result (λ answer. answer.saved ≡ None) }
+{
+    let report = nfit_answer(alloc, &outline.nfit)?;
+    Ok(without_set(report))
+}
+
+/// The answer of `list`.
+fn list_found(alloc: Global, outline: Outline) -> Result<Answer, AllocError>
+    requires { IsOutlined outline }
+    ensures comes { IfOk result (λ answer. (contents : List (List ℕ)) → outcome_with answer contents ≡ list_outcome (image_set_with outline contents)) }
+    ensures saved { IfOk result (λ answer. answer.saved ≡ None) }
+{
+    let report = list_answer(alloc, outline)?;
+    Ok(without_set(report))
+}
+
+/// The answer of `info`.
+fn arenas_found(alloc: Global, uuid: &Uuid, loaded: Loaded) -> Result<Answer, AllocError>
+    requires { IsSound loaded }
+    ensures comes { IfOk result (λ answer. whole_outcome answer ≡ info_outcome uuid.now (image_set_in loaded)) }
+    ensures saved { IfOk result (λ answer. answer.saved ≡ None) }
+{
+    let report = info_answer(alloc, uuid, loaded)?;
+    Ok(without_set(report))
+}
+
+/// The answer of `read`.
+fn sector_found(alloc: Global, uuid: &Uuid, sector: u64, loaded: Loaded) -> Result<Answer, AllocError>
+    requires { IsSound loaded }
+    ensures comes { IfOk result (λ answer. whole_outcome answer ≡ read_outcome uuid.now sector (image_set_in loaded)) }
+    ensures saved { IfOk result (λ answer. answer.saved ≡ None) }
+{
+    let report = read_answer(alloc, uuid, sector, loaded)?;
+    Ok(without_set(report))
+}
+
+/// Whether a command works on the contents of modules.
+fn needs_contents(command: &Command) -> bool
+    ensures { result ≡ needs_contents command.now }
+{
+    match command {
+        Command::Labels(_) => false,
+        Command::Nfit => false,
+        Command::List => false,
+        Command::Init(_, _) => false,
+        Command::Change(_, _) => false,
+        Command::CreateSectors(_, _) => true,
+        Command::Info(_) => true,
+        Command::Read(_, _) => true,
     }
 }
 
-/// The module and the power of `init`, the command that copies contents as it saves; `None` for each other command.
-fn init_of(command: &Command) -> Option<(u32, Power)>
-    ensures some { IfSome result (λ init. command.now ≡ Command.Init init.0 init.1) }
-    ensures none { result ≡ None → copies command.now ≡ false }
+/// What a command comes to on the set that it loads but for its contents.
+fn outlined_answer<C: Chooser>(
+    alloc: Global,
+    command: Command,
+    outline: Outline,
+    choose: &mut C,
+) -> Result<Answer, AllocError>
+    requires sound { IsOutlined outline }
+    requires name { GivesGoodName command }
+    requires outlined { needs_contents command ≡ false }
+    ensures comes { IfOk result (λ answer. (contents : List (List ℕ)) → LoadedComes (LeavesBy C.begins C.picks choose.old) command (image_set_with outline contents) (outcome_with answer contents)) }
+    ensures sizes { IfOk result (HasSizes outline.sizes) }
+    ensures copying { IfOk result (λ answer. IsTrue (copies_contents answer.saved) → IsTrue (copies command)) }
 {
-    match *command {
-        Command::Init(module, power) => Some((module, power)),
-        Command::Labels(_) => None,
-        Command::Nfit => None,
-        Command::List => None,
-        Command::Change(_, _) => None,
-        Command::CreateSectors(_, _) => None,
-        Command::Info(_) => None,
-        Command::Read(_, _) => None,
+    match command {
+        Command::Labels(module) => labels_found(alloc, module, &outline),
+        Command::Nfit => table_found(alloc, &outline),
+        Command::List => list_found(alloc, outline),
+        Command::Init(module, power) => init_answer(alloc, module, power, outline, choose),
+        Command::Change(change, power) => change_answer(alloc, &change, power, outline, choose),
+        Command::CreateSectors(_, _) => unreachable!(),
+        Command::Info(_) => unreachable!(),
+        Command::Read(_, _) => unreachable!(),
     }
 }
 
-/// What a command that copies no contents comes to on the set that it loads.
-#[tactic(auto, unfolding(image_set::specs::Load::image_set_in))]
+/// What a command comes to on the set that it loads with its contents.
 fn loaded_answer<C: Chooser>(
     alloc: Global,
     command: Command,
@@ -90,37 +158,62 @@ fn loaded_answer<C: Chooser>(
 ) -> Result<Answer, AllocError>
     requires sound { IsSound loaded }
     requires name { GivesGoodName command }
-    requires whole { copies command ≡ false }
-    ensures { IfOk result (λ answer. LoadedComes (LeavesBy C.begins C.picks choose.old) command (image_set_in loaded) (outcome_of answer)) }
+    requires whole { needs_contents command ≡ true }
+    ensures comes { IfOk result (λ answer. LoadedComes (LeavesBy C.begins C.picks choose.old) command (image_set_in loaded) (whole_outcome answer)) }
+    ensures whole { IfOk result (λ answer. copies_contents answer.saved ≡ false) }
 {
     match command {
-        Command::Labels(module) => labels_answer(alloc, module, &loaded),
-        Command::Nfit => nfit_answer(alloc, &loaded.nfit),
-        Command::List => list_answer(alloc, loaded),
+        Command::Labels(_) => unreachable!(),
+        Command::Nfit => unreachable!(),
+        Command::List => unreachable!(),
         Command::Init(_, _) => unreachable!(),
-        Command::Change(change, power) => change_answer(alloc, &change, power, loaded, choose),
+        Command::Change(_, _) => unreachable!(),
         Command::CreateSectors(new, power) => sectors_answer(alloc, &new, power, loaded, choose),
-        Command::Info(uuid) => info_answer(alloc, &uuid, loaded),
-        Command::Read(uuid, sector) => read_answer(alloc, &uuid, sector, loaded),
+        Command::Info(uuid) => arenas_found(alloc, &uuid, loaded),
+        Command::Read(uuid, sector) => sector_found(alloc, &uuid, sector, loaded),
     }
 }
 
 /// The answer on a set that isn't loaded, or the stop where that is no finding about its objects.
 fn unloaded(alloc: Global, fault: LoadFault) -> Result<Answer, Stop>
-    ensures text { IfOk result (λ answer. outcome_of answer ≡ load_outcome fault) }
+    ensures text { IfOk result (λ answer. (contents : List (List ℕ)) → outcome_with answer contents ≡ load_outcome fault) }
+    ensures saved { IfOk result (λ answer. answer.saved ≡ None) }
     ensures source { IfOk result (λ _. fault ≢ LoadFault.ReadFault) }
     ensures memory { IfOk result (λ _. fault ≢ LoadFault.OutOfMemory) }
     ensures failed { result ≡ Err Stop.ReadFault → fault ≡ LoadFault.ReadFault }
-    ensures read { fault ≡ LoadFault.ReadFault → result ≡ Err Stop.ReadFault }
 {
     match fault {
         LoadFault::ReadFault => Err(Stop::ReadFault),
         LoadFault::OutOfMemory => Err(Stop::OutOfMemory),
-        _ => found_memory(load_answer(alloc, fault)),
+        _ => found_memory(reported(load_answer(alloc, fault))),
     }
 }
 
-/// What a command that copies no contents comes to: the whole set is loaded.
+/// What a command comes to that needs no contents: the set is loaded but for them.
+fn perform_outlined<S: ImageSource, T: TextSource, C: Chooser>(
+    alloc: Global,
+    command: Command,
+    images: &mut S,
+    _script: &mut T,
+    choose: &mut C,
+) -> Result<Answer, Stop>
+    requires name { GivesGoodName command }
+    requires outlined { needs_contents command ≡ false }
+    ensures told { IfOk result (λ answer. (outcome : Outcome) → ComesFrom (S.held images.old) answer outcome → ComesTold (LeavesBy C.begins C.picks choose.old) command (S.held images.old) (T.left _script.old) outcome) }
+    ensures copying { IfOk result (λ answer. IsTrue (copies_contents answer.saved) → IsTrue (copies command)) }
+    ensures there { IfOk result (λ answer. HasContentsOf (S.held images.old) answer.saved) }
+    ensures same { S.held images.new ≡ S.held images.old }
+    ensures unread { reads_script command ≡ false → T.left _script.new ≡ T.left _script.old }
+    ensures failed { result ≡ Err Stop.ReadFault → Rose (S.faults images.old) (S.faults images.new) }
+    ensures later { S.faults images.old ≤ S.faults images.new }
+{
+    match load_outline(alloc, images) {
+        Ok(outline) => found_memory(outlined_answer(alloc, command, outline, choose)),
+        Err(fault) => unloaded(alloc, fault),
+    }
+}
+
+/// What a command comes to that needs contents: the whole set is loaded.
 fn perform_whole<S: ImageSource, T: TextSource, C: Chooser>(
     alloc: Global,
     command: Command,
@@ -129,8 +222,9 @@ fn perform_whole<S: ImageSource, T: TextSource, C: Chooser>(
     choose: &mut C,
 ) -> Result<Answer, Stop>
     requires name { GivesGoodName command }
-    requires whole { copies command ≡ false }
-    ensures told { IfOk result (λ answer. ComesTold (LeavesBy C.begins C.picks choose.old) command (S.held images.old) (T.left _script.old) (outcome_of answer)) }
+    requires whole { needs_contents command ≡ true }
+    ensures told { IfOk result (λ answer. (outcome : Outcome) → ComesFrom (S.held images.old) answer outcome → ComesTold (LeavesBy C.begins C.picks choose.old) command (S.held images.old) (T.left _script.old) outcome) }
+    ensures whole { IfOk result (λ answer. copies_contents answer.saved ≡ false) }
     ensures same { S.held images.new ≡ S.held images.old }
     ensures unread { reads_script command ≡ false → T.left _script.new ≡ T.left _script.old }
     ensures failed { result ≡ Err Stop.ReadFault → Rose (S.faults images.old) (S.faults images.new) }
@@ -138,28 +232,7 @@ fn perform_whole<S: ImageSource, T: TextSource, C: Chooser>(
 {
     match load(alloc, images) {
         Ok(loaded) => found_memory(loaded_answer(alloc, command, loaded, choose)),
-        Err(fault) => unloaded(alloc, fault),
-    }
-}
-
-/// What `init` comes to: all but the contents is loaded.
-fn perform_init<S: ImageSource, C: Chooser>(
-    alloc: Global,
-    module: u32,
-    power: Power,
-    images: &mut S,
-    choose: &mut C,
-) -> Result<Found, Stop>
-    ensures told { IfOk result (λ found. (set : Images) (outcome : Outcome) → S.held images.old ≡ Some set → ComesOf (S.held images.old) found outcome
-        → OnLoaded (LoadedComes (LeavesBy C.begins C.picks choose.old) (Command.Init «module» power)) (loading set) outcome) }
-    ensures there { IfOk result (λ found. HasItsContents (S.held images.old) found) }
-    ensures same { S.held images.new ≡ S.held images.old }
-    ensures failed { result ≡ Err Stop.ReadFault → Rose (S.faults images.old) (S.faults images.new) }
-    ensures later { S.faults images.old ≤ S.faults images.new }
-{
-    match load_outline(alloc, images) {
-        Ok(outline) => copied(init_answer(alloc, module, power, outline, choose)),
-        Err(fault) => whole(unloaded(alloc, fault)),
+        Err(why) => unloaded(alloc, why),
     }
 }
 
@@ -170,21 +243,30 @@ fn perform<S: ImageSource, T: TextSource, C: Chooser>(
     images: &mut S,
     script: &mut T,
     choose: &mut C,
-) -> Result<Found, Stop>
+) -> Result<Answer, Stop>
     requires name { GivesGoodName command }
-    ensures told { IfOk result (λ found. (outcome : Outcome) → ComesOf (S.held images.old) found outcome
-        → ComesTold (LeavesBy C.begins C.picks choose.old) command (S.held images.old) (T.left script.old) outcome) }
-    ensures copying { IfOk result (λ found. IsTrue (is_copied found) → IsTrue (copies command)) }
-    ensures there { IfOk result (λ found. HasItsContents (S.held images.old) found) }
+    ensures told { IfOk result (λ answer. (outcome : Outcome) → ComesFrom (S.held images.old) answer outcome → ComesTold (LeavesBy C.begins C.picks choose.old) command (S.held images.old) (T.left script.old) outcome) }
+    ensures copying { IfOk result (λ answer. IsTrue (copies_contents answer.saved) → IsTrue (copies command)) }
+    ensures there { IfOk result (λ answer. HasContentsOf (S.held images.old) answer.saved) }
     ensures same { S.held images.new ≡ S.held images.old }
     ensures unread { reads_script command ≡ false → T.left script.new ≡ T.left script.old }
     ensures failed { result ≡ Err Stop.ReadFault → Rose (S.faults images.old) (S.faults images.new) }
     ensures later { S.faults images.old ≤ S.faults images.new }
 {
-    match init_of(&command) {
-        Some(init) => perform_init(alloc, init.0, init.1, images, choose),
-        None => whole(perform_whole(alloc, command, images, script, choose)),
+    if needs_contents(&command) {
+        perform_whole(alloc, command, images, script, choose)
+    } else {
+        perform_outlined(alloc, command, images, script, choose)
     }
+}
+
+/// The answer to words that aren't a command line.
+fn misused(alloc: Global) -> Result<Answer, Stop>
+    ensures text { IfOk result (λ answer. (contents : List (List ℕ)) → outcome_with answer contents ≡ usage) }
+    ensures saved { IfOk result (λ answer. answer.saved ≡ None) }
+    ensures memory { result ≢ Err Stop.ReadFault }
+{
+    found_memory(reported(usage_answer(alloc)))
 }
 
 /// What the words come to.
@@ -194,11 +276,11 @@ fn answer_to<S: ImageSource, T: TextSource, C: Chooser>(
     images: &mut S,
     script: &mut T,
     choose: &mut C,
-) -> Result<Found, Stop>
-    ensures due { IfOk result (λ found. (outcome : Outcome) → ComesOf (S.held images.old) found outcome
+) -> Result<Answer, Stop>
+    ensures due { IfOk result (λ answer. (outcome : Outcome) → ComesFrom (S.held images.old) answer outcome
         → IsDue (LeavesBy C.begins C.picks choose.old) (map string_bytes words.now) (S.held images.old) (T.left script.old) outcome) }
-    ensures copying { IfOk result (λ found. IsTrue (is_copied found) → IsTrue (copies_by (map string_bytes words.now))) }
-    ensures there { IfOk result (λ found. HasItsContents (S.held images.old) found) }
+    ensures copying { IfOk result (λ answer. IsTrue (copies_contents answer.saved) → IsTrue (copies_by (map string_bytes words.now))) }
+    ensures there { IfOk result (λ answer. HasContentsOf (S.held images.old) answer.saved) }
     ensures same { S.held images.new ≡ S.held images.old }
     ensures unread { LeavesScript (map string_bytes words.now) (T.left script.old) (T.left script.new) }
     ensures failed { result ≡ Err Stop.ReadFault → Rose (S.faults images.old) (S.faults images.new) }
@@ -206,25 +288,30 @@ fn answer_to<S: ImageSource, T: TextSource, C: Chooser>(
 {
     match command_from(alloc, words) {
         Ok(command) => perform(alloc, command, images, script, choose),
-        Err(WordsFault::Usage) => whole(found_memory(usage_answer(alloc))),
+        Err(WordsFault::Usage) => misused(alloc),
         Err(WordsFault::OutOfMemory) => Err(Stop::OutOfMemory),
     }
 }
 
 /// Saves an image set, if there is one.
-fn save_if<K: ImageSink>(
+fn save_if<S: ImageSource, K: ImageSink>(
     alloc: Global,
     saved: Option<SavedSet>,
+    images: &mut S,
     out: &mut K,
-) -> Result<(), SaveFault>
-    requires { ForSome (K.made out.old) IsEmptySet }
-    ensures saved { OnOk result (Saves (option_map objects_in saved) (K.made out.old) (K.made out.new)) }
-    ensures unfinished { result ≡ Err SaveFault.WriteFault → IsSome saved × Becomes (K.made out.old) (K.made out.new) IsUnfinished }
-    ensures memory { result ≡ Err SaveFault.OutOfMemory → K.made out.new ≡ K.made out.old }
-    ensures failed { result ≡ Err SaveFault.WriteFault → Rose (K.faults out.old) (K.faults out.new) }
+) -> Result<(), CopyFault>
+    requires empty { ForSome (K.made out.old) IsEmptySet }
+    requires there { HasContentsOf (S.held images.old) saved }
+    ensures saved { OnOk result ((set : Option Images) × AreSaved (S.held images.old) saved set × Saves set (K.made out.old) (K.made out.new)) }
+    ensures unread { result ≡ Err CopyFault.ReadFault → IsTrue (copies_contents saved) × Becomes (K.made out.old) (K.made out.new) IsUnfinished }
+    ensures unwritten { result ≡ Err CopyFault.WriteFault → IsSome saved × Becomes (K.made out.old) (K.made out.new) IsUnfinished }
+    ensures memory { result ≡ Err CopyFault.OutOfMemory → K.made out.new ≡ K.made out.old }
+    ensures same { S.held images.new ≡ S.held images.old }
+    ensures read { result ≡ Err CopyFault.ReadFault → Rose (S.faults images.old) (S.faults images.new) }
+    ensures written { result ≡ Err CopyFault.WriteFault → Rose (K.faults out.old) (K.faults out.new) }
 {
     match saved {
-        Some(set) => set.save(alloc, out),
+        Some(set) => set.save(alloc, images, out),
         None => Ok(()),
     }
 }
@@ -238,31 +325,6 @@ fn printed<O: TextSink>(ending: Ending, bytes: &[u8], text: &mut O) -> Status
     match text.write(bytes) {
         Ok(()) => ending.status(),
         Err(_) => Status::WriteFault,
-    }
-}
-
-/// Saves the image set of an answer, if it has one, and then prints its text.
-#[tactic(auto, using(crate::proofs::Ending::endings))]
-fn conclude_whole<K: ImageSink, O: TextSink>(
-    alloc: Global,
-    answer: Answer,
-    out: &mut K,
-    text: &mut O,
-) -> Status
-    requires { ForSome (K.made out.old) IsEmptySet }
-    ensures ends { Ends false (λ outcome. outcome ≡ outcome_of answer) (K.made out.old) (K.made out.new) (O.written text.old) (O.written text.new) result }
-    ensures no_read { result ≢ Status.ReadFault }
-    ensures failed { result ≡ Status.WriteFault → Rose (K.faults out.old) (K.faults out.new) ⊎ Rose (O.faults text.old) (O.faults text.new) }
-{
-    let Answer {
-        ending,
-        text: bytes,
-        saved,
-    } = answer;
-    match save_if(alloc, saved, out) {
-        Ok(()) => printed(ending, &bytes, text),
-        Err(SaveFault::WriteFault) => Status::WriteFault,
-        Err(SaveFault::OutOfMemory) => Status::OutOfMemory,
     }
 }
 
@@ -281,55 +343,33 @@ fn stopped<O: TextSink>(stop: Stop, text: &mut O) -> Status
     }
 }
 
-/// Saves the image set of an answer, if it has one, with the contents that the source has, and then prints its text.
-/// Where the source fails the set isn't finished, and the text is `read fault`.
+/// Saves the image set of an answer, if it has one, and then prints its text. Where the source fails as contents are
+/// copied the set isn't finished, and the text is `read fault`.
 #[tactic(auto, using(crate::proofs::Ending::endings))]
-fn conclude_copied<S: ImageSource, K: ImageSink, O: TextSink>(
+fn conclude<S: ImageSource, K: ImageSink, O: TextSink>(
     alloc: Global,
-    answer: InitAnswer,
+    answer: Answer,
     images: &mut S,
     out: &mut K,
     text: &mut O,
 ) -> Status
     requires empty { ForSome (K.made out.old) IsEmptySet }
-    requires there { HasItsContents (S.held images.old) (Found.Copied answer) }
-    ensures ends { Ends true (ComesOf (S.held images.old) (Found.Copied answer)) (K.made out.old) (K.made out.new) (O.written text.old) (O.written text.new) result }
+    requires there { HasContentsOf (S.held images.old) answer.saved }
+    ensures ends { Ends (copies_contents answer.saved) (ComesFrom (S.held images.old) answer) (K.made out.old) (K.made out.new) (O.written text.old) (O.written text.new) result }
     ensures read { result ≡ Status.ReadFault → Rose (S.faults images.old) (S.faults images.new) }
     ensures failed { result ≡ Status.WriteFault → Rose (K.faults out.old) (K.faults out.new) ⊎ Rose (O.faults text.old) (O.faults text.new) }
     ensures same { S.held images.new ≡ S.held images.old }
 {
-    let InitAnswer {
+    let Answer { report, saved } = answer;
+    let Report {
         ending,
         text: bytes,
-        saved,
-    } = answer;
-    match copy_if(alloc, saved, images, out) {
+    } = report;
+    match save_if(alloc, saved, images, out) {
         Ok(()) => printed(ending, &bytes, text),
         Err(CopyFault::ReadFault) => stopped(Stop::ReadFault, text),
         Err(CopyFault::WriteFault) => Status::WriteFault,
         Err(CopyFault::OutOfMemory) => Status::OutOfMemory,
-    }
-}
-
-/// Saves what was found, if it has an image set, and then prints its text.
-#[tactic(auto, using(crate::proofs::Ending::endings))]
-fn conclude<S: ImageSource, K: ImageSink, O: TextSink>(
-    alloc: Global,
-    found: Found,
-    images: &mut S,
-    out: &mut K,
-    text: &mut O,
-) -> Status
-    requires empty { ForSome (K.made out.old) IsEmptySet }
-    requires there { HasItsContents (S.held images.old) found }
-    ensures ends { Ends (is_copied found) (ComesOf (S.held images.old) found) (K.made out.old) (K.made out.new) (O.written text.old) (O.written text.new) result }
-    ensures read { result ≡ Status.ReadFault → Rose (S.faults images.old) (S.faults images.new) }
-    ensures failed { result ≡ Status.WriteFault → Rose (K.faults out.old) (K.faults out.new) ⊎ Rose (O.faults text.old) (O.faults text.new) }
-    ensures same { S.held images.new ≡ S.held images.old }
-{
-    match found {
-        Found::Whole(answer) => conclude_whole(alloc, answer, out, text),
-        Found::Copied(answer) => conclude_copied(alloc, answer, images, out, text),
     }
 }
 
@@ -341,8 +381,9 @@ fn conclude<S: ImageSource, K: ImageSink, O: TextSink>(
 /// - `ends`: what is printed and saved is what is due for the words, the images and the script, as far
 ///   as they are told (`specs/Run.antt`). Status 2 is due exactly where the words aren't a command line,
 ///   3 where the images show a fault, 0 else; after 5 the text is `read fault`, and nothing was written, or, of
-///   `init`, which copies contents as it saves, a set that isn't finished; 7 is the one status that is free, and
-///   prints nothing.
+///   `init`, `create --mode raw`, `delete` and `rename`, which copy contents as they save (`copies`), a set that isn't
+///   finished; 7 is the one status that is free, and prints nothing. Where power is cut the chooser is begun once, and
+///   what is left is what it picks.
 /// - `read_fault`, `write_fault`: status 5 comes only where the count of faults of the images rose in this
 ///   call, 6 only where that of `out` or of the text did.
 /// - `kept`, `unread`: the images are never written, and a script is left that the command doesn't read.
@@ -375,7 +416,7 @@ pub fn run<
     ensures unread { LeavesScript (map string_bytes words.now) (T.left script.old) (T.left script.new) }
 {
     match answer_to(alloc, words, images, script, choose) {
-        Ok(found) => conclude(alloc, found, images, out, text),
+        Ok(answer) => conclude(alloc, answer, images, out, text),
         Err(stop) => stopped(stop, text),
     }
 }

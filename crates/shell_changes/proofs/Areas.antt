@@ -22,10 +22,14 @@ use Rattle.namespace_areas.proofs.Seen.{left_kept}
 use Rattle.namespace_areas.proofs.Opening.{row_of, seen_all}
 use Rattle.image_set.specs.Load.{bytes_kept, image_set_in}
 use Rattle.image_set.specs.Changed.{objects_of}
+use Rattle.image_set.specs.declared.changing.OutlineRest.{OutlineRest}
+use Rattle.image_set.specs.declared.outline.Outline.{Outline}
+use Rattle.image_set.specs.Outline.{image_set_with}
 use Rattle.image_set.specs.declared.loading.Loaded.{Loaded}
 use Rattle.shell_changes.specs.declared.saving.Rest.{Rest}
-use Rattle.shell_changes.specs.Areas.{area_by, area_in, areas_in, with_labels, HasAreas}
-use Rattle.shell_changes.specs.Rest.{objects_with}
+use Rattle.image_set.specs.Load.{ImageSet}
+use Rattle.shell_changes.specs.Areas.{area_by, area_in, areas_in, with_labels, HasAreas, HasRows}
+use Rattle.shell_changes.specs.Rest.{objects_by, objects_with}
 
 -- ---- what areas show, by their bytes
 
@@ -136,6 +140,11 @@ sized_all (w ∷ labels) (n ∷ news) rows same sizes left =
 abbrev pub rest_of : Loaded → Rest
 rest_of loaded = record { nfit_bytes = loaded.nfit_bytes; contents = loaded.contents; bad = loaded.bad }
 
+-- an image set whose label areas are these words, and how it is saved with others
+pub record IsSavedAs (set : ImageSet) (words : List (Option Words)) (objects : List (Option (List ℕ)) → Images) : Type 0 where
+  pub labels : set.labels ≡ map (option_map bytes_kept) words
+  pub same : (rows : List (Option (List ℕ))) → IsSameSet (objects rows) (objects_of (with_labels set (map (option_map bytes_of) rows)))
+
 same_objects : (loaded : Loaded) (rows : List (Option (List ℕ))) → IsSameSet (objects_with (rest_of loaded) rows) (objects_of (with_labels (image_set_in loaded) (map (option_map bytes_of) rows)))
 unfolding objects_with objects_of image_set_in
 same_objects loaded rows object.Mark = refl
@@ -148,15 +157,48 @@ labels_in : (loaded : Loaded) → (image_set_in loaded).labels ≡ map (option_m
 unfolding image_set_in
 labels_in loaded = refl
 
-pub has_areas : (loaded : Loaded) (news : List Area) (rows : List (Option (List ℕ))) (saved : Images) → map unready news ≡ map unready (map opened_as loaded.labels)
-    → map size_of news ≡ map size_of (map opened_as loaded.labels) → AreLeft news rows → IsSameSet saved (objects_with (rest_of loaded) rows) → HasAreas (image_set_in loaded) (areas_shown rows) saved
-has_areas loaded news rows saved same sizes left objects =
-    let labels = labels_in loaded in
-    record {
-      labels = map (option_map bytes_of) rows;
-      shown = rows_in rows;
-      unread = λ m none.
-          unread_all loaded.labels news rows same left m (ap (λ ls. area_in (slice_index_or ls m None)) (sym labels) ∙ none) ∙ ap (λ ls. slice_index_or ls m None) (sym labels);
-      sizes = sized_all loaded.labels news rows same sizes left ∙ ap (map (option_map length)) (sym labels);
-      objects = λ o. objects o ∙ same_objects loaded rows o;
-    }
+-- a set that was loaded
+pub loaded_as : (loaded : Loaded) → IsSavedAs (image_set_in loaded) loaded.labels (objects_with (rest_of loaded))
+loaded_as loaded = record { labels = labels_in loaded; same = same_objects loaded }
+
+get_map : {A B : Type 0} (f : A → B) (xs : List A) (k : ℕ) (d : A) → get_or (map f xs) k (f d) ≡ f (get_or xs k d)
+get_map f [] k d = refl
+get_map f (x ∷ xs) zero d = refl
+get_map f (x ∷ xs) (suc k) d = get_map f xs k d
+
+-- what an outline has beside its label areas
+abbrev pub outline_rest : Outline → OutlineRest
+outline_rest outline = record { nfit_bytes = outline.nfit_bytes; sizes = outline.sizes; bad = outline.bad }
+
+same_outline : (outline : Outline) (contents : List (List ℕ)) (rows : List (Option (List ℕ)))
+    → IsSameSet (objects_by (outline_rest outline) contents rows) (objects_of (with_labels (image_set_with outline contents) (map (option_map bytes_of) rows)))
+unfolding objects_of image_set_with
+same_outline outline contents rows object.Mark = refl
+same_outline outline contents rows object.Nfit = refl
+same_outline outline contents rows (object.Labels m) = sym (get_map (option_map bytes_of) rows m None)
+same_outline outline contents rows (object.Contents m) = refl
+same_outline outline contents rows (object.BadRanges m) = refl
+
+outline_labels : (outline : Outline) (contents : List (List ℕ)) → (image_set_with outline contents).labels ≡ map (option_map bytes_kept) outline.labels
+unfolding image_set_with
+outline_labels outline contents = refl
+
+-- a set that was loaded but for its contents
+pub outline_as : (outline : Outline) (contents : List (List ℕ)) → IsSavedAs (image_set_with outline contents) outline.labels (objects_by (outline_rest outline) contents)
+outline_as outline contents = record { labels = outline_labels outline contents; same = same_outline outline contents }
+
+module _ (set : ImageSet) (words : List (Option Words)) (objects : List (Option (List ℕ)) → Images) (is : IsSavedAs set words objects) where
+  pub has_rows : (news : List Area) (rows : List (Option (List ℕ))) (saved : Images) → map unready news ≡ map unready (map opened_as words)
+      → map size_of news ≡ map size_of (map opened_as words) → AreLeft news rows → IsSameSet saved (objects rows) → HasRows set rows saved
+  has_rows news rows saved same sizes left all = record {
+    unread = λ m none.
+        unread_all words news rows same left m (ap (λ ls. area_in (slice_index_or ls m None)) (sym is.labels) ∙ none) ∙ ap (λ ls. slice_index_or ls m None) (sym is.labels);
+    sizes = sized_all words news rows same sizes left ∙ ap (map (option_map length)) (sym is.labels);
+    objects = λ o. all o ∙ is.same rows o;
+  }
+
+  pub has_areas : (news : List Area) (rows : List (Option (List ℕ))) (saved : Images) → map unready news ≡ map unready (map opened_as words)
+      → map size_of news ≡ map size_of (map opened_as words) → AreLeft news rows → IsSameSet saved (objects rows) → HasAreas set (areas_shown rows) saved
+  has_areas news rows saved same sizes left all =
+      let has = has_rows news rows saved same sizes left all in
+      record { labels = map (option_map bytes_of) rows; shown = rows_in rows; unread = has.unread; sizes = has.sizes; objects = has.objects }

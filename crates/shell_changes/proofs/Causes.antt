@@ -2,6 +2,7 @@
 use Rattle.std.proofs.Common.{◌≡◌, ℕ, ◌+◌, ◌-◌, Bool, true, false, List, Option, Some, None, Result, Ok, Err, refl, ap, ◌∙◌, arith}
 use Rattle.std.specs.Prelude.{MatchBool, MatchOption, is_some, nat_le, not}
 use Rattle.std.proofs.lemmas.Bool.Decides.{nat_tests}
+use Rattle.cut_words.specs.Words.{Words}
 use Rattle.cut_words.specs.Fuses.{burnt, lasts}
 use Rattle.nfit_reader.specs.declared.table.Mapping.{Mapping}
 use Rattle.arena_open.specs.Format.{format_count}
@@ -56,7 +57,7 @@ lasts_none fuse a long = ap (λ (n : ℕ). lasts fuse n) (let e : a + 0 ≡ a = 
 
 -- ---- on sets
 
-module _ (new : NewSectors) (power : Power) (loaded : ImageSet) (outcome : Outcome) (sets : List (List Mapping)) (are : sets_in loaded ≡ Ok sets) where
+module _ (leaves : ℕ → List (Option Words) → List (Option (List ℕ)) → Type 0) (new : NewSectors) (power : Power) (loaded : ImageSet) (outcome : Outcome) (sets : List (List Mapping)) (are : sets_in loaded ≡ Ok sets) where
   abbrev seen : List (Option Area)
   seen = areas_in loaded.labels
 
@@ -109,13 +110,13 @@ module _ (new : NewSectors) (power : Power) (loaded : ImageSet) (outcome : Outco
       create_refused sets are (short_is true (ap (lasts power.steps) (steps_are (Some f) some) ∙ lasts_none power.steps first one)) (refuses_is (Some f) some) (ending_of outcome (refused_outcome f) said)
 
   goes_case : (b : Bool) → lasts power.steps first ≡ b
-      → MatchBool b (OnRecovered ns loaded mid (burnt power.steps first) new power outcome) (IsCut loaded seen (recovery_changes sets seen) power outcome) → CreateCase new power loaded outcome
+      → MatchBool b (OnRecovered ns loaded mid (burnt power.steps first) new power outcome) (IsCut leaves loaded seen (recovery_changes sets seen) power outcome) → CreateCase new power loaded outcome
   goes_case true one recovered = recovered_case (refused_on sets seen new) refl one recovered
   goes_case false short cut = create_cut sets are (short_is false (short_first power.steps first (own_steps ns mid new (refused_on sets seen new)) short)) cut.saves.ends
 
-sets_case : (new : NewSectors) (power : Power) (loaded : ImageSet) (outcome : Outcome) (found : Result (List (List Mapping)) OpenFault) → sets_in loaded ≡ found → OnSets loaded new power found outcome → CreateCase new power loaded outcome
-sets_case new power loaded outcome (Ok sets) are goes = goes_case new power loaded outcome sets are (lasts power.steps (steps_of_all (areas_in loaded.labels) (recovery_changes sets (areas_in loaded.labels)))) refl goes
-sets_case new power loaded outcome (Err fault) are said = create_faulty fault are (ending_of outcome (open_outcome fault) said)
+sets_case : (leaves : ℕ → List (Option Words) → List (Option (List ℕ)) → Type 0) (new : NewSectors) (power : Power) (loaded : ImageSet) (outcome : Outcome) (found : Result (List (List Mapping)) OpenFault) → sets_in loaded ≡ found → OnSets leaves loaded new power found outcome → CreateCase new power loaded outcome
+sets_case leaves new power loaded outcome (Ok sets) are goes = goes_case leaves new power loaded outcome sets are (lasts power.steps (steps_of_all (areas_in loaded.labels) (recovery_changes sets (areas_in loaded.labels)))) refl goes
+sets_case leaves new power loaded outcome (Err fault) are said = create_faulty fault are (ending_of outcome (open_outcome fault) said)
 
-pub create_case : (new : NewSectors) (power : Power) (loaded : ImageSet) (outcome : Outcome) → SectorsCome new power loaded outcome → CreateCase new power loaded outcome
-create_case new power loaded outcome comes = sets_case new power loaded outcome (sets_in loaded) refl comes
+pub create_case : (leaves : ℕ → List (Option Words) → List (Option (List ℕ)) → Type 0) (new : NewSectors) (power : Power) (loaded : ImageSet) (outcome : Outcome) → SectorsCome leaves new power loaded outcome → CreateCase new power loaded outcome
+create_case leaves new power loaded outcome comes = sets_case leaves new power loaded outcome (sets_in loaded) refl comes

@@ -4,30 +4,28 @@ use Rattle.std.specs.Prelude.{MatchBool}
 use Rattle.std.proofs.lemmas.Bool.{false≢true}
 use Rattle.nvd_media.specs.Images.{Images}
 use Rattle.nfit_reader.specs.declared.table.Mapping.{Mapping}
+use Rattle.cut_words.specs.Words.{Words}
 use Rattle.cut_words.specs.Fuses.{lasts}
 use Rattle.namespace_areas.specs.declared.area.Area.{Area}
 use Rattle.namespace_map.specs.declared.commands.Command.{Command}
 use Rattle.namespace_map.specs.declared.refused.OpRefused.{OpRefused}
 use Rattle.namespace_map.specs.Areas.{Area as SeenArea, Change, all_changed, steps_of_all}
 use Rattle.namespace_map.specs.Changes.{namespaces_of, changes_of, recovery_changes, recovered_areas}
-use Rattle.namespace_areas.specs.Seen.{areas_seen, areas_shown, AreLeft}
+use Rattle.namespace_areas.specs.Seen.{areas_seen, words_of, AreLeft}
 use Rattle.namespace_areas.specs.Opening.{opened_as}
 use Rattle.namespace_areas.specs.Went.{Went}
 use Rattle.namespace_areas.proofs.Seen.{left_shown}
 use Rattle.namespace_areas.proofs.Went.{went_both, went_cut}
-use Rattle.image_set.specs.declared.loading.Loaded.{Loaded}
-use Rattle.image_set.specs.Load.{image_set_in}
+use Rattle.image_set.specs.Load.{ImageSet}
 use Rattle.shell_reports.specs.declared.status.Ending.{Ending}
 use Rattle.shell_reports.specs.declared.status.Ending.TheVariants as ending
 use Rattle.shell_reports.specs.declared.power.Power.{Power}
 use Rattle.shell_reports.specs.Outcome.{Outcome}
 use Rattle.shell_reports.specs.Saved.{IsSaving}
 use Rattle.shell_reports.specs.Cut.{cut_text, done_text}
-use Rattle.shell_changes.specs.Areas.{HasAreas}
 use Rattle.shell_changes.specs.Refusals.{refused_outcome}
-use Rattle.shell_changes.specs.Rest.{objects_with}
 use Rattle.shell_changes.specs.Namespaces.{IsDone, IsCut, changes_by, Ends, Goes}
-use Rattle.shell_changes.proofs.Areas.{rest_of, has_areas}
+use Rattle.shell_changes.proofs.Areas.{IsSavedAs, has_rows}
 
 -- the steps of power that doesn't last
 short_of : (power : Option ℕ) (count : ℕ) → false ≡ lasts power count → (steps : ℕ) × (power ≡ Some steps)
@@ -38,47 +36,50 @@ short_of (Some steps) count short = (steps, refl)
 saving_itself : (e : Ending) (text : List ℕ) (set : Images) (outcome : Outcome) (s : IsSaving e text set outcome) → IsSaving e text s.saved outcome
 saving_itself e text set outcome s = record { ends = s.ends; says = s.says; saved = s.saved; saves = s.saves; same = λ o. refl }
 
-module _ (loaded : Loaded) (power : Power) where
+module _ (leaves : ℕ → List (Option Words) → List (Option (List ℕ)) → Type 0) (set : ImageSet) (words : List (Option Words)) (objects : List (Option (List ℕ)) → Images) (is : IsSavedAs set words objects) (power : Power) where
   -- the label areas as they were opened, and what they show
   abbrev opened : List Area
-  opened = map opened_as loaded.labels
+  opened = map opened_as words
 
   abbrev seen : List (Option SeenArea)
-  seen = areas_seen (map opened_as loaded.labels)
+  seen = areas_seen (map opened_as words)
 
   pub all_done : (news : List Area) (left : Option ℕ) (changes : List Change) (rows : List (Option (List ℕ))) (outcome : Outcome) → Went opened news power.steps left changes true → AreLeft news rows
-      → IsSaving ending.Done done_text (objects_with (rest_of loaded) rows) outcome → IsDone (image_set_in loaded) seen changes outcome
-  all_done news left changes rows outcome went kept s =
-      let shown : areas_shown rows ≡ all_changed seen changes = left_shown news rows (went.held refl) kept ∙ went.done refl in
-      record {
-        set = s.saved;
-        has = subst (λ (xs : List (Option SeenArea)). HasAreas (image_set_in loaded) xs s.saved) shown (has_areas loaded news rows s.saved went.beside went.sizes kept s.same);
-        saves = saving_itself ending.Done done_text (objects_with (rest_of loaded) rows) outcome s;
-      }
+      → IsSaving ending.Done done_text (objects rows) outcome → IsDone set seen changes outcome
+  all_done news left changes rows outcome went kept s = record {
+    rows = rows;
+    shown = left_shown news rows (went.held refl) kept ∙ went.done refl;
+    set = s.saved;
+    has = has_rows set words objects is news rows s.saved went.beside went.sizes kept s.same;
+    saves = saving_itself ending.Done done_text (objects rows) outcome s;
+  }
 
   pub all_cut : (news : List Area) (left : Option ℕ) (changes : List Change) (rows : List (Option (List ℕ))) (outcome : Outcome) → Went opened news power.steps left changes false → AreLeft news rows
-      → IsSaving ending.PowerCut (cut_text power.steps) (objects_with (rest_of loaded) rows) outcome → IsCut (image_set_in loaded) seen changes power outcome
-  all_cut news left changes rows outcome went kept s =
+      → leaves power.seed (map words_of news) rows → IsSaving ending.PowerCut (cut_text power.steps) (objects rows) outcome → IsCut leaves set seen changes power outcome
+  all_cut news left changes rows outcome went kept asked s =
       let short = short_of power.steps (steps_of_all seen changes) went.made in
       record {
         steps = short.0;
         given = short.1;
-        left = areas_shown rows;
-        leaves = went.cut short.0 short.1 rows kept;
+        words = map words_of news;
+        leave = λ rows' left_of. went.cut short.0 short.1 rows' left_of;
+        rows = rows;
+        asked = asked;
+        left_of = kept;
         set = s.saved;
-        has = has_areas loaded news rows s.saved went.beside went.sizes kept s.same;
-        saves = saving_itself ending.PowerCut (cut_text power.steps) (objects_with (rest_of loaded) rows) outcome s;
+        has = has_rows set words objects is news rows s.saved went.beside went.sizes kept s.same;
+        saves = saving_itself ending.PowerCut (cut_text power.steps) (objects rows) outcome s;
       }
 
-  goes_whole : (changes : List Change) (refusal : Option OpRefused) (outcome : Outcome) → true ≡ lasts power.steps (steps_of_all seen changes) → Ends (image_set_in loaded) seen changes refusal outcome
-      → Goes (image_set_in loaded) seen changes refusal power outcome
+  goes_whole : (changes : List Change) (refusal : Option OpRefused) (outcome : Outcome) → true ≡ lasts power.steps (steps_of_all seen changes) → Ends set seen changes refusal outcome
+      → Goes leaves set seen changes refusal power outcome
   goes_whole changes refusal outcome lasting ends =
-      subst (λ b. MatchBool b (Ends (image_set_in loaded) seen changes refusal outcome) (IsCut (image_set_in loaded) seen changes power outcome)) lasting ends
+      subst (λ b. MatchBool b (Ends set seen changes refusal outcome) (IsCut leaves set seen changes power outcome)) lasting ends
 
-  goes_cut : (changes : List Change) (refusal : Option OpRefused) (outcome : Outcome) → false ≡ lasts power.steps (steps_of_all seen changes) → IsCut (image_set_in loaded) seen changes power outcome
-      → Goes (image_set_in loaded) seen changes refusal power outcome
+  goes_cut : (changes : List Change) (refusal : Option OpRefused) (outcome : Outcome) → false ≡ lasts power.steps (steps_of_all seen changes) → IsCut leaves set seen changes power outcome
+      → Goes leaves set seen changes refusal power outcome
   goes_cut changes refusal outcome short cut =
-      subst (λ b. MatchBool b (Ends (image_set_in loaded) seen changes refusal outcome) (IsCut (image_set_in loaded) seen changes power outcome)) short cut
+      subst (λ b. MatchBool b (Ends set seen changes refusal outcome) (IsCut leaves set seen changes power outcome)) short cut
 
   module _ (sets : List (List Mapping)) (c : Command) where
     abbrev first : List Change
@@ -89,28 +90,28 @@ module _ (loaded : Loaded) (power : Power) where
 
     -- power was cut in recovery, whatever the command would come to
     pub cut_in_recovery : (news : List Area) (left : Option ℕ) (rows : List (Option (List ℕ))) (outcome : Outcome) (refusal : Option OpRefused) → Went opened news power.steps left first false
-        → AreLeft news rows → IsSaving ending.PowerCut (cut_text power.steps) (objects_with (rest_of loaded) rows) outcome
-        → Goes (image_set_in loaded) seen (changes_by sets seen c refusal) refusal power outcome
-    cut_in_recovery news left rows outcome None went kept s =
+        → AreLeft news rows → leaves power.seed (map words_of news) rows → IsSaving ending.PowerCut (cut_text power.steps) (objects rows) outcome
+        → Goes leaves set seen (changes_by sets seen c refusal) refusal power outcome
+    cut_in_recovery news left rows outcome None went kept asked s =
         let all = went_cut opened news power.steps left first own went in
-        goes_cut (first ++ own) None outcome all.made (all_cut news left (first ++ own) rows outcome all kept s)
-    cut_in_recovery news left rows outcome (Some f) went kept s = goes_cut first (Some f) outcome went.made (all_cut news left first rows outcome went kept s)
+        goes_cut (first ++ own) None outcome all.made (all_cut news left (first ++ own) rows outcome all kept asked s)
+    cut_in_recovery news left rows outcome (Some f) went kept asked s = goes_cut first (Some f) outcome went.made (all_cut news left first rows outcome went kept asked s)
 
     -- the command was refused
     pub refused_after : (mid : List Area) (left : Option ℕ) (f : OpRefused) (outcome : Outcome) → Went opened mid power.steps left first true → outcome ≡ refused_outcome f
-        → Goes (image_set_in loaded) seen (changes_by sets seen c (Some f)) (Some f) power outcome
+        → Goes leaves set seen (changes_by sets seen c (Some f)) (Some f) power outcome
     refused_after mid left f outcome went is = goes_whole first (Some f) outcome went.made is
 
     -- it was carried out to its end
     pub done_after : (mid news : List Area) (left last : Option ℕ) (rows : List (Option (List ℕ))) (outcome : Outcome) → Went opened mid power.steps left first true → Went mid news left last own true
-        → AreLeft news rows → IsSaving ending.Done done_text (objects_with (rest_of loaded) rows) outcome → Goes (image_set_in loaded) seen (changes_by sets seen c None) None power outcome
+        → AreLeft news rows → IsSaving ending.Done done_text (objects rows) outcome → Goes leaves set seen (changes_by sets seen c None) None power outcome
     done_after mid news left last rows outcome one two kept s =
         let all = went_both opened mid news power.steps left last first own true one two in
         goes_whole (first ++ own) None outcome all.made (all_done news last (first ++ own) rows outcome all kept s)
 
     -- power was cut in it
     pub cut_after : (mid news : List Area) (left last : Option ℕ) (rows : List (Option (List ℕ))) (outcome : Outcome) → Went opened mid power.steps left first true → Went mid news left last own false
-        → AreLeft news rows → IsSaving ending.PowerCut (cut_text power.steps) (objects_with (rest_of loaded) rows) outcome → Goes (image_set_in loaded) seen (changes_by sets seen c None) None power outcome
-    cut_after mid news left last rows outcome one two kept s =
+        → AreLeft news rows → leaves power.seed (map words_of news) rows → IsSaving ending.PowerCut (cut_text power.steps) (objects rows) outcome → Goes leaves set seen (changes_by sets seen c None) None power outcome
+    cut_after mid news left last rows outcome one two kept asked s =
         let all = went_both opened mid news power.steps left last first own false one two in
-        goes_cut (first ++ own) None outcome all.made (all_cut news last (first ++ own) rows outcome all kept s)
+        goes_cut (first ++ own) None outcome all.made (all_cut news last (first ++ own) rows outcome all kept asked s)

@@ -27,12 +27,13 @@ use Rattle.shell_reports.specs.Cut.{cut_text, done_text}
 use Rattle.shell_changes.specs.declared.saving.Rest.{Rest}
 use Rattle.shell_changes.specs.Refusals.{refused_outcome}
 use Rattle.shell_changes.specs.SectorGoing.{GoesFrom, GoesOn, IsSavedWith}
+use Rattle.shell_changes.proofs.Carried.{moved_went}
 
 pub if_three : {A E : Type 0} (P Q R S : A → Type 0) (r : Result A E) → ((x : A) → P x → Q x → R x → S x) → IfOk r P → IfOk r Q → IfOk r R → IfOk r S
 if_three P Q R S (Ok x) all p q s = all x p q s
 if_three P Q R S (Err e) all p q s = tt
 
-err_same : (f g : OpRefused) → ◌≡◌ {A = Result (Unit {0}) OpRefused} (Err f) (Err g) → f ≡ g
+pub err_same : (f g : OpRefused) → ◌≡◌ {A = Result (Unit {0}) OpRefused} (Err f) (Err g) → f ≡ g
 err_same f g e = let e' = e in cc
 
 -- a set is saved with the words that are handed on, whatever others the rest has
@@ -112,19 +113,11 @@ module _ (sets : List (List Mapping)) (areas news : List Area) (rows rows' : Lis
 
 -- ---- behind recovery
 
-moved_went : (a a' mid : List Area) (f f' left : Option ℕ) (s s' : List (List Mapping)) (b b' : Bool) → a ≡ a' → f ≡ f' → s ≡ s' → b ≡ b'
-    → Went a mid f left (recovery_changes s (areas_seen a)) b → Went a' mid f' left (recovery_changes s' (areas_seen a')) b'
-moved_went a a' mid f f' left s s' b b' p q u v went =
-    subst (λ (x : List Area). Went x mid f' left (recovery_changes s' (areas_seen x)) b') p
-    (subst (λ (x : Option ℕ). Went a mid x left (recovery_changes s' (areas_seen a)) b') q
-    (subst (λ (x : List (List Mapping)). Went a mid f left (recovery_changes x (areas_seen a)) b') u
-    (subst (λ (x : Bool). Went a mid f left (recovery_changes s (areas_seen a)) x) v went)))
-
-pub goes_then : (rest : Rest) (power : Power) (sets held : List (List Mapping)) (areas a mid : List Area) (f left : Option ℕ) (now : List (List Mapping)) (new : NewSectors) (outcome : Outcome) (b : Bool)
+pub goes_then : (leaves : ℕ → List (Option Words) → List (Option (List ℕ)) → Type 0) (rest : Rest) (power : Power) (sets held : List (List Mapping)) (areas a mid : List Area) (f left : Option ℕ) (now : List (List Mapping)) (new : NewSectors) (outcome : Outcome) (b : Bool)
     → a ≡ areas → f ≡ power.steps → held ≡ sets → now ≡ held → b ≡ true → Went a mid f left (recovery_changes held (areas_seen a)) b
     → ((g : OpRefused) → refusal_for now mid new ≡ Some g → outcome ≡ refused_outcome g) → (refusal_for now mid new ≡ None → GoesOn rest power now mid left new outcome)
-    → GoesFrom rest power sets areas new outcome
-goes_then rest power sets held areas a mid f left now new outcome b p q u w v went refused on = inr (record {
+    → GoesFrom leaves rest power sets areas new outcome
+goes_then leaves rest power sets held areas a mid f left now new outcome b p q u w v went refused on = inr (record {
   mid = mid;
   left = left;
   first = moved_went a areas mid f power.steps left held sets b true p q u v went;

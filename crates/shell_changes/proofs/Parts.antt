@@ -18,10 +18,9 @@ use Rattle.shell_reports.specs.declared.power.Power.{Power}
 use Rattle.shell_reports.specs.Outcome.{Outcome}
 use Rattle.shell_reports.specs.Saved.{IsSaving}
 use Rattle.shell_reports.specs.Labels.{module_outcome}
-use Rattle.image_set.specs.declared.changing.OutlineLeft.{OutlineLeft}
-use Rattle.shell_changes.specs.declared.answer.InitAnswer.{InitAnswer}
+use Rattle.shell_changes.specs.declared.answer.Answer.{Answer}
 use Rattle.shell_changes.specs.Init.{InitArea, InitModule, RefusedArea, not_initialised}
-use Rattle.shell_changes.specs.Outlined.{HasSizes, outcome_with}
+use Rattle.shell_changes.specs.Answers.{outcome_with}
 use Rattle.shell_reports.specs.Cut.{cut_text, done_text}
 
 -- a place where something stands is inside
@@ -50,7 +49,7 @@ pub area_settled : (values : List ℕ) (fuse : Option ℕ) (area : AreaState) �
 area_settled values fuse area is = settled_by values fuse area (block_in (bytes_of values)) (sym is)
 
 -- a fault that isn't a power cut
-pub kept_is : (leaves : ℕ → Words → List ℕ → Type 0) (m : ℕ) (power : Power) (loaded : ImageSet) (words : Words) (outcome : Outcome) (fault : AreaFault) → fault ≢ PowerCut
+pub kept_is : (leaves : ℕ → List (Option Words) → List (Option (List ℕ)) → Type 0) (m : ℕ) (power : Power) (loaded : ImageSet) (words : Words) (outcome : Outcome) (fault : AreaFault) → fault ≢ PowerCut
     → outcome ≡ not_initialised m fault → RefusedArea leaves m power loaded words fault outcome
 kept_is leaves m power loaded words outcome (Unsupported major minor) other is = is
 kept_is leaves m power loaded words outcome NoIndex other is = is
@@ -66,15 +65,11 @@ kept_saves_none m OutOfMemory = refl
 kept_saves_none m (AlreadyInitialised seq) = refl
 kept_saves_none m PowerCut = refl
 
--- where nothing is saved, any sizes will do
-pub no_sizes : (sizes : List ℕ) (answer : InitAnswer) → answer.saved ≡ None → HasSizes sizes answer
-no_sizes sizes answer none = subst (λ (saved : Option OutlineLeft). IfSome saved (λ left. left.sizes ≡ sizes)) (sym none) tt
-
 -- ---- what was answered, by what was found
 
 -- a set of which any contents may be copied
-module _ (leaves : ℕ → Words → List ℕ → Type 0) (m : ℕ) (power : Power) (set : List (List ℕ) → ImageSet) where
-  pub told_ok : {E : Type 0} (r : Result InitAnswer E) (words : Words) (area : AreaState) (found due : Result AreaState AreaRefused)
+module _ (leaves : ℕ → List (Option Words) → List (Option (List ℕ)) → Type 0) (m : ℕ) (power : Power) (set : List (List ℕ) → ImageSet) where
+  pub told_ok : {E : Type 0} (r : Result Answer E) (words : Words) (area : AreaState) (found due : Result AreaState AreaRefused)
       → found ≡ Ok area → (found ≢ Err (record { words = words; fault = OutOfMemory }) → found ≡ due)
       → IfOk r (λ answer. (contents : List (List ℕ)) → IsSaving ending.Done done_text (objects_of (with_area (set contents) m (bytes_of area.words.kept))) (outcome_with answer contents))
       → IfOk r (λ answer. (contents : List (List ℕ)) → InitArea leaves m power (set contents) due (outcome_with answer contents))
@@ -82,7 +77,7 @@ module _ (leaves : ℕ → Words → List ℕ → Type 0) (m : ℕ) (power : Pow
       let same : Ok area ≡ due = sym is ∙ told (λ wanting. (let e = sym is ∙ wanting in cc)) in
       subst (λ (d : Result AreaState AreaRefused). IfOk r (λ answer. (contents : List (List ℕ)) → InitArea leaves m power (set contents) d (outcome_with answer contents))) same said
 
-  pub told_err : {E : Type 0} (r : Result InitAnswer E) (words : Words) (refused : AreaRefused) (found due : Result AreaState AreaRefused)
+  pub told_err : {E : Type 0} (r : Result Answer E) (words : Words) (refused : AreaRefused) (found due : Result AreaState AreaRefused)
       → found ≡ Err refused → (found ≢ Err (record { words = words; fault = OutOfMemory }) → found ≡ due)
       → IfOk r (λ answer. (contents : List (List ℕ)) → RefusedArea leaves m power (set contents) refused.words refused.fault (outcome_with answer contents)) → IfOk r (λ _. refused.fault ≢ OutOfMemory)
       → IfOk r (λ answer. (contents : List (List ℕ)) → InitArea leaves m power (set contents) due (outcome_with answer contents))
@@ -91,7 +86,7 @@ module _ (leaves : ℕ → Words → List ℕ → Type 0) (m : ℕ) (power : Pow
       subst (λ (d : Result AreaState AreaRefused). (contents : List (List ℕ)) → InitArea leaves m power (set contents) d (outcome_with answer contents)) same said
   told_err (Err e) words refused found due is told said finding = tt
 
-module _ (leaves : ℕ → Words → List ℕ → Type 0) (m : ℕ) (power : Power) (loaded : ImageSet) where
+module _ (leaves : ℕ → List (Option Words) → List (Option (List ℕ)) → Type 0) (m : ℕ) (power : Power) (loaded : ImageSet) where
   -- of a module that has an area
   pub module_some : (outcome : Outcome) (found : Option (List ℕ)) (words : Words) → Some (bytes_kept words) ≡ found
       → InitArea leaves m power loaded (initialised words.kept power.steps) outcome → InitModule leaves m power loaded found outcome

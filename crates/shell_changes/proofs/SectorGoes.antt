@@ -40,7 +40,8 @@ use Rattle.shell_reports.specs.List.{open_outcome}
 use Rattle.shell_changes.specs.Areas.{HasAreas}
 use Rattle.shell_changes.specs.Namespaces.{IsCut}
 use Rattle.shell_changes.specs.Refusals.{refused_outcome}
-use Rattle.shell_changes.proofs.Areas.{has_areas, rest_of}
+use Rattle.shell_changes.specs.Rest.{objects_with}
+use Rattle.shell_changes.proofs.Areas.{has_areas, loaded_as, rest_of}
 use Rattle.shell_changes.proofs.Ends.{all_cut}
 use Rattle.shell_changes.proofs.Goes.{labels_are, sets_err, sets_ok}
 use Rattle.shell_changes.proofs.Regions.{was_opened}
@@ -83,7 +84,11 @@ short_of (Some steps) count short = (steps, refl)
 saving_itself : (e : Ending) (text : List ℕ) (outcome : Outcome) (set : _) (s : IsSaving e text set outcome) → IsSaving e text s.saved outcome
 saving_itself e text outcome set s = record { ends = s.ends; says = s.says; saved = s.saved; saves = s.saves; same = λ o. refl }
 
-module _ (loaded : Loaded) (power : Power) (outcome : Outcome) where
+nfit_is : (loaded : Loaded) → (image_set_in loaded).nfit ≡ loaded.nfit
+unfolding image_set_in
+nfit_is loaded = refl
+
+module _ (leaves : ℕ → List (Option Words) → List (Option (List ℕ)) → Type 0) (loaded : Loaded) (power : Power) (outcome : Outcome) where
   abbrev opened : List Area
   opened = map opened_as loaded.labels
 
@@ -97,7 +102,7 @@ module _ (loaded : Loaded) (power : Power) (outcome : Outcome) where
     set = s.saves.saved;
     has = subst (λ (l : ImageSet). HasAreas l areas s.saves.saved) (contents_with loaded s.rows)
         (subst (λ (xs : List (Option SeenArea)). HasAreas (image_set_in (loaded_with loaded s.rows)) xs s.saves.saved) shown
-        (has_areas (loaded_with loaded s.rows) news s.labels s.saves.saved beside sizes s.kept s.saves.same));
+        (has_areas (image_set_in (loaded_with loaded s.rows)) loaded.labels (objects_with (rest_of (loaded_with loaded s.rows))) (loaded_as (loaded_with loaded s.rows)) news s.labels s.saves.saved beside sizes s.kept s.saves.same));
     saves = saving_itself e text outcome _ s.saves;
   }
 
@@ -223,27 +228,29 @@ module _ (loaded : Loaded) (power : Power) (outcome : Outcome) where
         by (Some f) some = g.refused f (same ∙ some)
         by None none = subst (λ (f : Option ℕ). Makes ns (image_set_in loaded) mid_seen f new power outcome) g.first.left_is (makes g.mid g.left g.first (g.went (same ∙ none)))
 
-    pub goes : GoesFrom (rest_of loaded) power sets opened new outcome → Goes sets (image_set_in loaded) seen new power outcome
+    pub goes : GoesFrom leaves (rest_of loaded) power sets opened new outcome → Goes leaves sets (image_set_in loaded) seen new power outcome
     goes (inl s) =
-        subst (λ (b : Bool). MatchBool b (OnRecovered ns (image_set_in loaded) mid_seen (burnt power.steps (steps_of_all seen (recovery_changes sets seen))) new power outcome) (IsCut (image_set_in loaded) seen (recovery_changes sets seen) power outcome)) s.went.made
-        (all_cut loaded power s.news s.left (recovery_changes sets seen) s.rows outcome s.went s.kept s.cut)
+        subst (λ (b : Bool). MatchBool b (OnRecovered ns (image_set_in loaded) mid_seen (burnt power.steps (steps_of_all seen (recovery_changes sets seen))) new power outcome) (IsCut leaves (image_set_in loaded) seen (recovery_changes sets seen) power outcome)) s.went.made
+        (all_cut leaves (image_set_in loaded) loaded.labels (objects_with (rest_of loaded)) (loaded_as loaded) power s.news s.left (recovery_changes sets seen) s.rows outcome s.went s.kept s.asked s.cut)
     goes (inr g) =
-        subst (λ (b : Bool). MatchBool b (OnRecovered ns (image_set_in loaded) mid_seen (burnt power.steps (steps_of_all seen (recovery_changes sets seen))) new power outcome) (IsCut (image_set_in loaded) seen (recovery_changes sets seen) power outcome)) g.first.made
+        subst (λ (b : Bool). MatchBool b (OnRecovered ns (image_set_in loaded) mid_seen (burnt power.steps (steps_of_all seen (recovery_changes sets seen))) new power outcome) (IsCut leaves (image_set_in loaded) seen (recovery_changes sets seen) power outcome)) g.first.made
         (recovered g)
 
 -- ---- the whole command
 
 -- a registry that is opened, and the command on what it holds
-pub comes : (loaded : Loaded) (power : Power) (new : NewSectors) (outcome : Outcome) (registry : Opened) → All IsContents loaded.contents → AreWhole loaded.labels
-    → Ok registry ≡ opening loaded.nfit (map opened_as loaded.labels) → GoesFrom (rest_of loaded) power registry.sets registry.areas new outcome → SectorsCome new power (image_set_in loaded) outcome
-comes loaded power new outcome registry sound whole is from =
+pub comes : (leaves : ℕ → List (Option Words) → List (Option (List ℕ)) → Type 0) (loaded : Loaded) (power : Power) (new : NewSectors) (outcome : Outcome) (registry : Opened) → All IsContents loaded.contents → AreWhole loaded.labels
+    → Ok registry ≡ opening loaded.nfit (map opened_as loaded.labels) → GoesFrom leaves (rest_of loaded) power registry.sets registry.areas new outcome → SectorsCome leaves new power (image_set_in loaded) outcome
+comes leaves loaded power new outcome registry sound whole is from =
     let was = was_opened loaded.nfit (map opened_as loaded.labels) registry is in
-    let from' : GoesFrom (rest_of loaded) power registry.sets (map opened_as loaded.labels) new outcome = subst (λ (xs : List Area). GoesFrom (rest_of loaded) power registry.sets xs new outcome) (sym was.areas_are) from in
-    subst (λ (r : Result (List (List Mapping)) OpenFault). OnSets (image_set_in loaded) new power r outcome) (sym (sets_ok loaded registry whole is))
-    (subst (λ (xs : List (Option SeenArea)). Goes registry.sets (image_set_in loaded) xs new power outcome) (labels_are loaded) (goes loaded power outcome registry.sets new sound from'))
+    let from' : GoesFrom leaves (rest_of loaded) power registry.sets (map opened_as loaded.labels) new outcome = subst (λ (xs : List Area). GoesFrom leaves (rest_of loaded) power registry.sets xs new outcome) (sym was.areas_are) from in
+    subst (λ (r : Result (List (List Mapping)) OpenFault). OnSets leaves (image_set_in loaded) new power r outcome) (sym (sets_ok (image_set_in loaded) loaded.labels loaded.nfit (loaded_as loaded).labels (nfit_is loaded) registry whole is))
+    (subst (λ (xs : List (Option SeenArea)). Goes leaves registry.sets (image_set_in loaded) xs new power outcome) (labels_are (image_set_in loaded) loaded.labels loaded.nfit (loaded_as loaded).labels (nfit_is loaded))
+    (goes leaves loaded power outcome registry.sets new sound from'))
 
 -- one that isn't
-pub comes_not : (loaded : Loaded) (power : Power) (new : NewSectors) (outcome : Outcome) (f : OpenFault) → AreWhole loaded.labels → Err f ≡ opening loaded.nfit (map opened_as loaded.labels)
-    → outcome ≡ open_outcome f → SectorsCome new power (image_set_in loaded) outcome
-comes_not loaded power new outcome f whole is said =
-    subst (λ (r : Result (List (List Mapping)) OpenFault). OnSets (image_set_in loaded) new power r outcome) (sym (sets_err loaded f whole is)) said
+pub comes_not : (leaves : ℕ → List (Option Words) → List (Option (List ℕ)) → Type 0) (loaded : Loaded) (power : Power) (new : NewSectors) (outcome : Outcome) (f : OpenFault) → AreWhole loaded.labels → Err f ≡ opening loaded.nfit (map opened_as loaded.labels)
+    → outcome ≡ open_outcome f → SectorsCome leaves new power (image_set_in loaded) outcome
+comes_not leaves loaded power new outcome f whole is said =
+    subst (λ (r : Result (List (List Mapping)) OpenFault). OnSets leaves (image_set_in loaded) new power r outcome)
+    (sym (sets_err (image_set_in loaded) loaded.labels loaded.nfit (loaded_as loaded).labels (nfit_is loaded) f whole is)) said

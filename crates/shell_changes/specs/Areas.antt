@@ -2,6 +2,7 @@
 use Rattle.std.specs.Prelude.{◌≡◌, ℕ, List, map, length, slice_index_or, Option, Some, None, Result, Ok, Err}
 use Rattle.std.specs.Option.{option_map}
 use Rattle.nvd_media.specs.Images.{Images, IsSameSet}
+use Rattle.cut_words.specs.WordBytes.{bytes_of}
 use Rattle.label_index.specs.declared.index.IndexBlock.{IndexBlock}
 use Rattle.label_area.specs.declared.fault.AreaFault.{AreaFault}
 use Rattle.label_area.specs.Area.{block_in, slots_by}
@@ -34,3 +35,10 @@ pub record HasAreas (loaded : ImageSet) (areas : List (Option Area)) (saved : Im
   pub unread : (m : ℕ) → area_in (slice_index_or loaded.labels m None) ≡ None → slice_index_or labels m None ≡ slice_index_or loaded.labels m None
   pub sizes : map (option_map length) labels ≡ map (option_map length) loaded.labels
   pub objects : IsSameSet saved (objects_of (with_labels loaded labels))
+
+-- A set that is saved is the one that was loaded, but that its label areas are these rows of words: an area that isn't read is as it
+-- was, each has its size, and all other objects are as they were.
+pub record HasRows (loaded : ImageSet) (rows : List (Option (List ℕ))) (saved : Images) : Type 0 where
+  pub unread : (m : ℕ) → area_in (slice_index_or loaded.labels m None) ≡ None → slice_index_or (map (option_map bytes_of) rows) m None ≡ slice_index_or loaded.labels m None
+  pub sizes : map (option_map length) (map (option_map bytes_of) rows) ≡ map (option_map length) loaded.labels
+  pub objects : IsSameSet saved (objects_of (with_labels loaded (map (option_map bytes_of) rows)))

@@ -25,21 +25,21 @@ not_initialised m fault = fault_outcome m fault
 -- ---- what the command comes to
 
 -- where the area is refused, with the words that it then has: they are saved where power was cut, as the cut leaves them
-abbrev pub RefusedArea : (ℕ → Words → List ℕ → Type 0) → ℕ → Power → ImageSet → Words → AreaFault → Outcome → Type 0
+abbrev pub RefusedArea : (ℕ → List (Option Words) → List (Option (List ℕ)) → Type 0) → ℕ → Power → ImageSet → Words → AreaFault → Outcome → Type 0
 RefusedArea leaves m power loaded words PowerCut outcome =
-    (left : List ℕ) × leaves power.seed words left × IsSaving ending.PowerCut (cut_text power.steps) (objects_of (with_area loaded m (bytes_of left))) outcome
+    (left : List ℕ) × leaves power.seed (Some words ∷ []) (Some left ∷ []) × IsSaving ending.PowerCut (cut_text power.steps) (objects_of (with_area loaded m (bytes_of left))) outcome
 RefusedArea leaves m power loaded words fault outcome = outcome ≡ not_initialised m fault
 
-abbrev pub InitArea : (ℕ → Words → List ℕ → Type 0) → ℕ → Power → ImageSet → Result AreaState AreaRefused → Outcome → Type 0
+abbrev pub InitArea : (ℕ → List (Option Words) → List (Option (List ℕ)) → Type 0) → ℕ → Power → ImageSet → Result AreaState AreaRefused → Outcome → Type 0
 InitArea leaves m power loaded (Ok area) outcome = IsSaving ending.Done done_text (objects_of (with_area loaded m (bytes_of area.words.kept))) outcome
 InitArea leaves m power loaded (Err refused) outcome = RefusedArea leaves m power loaded refused.words refused.fault outcome
 
 -- by the module's label area; there is none where the table doesn't name the module, or it has no area
-abbrev pub InitModule : (ℕ → Words → List ℕ → Type 0) → ℕ → Power → ImageSet → Option (List ℕ) → Outcome → Type 0
+abbrev pub InitModule : (ℕ → List (Option Words) → List (Option (List ℕ)) → Type 0) → ℕ → Power → ImageSet → Option (List ℕ) → Outcome → Type 0
 InitModule leaves m power loaded None outcome = outcome ≡ module_outcome m None
 InitModule leaves m power loaded (Some area) outcome =
     (values : List ℕ) × (bytes_of values ≡ area) × InitArea leaves m power loaded (initialised values power.steps) outcome
 
 -- what `init M` may come to on a set that is loaded, whose label areas have a label area's size
-abbrev pub InitComes : (ℕ → Words → List ℕ → Type 0) → ℕ → Power → ImageSet → Outcome → Type 0
+abbrev pub InitComes : (ℕ → List (Option Words) → List (Option (List ℕ)) → Type 0) → ℕ → Power → ImageSet → Outcome → Type 0
 InitComes leaves m power loaded outcome = InitModule leaves m power loaded (area_of loaded m) outcome

@@ -3,7 +3,10 @@ use Rattle.std.specs.Prelude.{◌≡◌, ℕ, Bool, List, [], ◌∷◌, ◌++�
 use Rattle.nvd_media.specs.Images.{Images}
 use Rattle.nvd_words.specs.Checks.{first_fault, value_unless}
 use Rattle.nfit_reader.specs.declared.table.Mapping.{Mapping}
+use Rattle.cut_words.specs.Words.{Words}
 use Rattle.cut_words.specs.Fuses.{lasts}
+use Rattle.power_cut.specs.Left.{Each, IsLeftOf}
+use Rattle.namespace_areas.specs.Seen.{areas_shown}
 use Rattle.namespace_map.specs.declared.commands.Command.{Command}
 use Rattle.namespace_map.specs.declared.refused.OpRefused.{OpRefused}
 use Rattle.namespace_map.specs.Areas.{Area, Change, all_changed, steps_of_all, IsLeftBy}
@@ -18,7 +21,7 @@ use Rattle.shell_reports.specs.Outcome.{Outcome}
 use Rattle.shell_reports.specs.Saved.{IsSaving}
 use Rattle.shell_reports.specs.Cut.{cut_text, done_text}
 use Rattle.shell_reports.specs.List.{open_outcome}
-use Rattle.shell_changes.specs.Areas.{areas_in, HasAreas}
+use Rattle.shell_changes.specs.Areas.{areas_in, HasRows}
 use Rattle.shell_changes.specs.Refusals.{refused_outcome}
 
 -- the interleave sets of a set whose namespaces can be told, or the first fault: a region that is no interleave set; extents of two
@@ -26,20 +29,27 @@ use Rattle.shell_changes.specs.Refusals.{refused_outcome}
 abbrev pub sets_in : ImageSet → Result (List (List Mapping)) OpenFault
 sets_in loaded = value_unless (sets_of loaded.nfit) (first_fault (set_fault_from 0 loaded.nfit.regions ∷ overlap_fault (placed_in_all (areas_in loaded.labels)) ∷ []))
 
--- all changes are made: the set is saved with the areas that they make
+-- all changes are made: the set is saved with areas that show what they make
 pub record IsDone (loaded : ImageSet) (areas : List (Option Area)) (changes : List Change) (outcome : Outcome) : Type 0 where
+  pub rows : List (Option (List ℕ))
+  pub shown : areas_shown rows ≡ all_changed areas changes
   pub set : Images
-  pub has : HasAreas loaded (all_changed areas changes) set
+  pub has : HasRows loaded rows set
   pub saves : IsSaving ending.Done done_text set outcome
 
--- power is cut within changes: the set is saved with what the cut leaves of the areas
-pub record IsCut (loaded : ImageSet) (areas : List (Option Area)) (changes : List Change) (power : Power) (outcome : Outcome) : Type 0 where
+-- power is cut within changes: the set is saved with what the chooser leaves of the areas' words
+pub record IsCut (leaves : ℕ → List (Option Words) → List (Option (List ℕ)) → Type 0) (loaded : ImageSet) (areas : List (Option Area)) (changes : List Change) (power : Power) (outcome : Outcome) : Type 0 where
   pub steps : ℕ
   pub given : power.steps ≡ Some steps
-  pub left : List (Option Area)
-  pub leaves : IsLeftBy areas changes steps left
+  -- the areas' words then, of which whatever a cut leaves shows what a cut after so many steps leaves of the changes
+  pub words : List (Option Words)
+  pub leave : (rows : List (Option (List ℕ))) → Each IsLeftOf words rows → IsLeftBy areas changes steps (areas_shown rows)
+  -- what the chooser leaves of them
+  pub rows : List (Option (List ℕ))
+  pub asked : leaves power.seed words rows
+  pub left_of : Each IsLeftOf words rows
   pub set : Images
-  pub has : HasAreas loaded left set
+  pub has : HasRows loaded rows set
   pub saves : IsSaving ending.PowerCut (cut_text power.steps) set outcome
 
 -- the first reason for which a command is refused once recovery has made its changes
@@ -60,18 +70,19 @@ Ends loaded areas changes None outcome = IsDone loaded areas changes outcome
 Ends loaded areas changes (Some refused) outcome = outcome ≡ refused_outcome refused
 
 -- a command, by how long power lasts
-abbrev pub Goes : ImageSet → List (Option Area) → List Change → Option OpRefused → Power → Outcome → Type 0
-Goes loaded areas changes refusal power outcome =
-    MatchBool (lasts power.steps (steps_of_all areas changes)) (Ends loaded areas changes refusal outcome) (IsCut loaded areas changes power outcome)
+abbrev pub Goes : (ℕ → List (Option Words) → List (Option (List ℕ)) → Type 0) → ImageSet → List (Option Area) → List Change → Option OpRefused → Power → Outcome → Type 0
+Goes leaves loaded areas changes refusal power outcome =
+    MatchBool (lasts power.steps (steps_of_all areas changes)) (Ends loaded areas changes refusal outcome) (IsCut leaves loaded areas changes power outcome)
 
-abbrev pub OnSets : ImageSet → Command → Power → Result (List (List Mapping)) OpenFault → Outcome → Type 0
-OnSets loaded c power (Ok sets) outcome =
-    let areas = areas_in loaded.labels in Goes loaded areas (changes_in sets areas c) (refusal_in sets areas c) power outcome
-OnSets loaded c power (Err fault) outcome = outcome ≡ open_outcome fault
+abbrev pub OnSets : (ℕ → List (Option Words) → List (Option (List ℕ)) → Type 0) → ImageSet → Command → Power → Result (List (List Mapping)) OpenFault → Outcome → Type 0
+OnSets leaves loaded c power (Ok sets) outcome =
+    let areas = areas_in loaded.labels in Goes leaves loaded areas (changes_in sets areas c) (refusal_in sets areas c) power outcome
+OnSets leaves loaded c power (Err fault) outcome = outcome ≡ open_outcome fault
 
--- what a command on namespaces may come to on a set that is loaded, whose label areas have a label area's size
-abbrev pub CommandComes : Command → Power → ImageSet → Outcome → Type 0
-CommandComes c power loaded outcome = OnSets loaded c power (sets_in loaded) outcome
+-- What a command on namespaces may come to on a set that is loaded, whose label areas have a label area's size. `leaves` says what a
+-- power cut may leave of the words of all areas, by the number from which the chooser is begun.
+abbrev pub CommandComes : (ℕ → List (Option Words) → List (Option (List ℕ)) → Type 0) → Command → Power → ImageSet → Outcome → Type 0
+CommandComes leaves c power loaded outcome = OnSets leaves loaded c power (sets_in loaded) outcome
 
 -- ---- what the table of exit statuses asks
 

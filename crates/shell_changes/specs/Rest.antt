@@ -7,6 +7,8 @@ use Rattle.nvd_media.specs.Images.{Images}
 use Rattle.cut_words.specs.WordBytes.{bytes_of}
 use Rattle.image_set.specs.Load.{bytes_kept}
 use Rattle.image_set.specs.Sound.{IsContents}
+use Rattle.image_set.specs.declared.changing.OutlineRest.{OutlineRest}
+use Rattle.image_set.specs.Outline as outlined
 use Rattle.shell_changes.specs.declared.saving.Rest.{Rest}
 
 -- there is one of each for each module, and no word of the contents is pending
@@ -22,3 +24,7 @@ objects_with rest rows object.Nfit = Some rest.nfit_bytes
 objects_with rest rows (object.Labels m) = slice_index_or (map (option_map bytes_of) rows) m None
 objects_with rest rows (object.Contents m) = slice_get (map bytes_kept rest.contents) m
 objects_with rest rows (object.BadRanges m) = slice_index_or rest.bad m None
+
+-- the objects of a set whose contents are copied, with these rows of words as its label areas and these contents
+abbrev pub objects_by : OutlineRest → List (List ℕ) → List (Option (List ℕ)) → Images
+objects_by rest contents rows = outlined.objects_with (record { nfit = rest.nfit_bytes; labels = rows; sizes = rest.sizes; bad = rest.bad }) contents

@@ -49,5 +49,5 @@ pub record GoesThen (rest : Rest) (power : Power) (sets : List (List Mapping)) (
   pub went : refusal_for sets mid new ≡ None → GoesOn rest power sets mid left new outcome
 
 -- the command on areas over interleave sets, after recovery
-abbrev pub GoesFrom : Rest → Power → List (List Mapping) → List Area → NewSectors → Outcome → Type 0
-GoesFrom rest power sets areas new outcome = StopsFirst rest power sets areas outcome ⊎ GoesThen rest power sets areas new outcome
+abbrev pub GoesFrom : (ℕ → List (Option Words) → List (Option (List ℕ)) → Type 0) → Rest → Power → List (List Mapping) → List Area → NewSectors → Outcome → Type 0
+GoesFrom leaves rest power sets areas new outcome = StopsFirst leaves (objects_with rest) power sets areas outcome ⊎ GoesThen rest power sets areas new outcome

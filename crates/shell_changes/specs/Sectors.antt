@@ -77,19 +77,19 @@ OnRecovered ns loaded areas fuse new power outcome =
     MatchOption (refusal_of ns (command_for new)) (Makes ns loaded areas fuse new power outcome) (λ refused. outcome ≡ refused_outcome refused)
 
 -- recovery first, by whether power lasts for it
-abbrev pub Goes : List (List Mapping) → ImageSet → List (Option Area) → NewSectors → Power → Outcome → Type 0
-Goes sets loaded areas new power outcome =
+abbrev pub Goes : (ℕ → List (Option Words) → List (Option (List ℕ)) → Type 0) → List (List Mapping) → ImageSet → List (Option Area) → NewSectors → Power → Outcome → Type 0
+Goes leaves sets loaded areas new power outcome =
     MatchBool (lasts power.steps (steps_of_all areas (recovery_changes sets areas)))
     (OnRecovered (namespaces_of sets (recovered_areas sets areas)) loaded (recovered_areas sets areas) (burnt power.steps (steps_of_all areas (recovery_changes sets areas))) new power outcome)
-    (IsCut loaded areas (recovery_changes sets areas) power outcome)
+    (IsCut leaves loaded areas (recovery_changes sets areas) power outcome)
 
-abbrev pub OnSets : ImageSet → NewSectors → Power → Result (List (List Mapping)) OpenFault → Outcome → Type 0
-OnSets loaded new power (Ok sets) outcome = Goes sets loaded (areas_in loaded.labels) new power outcome
-OnSets loaded new power (Err fault) outcome = outcome ≡ open_outcome fault
+abbrev pub OnSets : (ℕ → List (Option Words) → List (Option (List ℕ)) → Type 0) → ImageSet → NewSectors → Power → Result (List (List Mapping)) OpenFault → Outcome → Type 0
+OnSets leaves loaded new power (Ok sets) outcome = Goes leaves sets loaded (areas_in loaded.labels) new power outcome
+OnSets leaves loaded new power (Err fault) outcome = outcome ≡ open_outcome fault
 
 -- what the command may come to on a set that is loaded
-abbrev pub SectorsCome : NewSectors → Power → ImageSet → Outcome → Type 0
-SectorsCome new power loaded outcome = OnSets loaded new power (sets_in loaded) outcome
+abbrev pub SectorsCome : (ℕ → List (Option Words) → List (Option (List ℕ)) → Type 0) → NewSectors → Power → ImageSet → Outcome → Type 0
+SectorsCome leaves new power loaded outcome = OnSets leaves loaded new power (sets_in loaded) outcome
 
 -- ---- what the table of exit statuses asks
 

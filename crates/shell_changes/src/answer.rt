@@ -1,47 +1,100 @@
-//! What `init` answers: an image set is saved with contents that are copied from where they are.
-ghost use Rattle.std.specs.Prelude.{◌≡◌, ◌≤◌, ℕ, List, None, Err};
+//! What a command answers, and the image set that it saves.
+ghost use Rattle.std.specs.Prelude.{◌≡◌, ◌≢◌, ◌≤◌, ℕ, List, Some, None, IfSome, IsTrue, OnOk, Err};
 ghost use Rattle.std.specs.Option.{ForSome};
 ghost use Rattle.nvd_media.specs.Causes.{Rose};
-ghost use Rattle.nvd_media.specs.Images.{IsEmptySet};
-ghost use Rattle.image_set.specs.Outline.{CopiesSet, HasContents, IsCopyable};
-ghost use Rattle.shell_reports.specs.Saved.{outcome_of};
-ghost use Rattle.shell_changes.specs.Outlined.{HasSizes, outcome_with};
+ghost use Rattle.nvd_media.specs.Images.{Becomes, IsEmptySet, IsUnfinished, Images};
+ghost use Rattle.image_set.specs.Changed.{IsSavable, objects_in};
+ghost use Rattle.image_set.specs.Outline.{HasContents, IsCopyable};
+ghost use Rattle.shell_reports.specs.Saved.{Saves, outcome_of};
+ghost use Rattle.shell_changes.specs.Answers.{outcome_with};
+ghost use Rattle.shell_changes.specs.Saved.{AreObjects, CanBeSaved, HasItsContents, is_copied};
 
-use image_set::{CopyFault, OutlineLeft};
+use image_set::{CopyFault, OutlineLeft, SaveFault, SetLeft};
 use nvd_media::{ImageSink, ImageSource};
-use shell_reports::{Answer, Ending};
+use shell_reports::Report;
 use std::alloc::Global;
 use std::marker::Model;
 
-/// An image set that is to be saved, with contents that are copied from where they are.
+/// An image set as it is left.
 #[derive(Drop)]
-pub struct SavedOutline {
-    left: OutlineLeft,
+pub enum Left {
+    /// All of it is in memory.
+    Whole(SetLeft),
+    /// Its contents are copied from the source as it is saved.
+    Copied(OutlineLeft),
 }
 
-impl Model for SavedOutline {
-    ghost use Rattle.image_set.specs.declared.changing.OutlineLeft.{OutlineLeft};
+/// Saves a set that is in memory.
+fn save_whole<K: ImageSink>(alloc: Global, set: &SetLeft, out: &mut K) -> Result<(), CopyFault>
+    requires empty { ForSome (K.made out.old) IsEmptySet }
+    requires savable { IsSavable set.now }
+    ensures saved { OnOk result (Saves (Some (objects_in set.now)) (K.made out.old) (K.made out.new)) }
+    ensures no_read { result ≢ Err CopyFault.ReadFault }
+    ensures unwritten { result ≡ Err CopyFault.WriteFault → Becomes (K.made out.old) (K.made out.new) IsUnfinished }
+    ensures memory { result ≡ Err CopyFault.OutOfMemory → K.made out.new ≡ K.made out.old }
+    ensures written { result ≡ Err CopyFault.WriteFault → Rose (K.faults out.old) (K.faults out.new) }
+{
+    match set.save(alloc, out) {
+        Ok(()) => Ok(()),
+        Err(SaveFault::WriteFault) => Err(CopyFault::WriteFault),
+        Err(SaveFault::OutOfMemory) => Err(CopyFault::OutOfMemory),
+    }
+}
 
-    ghost Value = { OutlineLeft };
+/// Saves a set with the contents that the source has.
+fn save_copied<S: ImageSource, K: ImageSink>(
+    alloc: Global,
+    set: &OutlineLeft,
+    images: &mut S,
+    out: &mut K,
+) -> Result<(), CopyFault>
+    requires empty { ForSome (K.made out.old) IsEmptySet }
+    requires copyable { IsCopyable set.now }
+    requires there { ForSome (S.held images.old) (HasContents set.now.sizes) }
+    ensures saved { OnOk result ((objects : Images) × AreObjects (S.held images.old) (Left.Copied set.now) objects × Saves (Some objects) (K.made out.old) (K.made out.new)) }
+    ensures unread { result ≡ Err CopyFault.ReadFault → Becomes (K.made out.old) (K.made out.new) IsUnfinished }
+    ensures unwritten { result ≡ Err CopyFault.WriteFault → Becomes (K.made out.old) (K.made out.new) IsUnfinished }
+    ensures memory { result ≡ Err CopyFault.OutOfMemory → K.made out.new ≡ K.made out.old }
+    ensures same { S.held images.new ≡ S.held images.old }
+    ensures read { result ≡ Err CopyFault.ReadFault → Rose (S.faults images.old) (S.faults images.new) }
+    ensures written { result ≡ Err CopyFault.WriteFault → Rose (K.faults out.old) (K.faults out.new) }
+{
+    set.save(alloc, images, out)
+}
 
-    ghost use Rattle.image_set.specs.Outline.{IsCopyable};
+/// An image set that is to be saved.
+#[derive(Drop)]
+pub struct SavedSet {
+    left: Left,
+}
+
+impl Model for SavedSet {
+    ghost use Rattle.shell_changes.specs.declared.answer.Left.{Left};
+
+    ghost Value = { Left };
+
+    ghost use Rattle.shell_changes.specs.Saved.{CanBeSaved};
 
     ghost view = { λ set. set.left };
 
-    ghost invariant = { λ set. IsCopyable set.left };
+    ghost invariant = { λ set. CanBeSaved set.left };
 }
 
-impl SavedOutline {
+impl SavedSet {
     /// The set that is left.
-    pub fn new(left: OutlineLeft) -> SavedOutline
-        requires { IsCopyable left }
+    pub fn new(left: Left) -> SavedSet
+        requires { CanBeSaved left }
         ensures { result ≡ left }
     {
-        SavedOutline { left }
+        SavedSet { left }
     }
 
-    /// Saves it with the contents that the source has, as `OutlineLeft::save` does: `out` was not written to, where
-    /// it tells.
+    /// Saves it: `out` was not written to, where it tells. Contents that aren't in memory are those of the source,
+    /// and have the sizes that are stated.
+    ///
+    /// - `saved`: after `Ok` the sink has exactly the set's objects and the mark, as far as the source tells its contents.
+    /// - `unread`, `unwritten`: after a fault of the source or the sink the set isn't finished. The source is read only
+    ///   for contents that are copied.
     pub fn save<S: ImageSource, K: ImageSink>(
         &self,
         alloc: Global,
@@ -49,36 +102,37 @@ impl SavedOutline {
         out: &mut K,
     ) -> Result<(), CopyFault>
         requires empty { ForSome (K.made out.old) IsEmptySet }
-        requires there { ForSome (S.held images.old) (HasContents self.now.sizes) }
-        ensures copied { CopiesSet (S.held images.old) self.now (K.made out.old) (K.made out.new) (K.kept out.old) (K.kept out.new) result }
+        requires there { ForSome (S.held images.old) (HasItsContents self.now) }
+        ensures saved { OnOk result ((objects : Images) × AreObjects (S.held images.old) self.now objects × Saves (Some objects) (K.made out.old) (K.made out.new)) }
+        ensures unread { result ≡ Err CopyFault.ReadFault → IsTrue (is_copied self.now) × Becomes (K.made out.old) (K.made out.new) IsUnfinished }
+        ensures unwritten { result ≡ Err CopyFault.WriteFault → Becomes (K.made out.old) (K.made out.new) IsUnfinished }
+        ensures memory { result ≡ Err CopyFault.OutOfMemory → K.made out.new ≡ K.made out.old }
         ensures same { S.held images.new ≡ S.held images.old }
-        ensures later_read { S.faults images.old ≤ S.faults images.new }
-        ensures later_written { K.faults out.old ≤ K.faults out.new }
         ensures read { result ≡ Err CopyFault.ReadFault → Rose (S.faults images.old) (S.faults images.new) }
         ensures written { result ≡ Err CopyFault.WriteFault → Rose (K.faults out.old) (K.faults out.new) }
-        ensures untouched { result ≡ Err CopyFault.OutOfMemory → out.new ≡ out.old }
     {
-        self.left.save(alloc, images, out)
+        match &self.left {
+            Left::Whole(set) => save_whole(alloc, set, out),
+            Left::Copied(set) => save_copied(alloc, set, images, out),
+        }
     }
 }
 
-/// What `init` comes to: how it ends, the bytes of its text, and the image set that it saves.
+/// What a command comes to: how it ends and the bytes of its text, and the image set that it saves, if it saves one.
 #[derive(Drop)]
-pub struct InitAnswer {
-    pub ending: Ending,
-    pub text: Vec<u8>,
-    pub saved: Option<SavedOutline>,
+pub struct Answer {
+    pub report: Report,
+    pub saved: Option<SavedSet>,
 }
 
-/// An answer that saves nothing, as what `init` comes to.
-pub(crate) fn without_set(answer: Answer) -> InitAnswer
-    requires { (outcome_of answer).saved ≡ None }
-    ensures same { (contents : List (List ℕ)) → outcome_with result contents ≡ outcome_of answer }
+/// The answer of a command that saves nothing.
+pub fn without_set(report: Report) -> Answer
+    ensures same { (contents : List (List ℕ)) → outcome_with result contents ≡ outcome_of report }
     ensures saved { result.saved ≡ None }
+    ensures told { result.report ≡ report }
 {
-    InitAnswer {
-        ending: answer.ending,
-        text: answer.text,
+    Answer {
+        report,
         saved: None,
     }
 }

@@ -1,32 +1,35 @@
 //! Recovery first, then the format and the labels, and what is saved then.
-ghost use Rattle.std.specs.Prelude.{◌≡◌, ◌≢◌, ◌<◌, ◌^◌, ℕ, true, false, List, Option, Some, None, Ok, Err, IfOk, length};
+ghost use Rattle.std.specs.Prelude.{◌≡◌, ◌≢◌, ◌<◌, ◌^◌, true, false, Some, None, Ok, Err, IfOk, length, map};
 ghost use Rattle.image_set.specs.Load.{image_set_in};
 ghost use Rattle.image_set.specs.Sound.{IsSound};
-ghost use Rattle.namespace_areas.specs.Seen.{AreHeld, AreLeft};
+ghost use Rattle.namespace_areas.specs.Seen.{AreHeld, words_of};
 ghost use Rattle.namespace_map.specs.Left.{AreRegions};
 ghost use Rattle.namespace_map.specs.declared.refused.OpRefused.{OpRefused as Refused};
 ghost use Rattle.namespace_ops.specs.Carried.{IsGoodName};
 ghost use Rattle.sector_namespaces.specs.Creation.{refusal_for};
 ghost use Rattle.sector_namespaces.specs.View.{AreUsable};
 ghost use Rattle.shell_reports.specs.Cut.{cut_text, done_text};
-ghost use Rattle.shell_reports.specs.Saved.{IsSaving, outcome_of};
 ghost use Rattle.shell_changes.specs.Refusals.{refused_outcome};
-ghost use Rattle.shell_changes.specs.Rest.{IsRest, objects_with};
+ghost use Rattle.shell_changes.specs.Answers.{whole_outcome};
+ghost use Rattle.shell_changes.specs.Remains.{AnswersCut, LeavesBy};
+ghost use Rattle.shell_changes.specs.Rest.{IsRest};
+ghost use Rattle.shell_changes.specs.Saved.{copies_contents};
 ghost use Rattle.shell_changes.specs.SectorGoing.{GoesFrom, GoesOn, IsSavedWith};
 ghost use Rattle.shell_changes.specs.Sectors.{SectorsCome};
 
-use crate::sector_saving::saved_answer;
-use crate::{Rest, refused_answer};
+use crate::answer::Answer;
+use crate::refusals::{faulty_answer, refusing_answer};
+use crate::saving::{Remains, Rest, cut_answer, done_answer};
 use cut_words::{Fuse, PowerCut};
 use image_set::Loaded;
 use interleave::InterleaveSet;
-use namespace_areas::{Area, open_areas};
+use namespace_areas::{Area, into_words, open_areas};
 use namespace_map::OpRefused;
 use namespace_ops::{Holding, Registry};
 use nvd_media::Chooser;
 use nvd_words::Items;
 use sector_namespaces::{NewSectors, create_sectors, loaded_sets_are_usable};
-use shell_reports::{Answer, Ending, Power, cut_line, fuse_of, open_fault_answer};
+use shell_reports::{Ending, Power, fuse_of};
 use std::alloc::{AllocError, Global};
 
 /// Whether a refusal says that power was cut.
@@ -42,71 +45,16 @@ fn stopped_answer<C: Chooser>(
     alloc: Global,
     power: Power,
     rest: Rest,
-    holding: Holding,
+    areas: Vec<Area>,
     choose: &mut C,
 ) -> Result<Answer, AllocError>
     requires rest { IsRest rest }
-    requires count { length holding.areas ≡ length rest.contents }
-    ensures { IfOk result (λ answer. (rows : List (Option (List ℕ))) × AreLeft holding.areas rows × IsSaving Ending.PowerCut (cut_text power.steps) (objects_with rest rows) (outcome_of answer)) }
+    requires count { length areas.items ≡ length rest.contents }
+    ensures cut { IfOk result (AnswersCut C.begins C.picks power (Remains.Whole rest (map words_of areas.items)) choose.old) }
+    ensures whole { IfOk result (λ answer. copies_contents answer.saved ≡ false) }
 {
-    choose.begin(power.seed);
-    let text = cut_line(alloc, power.steps)?;
-    crate::saved_answer(
-        alloc,
-        Ending::PowerCut,
-        text.into_bytes(),
-        rest,
-        Items::from_vec(holding.into_areas()),
-        choose,
-    )
-}
-
-/// The answer where power was cut in the format or in the labels' changes, with what the cut leaves.
-fn cut_answer<C: Chooser>(
-    alloc: Global,
-    power: Power,
-    rest: Rest,
-    holding: Holding,
-    choose: &mut C,
-) -> Result<Answer, AllocError>
-    requires bad { length rest.bad ≡ length rest.contents }
-    requires few { length rest.contents < 2 ^ 32 }
-    requires count { length holding.areas ≡ length rest.contents }
-    ensures { IfOk result (λ answer. IsSavedWith Ending.PowerCut (cut_text power.steps) rest holding.areas rest.contents (outcome_of answer)) }
-{
-    choose.begin(power.seed);
-    let text = cut_line(alloc, power.steps)?;
-    saved_answer(
-        alloc,
-        Ending::PowerCut,
-        text.into_bytes(),
-        rest,
-        Items::from_vec(holding.into_areas()),
-        choose,
-    )
-}
-
-/// The answer where the namespace was created.
-fn done_answer<C: Chooser>(
-    alloc: Global,
-    rest: Rest,
-    holding: Holding,
-    choose: &mut C,
-) -> Result<Answer, AllocError>
-    requires bad { length rest.bad ≡ length rest.contents }
-    requires few { length rest.contents < 2 ^ 32 }
-    requires count { length holding.areas ≡ length rest.contents }
-    ensures { IfOk result (λ answer. IsSavedWith Ending.Done done_text rest holding.areas rest.contents (outcome_of answer)) }
-{
-    let text = Vec::from_slice(alloc, b"ok\n")?;
-    saved_answer(
-        alloc,
-        Ending::Done,
-        text,
-        rest,
-        Items::from_vec(holding.into_areas()),
-        choose,
-    )
+    let labels = into_words(alloc, areas)?;
+    cut_answer(alloc, power, Remains::Whole(rest, labels), choose)
 }
 
 /// The answer to a create of which this became.
@@ -121,18 +69,20 @@ fn created_answer<C: Chooser>(
     requires bad { length rest.bad ≡ length rest.contents }
     requires few { length rest.contents < 2 ^ 32 }
     requires count { length holding.areas ≡ length rest.contents }
-    ensures done { IfOk result (λ answer. created ≡ Ok tt → IsSavedWith Ending.Done done_text rest holding.areas rest.contents (outcome_of answer)) }
-    ensures cut { IfOk result (λ answer. created ≡ Err OpRefused.PowerCut → IsSavedWith Ending.PowerCut (cut_text power.steps) rest holding.areas rest.contents (outcome_of answer)) }
-    ensures refused { IfOk result (λ answer. (f : Refused) → created ≡ Err f → f ≢ OpRefused.PowerCut → outcome_of answer ≡ refused_outcome f) }
+    ensures done { IfOk result (λ answer. created ≡ Ok tt → IsSavedWith Ending.Done done_text rest holding.areas rest.contents (whole_outcome answer)) }
+    ensures cut { IfOk result (λ answer. created ≡ Err OpRefused.PowerCut → IsSavedWith Ending.PowerCut (cut_text power.steps) rest holding.areas rest.contents (whole_outcome answer)) }
+    ensures refused { IfOk result (λ answer. (f : Refused) → created ≡ Err f → f ≢ OpRefused.PowerCut → whole_outcome answer ≡ refused_outcome f) }
     ensures memory { IfOk result (λ _. created ≢ Err OpRefused.OutOfMemory) }
+    ensures whole { IfOk result (λ answer. copies_contents answer.saved ≡ false) }
 {
+    let labels = into_words(alloc, holding.into_areas())?;
     match created {
-        Ok(()) => done_answer(alloc, rest, holding, choose),
+        Ok(()) => done_answer(alloc, Remains::Whole(rest, labels), choose),
         Err(refused) => {
             if is_cut(refused) {
-                cut_answer(alloc, power, rest, holding, choose)
+                cut_answer(alloc, power, Remains::Whole(rest, labels), choose)
             } else {
-                refused_answer(alloc, refused)
+                refusing_answer(alloc, refused)
             }
         }
     }
@@ -154,8 +104,9 @@ fn held_answer<C: Chooser>(
     requires rest { IsRest rest }
     requires count { length holding.areas ≡ length rest.contents }
     requires usable { AreUsable holding.sets rest.contents }
-    ensures refused { IfOk result (λ answer. (f : Refused) → refusal_for holding.sets holding.areas new.now ≡ Some f → outcome_of answer ≡ refused_outcome f) }
-    ensures went { IfOk result (λ answer. refusal_for holding.sets holding.areas new.now ≡ None → GoesOn rest power holding.sets holding.areas fuse new.now (outcome_of answer)) }
+    ensures refused { IfOk result (λ answer. (f : Refused) → refusal_for holding.sets holding.areas new.now ≡ Some f → whole_outcome answer ≡ refused_outcome f) }
+    ensures went { IfOk result (λ answer. refusal_for holding.sets holding.areas new.now ≡ None → GoesOn rest power holding.sets holding.areas fuse new.now (whole_outcome answer)) }
+    ensures whole { IfOk result (λ answer. copies_contents answer.saved ≡ false) }
 {
     let mut holding = holding;
     let mut fuse = fuse;
@@ -191,13 +142,14 @@ fn recovered_answer<C: Chooser>(
     requires rest { IsRest rest }
     requires count { length areas ≡ length rest.contents }
     requires usable { AreUsable sets rest.contents }
-    ensures { IfOk result (λ answer. GoesFrom rest power sets areas new.now (outcome_of answer)) }
+    ensures comes { IfOk result (λ answer. GoesFrom (LeavesBy C.begins C.picks choose.old) rest power sets areas new.now (whole_outcome answer)) }
+    ensures whole { IfOk result (λ answer. copies_contents answer.saved ≡ false) }
 {
     let mut holding = Holding::of(alloc, sets, areas.into_vec())?;
     let mut fuse = fuse_of(power);
     match holding.recover(&mut fuse) {
         Ok(()) => held_answer(alloc, holding, fuse, new, power, rest, choose),
-        Err(PowerCut) => stopped_answer(alloc, power, rest, holding, choose),
+        Err(PowerCut) => stopped_answer(alloc, power, rest, holding.into_areas(), choose),
     }
 }
 
@@ -217,7 +169,8 @@ fn opened_answer<C: Chooser>(
     requires rest { IsRest rest }
     requires count { length registry.areas ≡ length rest.contents }
     requires usable { AreUsable registry.sets rest.contents }
-    ensures { IfOk result (λ answer. GoesFrom rest power registry.sets registry.areas new.now (outcome_of answer)) }
+    ensures comes { IfOk result (λ answer. GoesFrom (LeavesBy C.begins C.picks choose.old) rest power registry.sets registry.areas new.now (whole_outcome answer)) }
+    ensures whole { IfOk result (λ answer. copies_contents answer.saved ≡ false) }
 {
     let (sets, areas) = registry.into_parts();
     recovered_answer(alloc, sets, areas, new, power, rest, choose)
@@ -239,7 +192,8 @@ pub fn sectors_answer<C: Chooser>(
 ) -> Result<Answer, AllocError>
     requires sound { IsSound loaded }
     requires name { IsGoodName new.now.name }
-    ensures { IfOk result (λ answer. SectorsCome new.now power (image_set_in loaded) (outcome_of answer)) }
+    ensures comes { IfOk result (λ answer. SectorsCome (LeavesBy C.begins C.picks choose.old) new.now power (image_set_in loaded) (whole_outcome answer)) }
+    ensures whole { IfOk result (λ answer. copies_contents answer.saved ≡ false) }
 {
     loaded_sets_are_usable();
     let Loaded {
@@ -257,6 +211,6 @@ pub fn sectors_answer<C: Chooser>(
     let areas = open_areas(alloc, labels)?;
     match Registry::open_all(alloc, nfit, areas) {
         Ok(registry) => opened_answer(alloc, registry, new, power, rest, choose),
-        Err(fault) => open_fault_answer(alloc, fault),
+        Err(fault) => faulty_answer(alloc, fault),
     }
 }

@@ -2,88 +2,51 @@
 ghost use Rattle.std.specs.Prelude.{◌≡◌, ◌≢◌, ◌<◌, ◌*◌, ℕ, List, None, IfOk, length};
 ghost use Rattle.cut_words.specs.Words.{settled};
 ghost use Rattle.cut_words.specs.WordBytes.{bytes_of};
-ghost use Rattle.power_cut.specs.Left.{LeavesWords};
 ghost use Rattle.label_index.specs.Area.{IsAreaSize};
 ghost use Rattle.label_area.specs.Initialise.{initialised};
 ghost use Rattle.image_set.specs.Changed.{objects_of, with_area};
 ghost use Rattle.image_set.specs.Outline.{IsOutlined, image_set_with};
 ghost use Rattle.shell_reports.specs.Saved.{IsSaving, outcome_of};
 ghost use Rattle.shell_changes.specs.Init.{not_initialised, InitArea, InitComes, RefusedArea};
-ghost use Rattle.shell_changes.specs.Outlined.{HasSizes, outcome_with};
-ghost use Rattle.shell_reports.specs.Cut.{LeavesBy, cut_text, done_text};
+ghost use Rattle.shell_changes.specs.Answers.{HasSizes, outcome_with};
+ghost use Rattle.shell_changes.specs.Remains.{LeavesBy};
+ghost use Rattle.shell_reports.specs.Cut.{done_text};
 ghost use Rattle.shell_reports.specs.Labels.{module_outcome};
 
-use crate::answer::{InitAnswer, SavedOutline, without_set};
+use crate::answer::{Answer, without_set};
+use crate::saving::{Remains, cut_answer, done_answer};
 use cut_words::CutWords;
 use image_set::Outline;
 use label_area::{AreaFault, AreaRefused, LabelArea, init_area};
 use nvd_media::Chooser;
-use shell_reports::{
-    Answer, Ending, Power, cut_line, fault_answer, fuse_of, image_answer, missing_answer,
-};
+use shell_reports::{Ending, Power, Report, fault_answer, fuse_of, image_answer, missing_answer};
 use std::alloc::{AllocError, Global};
 
-/// Answers with the set that a cut leaves in which these words are a module's label area. Of words of which
-/// none is pending all are left.
-fn saved_answer<C: Chooser>(
-    alloc: Global,
-    ending: Ending,
-    text: Vec<u8>,
-    rest: Outline,
-    module: u32,
-    words: CutWords,
-    choose: &mut C,
-) -> Result<InitAnswer, AllocError>
-    requires sound { IsOutlined rest }
-    requires there { «module» < length rest.labels }
-    ensures comes { IfOk result (λ answer. (contents : List (List ℕ)) → (left : List ℕ) × LeavesWords C.picks words left choose.old choose.new
-        × IsSaving ending text.items (objects_of (with_area (image_set_with rest contents) «module» (bytes_of left))) (outcome_with answer contents)) }
-    ensures sizes { IfOk result (λ answer. HasSizes rest.sizes answer) }
-{
-    let left = rest.leave_area(alloc, module, words, choose)?;
-    Ok(InitAnswer {
-        ending,
-        text,
-        saved: Some(SavedOutline::new(left)),
-    })
-}
-
 /// The answer where power was cut, with the words as they then are.
-fn cut_answer<C: Chooser>(
+fn cut_area_answer<C: Chooser>(
     alloc: Global,
     power: Power,
     rest: Outline,
     module: u32,
     words: CutWords,
     choose: &mut C,
-) -> Result<InitAnswer, AllocError>
+) -> Result<Answer, AllocError>
     requires sound { IsOutlined rest }
     requires there { «module» < length rest.labels }
-    ensures comes { IfOk result (λ answer. (contents : List (List ℕ)) → (left : List ℕ) × LeavesBy C.begins C.picks choose.old power.seed words left
-        × IsSaving Ending.PowerCut (cut_text power.steps) (objects_of (with_area (image_set_with rest contents) «module» (bytes_of left))) (outcome_with answer contents)) }
+    ensures comes { IfOk result (λ answer. (contents : List (List ℕ)) → RefusedArea (LeavesBy C.begins C.picks choose.old) «module» power (image_set_with rest contents) words AreaFault.PowerCut (outcome_with answer contents)) }
     ensures sizes { IfOk result (λ answer. HasSizes rest.sizes answer) }
 {
-    choose.begin(power.seed);
-    let text = cut_line(alloc, power.steps)?;
-    saved_answer(
-        alloc,
-        Ending::PowerCut,
-        text.into_bytes(),
-        rest,
-        module,
-        words,
-        choose,
-    )
+    cut_answer(alloc, power, Remains::Area(rest, module, words), choose)
 }
 
 /// The answer where both blocks stand.
-fn done_answer<C: Chooser>(
+fn done_area_answer<C: Chooser>(
     alloc: Global,
     rest: Outline,
     module: u32,
     area: LabelArea,
     choose: &mut C,
-) -> Result<InitAnswer, AllocError>
+) -> Result<Answer, AllocError>
     requires sound { IsOutlined rest }
     requires there { «module» < length rest.labels }
     requires settled { area.words ≡ settled area.words.kept }
@@ -91,20 +54,11 @@ fn done_answer<C: Chooser>(
         → IsSaving Ending.Done done_text (objects_of (with_area (image_set_with rest contents) «module» (bytes_of area.words.kept))) (outcome_with answer contents)) }
     ensures sizes { IfOk result (λ answer. HasSizes rest.sizes answer) }
 {
-    let text = Vec::from_slice(alloc, b"ok\n")?;
-    saved_answer(
-        alloc,
-        Ending::Done,
-        text,
-        rest,
-        module,
-        area.into_words(),
-        choose,
-    )
+    done_answer(alloc, Remains::Area(rest, module, area.into_words()), choose)
 }
 
 /// The text on an area that isn't initialised.
-fn kept_text(alloc: Global, module: u32, fault: AreaFault) -> Result<Answer, AllocError>
+fn kept_text(alloc: Global, module: u32, fault: AreaFault) -> Result<Report, AllocError>
     ensures text { IfOk result (λ answer. outcome_of answer ≡ not_initialised «module» fault) }
     ensures finding { IfOk result (λ _. fault ≢ AreaFault.OutOfMemory) }
 {
@@ -118,13 +72,13 @@ fn kept_text(alloc: Global, module: u32, fault: AreaFault) -> Result<Answer, All
 }
 
 /// The answer on an area that isn't initialised.
-fn kept_answer(alloc: Global, module: u32, fault: AreaFault) -> Result<InitAnswer, AllocError>
+fn kept_answer(alloc: Global, module: u32, fault: AreaFault) -> Result<Answer, AllocError>
     ensures text { IfOk result (λ answer. (contents : List (List ℕ)) → outcome_with answer contents ≡ not_initialised «module» fault) }
     ensures finding { IfOk result (λ _. fault ≢ AreaFault.OutOfMemory) }
     ensures saved { IfOk result (λ answer. answer.saved ≡ None) }
 {
-    let answer = kept_text(alloc, module, fault)?;
-    Ok(without_set(answer))
+    let report = kept_text(alloc, module, fault)?;
+    Ok(without_set(report))
 }
 
 /// The answer on an area that is refused, with its words as they then are.
@@ -135,7 +89,7 @@ fn refused_answer<C: Chooser>(
     module: u32,
     refused: AreaRefused,
     choose: &mut C,
-) -> Result<InitAnswer, AllocError>
+) -> Result<Answer, AllocError>
     requires sound { IsOutlined rest }
     requires there { «module» < length rest.labels }
     ensures comes { IfOk result (λ answer. (contents : List (List ℕ)) → RefusedArea (LeavesBy C.begins C.picks choose.old) «module» power (image_set_with rest contents) refused.words refused.fault (outcome_with answer contents)) }
@@ -144,7 +98,7 @@ fn refused_answer<C: Chooser>(
 {
     let AreaRefused { words, fault } = refused;
     match fault {
-        AreaFault::PowerCut => cut_answer(alloc, power, rest, module, words, choose),
+        AreaFault::PowerCut => cut_area_answer(alloc, power, rest, module, words, choose),
         fault => kept_answer(alloc, module, fault),
     }
 }
@@ -157,7 +111,7 @@ fn area_answer<C: Chooser>(
     module: u32,
     words: CutWords,
     choose: &mut C,
-) -> Result<InitAnswer, AllocError>
+) -> Result<Answer, AllocError>
     requires sound { IsOutlined rest }
     requires there { «module» < length rest.labels }
     requires settled { words ≡ settled words.kept }
@@ -167,18 +121,18 @@ fn area_answer<C: Chooser>(
 {
     let mut fuse = fuse_of(power);
     match init_area(alloc, words, &mut fuse) {
-        Ok(area) => done_answer(alloc, rest, module, area, choose),
+        Ok(area) => done_area_answer(alloc, rest, module, area, choose),
         Err(refused) => refused_answer(alloc, power, rest, module, refused, choose),
     }
 }
 
 /// The answer where the module has no label area.
-fn no_area_answer(alloc: Global, module: u32) -> Result<InitAnswer, AllocError>
+fn no_area_answer(alloc: Global, module: u32) -> Result<Answer, AllocError>
     ensures text { IfOk result (λ answer. (contents : List (List ℕ)) → outcome_with answer contents ≡ module_outcome «module» None) }
     ensures saved { IfOk result (λ answer. answer.saved ≡ None) }
 {
-    let answer = missing_answer(alloc, module)?;
-    Ok(without_set(answer))
+    let report = missing_answer(alloc, module)?;
+    Ok(without_set(report))
 }
 
 /// The answer of `init` on an image set: the set in which the module's label area, which had no index
@@ -194,7 +148,7 @@ pub fn init_answer<C: Chooser>(
     power: Power,
     outline: Outline,
     choose: &mut C,
-) -> Result<InitAnswer, AllocError>
+) -> Result<Answer, AllocError>
     requires { IsOutlined outline }
     ensures comes { IfOk result (λ answer. (contents : List (List ℕ)) → InitComes (LeavesBy C.begins C.picks choose.old) «module» power (image_set_with outline contents) (outcome_with answer contents)) }
     ensures sizes { IfOk result (λ answer. HasSizes outline.sizes answer) }

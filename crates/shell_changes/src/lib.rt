@@ -1,16 +1,24 @@
-//! The commands `create`, `delete` and `rename` of `nvdimm_shell`, which change namespaces and save the set.
+//! The commands of `nvdimm_shell` that change something, and the image set that they save.
 //!
 //! ```text
-//! loaded set ──► label areas, interleave sets ──► recovery ──► the command ──► ok, and the set with all changes
-//!                        │                          │              ├── refused ──► the reason; nothing is saved
-//!                        └── image fault            └── power cut ─┴── power cut ──► cut N, and what the cut leaves
+//! set ──► label areas, interleave sets ──► recovery ──► the command ──► done_answer: ok, and the set with all changes
+//!                        │                     │              ├── refused ──► the reason; nothing is saved
+//!                        └── image fault       └── power cut ─┴── power cut ──► cut_answer: cut N, and what the cut leaves
 //! ```
+//!
+//! Each command says what remains of the set as it ends (`Remains` of `saving`). `cut_answer` and `done_answer` make the
+//! [`Answer`] of that for all of them: `specs/Remains.antt` says what a chooser leaves. The set is in memory, or its contents
+//! are copied from the source as it is saved ([`SavedSet`], `specs/Saved.antt`).
+//!
+//! # Changing namespaces
+//!
+//! The commands `create`, `delete` and `rename`.
 //!
 //! | what | function | clause |
 //! |---|---|---|
-//! | what a command comes to on a set that is loaded | [`change_answer`] | `CommandComes` of `specs/Namespaces.antt` |
+//! | what a command comes to on an outline, whatever its contents are | [`change_answer`] | `CommandComes` of `specs/Namespaces.antt` |
 //! | the commands that words say, and the name that a text makes | [`create_in`], [`delete_in`], [`rename_in`], [`named`] | `specs/Words.antt` |
-//! | what is printed of a refusal | [`refused_answer`] | `refused_outcome` of `specs/Refusals.antt` |
+//! | what is printed of a refusal | `refusing_answer` | `refused_outcome` of `specs/Refusals.antt` |
 //!
 //! Recovery and command burn one fuse, in this order. A refused command saves nothing, what recovery made neither.
 //!
@@ -42,8 +50,7 @@
 //! ```
 //!
 //! [`init_answer`] is its handler; `InitComes` of `specs/Init.antt` is what it may come to. It needs no contents, so it
-//! works on an outline of the set, and answers for whatever contents the set has (`outcome_with` of
-//! `specs/Outlined.antt`): these are copied from the source where the set is saved ([`SavedOutline::save`]).
+//! works on an outline of the set, and answers for whatever contents the set has (`outcome_with` of `specs/Answers.antt`).
 #![tactic(auto)]
 
 mod answer;
@@ -52,15 +59,12 @@ mod changing;
 mod init;
 mod refusals;
 mod saving;
-mod sector_saving;
 mod sector_words;
 mod words;
 
-pub use answer::{InitAnswer, SavedOutline};
+pub use answer::{Answer, Left, SavedSet, without_set};
 pub use answering::sectors_answer;
 pub use changing::change_answer;
 pub use init::init_answer;
-pub use refusals::refused_answer;
-pub use saving::{Rest, saved_answer};
 pub use sector_words::{Created, created_in};
 pub use words::{create_in, delete_in, named, rename_in};

@@ -1,10 +1,14 @@
 //! What is said of a command that is refused.
-ghost use Rattle.std.specs.Prelude.{◌≡◌, ◌≢◌, IfOk, string_bytes};
+ghost use Rattle.std.specs.Prelude.{◌≡◌, ◌≢◌, ℕ, List, None, IfOk, string_bytes};
+ghost use Rattle.shell_reports.specs.List.{open_outcome};
 ghost use Rattle.shell_reports.specs.Saved.{outcome_of};
+ghost use Rattle.shell_changes.specs.Answers.{outcome_with};
 ghost use Rattle.shell_changes.specs.Refusals.{refusal_text, refused_outcome};
 
+use crate::answer::{Answer, without_set};
 use namespace_map::OpRefused;
-use shell_reports::{Answer, Ending};
+use namespace_ops::OpenFault;
+use shell_reports::{Ending, Report, open_fault_answer};
 use std::alloc::{AllocError, Global};
 
 /// The refusal's name and its numbers. A power cut and want of memory are none.
@@ -30,15 +34,34 @@ fn refusal_text(alloc: Global, refused: OpRefused) -> Result<String, AllocError>
     }
 }
 
-/// The answer to a command that is refused. Want of memory is no finding.
-pub fn refused_answer(alloc: Global, refused: OpRefused) -> Result<Answer, AllocError>
+/// The text on a command that is refused. Want of memory is no finding.
+fn refused_answer(alloc: Global, refused: OpRefused) -> Result<Report, AllocError>
     ensures text { IfOk result (λ answer. outcome_of answer ≡ refused_outcome refused) }
     ensures memory { IfOk result (λ _. refused ≢ OpRefused.OutOfMemory) }
 {
     let refusal = refusal_text(alloc, refused)?;
-    Ok(Answer {
+    Ok(Report {
         ending: Ending::Refused,
         text: format!(in alloc; "refused {}\n", refusal)?.into_bytes(),
-        saved: None,
     })
+}
+
+/// The answer to a command that is refused: nothing is saved. Want of memory is no finding.
+pub(crate) fn refusing_answer(alloc: Global, refused: OpRefused) -> Result<Answer, AllocError>
+    ensures text { IfOk result (λ answer. (contents : List (List ℕ)) → outcome_with answer contents ≡ refused_outcome refused) }
+    ensures memory { IfOk result (λ _. refused ≢ OpRefused.OutOfMemory) }
+    ensures saved { IfOk result (λ answer. answer.saved ≡ None) }
+{
+    let report = refused_answer(alloc, refused)?;
+    Ok(without_set(report))
+}
+
+/// The answer on a set whose namespaces can't be told: nothing is saved. Want of memory is no finding.
+pub(crate) fn faulty_answer(alloc: Global, fault: OpenFault) -> Result<Answer, AllocError>
+    ensures text { IfOk result (λ answer. (contents : List (List ℕ)) → outcome_with answer contents ≡ open_outcome fault) }
+    ensures memory { IfOk result (λ _. fault ≢ OpenFault.OutOfMemory) }
+    ensures saved { IfOk result (λ answer. answer.saved ≡ None) }
+{
+    let report = open_fault_answer(alloc, fault)?;
+    Ok(without_set(report))
 }

@@ -5,12 +5,12 @@ use Rattle.label_index.specs.declared.index.IndexBlock.{IndexBlock}
 use Rattle.label_area.specs.declared.fault.AreaFault.{AreaFault}
 use Rattle.label_area.specs.declared.fault.AreaFault.TheVariants.{OutOfMemory}
 use Rattle.label_area.specs.Area.{block_in}
-use Rattle.shell_reports.specs.declared.outcome.Answer.{Answer}
+use Rattle.shell_reports.specs.declared.outcome.Report.{Report}
 use Rattle.shell_reports.specs.Labels.{fault_outcome, found_outcome, area_outcome}
 use Rattle.shell_reports.specs.Saved.{outcome_of}
 
 -- a fault that is a finding is the area's
-pub fault_said : {E : Type 0} (r : Result Answer E) (m : ℕ) (area : List ℕ) (fault : AreaFault) (read : Result IndexBlock AreaFault) → read ≡ Err fault
+pub fault_said : {E : Type 0} (r : Result Report E) (m : ℕ) (area : List ℕ) (fault : AreaFault) (read : Result IndexBlock AreaFault) → read ≡ Err fault
     → (read ≢ Err OutOfMemory → read ≡ block_in area) → IfOk r (λ answer. outcome_of answer ≡ fault_outcome m fault) → IfOk r (λ _. fault ≢ OutOfMemory)
     → IfOk r (λ answer. outcome_of answer ≡ area_outcome m area)
 fault_said (Ok answer) m area fault read is told said finding =

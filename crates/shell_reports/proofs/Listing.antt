@@ -10,7 +10,7 @@ use Rattle.namespace_areas.specs.Areas.{labels_of}
 use Rattle.namespace_ops.specs.declared.registry.OpenFault.{OpenFault}
 use Rattle.namespace_ops.specs.declared.registry.OpenFault.TheVariants.{OutOfMemory}
 use Rattle.namespace_ops.specs.Opening.{Opened, listing, opening, overlap_fault, set_fault_from, sets_of}
-use Rattle.shell_reports.specs.declared.outcome.Answer.{Answer}
+use Rattle.shell_reports.specs.declared.outcome.Report.{Report}
 use Rattle.shell_reports.specs.Outcome.{Outcome}
 use Rattle.shell_reports.specs.Saved.{outcome_of}
 use Rattle.shell_reports.specs.List.{listed_by, open_outcome}
@@ -45,7 +45,7 @@ module _ (nfit : Nfit) (areas : List Area) where
   refuses f is = refuses_by fault f is
 
 -- the answer on a registry that isn't opened
-pub fault_said : {E : Type 0} (r : Result Answer E) (f : OpenFault) (due : Outcome) → (f ≢ OutOfMemory → open_outcome f ≡ due) → IfOk r (λ answer. outcome_of answer ≡ open_outcome f)
-    → IfOk r (λ _. f ≢ OutOfMemory) → IfOk r (λ answer. outcome_of answer ≡ due)
-fault_said (Ok answer) f due is said finding = said ∙ is finding
+pub fault_said : {E X : Type 0} (r : Result Report E) (f : OpenFault) (due : X → Outcome) → (f ≢ OutOfMemory → (x : X) → open_outcome f ≡ due x) → IfOk r (λ answer. outcome_of answer ≡ open_outcome f)
+    → IfOk r (λ _. f ≢ OutOfMemory) → IfOk r (λ answer. (x : X) → outcome_of answer ≡ due x)
+fault_said (Ok answer) f due is said finding = λ x. said ∙ is finding x
 fault_said (Err e) f due is said finding = tt

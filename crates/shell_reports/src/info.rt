@@ -8,7 +8,7 @@ ghost use Rattle.shell_reports.specs.Saved.{outcome_of};
 ghost use Rattle.shell_reports.specs.Sectors.{arena_facts, arena_lines, info_outcome};
 
 use crate::opening::{Ask, set_answer};
-use crate::{Answer, printed_answer};
+use crate::{Report, printed_answer};
 use arena_layout::Layout;
 use arena_open::ReadChain;
 use cut_words::WordSpace;
@@ -50,7 +50,7 @@ fn arena_lines<W: WordSpace>(alloc: Global, chain: &ReadChain<W>) -> Result<Vec<
 pub(crate) fn lines_answer<W: WordSpace>(
     alloc: Global,
     chain: &ReadChain<W>,
-) -> Result<Answer, AllocError>
+) -> Result<Report, AllocError>
     ensures { IfOk result (λ answer. outcome_of answer ≡ printed (arena_lines 0 chain.now)) }
 {
     Ok(printed_answer(arena_lines(alloc, chain)?))
@@ -59,7 +59,7 @@ pub(crate) fn lines_answer<W: WordSpace>(
 /// The answer of `info` on an image set: a line for each arena of a sector namespace, in order; or the first region that is
 /// no interleave set, or the first two UUIDs of which extents meet; or why the namespace isn't found; or the first of its
 /// arenas that breaks the format. Pending moves are made good in memory alone: no image set is written.
-pub fn info_answer(alloc: Global, uuid: &Uuid, loaded: Loaded) -> Result<Answer, AllocError>
+pub fn info_answer(alloc: Global, uuid: &Uuid, loaded: Loaded) -> Result<Report, AllocError>
     requires { IsSound loaded }
     ensures { IfOk result (λ answer. outcome_of answer ≡ info_outcome uuid.now (image_set_in loaded)) }
 {

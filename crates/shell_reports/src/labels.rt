@@ -1,14 +1,13 @@
 //! The command `labels`: a module's current index block and its labels.
-ghost use Rattle.std.specs.Prelude.{◌≡◌, ◌≢◌, ◌≤◌, ◌<◌, ◌+◌, ◌*◌, ◌++◌, IfOk, IfSome, OnOk, None, length, string_bytes};
+ghost use Rattle.std.specs.Prelude.{◌≡◌, ◌≢◌, ◌≤◌, ◌<◌, ◌+◌, ◌*◌, ◌++◌, ℕ, List, IfOk, IfSome, OnOk, None, length, string_bytes};
 ghost use Rattle.std.specs.Option.{option_map};
-ghost use Rattle.image_set.specs.Load.{image_set_in};
-ghost use Rattle.image_set.specs.Sound.{IsSound};
+ghost use Rattle.image_set.specs.Outline.{IsOutlined, image_set_with};
 ghost use Rattle.shell_reports.specs.Labels.{labels_outcome, module_outcome, area_outcome, block_outcome, fault_outcome, index_line, label_line, bad_line, numbers_text, ending_text, used_line, slot_line, lines_from};
 ghost use Rattle.shell_reports.specs.Saved.{outcome_of};
 ghost use Rattle.label_index.specs.Area.{IsAreaSize};
 
-use crate::{Answer, image_answer, label_fault_text, mode_text, name_text, printed_answer};
-use image_set::Loaded;
+use crate::{Report, image_answer, label_fault_text, mode_text, name_text, printed_answer};
+use image_set::Outline;
 use label_area::{AreaFault, current_block, read_slot};
 use label_codec::{Label, LabelFault};
 use label_index::{IndexBlock, Side};
@@ -117,7 +116,7 @@ fn add_lines(
 }
 
 /// The answer on an area with a current block.
-fn block_answer(alloc: Global, area: &[u8], block: &IndexBlock) -> Result<Answer, AllocError>
+fn block_answer(alloc: Global, area: &[u8], block: &IndexBlock) -> Result<Report, AllocError>
     requires fits { 2 * block.now.size + 256 * length block.now.free ≤ length area.now }
     requires small { length area.now ≤ 1048576 }
     ensures { IfOk result (λ answer. outcome_of answer ≡ block_outcome area.now block.now) }
@@ -128,7 +127,7 @@ fn block_answer(alloc: Global, area: &[u8], block: &IndexBlock) -> Result<Answer
 }
 
 /// The answer on an area without a current block.
-pub fn fault_answer(alloc: Global, module: u32, fault: AreaFault) -> Result<Answer, AllocError>
+pub fn fault_answer(alloc: Global, module: u32, fault: AreaFault) -> Result<Report, AllocError>
     ensures text { IfOk result (λ answer. outcome_of answer ≡ fault_outcome «module» fault) }
     ensures finding { IfOk result (λ _. fault ≢ AreaFault.OutOfMemory) }
 {
@@ -146,7 +145,7 @@ pub fn fault_answer(alloc: Global, module: u32, fault: AreaFault) -> Result<Answ
 }
 
 /// The answer on a whole area.
-fn area_answer(alloc: Global, module: u32, area: &[u8]) -> Result<Answer, AllocError>
+fn area_answer(alloc: Global, module: u32, area: &[u8]) -> Result<Report, AllocError>
     requires { IsAreaSize (length area.now) }
     ensures { IfOk result (λ answer. outcome_of answer ≡ area_outcome «module» area.now) }
 {
@@ -157,14 +156,14 @@ fn area_answer(alloc: Global, module: u32, area: &[u8]) -> Result<Answer, AllocE
 }
 
 /// The answer where there is no such area.
-pub fn missing_answer(alloc: Global, module: u32) -> Result<Answer, AllocError>
+pub fn missing_answer(alloc: Global, module: u32) -> Result<Report, AllocError>
     ensures { IfOk result (λ answer. outcome_of answer ≡ module_outcome «module» None) }
 {
     Ok(image_answer(format!(in alloc; "image labels {} Missing\n", module)?))
 }
 
 /// The answer on a module's label area, if it has one.
-fn module_answer(alloc: Global, module: u32, area: Option<Vec<u8>>) -> Result<Answer, AllocError>
+fn module_answer(alloc: Global, module: u32, area: Option<Vec<u8>>) -> Result<Report, AllocError>
     requires { IfSome area (λ bytes. IsAreaSize (length bytes.items)) }
     ensures { IfOk result (λ answer. outcome_of answer ≡ module_outcome «module» (option_map (λ bytes. bytes.items) area)) }
 {
@@ -175,11 +174,15 @@ fn module_answer(alloc: Global, module: u32, area: Option<Vec<u8>>) -> Result<An
 }
 
 /// The answer of `labels` on an image set: the module's current index block and its labels. The set was
-/// loaded, so each of its label areas has a label area's size.
-pub fn labels_answer(alloc: Global, module: u32, loaded: &Loaded) -> Result<Answer, AllocError>
-    requires { IsSound loaded.now }
-    ensures { IfOk result (λ answer. outcome_of answer ≡ labels_outcome «module» (image_set_in loaded.now)) }
+/// loaded but for its contents, so each of its label areas has a label area's size.
+pub fn labels_answer(
+    alloc: Global,
+    module: u32,
+    outline: &Outline,
+) -> Result<Report, AllocError>
+    requires { IsOutlined outline.now }
+    ensures { IfOk result (λ answer. (contents : List (List ℕ)) → outcome_of answer ≡ labels_outcome «module» (image_set_with outline.now contents)) }
 {
-    let area = loaded.area(alloc, module)?;
+    let area = outline.area(alloc, module)?;
     module_answer(alloc, module, area)
 }

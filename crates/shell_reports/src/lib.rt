@@ -1,29 +1,30 @@
 //! What a command of `nvdimm_shell` comes to, and the texts that all commands share.
 //!
-//! A handler of a command makes an [`Answer`] from the set that was loaded: how it ends, the bytes of its text, and the
-//! image set that it saves, if it saves one. It knows no source, no sink and no exit status:
+//! A command that only prints makes a [`Report`] from the set that was loaded: how it ends, and the bytes of its text. It
+//! knows no source, no sink and no exit status:
 //!
 //! ```text
 //! ending   Done      Usage   Image                 Refused            PowerCut
 //! text     ..        usage   image OBJECT FAULT    refused REFUSAL    cut N
-//! saved    a set                                                      a set
 //! ```
 //!
-//! `specs/Outcome.antt` has what contracts see of an answer (`Outcome`, `status_of`, `exit_status_of`), `specs/Saved.antt`
-//! the sets that are saved (`IsSaving`), `specs/Texts.antt` the texts of names, UUIDs and modes, `specs/LoadFaults.antt` what is
-//! said of a set that isn't loaded, `specs/Cut.antt` what is said where power is cut. All are this project's rules.
+//! `specs/Outcome.antt` has what contracts see of what a command comes to (`Outcome`, `status_of`, `exit_status_of`),
+//! `specs/Saved.antt` the sets that are saved (`IsSaving`), `specs/Texts.antt` the texts of names, UUIDs and modes,
+//! `specs/LoadFaults.antt` what is said of a set that isn't loaded, `specs/Cut.antt` what is said where power is cut. All
+//! are this project's rules.
 //!
 //! # Listings
 //!
 //! The commands of `nvdimm_shell` that only print: `labels`, `nfit` and `list`.
 //!
 //! ```text
-//! loaded set ──► table ──────────────────────► nfit: modules, regions with their sets or faults
+//! outline ─────► table ──────────────────────► nfit: modules, regions with their sets or faults
 //!            └─► label area of a module ─────► labels: the current block, the used slots
 //!            └─► all label areas ─► registry ► list: a namespace for each UUID, with its extents
 //! ```
 //!
-//! Each has a handler from the set that was loaded to an answer, whose one clause is the command's outcome: `labels_outcome`
+//! They work on an outline, a set that was loaded but for its contents. Each has a handler from the outline to a report,
+//! whose one clause is the command's outcome, whatever the contents are: `labels_outcome`
 //! of `specs/Labels.antt`, `nfit_outcome` of `specs/Nfit.antt`, `list_outcome` of `specs/List.antt`. The lines are this
 //! project's; what they say stands in UEFI 2.10, section 13.19, and ACPI 6.5, section 5.2.25.
 //!
@@ -62,7 +63,7 @@ pub use labels::{fault_answer, labels_answer, missing_answer};
 pub use list::{areas_of, list_answer, open_fault_answer};
 pub use load_faults::load_answer;
 pub use nfit::{nfit_answer, set_fault_text};
-pub use outcome::{Answer, SavedSet, image_answer, printed_answer, usage_answer};
+pub use outcome::{Report, image_answer, printed_answer, usage_answer};
 pub use power::{Power, cut_line, fuse_of};
 pub use read::read_answer;
 pub use status::{Ending, Status, Stop};

@@ -5,8 +5,9 @@ ghost use Rattle.std.specs.List.{All};
 ghost use Rattle.cut_words.specs.Words.{settled};
 ghost use Rattle.label_index.specs.Area.{IsAreaSize};
 ghost use Rattle.label_area.specs.Opened.{opened};
-ghost use Rattle.image_set.specs.Load.{bytes_kept, image_set_in};
-ghost use Rattle.image_set.specs.Sound.{IsArea, IsSound};
+ghost use Rattle.image_set.specs.Load.{bytes_kept};
+ghost use Rattle.image_set.specs.Outline.{IsOutlined, image_set_with};
+ghost use Rattle.image_set.specs.Sound.{IsArea};
 ghost use Rattle.namespace_areas.specs.Areas.{AreRunning, IsRunning, shown_in};
 ghost use Rattle.namespace_ops.specs.Opening.{listing};
 ghost use Rattle.shell_reports.specs.Outcome.{printed};
@@ -14,9 +15,9 @@ ghost use Rattle.shell_reports.specs.Saved.{outcome_of};
 ghost use Rattle.shell_reports.specs.List.{shown_by, why_text, field_text, status_text, region_text, size_in, facts_text, namespace_line, extent_line, extent_lines, namespace_lines, list_text, open_fault_text, open_outcome, list_outcome};
 
 use crate::nfit::set_fault_text;
-use crate::{Answer, image_answer, mode_text, name_text, printed_answer};
+use crate::{Report, image_answer, mode_text, name_text, printed_answer};
 use cut_words::CutWords;
-use image_set::Loaded;
+use image_set::Outline;
 use interleave::SetFault;
 use label_area::{AreaFault, AreaRefused, open_area};
 use label_set::{Field, SetStatus, Why};
@@ -212,7 +213,7 @@ fn list_text(alloc: Global, namespaces: &[Namespace]) -> Result<Vec<u8>, AllocEr
 }
 
 /// The answer on a registry that is open.
-fn open_answer(alloc: Global, registry: &Registry) -> Result<Answer, AllocError>
+fn open_answer(alloc: Global, registry: &Registry) -> Result<Report, AllocError>
     ensures { IfOk result (λ answer. outcome_of answer ≡ printed (list_text (listing registry.now))) }
 {
     let namespaces = registry.list(alloc)?;
@@ -241,7 +242,7 @@ fn open_fault_text(alloc: Global, fault: OpenFault) -> Result<String, AllocError
 
 /// The answer on a registry that isn't opened: the first region that is no interleave set with its fault, or the least two
 /// UUIDs of which extents meet.
-pub fn open_fault_answer(alloc: Global, fault: OpenFault) -> Result<Answer, AllocError>
+pub fn open_fault_answer(alloc: Global, fault: OpenFault) -> Result<Report, AllocError>
     ensures text { IfOk result (λ answer. outcome_of answer ≡ open_outcome fault) }
     ensures finding { IfOk result (λ _. fault ≢ OpenFault.OutOfMemory) }
 {
@@ -252,12 +253,12 @@ pub fn open_fault_answer(alloc: Global, fault: OpenFault) -> Result<Answer, Allo
 /// The answer of `list` on an image set: a line for each UUID that a label names, rising by the bytes of
 /// the UUIDs, with the lines of its extents; or the first region that is no interleave set, or the first two
 /// UUIDs of which extents meet. A label area that has no valid index block has no labels. The set was
-/// loaded, so each of its label areas has a label area's size. (UEFI 2.10, section 13.19.)
-pub fn list_answer(alloc: Global, loaded: Loaded) -> Result<Answer, AllocError>
-    requires { IsSound loaded }
-    ensures { IfOk result (λ answer. outcome_of answer ≡ list_outcome (image_set_in loaded)) }
+/// loaded but for its contents, so each of its label areas has a label area's size. (UEFI 2.10, section 13.19.)
+pub fn list_answer(alloc: Global, outline: Outline) -> Result<Report, AllocError>
+    requires { IsOutlined outline }
+    ensures { IfOk result (λ answer. (contents : List (List ℕ)) → outcome_of answer ≡ list_outcome (image_set_with outline contents)) }
 {
-    let Loaded { nfit, labels, .. } = loaded;
+    let Outline { nfit, labels, .. } = outline;
     let areas = areas_of(alloc, labels)?;
     match Registry::open_all(alloc, nfit, areas) {
         Ok(registry) => open_answer(alloc, &registry),

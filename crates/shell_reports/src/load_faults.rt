@@ -3,7 +3,7 @@ ghost use Rattle.std.specs.Prelude.{◌≡◌, ◌≢◌, IfOk, string_bytes};
 ghost use Rattle.shell_reports.specs.LoadFaults.{object_text, nfit_fault_text, load_fault_text, load_outcome};
 ghost use Rattle.shell_reports.specs.Saved.{outcome_of};
 
-use crate::outcome::{Answer, image_answer};
+use crate::outcome::{Report, image_answer};
 use image_set::LoadFault;
 use nfit_reader::NfitFault;
 use nvd_media::Object;
@@ -82,7 +82,7 @@ fn load_fault_text(alloc: Global, fault: LoadFault) -> Result<String, AllocError
 }
 
 /// The answer on an image set that isn't loaded, by a fault that is a finding about its objects.
-pub fn load_answer(alloc: Global, fault: LoadFault) -> Result<Answer, AllocError>
+pub fn load_answer(alloc: Global, fault: LoadFault) -> Result<Report, AllocError>
     ensures text { IfOk result (λ answer. outcome_of answer ≡ load_outcome fault) }
     ensures source { IfOk result (λ _. fault ≢ LoadFault.ReadFault) }
     ensures memory { IfOk result (λ _. fault ≢ LoadFault.OutOfMemory) }

@@ -6,7 +6,7 @@ ghost use Rattle.shell_reports.specs.Outcome.{printed};
 ghost use Rattle.shell_reports.specs.Nfit.{module_line, module_lines, set_fault_text, members_text, range_text, set_text, reading_text, region_start, region_line, region_lines, nfit_text};
 ghost use Rattle.shell_reports.specs.Saved.{outcome_of};
 
-use crate::{Answer, printed_answer};
+use crate::{Report, printed_answer};
 use interleave::{InterleaveSet, SetFault, interleave_set};
 use nfit_reader::{Nfit, Region};
 use std::alloc::{AllocError, Global};
@@ -146,7 +146,7 @@ fn nfit_text(alloc: Global, nfit: &Nfit) -> Result<String, AllocError>
 
 /// The answer of `nfit` on a firmware table: a line for each module and each region. A region that is no
 /// interleave set has a line that says why. (The table: ACPI 6.5, section 5.2.25.)
-pub fn nfit_answer(alloc: Global, nfit: &Nfit) -> Result<Answer, AllocError>
+pub fn nfit_answer(alloc: Global, nfit: &Nfit) -> Result<Report, AllocError>
     requires counted { AreCounted nfit.now }
     requires few { length nfit.now.regions < 2 ^ 32 }
     ensures { IfOk result (λ answer. outcome_of answer ≡ printed (nfit_text nfit.now)) }

@@ -13,7 +13,7 @@ ghost use Rattle.shell_reports.specs.Sectors.{on_arenas, on_found, on_sectors};
 use crate::sector_faults::{arena_answer, unfound_answer};
 use crate::info::lines_answer;
 use crate::read::sector_answer;
-use crate::{Answer, areas_of, open_fault_answer};
+use crate::{Report, areas_of, open_fault_answer};
 use arena_open::ReadChain;
 use cut_words::{CutWords, WordSpace};
 use image_set::Loaded;
@@ -39,7 +39,7 @@ fn asked_answer<W: WordSpace>(
     alloc: Global,
     chain: &ReadChain<W>,
     ask: Ask,
-) -> Result<Answer, AllocError>
+) -> Result<Report, AllocError>
     ensures { IfOk result (λ answer. outcome_of answer ≡ asked ask chain.now) }
 {
     match ask {
@@ -56,7 +56,7 @@ fn found_answer(
     contents: Items<CutWords>,
     uuid: &Uuid,
     ask: Ask,
-) -> Result<Answer, AllocError>
+) -> Result<Report, AllocError>
     requires lies { LiesIn registry.now.sets found.now }
     requires sector { found.now.mode ≡ Mode.Sector }
     requires rows { All IsContents contents }
@@ -76,7 +76,7 @@ fn named_answer(
     contents: Items<CutWords>,
     uuid: &Uuid,
     ask: Ask,
-) -> Result<Answer, AllocError>
+) -> Result<Report, AllocError>
     requires rows { All IsContents contents }
     requires usable { AreUsable registry.now.sets contents }
     ensures { IfOk result (λ answer. outcome_of answer ≡ on_found uuid.now (asked ask) registry.now.sets (map bytes_kept contents) (finding registry.now uuid.now)) }
@@ -93,7 +93,7 @@ pub(crate) fn set_answer(
     loaded: Loaded,
     uuid: &Uuid,
     ask: Ask,
-) -> Result<Answer, AllocError>
+) -> Result<Report, AllocError>
     requires { IsSound loaded }
     ensures { IfOk result (λ answer. outcome_of answer ≡ on_sectors (asked ask) (image_set_in loaded) uuid.now) }
 {

@@ -12,7 +12,7 @@ ghost use Rattle.shell_reports.specs.Sectors.{cell_text, is_fill, read_outcome, 
 
 use crate::sector_faults::refused_answer;
 use crate::opening::{Ask, set_answer};
-use crate::{Answer, printed_answer};
+use crate::{Report, printed_answer};
 use arena_open::{CellKind, ReadChain};
 use cut_words::WordSpace;
 use image_set::Loaded;
@@ -100,7 +100,7 @@ pub(crate) fn sector_answer<W: WordSpace>(
     alloc: Global,
     chain: &ReadChain<W>,
     sector: u64,
-) -> Result<Answer, AllocError>
+) -> Result<Report, AllocError>
     ensures { IfOk result (λ answer. outcome_of answer ≡ sector_outcome sector chain.now) }
 {
     let sectors = chain.sectors();
@@ -119,7 +119,7 @@ pub fn read_answer(
     uuid: &Uuid,
     sector: u64,
     loaded: Loaded,
-) -> Result<Answer, AllocError>
+) -> Result<Report, AllocError>
     requires { IsSound loaded }
     ensures { IfOk result (λ answer. outcome_of answer ≡ read_outcome uuid.now sector (image_set_in loaded)) }
 {

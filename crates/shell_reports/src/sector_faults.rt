@@ -4,7 +4,7 @@ ghost use Rattle.shell_reports.specs.Outcome.{joined, lf};
 ghost use Rattle.shell_reports.specs.Saved.{outcome_of};
 ghost use Rattle.shell_reports.specs.Faults.{arena_outcome, block_text, field_text, find_refusal, flog_text, info_text, open_refused_text, refused_outcome};
 
-use crate::{Answer, Ending, image_answer};
+use crate::{Report, Ending, image_answer};
 use arena_layout::{InfoFault, LayoutField};
 use arena_open::{ChainRefused, OpenRefused};
 use flog::FlogFault;
@@ -86,7 +86,7 @@ pub(crate) fn arena_answer(
     alloc: Global,
     uuid: &Uuid,
     refused: ChainRefused,
-) -> Result<Answer, AllocError>
+) -> Result<Report, AllocError>
     ensures text { IfOk result (λ answer. outcome_of answer ≡ arena_outcome uuid.now refused) }
     ensures finding { IfOk result (λ _. refused.fault ≢ OpenRefused.OutOfMemory) }
 {
@@ -107,19 +107,18 @@ fn find_refusal(refused: OpRefused) -> &'static str
 }
 
 /// The answer of a command that is refused.
-pub(crate) fn refused_answer(alloc: Global, refusal: &str) -> Result<Answer, AllocError>
+pub(crate) fn refused_answer(alloc: Global, refusal: &str) -> Result<Report, AllocError>
     ensures { IfOk result (λ answer. outcome_of answer ≡ refused_outcome refusal.now) }
 {
     let text = format!(in alloc; "refused {}\n", refusal)?;
-    Ok(Answer {
+    Ok(Report {
         ending: Ending::Refused,
         text: text.into_bytes(),
-        saved: None,
     })
 }
 
 /// The answer on a namespace that isn't found.
-pub(crate) fn unfound_answer(alloc: Global, refused: OpRefused) -> Result<Answer, AllocError>
+pub(crate) fn unfound_answer(alloc: Global, refused: OpRefused) -> Result<Report, AllocError>
     ensures { IfOk result (λ answer. outcome_of answer ≡ refused_outcome (find_refusal refused)) }
 {
     refused_answer(alloc, find_refusal(refused))

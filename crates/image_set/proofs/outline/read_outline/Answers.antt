@@ -4,6 +4,7 @@ use Rattle.std.proofs.lemmas.List.{length-map}
 use Rattle.std.proofs.lemmas.Simd.{map-map}
 use Rattle.nvd_media.specs.declared.object.Object.TheVariants as object
 use Rattle.nvd_media.specs.Images.{bytes_of}
+use Rattle.nfit_reader.specs.Table.{nfit_reading}
 use Rattle.image_set.specs.declared.sizes.Sizes.{Sizes}
 use Rattle.image_set.specs.Sizes.{contents_of}
 use Rattle.image_set.proofs.Chain.{outline_is}
@@ -30,6 +31,9 @@ pub returns-clause-sound : goal.returns-clause-sound
 returns-clause-sound g c =
     let long : length c.in_ok-of_contents.of_contents ≡ length c.args.sizes.now = ap length c.in_ok-of_contents.ensures ∙ length-map c.args.sizes.now (λ (s : Sizes). s.contents) in
     record {
+      table = ap nfit_reading c.from_vec.ensures ∙ c.requires.table;
+      counted = c.requires.counted;
+      regions = c.requires.regions;
       labels = c.in_ok-labels.ensures.count ∙ sym long;
       bad = c.in_ok-bad.ensures.count ∙ sym long;
       few = let f = c.requires.modules.few in let n = c.requires.count in omega arith;

@@ -1,4 +1,4 @@
-use Rattle.shell_reports.specs.Cut.{LeavesBy}
+use Rattle.shell_changes.specs.Remains.{LeavesBy}
 use Rattle.nvdimm_shell.proofs.Causes.{accepted}
 use Rattle.nvdimm_shell.proofs.laws.accepted_is_ok.Goals as goal
 

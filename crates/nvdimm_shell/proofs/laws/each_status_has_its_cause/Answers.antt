@@ -1,4 +1,4 @@
-use Rattle.shell_reports.specs.Cut.{LeavesBy}
+use Rattle.shell_changes.specs.Remains.{LeavesBy}
 use Rattle.nvdimm_shell.proofs.Causes.{each_status}
 use Rattle.nvdimm_shell.proofs.laws.each_status_has_its_cause.Goals as goal
 

@@ -1,9 +1,13 @@
 use Rattle.std.specs.Prelude.{IsTrue, map, string_bytes}
-use Rattle.shell_reports.specs.Cut.{LeavesBy}
-use Rattle.nvdimm_shell.specs.declared.found.Found.{Found}
-use Rattle.nvdimm_shell.specs.Found.{HasItsContents, is_copied, whole_of}
-use Rattle.nvdimm_shell.specs.Run.{copies_by}
-use Rattle.nvdimm_shell.proofs.Comes.{IsDueOf, command_copies, command_due, if_found, usage_due, whole_copies_none, whole_there}
+use Rattle.nvd_media.specs.Images.{Images}
+use Rattle.shell_reports.specs.Outcome.{Outcome}
+use Rattle.shell_changes.specs.declared.answer.Answer.{Answer}
+use Rattle.shell_changes.specs.Answers.{ComesFrom}
+use Rattle.shell_changes.specs.Remains.{LeavesBy}
+use Rattle.shell_changes.specs.Saved.{HasContentsOf, copies_contents}
+use Rattle.shell_changes.proofs.Remains.{copies_none}
+use Rattle.nvdimm_shell.specs.Run.{IsDue, copies_by}
+use Rattle.nvdimm_shell.proofs.Comes.{command_copies, command_due, if_both, if_then, none_copied, usage_due, whole_there}
 use Rattle.nvdimm_shell.proofs.top.answer_to.Goals as goal
 
 pub returns-in-Ok-clause-due : goal.returns-in-Ok-clause-due
@@ -21,15 +25,15 @@ returns-in-Err-Usage-clause-due g c =
     let held = g.S.ImageSource.held c.args.images.now in
     let left = g.T.TextSource.left c.args.script.now in
     let none = c.command_from.ensures.usage (rw c.in-Err-Usage.field-0-is at c.in-Err-Usage.is) in
-    if_found (λ (found : Found). IsDueOf leaves words held left found) c.whole.result (whole_of c.found_memory.result) c.whole.ensures.same
-    (usage_due leaves words held left c.usage_answer.result c.found_memory.result none c.usage_answer.ensures c.found_memory.ensures.same)
+    if_both _ _ (λ (answer : Answer). (outcome : Outcome) → ComesFrom held answer outcome → IsDue leaves words held left outcome) c.misused.result
+    (λ answer says nothing. usage_due leaves words held left answer none nothing says) c.misused.ensures.text c.misused.ensures.saved
 
 pub returns-in-Err-Usage-clause-copying : goal.returns-in-Err-Usage-clause-copying
 returns-in-Err-Usage-clause-copying g c =
     let does = IsTrue (copies_by (map string_bytes c.args.words.now)) in
-    if_found (λ (found : Found). IsTrue (is_copied found) → does) c.whole.result (whole_of c.found_memory.result) c.whole.ensures.same (whole_copies_none c.found_memory.result does)
+    if_then (λ (answer : Answer). _) (λ (answer : Answer). IsTrue (copies_contents answer.saved) → does) c.misused.result (λ answer none. none_copied answer.saved does (copies_none answer none)) c.misused.ensures.saved
 
 pub returns-in-Err-Usage-clause-there : goal.returns-in-Err-Usage-clause-there
 returns-in-Err-Usage-clause-there g c =
     let held = g.S.ImageSource.held c.args.images.now in
-    if_found (λ (found : Found). HasItsContents held found) c.whole.result (whole_of c.found_memory.result) c.whole.ensures.same (whole_there held c.found_memory.result)
+    if_then (λ (answer : Answer). _) (λ (answer : Answer). HasContentsOf held answer.saved) c.misused.result (λ answer none. whole_there held answer.saved (copies_none answer none)) c.misused.ensures.saved

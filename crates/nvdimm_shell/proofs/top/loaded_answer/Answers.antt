@@ -1,8 +1,57 @@
-use Rattle.std.proofs.Common.{◌≡◌, ◌∙◌, true, false, sym, ap}
-use Rattle.nvdimm_shell.specs.Run.{copies}
+use Rattle.std.proofs.Common.{◌≡◌, ◌∙◌, true, false, sym, ap, subst}
+use Rattle.shell_changes.specs.declared.answer.Answer.{Answer}
+use Rattle.shell_changes.specs.Remains.{LeavesBy}
+use Rattle.shell_changes.specs.Saved.{copies_contents}
+use Rattle.shell_changes.proofs.Remains.{copies_none}
+use Rattle.image_set.specs.Load.{image_set_in}
+use Rattle.nvdimm_shell.specs.declared.words.Command.TheVariants.{CreateSectors, Info, Read}
+use Rattle.nvdimm_shell.specs.Run.{needs_contents}
+use Rattle.nvdimm_shell.specs.Words.{GivesGoodName}
+use Rattle.nvdimm_shell.proofs.Comes.{if_then, loaded_by}
 use Rattle.nvdimm_shell.proofs.top.loaded_answer.Goals as goal
 
 pub unreachable-requires : goal.unreachable-requires
 unreachable-requires g c =
-    let both : true ≡ false = sym (ap copies c.in-Init.is) ∙ c.requires.whole in
+    let both = sym c.requires.whole ∙ ap needs_contents c.in-Labels.is in
     (let e = both in cc)
+
+pub unreachable-requires-2 : goal.unreachable-requires-2
+unreachable-requires-2 g c =
+    let both = sym c.requires.whole ∙ ap needs_contents c.in-Nfit.is in
+    (let e = both in cc)
+
+pub unreachable-requires-3 : goal.unreachable-requires-3
+unreachable-requires-3 g c =
+    let both = sym c.requires.whole ∙ ap needs_contents c.in-List.is in
+    (let e = both in cc)
+
+pub unreachable-requires-4 : goal.unreachable-requires-4
+unreachable-requires-4 g c =
+    let both = sym c.requires.whole ∙ ap needs_contents c.in-Init.is in
+    (let e = both in cc)
+
+pub unreachable-requires-5 : goal.unreachable-requires-5
+unreachable-requires-5 g c =
+    let both = sym c.requires.whole ∙ ap needs_contents c.in-Change.is in
+    (let e = both in cc)
+
+pub returns-in-CreateSectors-clause-comes : goal.returns-in-CreateSectors-clause-comes
+returns-in-CreateSectors-clause-comes g c =
+    loaded_by (LeavesBy g.C.Chooser.begins g.C.Chooser.picks c.args.choose.now) c.args.command (CreateSectors c.in-CreateSectors.new c.in-CreateSectors.power) c.in-CreateSectors.is (image_set_in c.args.loaded) c.sectors_answer.result c.sectors_answer.ensures.comes
+
+pub returns-in-Info-clause-comes : goal.returns-in-Info-clause-comes
+returns-in-Info-clause-comes g c =
+    loaded_by (LeavesBy g.C.Chooser.begins g.C.Chooser.picks c.args.choose.now) c.args.command (Info c.in-Info.uuid) c.in-Info.is (image_set_in c.args.loaded) c.arenas_found.result c.arenas_found.ensures.comes
+
+pub returns-in-Info-clause-whole : goal.returns-in-Info-clause-whole
+returns-in-Info-clause-whole g c = if_then _ (λ (answer : Answer). copies_contents answer.saved ≡ false) c.arenas_found.result (λ answer none. copies_none answer none) c.arenas_found.ensures.saved
+
+pub returns-in-Read-clause-comes : goal.returns-in-Read-clause-comes
+returns-in-Read-clause-comes g c =
+    loaded_by (LeavesBy g.C.Chooser.begins g.C.Chooser.picks c.args.choose.now) c.args.command (Read c.in-Read.uuid c.in-Read.sector) c.in-Read.is (image_set_in c.args.loaded) c.sector_found.result c.sector_found.ensures.comes
+
+pub returns-in-Read-clause-whole : goal.returns-in-Read-clause-whole
+returns-in-Read-clause-whole g c = if_then _ (λ (answer : Answer). copies_contents answer.saved ≡ false) c.sector_found.result (λ answer none. copies_none answer none) c.sector_found.ensures.saved
+
+pub sectors_answer-requires-clause-name : goal.sectors_answer-requires-clause-name
+sectors_answer-requires-clause-name g c = subst GivesGoodName c.in-CreateSectors.is c.requires.name

@@ -1,26 +1,28 @@
 use Rattle.std.proofs.Common.{Option, sym, subst, arith}
 use Rattle.std.specs.Prelude.{map, string_bytes}
 use Rattle.nvd_media.specs.Images.{Images}
-use Rattle.shell_reports.specs.Cut.{LeavesBy}
-use Rattle.nvdimm_shell.specs.Found.{ComesOf, HasItsContents, is_copied}
+use Rattle.shell_changes.specs.Answers.{ComesFrom}
+use Rattle.shell_changes.specs.Remains.{LeavesBy}
+use Rattle.shell_changes.specs.Saved.{HasContentsOf, copies_contents}
 use Rattle.nvdimm_shell.specs.Run.{Ends, IsDue, copies_by}
 use Rattle.nvdimm_shell.proofs.Ending.{ends_more, ends_stopped}
 use Rattle.nvdimm_shell.proofs.top.run.Goals as goal
 
 pub conclude-requires-clause-there : goal.conclude-requires-clause-there
-conclude-requires-clause-there g c = subst (λ (held : Option Images). HasItsContents held c.in-Ok.found) (sym c.answer_to.ensures.same) c.in-Ok.ensures.there
+conclude-requires-clause-there g c = subst (λ (held : Option Images). HasContentsOf held c.in-Ok.answer.saved) (sym c.answer_to.ensures.same) c.in-Ok.ensures.there
 
 pub returns-in-Ok-clause-ends : goal.returns-in-Ok-clause-ends
 returns-in-Ok-clause-ends g c =
     let words = map string_bytes c.args.words.now in
     let held = g.S.ImageSource.held c.args.images.now in
+    let answer = c.in-Ok.answer in
     let due = IsDue (LeavesBy g.C.Chooser.begins g.C.Chooser.picks c.args.choose.now) words held (g.T.TextSource.left c.args.script.now) in
     let made = g.K.ImageSink.made c.args.out.now in
     let made' = g.K.ImageSink.made c.conclude.new.out in
     let text = g.O.TextSink.written c.args.text.now in
     let text' = g.O.TextSink.written c.conclude.new.text in
-    ends_more (is_copied c.in-Ok.found) (copies_by words) (ComesOf held c.in-Ok.found) due made made' text text' c.conclude.result c.in-Ok.ensures.copying c.in-Ok.ensures.due
-    (subst (λ (h : Option Images). Ends (is_copied c.in-Ok.found) (ComesOf h c.in-Ok.found) made made' text text' c.conclude.result) c.answer_to.ensures.same c.conclude.ensures.ends)
+    ends_more (copies_contents answer.saved) (copies_by words) (ComesFrom held answer) due made made' text text' c.conclude.result c.in-Ok.ensures.copying c.in-Ok.ensures.due
+    (subst (λ (h : Option Images). Ends (copies_contents answer.saved) (ComesFrom h answer) made made' text text' c.conclude.result) c.answer_to.ensures.same c.conclude.ensures.ends)
 
 pub returns-in-Err-clause-ends : goal.returns-in-Err-clause-ends
 returns-in-Err-clause-ends g c =

@@ -2,7 +2,7 @@ use Rattle.std.proofs.Common.{◌∙◌, ◌<◌, ℕ, List, ap, length, sym, su
 use Rattle.cut_words.specs.Words.{Words}
 use Rattle.shell_reports.specs.declared.status.Ending.TheVariants as ending
 use Rattle.shell_reports.specs.Cut.{cut_text, done_text}
-use Rattle.shell_reports.specs.Saved.{outcome_of}
+use Rattle.shell_changes.specs.Answers.{whole_outcome}
 use Rattle.shell_changes.proofs.Carried.{if_both}
 use Rattle.shell_changes.specs.SectorGoing.{IsSavedWith}
 use Rattle.shell_changes.proofs.Held.{counts_are, if_three, refused_is, saved_rest, went_is}
@@ -31,7 +31,7 @@ returns-clause-refused g c =
     let made = c.create_sectors-created in
     if_both _ _ _ c.created_answer.result
     (λ answer said memory.
-    refused_is c.args.holding.sets c.args.holding.areas made.new.holding.areas c.into_vec-modules.result.items made.new.modules.items c.args.fuse made.new.fuse c.args.new.now made.result (outcome_of answer)
+    refused_is c.args.holding.sets c.args.holding.areas made.new.holding.areas c.into_vec-modules.result.items made.new.modules.items c.args.fuse made.new.fuse c.args.new.now made.result (whole_outcome answer)
     (made.ensures.creates memory) said)
     c.created_answer.ensures.refused c.created_answer.ensures.memory
 
@@ -40,9 +40,9 @@ returns-clause-went g c =
     let made = c.create_sectors-created in
     if_three _ _ _ _ c.created_answer.result
     (λ answer done cut memory.
-    went_is c.args.holding.sets c.args.holding.areas made.new.holding.areas c.into_vec-modules.result.items made.new.modules.items c.args.fuse made.new.fuse c.args.new.now c.args.rest c.args.power made.result (outcome_of answer)
+    went_is c.args.holding.sets c.args.holding.areas made.new.holding.areas c.into_vec-modules.result.items made.new.modules.items c.args.fuse made.new.fuse c.args.new.now c.args.rest c.args.power made.result (whole_outcome answer)
     (sym c.into_vec-modules.ensures) (made.ensures.creates memory)
-    (λ ok. subst (λ (ws : List Words). IsSavedWith ending.Done done_text c.args.rest made.new.holding.areas ws (outcome_of answer)) c.from_vec.ensures (saved_rest ending.Done done_text c.args.rest c.from_vec.result made.new.holding.areas (outcome_of answer) (done ok)))
-    (λ err. subst (λ (ws : List Words). IsSavedWith ending.PowerCut (cut_text c.args.power.steps) c.args.rest made.new.holding.areas ws (outcome_of answer)) c.from_vec.ensures
-    (saved_rest ending.PowerCut (cut_text c.args.power.steps) c.args.rest c.from_vec.result made.new.holding.areas (outcome_of answer) (cut err))))
+    (λ ok. subst (λ (ws : List Words). IsSavedWith ending.Done done_text c.args.rest made.new.holding.areas ws (whole_outcome answer)) c.from_vec.ensures (saved_rest ending.Done done_text c.args.rest c.from_vec.result made.new.holding.areas (whole_outcome answer) (done ok)))
+    (λ err. subst (λ (ws : List Words). IsSavedWith ending.PowerCut (cut_text c.args.power.steps) c.args.rest made.new.holding.areas ws (whole_outcome answer)) c.from_vec.ensures
+    (saved_rest ending.PowerCut (cut_text c.args.power.steps) c.args.rest c.from_vec.result made.new.holding.areas (whole_outcome answer) (cut err))))
     c.created_answer.ensures.done c.created_answer.ensures.cut c.created_answer.ensures.memory

@@ -6,13 +6,14 @@ use Rattle.image_set.specs.Load.{area_of, bytes_kept}
 use Rattle.image_set.specs.Outline.{image_set_with}
 use Rattle.image_set.specs.Sound.{IsArea}
 use Rattle.label_area.specs.Initialise.{initialised}
-use Rattle.shell_reports.specs.Cut.{LeavesBy}
+use Rattle.shell_changes.specs.Remains.{LeavesBy}
 use Rattle.shell_reports.proofs.More.{if_more}
 use Rattle.shell_reports.specs.Labels.{module_outcome}
-use Rattle.shell_changes.specs.declared.answer.InitAnswer.{InitAnswer}
+use Rattle.shell_changes.specs.declared.answer.Answer.{Answer}
 use Rattle.shell_changes.specs.Init.{InitArea, InitComes}
-use Rattle.shell_changes.specs.Outlined.{HasSizes, outcome_with}
-use Rattle.shell_changes.proofs.Parts.{answered, inside, module_none, module_some, no_sizes}
+use Rattle.shell_changes.specs.Answers.{HasSizes, outcome_with}
+use Rattle.shell_changes.proofs.Parts.{answered, inside, module_none, module_some}
+use Rattle.shell_changes.proofs.Remains.{no_sizes}
 use Rattle.shell_changes.proofs.init.init_answer.Goals as goal
 
 pub area_answer-requires-clause-there : goal.area_answer-requires-clause-there
@@ -37,8 +38,8 @@ returns-in-Some-clause-comes g c =
     let rest = λ (contents : List (List ℕ)). image_set_with c.take_area-rest.result.0 contents in
     let m = c.args.«module» in
     if_more
-    (λ (answer : InitAnswer). (contents : List (List ℕ)) → InitArea leaves m c.args.power (rest contents) (initialised c.in-Some.words.kept c.args.power.steps) (outcome_with answer contents))
-    (λ (answer : InitAnswer). (contents : List (List ℕ)) → InitComes leaves m c.args.power (loaded contents) (outcome_with answer contents))
+    (λ (answer : Answer). (contents : List (List ℕ)) → InitArea leaves m c.args.power (rest contents) (initialised c.in-Some.words.kept c.args.power.steps) (outcome_with answer contents))
+    (λ (answer : Answer). (contents : List (List ℕ)) → InitComes leaves m c.args.power (loaded contents) (outcome_with answer contents))
     c.area_answer.result
     (λ answer said contents.
     module_some leaves m c.args.power (loaded contents) (outcome_with answer contents) (area_of (loaded contents) m) c.in-Some.words
@@ -56,8 +57,8 @@ returns-in-None-clause-comes g c =
     let loaded = λ (contents : List (List ℕ)). image_set_with c.args.outline contents in
     let m = c.args.«module» in
     if_more
-    (λ (answer : InitAnswer). (contents : List (List ℕ)) → outcome_with answer contents ≡ module_outcome m None)
-    (λ (answer : InitAnswer). (contents : List (List ℕ)) → InitComes leaves m c.args.power (loaded contents) (outcome_with answer contents))
+    (λ (answer : Answer). (contents : List (List ℕ)) → outcome_with answer contents ≡ module_outcome m None)
+    (λ (answer : Answer). (contents : List (List ℕ)) → InitComes leaves m c.args.power (loaded contents) (outcome_with answer contents))
     c.no_area_answer.result
     (λ answer said contents.
     module_none leaves m c.args.power (loaded contents) (outcome_with answer contents) (area_of (loaded contents) m)
@@ -66,5 +67,5 @@ returns-in-None-clause-comes g c =
 
 pub returns-in-None-clause-sizes : goal.returns-in-None-clause-sizes
 returns-in-None-clause-sizes g c =
-    if_more (λ (answer : InitAnswer). answer.saved ≡ None) (λ (answer : InitAnswer). HasSizes c.args.outline.sizes answer) c.no_area_answer.result
+    if_more (λ (answer : Answer). answer.saved ≡ None) (λ (answer : Answer). HasSizes c.args.outline.sizes answer) c.no_area_answer.result
     (λ answer none. no_sizes c.args.outline.sizes answer none) c.no_area_answer.ensures.saved
