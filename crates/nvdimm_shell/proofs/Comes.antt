@@ -209,12 +209,16 @@ saved_due held None some = absurd (let e = some in cc)
 saved_due held (Some (Whole left)) some = (objects_saved [] (Whole left), (objects_saved [] (Whole left), refl, refl))
 saved_due None (Some (Copied left)) some = (objects_with left [], (objects_with left [], (λ source is. absurd (let e = is in cc)), refl))
 saved_due (Some source) (Some (Copied left)) some =
-    let set : Images = objects_with left (contents_in source (length left.sizes)) in
-    (set, (set,
-    (λ source' is.
-        let same : source ≡ source' = (let e = is in cc) in
-        ap (λ (s : Images). objects_with left (contents_in s (length left.sizes))) same),
-    refl))
+    let set : Images = objects_with left (contents_in source (length left.sizes)) in (
+      set,
+      (
+        set,
+        (λ source' is.
+            let same : source ≡ source' = (let e = is in cc) in
+            ap (λ (s : Images). objects_with left (contents_in s (length left.sizes))) same),
+        refl,
+      ),
+    )
 
 pub some_due : (held : Option Images) (answer : Answer) → IsSome answer.saved → (outcome : Outcome) × ComesFrom held answer outcome × IsSome outcome.saved
 some_due held answer some =

@@ -74,7 +74,10 @@ enum Unread {
 /// The words of the command line after the program's name.
 fn command_line(rt: &(impl Env + AllocGlobal)) -> Result<Vec<String>, Unread> {
     match env::args(rt) {
-        Ok(args) => args.skip(1).collect(rt.alloc()).map_err(|_| Unread::OutOfMemory),
+        Ok(args) => args
+            .skip(1)
+            .collect(rt.alloc())
+            .map_err(|_| Unread::OutOfMemory),
         Err(e) if e.kind() == ErrorKind::InvalidData => Err(Unread::NotText),
         Err(_) => Err(Unread::OutOfMemory),
     }

@@ -23,9 +23,7 @@ use crate::words::{Command, command_from};
 use command_words::WordsFault;
 use image_set::{CopyFault, LoadFault, Loaded, Outline, load, load_outline};
 use nvd_media::{Chooser, Gate, ImageSink, ImageSource, TextSink, TextSource};
-use shell_changes::{
-    Answer, SavedSet, change_answer, init_answer, sectors_answer, without_set,
-};
+use shell_changes::{Answer, SavedSet, change_answer, init_answer, sectors_answer, without_set};
 use shell_reports::{
     Ending, Report, Status, Stop, info_answer, labels_answer, list_answer, load_answer,
     nfit_answer, read_answer, usage_answer,
@@ -98,7 +96,12 @@ fn arenas_found(alloc: Global, uuid: &Uuid, loaded: Loaded) -> Result<Answer, Al
 }
 
 /// The answer of `read`.
-fn sector_found(alloc: Global, uuid: &Uuid, sector: u64, loaded: Loaded) -> Result<Answer, AllocError>
+fn sector_found(
+    alloc: Global,
+    uuid: &Uuid,
+    sector: u64,
+    loaded: Loaded,
+) -> Result<Answer, AllocError>
     requires { IsSound loaded }
     ensures comes { IfOk result (λ answer. whole_outcome answer ≡ read_outcome uuid.now sector (image_set_in loaded)) }
     ensures saved { IfOk result (λ answer. answer.saved ≡ None) }

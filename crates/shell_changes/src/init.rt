@@ -54,7 +54,11 @@ fn done_area_answer<C: Chooser>(
         → IsSaving Ending.Done done_text (objects_of (with_area (image_set_with rest contents) «module» (bytes_of area.words.kept))) (outcome_with answer contents)) }
     ensures sizes { IfOk result (λ answer. HasSizes rest.sizes answer) }
 {
-    done_answer(alloc, Remains::Area(rest, module, area.into_words()), choose)
+    done_answer(
+        alloc,
+        Remains::Area(rest, module, area.into_words()),
+        choose,
+    )
 }
 
 /// The text on an area that isn't initialised.

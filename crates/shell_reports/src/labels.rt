@@ -175,11 +175,7 @@ fn module_answer(alloc: Global, module: u32, area: Option<Vec<u8>>) -> Result<Re
 
 /// The answer of `labels` on an image set: the module's current index block and its labels. The set was
 /// loaded but for its contents, so each of its label areas has a label area's size.
-pub fn labels_answer(
-    alloc: Global,
-    module: u32,
-    outline: &Outline,
-) -> Result<Report, AllocError>
+pub fn labels_answer(alloc: Global, module: u32, outline: &Outline) -> Result<Report, AllocError>
     requires { IsOutlined outline.now }
     ensures { IfOk result (λ answer. (contents : List (List ℕ)) → outcome_of answer ≡ labels_outcome «module» (image_set_with outline.now contents)) }
 {

@@ -45,7 +45,6 @@
 //! no image set is written. All are this project's rules over UEFI 2.10, chapter 6.
 #![tactic(auto)]
 
-mod sector_faults;
 mod info;
 mod labels;
 mod list;
@@ -55,6 +54,7 @@ mod opening;
 mod outcome;
 mod power;
 mod read;
+mod sector_faults;
 mod status;
 mod texts;
 

@@ -10,9 +10,9 @@ ghost use Rattle.shell_reports.specs.Saved.{outcome_of};
 ghost use Rattle.shell_reports.specs.Asked.{asked};
 ghost use Rattle.shell_reports.specs.Sectors.{on_arenas, on_found, on_sectors};
 
-use crate::sector_faults::{arena_answer, unfound_answer};
 use crate::info::lines_answer;
 use crate::read::sector_answer;
+use crate::sector_faults::{arena_answer, unfound_answer};
 use crate::{Report, areas_of, open_fault_answer};
 use arena_open::ReadChain;
 use cut_words::{CutWords, WordSpace};

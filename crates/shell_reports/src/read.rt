@@ -10,8 +10,8 @@ ghost use Rattle.shell_reports.specs.Outcome.{joined, lf};
 ghost use Rattle.shell_reports.specs.Saved.{outcome_of};
 ghost use Rattle.shell_reports.specs.Sectors.{cell_text, is_fill, read_outcome, sector_outcome, value_text};
 
-use crate::sector_faults::refused_answer;
 use crate::opening::{Ask, set_answer};
+use crate::sector_faults::refused_answer;
 use crate::{Report, printed_answer};
 use arena_open::{CellKind, ReadChain};
 use cut_words::WordSpace;

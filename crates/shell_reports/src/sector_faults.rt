@@ -4,7 +4,7 @@ ghost use Rattle.shell_reports.specs.Outcome.{joined, lf};
 ghost use Rattle.shell_reports.specs.Saved.{outcome_of};
 ghost use Rattle.shell_reports.specs.Faults.{arena_outcome, block_text, field_text, find_refusal, flog_text, info_text, open_refused_text, refused_outcome};
 
-use crate::{Report, Ending, image_answer};
+use crate::{Ending, Report, image_answer};
 use arena_layout::{InfoFault, LayoutField};
 use arena_open::{ChainRefused, OpenRefused};
 use flog::FlogFault;

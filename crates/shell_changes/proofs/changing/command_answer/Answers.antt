@@ -37,9 +37,11 @@ done_answer-requires g c =
     let held : old.held ≡ h = ap (λ (x : Counted). x.held) c.reserve.ensures.counted ∙ c.of-registry.ensures.held in
     let claims : old.claims ≡ [] = ap (λ (x : Counted). x.claims) c.reserve.ensures.counted ∙ c.of-registry.ensures.claims in
     let other : result ≢ Err OutOfMemory = (λ e. let both = sym c.in-Ok.is ∙ e in cc) in
-    let carried : Carried h.sets h.areas new.held.areas c.args.fuse c.carry_out-reply.new.fuse c.args.change.now result = carried_of h old new c.args.fuse c.carry_out-reply.new.fuse c.args.change.now result held claims c.requires.running other c.carry_out-reply.ensures.answered in
-    (c.requires.rest, counted c.in_ok-labels.labels c.into_areas.result.items new.held.areas h.areas (length c.args.rest.sizes) c.in_ok-labels.ensures c.into_areas.ensures.areas
-    (count_kept h.sets h.areas new.held.areas c.args.fuse c.carry_out-reply.new.fuse c.args.change.now result carried) c.requires.count)
+    let carried : Carried h.sets h.areas new.held.areas c.args.fuse c.carry_out-reply.new.fuse c.args.change.now result = carried_of h old new c.args.fuse c.carry_out-reply.new.fuse c.args.change.now result held claims c.requires.running other c.carry_out-reply.ensures.answered in (
+      c.requires.rest,
+      counted c.in_ok-labels.labels c.into_areas.result.items new.held.areas h.areas (length c.args.rest.sizes) c.in_ok-labels.ensures c.into_areas.ensures.areas
+          (count_kept h.sets h.areas new.held.areas c.args.fuse c.carry_out-reply.new.fuse c.args.change.now result carried) c.requires.count,
+    )
 
 pub cut_answer-requires : goal.cut_answer-requires
 cut_answer-requires g c =
@@ -52,9 +54,11 @@ cut_answer-requires g c =
     let off : new.held.stopped ≡ true = sym c.is_stopped-is_cut.ensures ∙ c.if-is_cut.true in
     let power : old.held.stopped ≡ false = ap (λ (x : Held). x.stopped) held ∙ c.requires.running in
     let other : result ≢ Err OutOfMemory = (λ e. false≢true (sym (ap is_cut e) ∙ sym (c.carry_out-reply.ensures.answered.stopped power) ∙ off)) in
-    let carried : Carried h.sets h.areas new.held.areas c.args.fuse c.carry_out-reply.new.fuse c.args.change.now result = carried_of h old new c.args.fuse c.carry_out-reply.new.fuse c.args.change.now result held claims c.requires.running other c.carry_out-reply.ensures.answered in
-    (c.requires.rest, counted c.in_ok-labels.labels c.into_areas.result.items new.held.areas h.areas (length c.args.rest.sizes) c.in_ok-labels.ensures c.into_areas.ensures.areas
-    (count_kept h.sets h.areas new.held.areas c.args.fuse c.carry_out-reply.new.fuse c.args.change.now result carried) c.requires.count)
+    let carried : Carried h.sets h.areas new.held.areas c.args.fuse c.carry_out-reply.new.fuse c.args.change.now result = carried_of h old new c.args.fuse c.carry_out-reply.new.fuse c.args.change.now result held claims c.requires.running other c.carry_out-reply.ensures.answered in (
+      c.requires.rest,
+      counted c.in_ok-labels.labels c.into_areas.result.items new.held.areas h.areas (length c.args.rest.sizes) c.in_ok-labels.ensures c.into_areas.ensures.areas
+          (count_kept h.sets h.areas new.held.areas c.args.fuse c.carry_out-reply.new.fuse c.args.change.now result carried) c.requires.count,
+    )
 
 pub returns-in-Ok-clause-refused : goal.returns-in-Ok-clause-refused
 returns-in-Ok-clause-refused g c =
