@@ -1,7 +1,6 @@
-use arena_layout::{InfoFault, LayoutFault, LayoutField, plan, read_info, write_info};
-use flog::{FlogFault, Group, Half, half_words, next_half, read_group};
-use map_table::{BlockFault, Entry, Kind, check_blocks, entry, entry_in, normal, with_entry, zero};
-use nvd_words::fletcher64;
+use arena_layout::{plan, read_info, write_info};
+use flog::{Group, Half, half_words, next_half, read_group};
+use map_table::{Entry, Kind, check_blocks, entry, entry_in, normal, with_entry, zero};
 use std::alloc::{AllocError, Global};
 use std::test::Fail;
 use uuid::Uuid;
@@ -38,38 +37,6 @@ fn flog_groups_of_linux(rt: HostRuntime) {
             assert_eq!(rt; half_words(&half), [words[0], words[1]]);
         }
     }
-}
-
-/// The current side of groups of an arena with 3 sectors and 6 blocks, by their sequence numbers, and refusals.
-#[test]
-fn flog_sides_and_refusals(rt: HostRuntime) {
-    for (a, b, want) in [
-        (pair(1, 4, 4, 1), pair(2, 5, 5, 2), Ok(1)),
-        (pair(1, 4, 4, 3), pair(2, 5, 5, 2), Ok(0)),
-        (pair(1, 4, 4, 3), pair(2, 5, 5, 1), Ok(1)),
-        (pair(1, 4, 4, 0), pair(2, 5, 5, 3), Ok(1)),
-        (
-            pair(1, 4, 4, 2),
-            pair(2, 5, 5, 2),
-            Err(FlogFault::Sequences { a: 2, b: 2 }),
-        ),
-        (
-            pair(9, 6, 7, 1),
-            pair(0, 0, 0, 0),
-            Err(FlogFault::Range { value: 6 }),
-        ),
-        (
-            pair(9, 5, 4, 1),
-            pair(0, 0, 0, 0),
-            Err(FlogFault::Range { value: 9 }),
-        ),
-    ] {
-        let read = read_group(&group(a, b), 3, 6);
-        assert_eq!(rt; read.map(|group| group.side), want);
-    }
-    let mut padded = group(pair(9, 6, 7, 0), pair(0, 0, 0, 0));
-    padded[7] = 1 << 63;
-    assert_eq!(rt; read_group(&padded, 3, 6), Err(FlogFault::Padding));
 }
 
 #[test]
@@ -111,36 +78,8 @@ fn map_entries_and_words(rt: HostRuntime) {
     }
 }
 
-#[test]
-fn map_refusals(rt: HostRuntime) {
-    let zeros = [0x8000_0000u32, 0x8000_0001, 0x8000_0002];
-    for (map, free, internal, want) in [
-        (zeros, [4, 3], 6, BlockFault::Count { said: 6, had: 5 }),
-        (
-            [0x8000_0004, 0, 0xC000_0004],
-            [1, 5],
-            5,
-            BlockFault::Range { block: 5 },
-        ),
-        (
-            [0x8000_0009, 0, 0x4000_0007],
-            [6, 5],
-            5,
-            BlockFault::Range { block: 9 },
-        ),
-        (
-            [0x8000_0004, 0, 0xC000_0004],
-            [1, 1],
-            5,
-            BlockFault::Twice { block: 1 },
-        ),
-    ] {
-        assert_eq!(rt; check_blocks(rt.alloc(), &map, &free, internal), Err(want));
-    }
-}
-
-/// The map of an arena of 3,829 sectors of 4,096 bytes, with the entries that Linux 6.1 had written, and the free
-/// blocks of its 256 lanes: lane 0 freed block 8, each other lane has its first block.
+/// The map of an arena of 3,829 sectors of 4,096 bytes, with the entries that Linux 6.1 had written,
+/// and the free blocks of its 256 lanes: lane 0 freed block 8, each other lane has its first block.
 fn linux_map(alloc: Global) -> Result<(Vec<u32>, Vec<u32>), AllocError> {
     let mut map = vec![in alloc; 0u32; 3829]?;
     for (sector, word) in [
@@ -178,8 +117,8 @@ fn map_of_linux(rt: HostRuntime) -> Result<(), Fail> {
     Ok(())
 }
 
-/// The first 120 bytes of the info blocks that Linux 6.1 wrote, of arenas of 32 MiB and of 16 MiB. All other bytes but
-/// the checksum's are zero.
+/// The first 120 bytes of the info blocks that Linux 6.1 wrote, of arenas of 32 MiB and of 16 MiB.
+/// All other bytes but the checksum's are zero.
 const FIRST: [u8; 120] = [
     0x42, 0x54, 0x54, 0x5f, 0x41, 0x52, 0x45, 0x4e, 0x41, 0x5f, 0x49, 0x4e, 0x46, 0x4f, 0x00, 0x00,
     0x79, 0x86, 0x2a, 0x64, 0x27, 0x99, 0x47, 0x60, 0xbb, 0x98, 0xa9, 0x7c, 0x74, 0x3c, 0x01, 0x14,
@@ -234,32 +173,7 @@ fn info_blocks_of_linux(rt: HostRuntime) -> Result<(), Fail> {
     Ok(())
 }
 
-/// A byte of the first block, what is put there under a right checksum, and what is then found.
-#[test]
-fn info_blocks_refused(rt: HostRuntime) {
-    let field = |field| Some(InfoFault::Layout { field });
-    for (at, byte, want) in [
-        (14u8, 1u8, Some(InfoFault::Signature)),
-        (52, 1, Some(InfoFault::Version { major: 1, minor: 0 })),
-        (47, 3, Some(InfoFault::Parent)),
-        (48, 1, Some(InfoFault::ErrorState)),
-        (48, 2, None),
-        (56, 1, field(LayoutField::Sector)),
-        (60, 0xcd, field(LayoutField::Blocks)),
-        (88, 1, field(LayoutField::Areas)),
-        (115, 2, field(LayoutField::Size)),
-        (83, 2, field(LayoutField::Next)),
-    ] {
-        let mut block = block_of(&FIRST, 0);
-        block[usize::from(at)] = byte;
-        let sum = fletcher64(&block);
-        block[4088..].copy_from_slice(&sum.to_le_bytes());
-        let found = read_info(&block, &Uuid::from_u128(PARENT), 33_554_432).err();
-        assert_eq!(rt; found, want, "{byte} at {at}");
-    }
-}
-
-/// What Linux's alloc_arena makes of whole MiB: the bytes of a block, the blocks, and the offset of the map.
+/// What Linux's alloc_arena makes of whole MiB: the bytes of a block, the blocks, the map's offset.
 #[test]
 fn plans_of_linux(rt: HostRuntime) {
     for (mib, sector, want) in [
@@ -277,25 +191,5 @@ fn plans_of_linux(rt: HostRuntime) {
         let planned = plan(mib << 20, sector, 256);
         let found = planned.map(|l| (l.inner, l.internal, l.map_off));
         assert_eq!(rt; found, Ok(want), "{mib} MiB, {sector}");
-    }
-    for (size, sector, lanes, want) in [
-        (
-            16_777_215,
-            512,
-            256,
-            LayoutFault::TooSmall { size: 16_777_215 },
-        ),
-        (
-            549_755_813_889,
-            512,
-            256,
-            LayoutFault::TooLarge {
-                size: 549_755_813_889,
-            },
-        ),
-        (16_777_215, 513, 0, LayoutFault::Sector { bytes: 513 }),
-        (16_777_216, 512, 257, LayoutFault::Free { count: 257 }),
-    ] {
-        assert_eq!(rt; plan(size, sector, lanes), Err(want));
     }
 }

@@ -2,10 +2,9 @@ ghost use Rattle.std.specs.Prelude.{◌≡◌, ◌≤◌, IfOk};
 ghost use Rattle.label_index.specs.Area.{IsAreaSize};
 ghost use Rattle.label_index.specs.Valid.{IsValid};
 
-use label_codec::{LabelFault, Mode, SizeField, name_of, read_label, write_label};
+use label_codec::{Mode, read_label, write_label};
 use label_index::{
-    FreeList, IndexBlock, IndexFault, Side, area_index_size, current, read_index, slots_for,
-    write_index,
+    FreeList, IndexBlock, Side, area_index_size, current, read_index, slots_for, write_index,
 };
 use std::alloc::{AllocError, Global};
 use std::test::Fail;
@@ -50,25 +49,6 @@ fn a_fresh_area_is_read(rt: HostRuntime) {
     }
 }
 
-/// A byte of a block, what is put there, and what is then found.
-#[test]
-fn damage_of_a_block_is_named(rt: HostRuntime) {
-    for (at, byte, fault) in [
-        (0u8, b'n', IndexFault::Signature),
-        (20, 4, IndexFault::Sequence),
-        (60, 2, IndexFault::Version { major: 2, minor: 2 }),
-        (33, 2, IndexFault::Offsets),
-        (56, 3, IndexFault::Slots),
-        (64, 0, IndexFault::Checksum),
-        (255, 1, IndexFault::Checksum),
-    ] {
-        let mut area = fresh_area();
-        area[usize::from(at)] = byte;
-        let found = read_index(rt.alloc(), &area, Side::Zero).err();
-        assert_eq!(rt; found, Some(fault), "byte {at}");
-    }
-}
-
 /// The block of a freshly initialised area of so many bytes, all of whose slots are free.
 fn fresh_block(alloc: Global, area: u64, side: Side, seq: u32) -> Result<IndexBlock, AllocError>
     requires sized { IsAreaSize area }
@@ -89,8 +69,8 @@ fn fresh_block(alloc: Global, area: u64, side: Side, seq: u32) -> Result<IndexBl
     })
 }
 
-/// What `init` writes, over bytes that are all ones; and of 510 slots in 131,072 bytes MySize, LabelOff, NSlot and the
-/// last byte of Free.
+/// What `init` writes, over bytes that are all ones; and of 510 slots in 131,072 bytes MySize,
+/// LabelOff, NSlot and the last byte of Free.
 #[test]
 fn blocks_are_written(rt: HostRuntime) -> Result<(), Fail> {
     let mut area = [0; 1024];
@@ -109,8 +89,7 @@ fn blocks_are_written(rt: HostRuntime) -> Result<(), Fail> {
     Ok(())
 }
 
-/// A label as Linux 6.1 wrote it into slot 1, up to its reserved bytes, which are zero as those of its name and the
-/// greater sizes are.
+/// A label as Linux 6.1 wrote it into slot 1, up to its reserved bytes, which are zero.
 const LABEL: [u8; 160] = [
     0x10, 0x00, 0x00, 0x00, 0x00, 0x00, 0x40, 0x00, 0x80, 0x00, 0x00, 0x00, 0x00, 0x00, 0x00, 0x01,
     0x72, 0x61, 0x77, 0x2d, 0x61, 0x00, 0x00, 0x00, 0x00, 0x00, 0x00, 0x00, 0x00, 0x00, 0x00, 0x00,
@@ -127,19 +106,12 @@ const LABEL: [u8; 160] = [
 /// Its Checksum, the last eight bytes.
 const SUM: u64 = 0xc06923c7e6842c83;
 
-/// The label with one byte changed, and a checksum.
-fn label_with(at: u8, byte: u8, sum: u64) -> [u8; 256] {
-    let mut label = [0; 256];
-    label[..160].copy_from_slice(&LABEL);
-    label[usize::from(at)] = byte;
-    label[248..].copy_from_slice(&sum.to_le_bytes());
-    label
-}
-
 /// The label that Linux wrote is read, and written again over bytes that are all ones.
 #[test]
 fn a_label_of_linux(rt: HostRuntime) {
-    let linux = label_with(0, 0x10, SUM);
+    let mut linux = [0; 256];
+    linux[..160].copy_from_slice(&LABEL);
+    linux[248..].copy_from_slice(&SUM.to_le_bytes());
     let Ok(label) = read_label(&linux, 1) else {
         assert!(rt; false, "the label isn't read");
         return;
@@ -156,50 +128,4 @@ fn a_label_of_linux(rt: HostRuntime) {
     let mut written = [0xff; 256];
     write_label(&mut written, &label);
     assert_eq!(rt; written, linux);
-}
-
-/// A byte, what is put there, the checksum then, the slot that is read, and what is found.
-#[test]
-fn damage_of_a_label_is_named(rt: HostRuntime) {
-    let raw = LabelFault::OddSize {
-        field: SizeField::RawSize,
-    };
-    for (at, byte, sum, slot, fault) in [
-        (0, 0x11, SUM, 1, LabelFault::Checksum),
-        (0, 0x10, SUM, 0, LabelFault::Slot { said: 1 }),
-        (
-            104,
-            1,
-            0xc06923ede6842c84,
-            1,
-            LabelFault::OddSize {
-                field: SizeField::Dpa,
-            },
-        ),
-        (115, 0, 0x9c6923c7e5842c83, 1, raw),
-        (111, 0x80, 0x406923c766842c83, 1, raw),
-    ] {
-        let found = read_label(&label_with(at, byte, sum), slot).err();
-        assert_eq!(rt; found, Some(fault), "byte {at}");
-    }
-}
-
-/// Texts, and whether they make a name: up to 63 bytes, none of them zero.
-#[test]
-fn names_are_made(rt: HostRuntime) {
-    for (text, made) in [
-        ("", true),
-        ("Größe \"q\" \\ x", true),
-        (
-            "1234567890123456789012345678901234567890123456789012345678901234",
-            false,
-        ),
-        ("a\0b", false),
-    ] {
-        let name = name_of(text);
-        assert_eq!(rt; name.is_some(), made, "{text}");
-        if let Some(name) = name {
-            assert_eq!(rt; name.bytes(), text.as_bytes());
-        }
-    }
 }

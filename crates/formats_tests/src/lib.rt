@@ -1,7 +1,8 @@
-//! Tests of the formats: the flog, the map and the info block of an arena, index blocks and labels, and the firmware's
-//! table.
+//! Tests of the formats: the flog, the map and the info block of an arena, index blocks and labels,
+//! and the firmware's table.
 //!
-//! The contracts say what each call answers. Here stand what Linux and QEMU wrote, and one call of each public function.
+//! The contracts say what each call answers, and each refusal. Here stand bytes that Linux and QEMU
+//! wrote, and one call of each public function.
 #![tactic(auto)]
 
 #[cfg(test)]

@@ -72,13 +72,13 @@ fn loading_fails_with_each_call(rt: HostRuntime) -> Result<(), AllocError> {
 fn a_set_is_loaded(rt: HostRuntime) -> Result<(), AllocError> {
     let alloc = rt.alloc();
     let mut images = MemImages::new(alloc, sound_set(alloc)?, Vec::new(alloc));
-    match load(alloc, &mut images) {
+    match load_outline(alloc, &mut images) {
         Err(_) => assert!(rt; false),
-        Ok(loaded) => {
-            assert!(rt; loaded.nfit.modules.as_slice() == [9, 4].as_slice());
-            let area = loaded.area(alloc, 0)?.unwrap_or(Vec::new(alloc));
+        Ok(outline) => {
+            assert!(rt; outline.nfit.modules.as_slice() == [9, 4].as_slice());
+            let area = outline.area(alloc, 0)?.unwrap_or(Vec::new(alloc));
             assert!(rt; area.as_slice() == pattern(alloc, 1024, 1)?.as_slice());
-            assert!(rt; loaded.area(alloc, 1)?.is_none());
+            assert!(rt; outline.area(alloc, 1)?.is_none());
         }
     }
     Ok(())

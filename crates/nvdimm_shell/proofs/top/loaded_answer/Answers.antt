@@ -15,23 +15,23 @@ unreachable-requires g c =
     let both = sym c.requires.whole ∙ ap needs_contents c.in-Labels.is in
     (let e = both in cc)
 
-pub unreachable-requires-2 : goal.unreachable-requires-2
-unreachable-requires-2 g c =
+pub unreachable-requires-in-Nfit : goal.unreachable-requires-in-Nfit
+unreachable-requires-in-Nfit g c =
     let both = sym c.requires.whole ∙ ap needs_contents c.in-Nfit.is in
     (let e = both in cc)
 
-pub unreachable-requires-3 : goal.unreachable-requires-3
-unreachable-requires-3 g c =
+pub unreachable-requires-in-List : goal.unreachable-requires-in-List
+unreachable-requires-in-List g c =
     let both = sym c.requires.whole ∙ ap needs_contents c.in-List.is in
     (let e = both in cc)
 
-pub unreachable-requires-4 : goal.unreachable-requires-4
-unreachable-requires-4 g c =
+pub unreachable-requires-in-Init : goal.unreachable-requires-in-Init
+unreachable-requires-in-Init g c =
     let both = sym c.requires.whole ∙ ap needs_contents c.in-Init.is in
     (let e = both in cc)
 
-pub unreachable-requires-5 : goal.unreachable-requires-5
-unreachable-requires-5 g c =
+pub unreachable-requires-in-Change : goal.unreachable-requires-in-Change
+unreachable-requires-in-Change g c =
     let both = sym c.requires.whole ∙ ap needs_contents c.in-Change.is in
     (let e = both in cc)
 

@@ -65,12 +65,12 @@ unreachable-requires g c =
     let both = sym c.requires.outlined ∙ ap needs_contents c.in-CreateSectors.is in
     (let e = both in cc)
 
-pub unreachable-requires-2 : goal.unreachable-requires-2
-unreachable-requires-2 g c =
+pub unreachable-requires-in-Info : goal.unreachable-requires-in-Info
+unreachable-requires-in-Info g c =
     let both = sym c.requires.outlined ∙ ap needs_contents c.in-Info.is in
     (let e = both in cc)
 
-pub unreachable-requires-3 : goal.unreachable-requires-3
-unreachable-requires-3 g c =
+pub unreachable-requires-in-Read : goal.unreachable-requires-in-Read
+unreachable-requires-in-Read g c =
     let both = sym c.requires.outlined ∙ ap needs_contents c.in-Read.is in
     (let e = both in cc)

@@ -5,10 +5,10 @@ use Rattle.shell_changes.specs.Answers.{outcome_with}
 use Rattle.nvdimm_shell.proofs.Comes.{if_same, report_is}
 use Rattle.nvdimm_shell.proofs.top.unloaded.Goals as goal
 
-pub returns-clause-text : goal.returns-clause-text
-returns-clause-text c =
+pub returns-in_default-clause-text : goal.returns-in_default-clause-text
+returns-in_default-clause-text c =
     if_same (λ (answer : Answer). (contents : List (List ℕ)) → outcome_with answer contents ≡ load_outcome c.args.fault) c.found_memory.result c.reported.result c.found_memory.ensures.same
     (report_is c.load_answer.result c.reported.result (load_outcome c.args.fault) c.reported.ensures.same c.reported.ensures.saved c.load_answer.ensures.text)
 
-pub returns-clause-saved : goal.returns-clause-saved
-returns-clause-saved c = if_same (λ (answer : Answer). answer.saved ≡ None) c.found_memory.result c.reported.result c.found_memory.ensures.same c.reported.ensures.saved
+pub returns-in_default-clause-saved : goal.returns-in_default-clause-saved
+returns-in_default-clause-saved c = if_same (λ (answer : Answer). answer.saved ≡ None) c.found_memory.result c.reported.result c.found_memory.ensures.same c.reported.ensures.saved
