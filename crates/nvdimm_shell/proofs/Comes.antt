@@ -1,6 +1,6 @@
 -- What a command comes to, with the contents of the source.
 use Rattle.std.proofs.Common.{◌≡◌, ◌≢◌, ℕ, Bool, true, false, List, [], Option, Some, None, Result, Ok, Err, length, refl, sym, ap, ◌∙◌, subst}
-use Rattle.std.specs.Prelude.{IfOk, IfSome, IsSome, IsTrue, MatchOption}
+use Rattle.std.specs.Prelude.{IfOk, IfSome, IsSome, IsTrue, MatchOption, OnOk}
 use Rattle.std.specs.Option.{ForSome, option_map}
 use Rattle.nvd_media.specs.Images.{Images}
 use Rattle.cut_words.specs.Words.{Words}
@@ -13,12 +13,12 @@ use Rattle.image_set.specs.Outline.{HasContents, Outlines, contents_in, image_se
 use Rattle.shell_reports.specs.declared.outcome.Report.{Report}
 use Rattle.shell_reports.specs.LoadFaults.{load_outcome}
 use Rattle.shell_reports.specs.Outcome.{Outcome, usage}
-use Rattle.shell_reports.specs.Saved.{outcome_of}
+use Rattle.shell_reports.specs.Saved.{Saves, outcome_of}
 use Rattle.shell_changes.specs.declared.answer.Answer.{Answer}
 use Rattle.shell_changes.specs.declared.answer.Left.{Left}
 use Rattle.shell_changes.specs.declared.answer.Left.TheVariants.{Whole, Copied}
 use Rattle.shell_changes.specs.Answers.{ComesFrom, HasSizes, outcome_with, whole_outcome}
-use Rattle.shell_changes.specs.Saved.{AreSaved, HasContentsOf, HasItsContents, HasSize, copies_contents, objects_saved}
+use Rattle.shell_changes.specs.Saved.{AreObjects, AreSaved, HasContentsOf, HasItsContents, HasSize, copies_contents, objects_saved}
 use Rattle.nvdimm_shell.specs.declared.words.Command.{Command}
 use Rattle.nvdimm_shell.specs.Run.{ComesTold, IsDue, LoadedComes, OnLoaded, copies, copies_by, copies_found, needs_contents}
 use Rattle.nvdimm_shell.specs.Words.{command_of}
@@ -140,6 +140,19 @@ pub some_copied : (saved : Option Left) → IsTrue (copies_contents saved) → I
 some_copied None does = absurd (let e = does in cc)
 some_copied (Some left) does = refl
 
+-- ---- a set that is saved
+
+-- the contents that are copied have the sizes that are stated
+pub set_there : (held : Option Images) (saved : Option Left) (set : Left) → saved ≡ Some set → HasContentsOf held saved → ForSome held (HasItsContents set)
+set_there held saved set is there = λ source told. subst (λ (s : Option Left). IfSome s (λ left. HasItsContents left source)) is (there source told)
+
+-- its objects are those of the answer
+pub set_saved : {T E : Type 0} (held : Option Images) (saved : Option Left) (set : Left) (made made' : Option Images) → saved ≡ Some set → (r : Result T E)
+    → OnOk r ((objects : Images) × AreObjects held set objects × Saves (Some objects) made made') → OnOk r ((all : Option Images) × AreSaved held saved all × Saves all made made')
+set_saved held saved set made made' is (Ok x) (objects, are, saves) =
+    subst (λ (s : Option Left). (all : Option Images) × AreSaved held s all × Saves all made made') (sym is) (Some objects, (objects, are, refl), saves)
+set_saved held saved set made made' is (Err e) none = tt
+
 -- ---- a command
 
 module _ (leaves : ℕ → List (Option Words) → List (Option (List ℕ)) → Type 0) (command : Command) (held : Option Images) (left : Option (List ℕ)) where
@@ -179,6 +192,14 @@ module _ (leaves : ℕ → List (Option Words) → List (Option (List ℕ)) → 
       let told' : ForSome held (Loads (Err fault)) = subst (λ (l : Result Loaded LoadFault). ForSome held (Loads l)) is told in
       let none : Err fault ≡ loading set = told' set at (λ e. read (let h = e in cc)) (λ e. memory (let h = e in cc)) in
       subst (λ (l : Result ImageSet LoadFault). OnLoaded (LoadedComes leaves command) l outcome) none (from_none held answer outcome (load_outcome fault) nothing says from)
+
+-- an answer on a set that isn't loaded, from the four things that are known of it
+pub if_told : {E : Type 0} (leaves : ℕ → List (Option Words) → List (Option (List ℕ)) → Type 0) (command : Command) (held : Option Images) (left : Option (List ℕ)) (r : Result Answer E) (fault : LoadFault)
+    → ((answer : Answer) → answer.saved ≡ None → ((contents : List (List ℕ)) → outcome_with answer contents ≡ load_outcome fault) → fault ≢ ReadFault → fault ≢ OutOfMemory → IsTold leaves command held left answer)
+    → IfOk r (λ answer. answer.saved ≡ None) → IfOk r (λ answer. (contents : List (List ℕ)) → outcome_with answer contents ≡ load_outcome fault)
+    → IfOk r (λ answer. fault ≢ ReadFault) → IfOk r (λ answer. fault ≢ OutOfMemory) → IfOk r (IsTold leaves command held left)
+if_told leaves command held left (Ok answer) fault all nothing says read memory = all answer nothing says read memory
+if_told leaves command held left (Err e) fault all nothing says read memory = tt
 
 -- ---- the words
 

@@ -3,7 +3,7 @@ use Rattle.shell_changes.specs.declared.answer.Answer.{Answer}
 use Rattle.shell_changes.specs.Remains.{LeavesBy}
 use Rattle.shell_changes.specs.Saved.{copies_contents}
 use Rattle.shell_changes.proofs.Remains.{copies_none}
-use Rattle.nvdimm_shell.proofs.Comes.{IsTold, if_both, if_same, if_then, loaded_told, unloaded_told}
+use Rattle.nvdimm_shell.proofs.Comes.{IsTold, if_both, if_same, if_then, if_told, loaded_told, unloaded_told}
 use Rattle.nvdimm_shell.proofs.top.perform_whole.Goals as goal
 
 pub returns-in-Ok-clause-told : goal.returns-in-Ok-clause-told
@@ -25,11 +25,9 @@ returns-in-Err-clause-told g c =
     let leaves = LeavesBy g.C.Chooser.begins g.C.Chooser.picks c.args.choose.now in
     let held = g.S.ImageSource.held c.args.images.now in
     let left = g.T.TextSource.left c.args._script.now in
-    if_both _ _ (IsTold leaves c.args.command held left) c.unloaded.result (λ answer one two. two one)
-    (if_both _ _ _ c.unloaded.result (λ answer nothing says. (nothing, says)) c.unloaded.ensures.saved c.unloaded.ensures.text)
-    (if_both _ _ _ c.unloaded.result
-    (λ answer read memory one. unloaded_told leaves c.args.command held left c.load.result c.in-Err.why answer c.in-Err.is c.load.ensures.told one.0 one.1 read memory)
-    c.unloaded.ensures.source c.unloaded.ensures.memory)
+    if_told leaves c.args.command held left c.unloaded.result c.in-Err.why
+    (λ answer nothing says read memory. unloaded_told leaves c.args.command held left c.load.result c.in-Err.why answer c.in-Err.is c.load.ensures.told nothing says read memory)
+    c.unloaded.ensures.saved c.unloaded.ensures.text c.unloaded.ensures.source c.unloaded.ensures.memory
 
 pub returns-in-Err-clause-whole : goal.returns-in-Err-clause-whole
 returns-in-Err-clause-whole g c =
