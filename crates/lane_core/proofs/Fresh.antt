@@ -147,11 +147,13 @@ module _ (state : ArenaState) (h : IsOpenState state) where
       }
 
 pub fresh_core : (state : ArenaState) (core : Core) → IsOpenState state → IsFresh state core → IsCore (cells_in state) core
-fresh_core state core h f =
-    (_, subst (λ x. ShowsSound x core.row core.lanes.items core.history (cells_in state) (opened (areas_in state) (sides_in state))) (sym f.shape)
-    (subst (λ row. ShowsSound (shape_in state) row core.lanes.items core.history (cells_in state) (opened (areas_in state) (sides_in state))) (sym f.row)
-    (subst (λ lanes. ShowsSound (shape_in state) (new_row state.words state.info.layout.lanes) lanes core.history (cells_in state) (opened (areas_in state) (sides_in state))) (sym f.lanes)
-    (fresh state h core.history f.history))))
+fresh_core state core h f = (
+  _,
+  subst (λ x. ShowsSound x core.row core.lanes.items core.history (cells_in state) (opened (areas_in state) (sides_in state))) (sym f.shape)
+      (subst (λ row. ShowsSound (shape_in state) row core.lanes.items core.history (cells_in state) (opened (areas_in state) (sides_in state))) (sym f.row)
+      (subst (λ lanes. ShowsSound (shape_in state) (new_row state.words state.info.layout.lanes) lanes core.history (cells_in state) (opened (areas_in state) (sides_in state))) (sym f.lanes)
+      (fresh state h core.history f.history))),
+)
 
 pub fresh_result : {E : Type 0} (state : ArenaState) (r : Result Core E) → IsOpenState state → IfOk r (IsFresh state) → IfOk r (IsCore (cells_in state))
 fresh_result state (Ok core) h f = fresh_core state core h f

@@ -24,13 +24,16 @@ shows_by a b s h shown =
     (subst (λ es. Shown a.shape a.row a.lanes.items es s) (sym h.rest.entries) shown)))
 
 pub room_core : (o : Cells) (a b : Core) → HasRoom a b → IsCore o a → IsCore o b
-room_core o a b h core = (core.0, record {
-  shape = subst IsShape (sym h.rest.shape) core.1.shape;
-  shown = shows_by a b core.0 h core.1.shown;
-  sound = subst (λ (x : Shape). IsSound (geometry x) o core.0) (sym h.rest.shape) core.1.sound;
-  filled = λ l p at. subst (λ x. IsFilled x p) (sym h.rest.shape) (core.1.filled l p (ap (λ ls. slice_get ls l) (sym h.lanes) ∙ at));
-  room = let r = core.1.room in let m = h.more in subst (λ ls. owing ls ≤ b.history.room) (sym h.lanes) (omega arith);
-})
+room_core o a b h core = (
+  core.0,
+  record {
+    shape = subst IsShape (sym h.rest.shape) core.1.shape;
+    shown = shows_by a b core.0 h core.1.shown;
+    sound = subst (λ (x : Shape). IsSound (geometry x) o core.0) (sym h.rest.shape) core.1.sound;
+    filled = λ l p at. subst (λ x. IsFilled x p) (sym h.rest.shape) (core.1.filled l p (ap (λ ls. slice_get ls l) (sym h.lanes) ∙ at));
+    room = let r = core.1.room in let m = h.more in subst (λ ls. owing ls ≤ b.history.room) (sym h.lanes) (omega arith);
+  },
+)
 
 pub room_idle : (a b : Core) (l : ℕ) → HasRoom a b → IsIdleLane a l → IsIdleLane b l
 room_idle a b l h idle = (idle.0, ap (λ ls. slice_get ls l) h.lanes ∙ idle.1, idle.2)

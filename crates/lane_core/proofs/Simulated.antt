@@ -234,7 +234,7 @@ module _ (x : Shape) (row : RowWords) (lanes : List LaneNow) (past : Recorded) (
       (kept_in row (word_of x (SeenData p.block j))) (KeptData p.block j) (word_at x row (SeenData p.block j)) refl
       (ap (λ (a : Lane). record a { phase = kept_phase x k }) m
       ∙ ap₂ (λ n c. record (lane_at x.width p (Staging k) (s.lanes l).log) { phase = kept_phase x k; words = take n p.words; got = take c p.words })
-          (stored_all k le ∙ sym (kept_words k le (k + 1 == 2 * x.width))) (sym (kept_loads k (k + 1 == 2 * x.width))))
+      (stored_all k le ∙ sym (kept_words k le (k + 1 == 2 * x.width))) (sym (kept_loads k (k + 1 == 2 * x.width))))
       i
       (ap (λ n. slice_set row.words (n + word_of x (SeenData p.block j)) (word_at x row (SeenData p.block j))) h.row_is.arena)
       (length-set row.pending (word_of x (SeenData p.block j)) false)
@@ -375,7 +375,7 @@ module _ (x : Shape) (row : RowWords) (lanes : List LaneNow) (past : Recorded) (
       (ap (λ (a : Lane). record a { phase = Reading 0; got = [] }) (me Published e))
       (λ r. nowhere x s (check_same (geometry x) s l).lanes (check_same (geometry x) s l).history r)
       (entry_is Published _ (cell_found x l row p) e
-          (ap (λ (a : Lane). cell.Bytes (listed x.width (s.seen.data_at (looked a)))) (me Published e) ∙ ap cell.Bytes (block_words (looked_now p) (ready.filled.looked (ap uses_looked e)))))
+      (ap (λ (a : Lane). cell.Bytes (listed x.width (s.seen.data_at (looked a)))) (me Published e) ∙ ap cell.Bytes (block_words (looked_now p) (ready.filled.looked (ap uses_looked e)))))
 
   checks_moved : p.phase ≡ Published → Shown x row (slice_set lanes l (record p { phase = Moved })) past.entries (check_moved (geometry x) s l)
   checks_moved e =

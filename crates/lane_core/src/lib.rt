@@ -43,15 +43,15 @@
 mod begin;
 mod buffer;
 mod call;
+mod calls;
 mod history;
 mod lane;
 mod law;
-mod calls;
 mod lines;
-mod phase;
 mod looks;
 mod machine;
 mod now;
+mod phase;
 mod pieces;
 mod row;
 mod shape;
@@ -62,7 +62,6 @@ mod words;
 pub use call::{Begun, Call};
 pub use history::{Act, Entry};
 pub use lane::Lane;
-pub use machine::Core;
 pub use law::{
     calls_are_given_up, cuts_reopen, data_keep_keeps_the_invariant, data_load_keeps_the_invariant,
     data_store_keeps_the_invariant, each_block_is_named, every_account, every_cut_survives,
@@ -71,10 +70,11 @@ pub use law::{
     flog_b_store_keeps_the_invariant, formatted_is_open, lock_free_keeps_the_invariant,
     lock_take_keeps_the_invariant, map_check_keeps_the_invariant, map_keep_keeps_the_invariant,
     map_load_keeps_the_invariant, map_look_keeps_the_invariant, map_store_keeps_the_invariant,
-    one_half_is_current, opened_is_sound, places_are_apart, read_begins, rtt_clear_keeps_the_invariant,
-    rtt_scan_keeps_the_invariant, rtt_set_keeps_the_invariant, some_calls_may_be_left_out,
-    unlogged_writes_are_lost, write_begins,
+    one_half_is_current, opened_is_sound, places_are_apart, read_begins,
+    rtt_clear_keeps_the_invariant, rtt_scan_keeps_the_invariant, rtt_set_keeps_the_invariant,
+    some_calls_may_be_left_out, unlogged_writes_are_lost, write_begins,
 };
+pub use machine::Core;
 pub use phase::Phase;
 pub use shape::Shape;
 pub use stepped::{Answer, Step, Stepped};

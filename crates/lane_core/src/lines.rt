@@ -107,7 +107,10 @@ pub fn flog_a_store(row: &mut Row, mine: &mut LaneNow, shape: &Shape, lane: u32)
     ensures row { row.new ≡ stored_in row.old (word_of shape.now (SeenA lane (other mine.old.side))) (word_a mine.old.sector (looked_now mine.old)) }
     ensures lane { mine.new ≡ record mine.old { phase = Phase.LogAStored } }
 {
-    row.store(log_word(shape, lane, 1 - mine.side), word_a(mine.sector, looked(mine)));
+    row.store(
+        log_word(shape, lane, 1 - mine.side),
+        word_a(mine.sector, looked(mine)),
+    );
     mine.phase = Phase::LogAStored;
 }
 
@@ -247,7 +250,13 @@ pub fn data_load(row: &Row, mine: &mut LaneNow, shape: &Shape, k: u32)
 
 /// RttClear, after the last word. The read is answered by the words that it loaded.
 #[inline]
-pub fn clear_done(row: &mut Row, mine: &mut LaneNow, shape: &Shape, lane: u32, alloc: Global) -> Cell
+pub fn clear_done(
+    row: &mut Row,
+    mine: &mut LaneNow,
+    shape: &Shape,
+    lane: u32,
+    alloc: Global,
+) -> Cell
     requires word { HasWord shape.now row.old (Reader lane) }
     ensures row { row.new ≡ put_in row.old (word_of shape.now (Reader lane)) 0 }
     ensures lane { mine.new ≡ record mine.old { phase = Phase.Idle; words = [] } }

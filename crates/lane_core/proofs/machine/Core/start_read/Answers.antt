@@ -19,9 +19,11 @@ returns-clause-core c = λ o core_is.
     let p = c.requires.lane.0 in
     let at = c.requires.lane.1 in
     let here : slice_get core.lanes.items c.args.lane ≡ Some mine = lane_there core.lanes.items c.args.lane mine (slice_get_within core.lanes.items c.args.lane p at) c.index_mut-mine.ensures.value in
-    let idle = ap (λ (p : LaneNow). p.phase) (there_is (sym here ∙ at)) ∙ c.requires.lane.2 in
-    (_, subst (λ q. ShowsSound core.shape core.row (slice_set core.lanes.items c.args.lane q) core.history o (begin_read (geometry core.shape) s c.args.lane c.args.tag c.args.sector)) (sym c.set_read.ensures)
-    (read_core core.shape core.row core.lanes.items core.history core.history o s c.args.lane mine h here idle refl c.requires.room c.args.tag c.args.sector c.args.words c.args.cell c.requires.sector c.requires.words.0 c.requires.words.1))
+    let idle = ap (λ (p : LaneNow). p.phase) (there_is (sym here ∙ at)) ∙ c.requires.lane.2 in (
+      _,
+      subst (λ q. ShowsSound core.shape core.row (slice_set core.lanes.items c.args.lane q) core.history o (begin_read (geometry core.shape) s c.args.lane c.args.tag c.args.sector)) (sym c.set_read.ensures)
+          (read_core core.shape core.row core.lanes.items core.history core.history o s c.args.lane mine h here idle refl c.requires.room c.args.tag c.args.sector c.args.words c.args.cell c.requires.sector c.requires.words.0 c.requires.words.1),
+    )
 
 pub returns-clause-begun : goal.returns-clause-begun
 returns-clause-begun c =
