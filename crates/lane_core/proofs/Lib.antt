@@ -24,6 +24,7 @@ pub mod Showing
 pub mod Simulated
 pub mod Groups
 pub mod Openings
+pub mod Leaves
 pub mod Fresh
 pub mod Cores
 pub mod Callings
