@@ -26,6 +26,7 @@ pub mod Groups
 pub mod Openings
 pub mod Leaves
 pub mod Fresh
+pub mod Survivals
 pub mod Cores
 pub mod Callings
 pub mod Rooms
