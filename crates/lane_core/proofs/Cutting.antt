@@ -1,8 +1,8 @@
 -- What a cut leaves of each lane's group, and of the map.
-use Rattle.std.proofs.Common.{◌≡◌, ℕ, ◌+◌, ◌/◌, ◌^◌, ◌<◌, ◌≢◌, ◌⊎◌, inl, inr, Bool, true, false, refl, sym, ap, ◌∙◌, subst, arith}
+use Rattle.std.proofs.Common.{◌≡◌, ℕ, ◌+◌, ◌*◌, ◌/◌, ◌^◌, ◌<◌, ◌≢◌, ◌⊎◌, inl, inr, Bool, true, false, refl, sym, ap, ◌∙◌, subst, arith}
 use Rattle.map_table.specs.Entry.{entry_in}
 use Rattle.lane_core.specs.Areas.{Geometry, Areas, Half, mapped, block_in, entry_at, normal}
-use Rattle.lane_core.specs.Machine.{Phase, LogBStored, Logged, Switched, Lane, State, other}
+use Rattle.lane_core.specs.Machine.{Phase, Locked, Known, LogAStored, LogA, LogBStored, Logged, Switched, Kept, Lane, State, other}
 use Rattle.lane_core.specs.Invariant.{Halves, Sized, IsSound, is_locked, is_logged, is_switched, is_log_a_stored, is_log_b_stored, has_log_a, uses_sector}
 use Rattle.lane_core.proofs.Put.{same_or_not, never}
 use Rattle.std.proofs.Common.{subst₂}
@@ -48,6 +48,28 @@ switched_is : (ph : Phase) → is_switched ph ≡ true → ph ≡ Switched
 switched_is Switched e = refl
 switched_is _ e = never e
 
+half_in_map : {n : ℕ} (t : ℕ) → t < n → 2 * (t / 2) < n
+half_in_map t lt = omega arith
+
+other_two : (side : ℕ) → side < 2 → other side < 2
+other_two side lt = omega arith
+
+switched_uses : (ph : Phase) → is_switched ph ≡ true → uses_sector ph ≡ true
+switched_uses Switched e = refl
+switched_uses _ e = never e
+
+-- a lane that has a lock has a sector
+locked_uses : (ph : Phase) → is_locked ph ≡ true → uses_sector ph ≡ true
+locked_uses Locked e = refl
+locked_uses Known e = refl
+locked_uses LogAStored e = refl
+locked_uses LogA e = refl
+locked_uses LogBStored e = refl
+locked_uses Logged e = refl
+locked_uses Switched e = refl
+locked_uses Kept e = refl
+locked_uses _ e = never e
+
 -- a lane has one current side at most
 pub one_side : (areas : Areas) (l a b : ℕ) → IsCurrent areas l a → IsCurrent areas l b → a ≡ b
 one_side areas l a b x y =
@@ -63,12 +85,12 @@ one_side areas l a b x y =
     clash p q = newer_apart (seq_in (areas.log_b l a)) (seq_in (areas.log_b l b)) (subst (λ c. IsNewer (seq_in (areas.log_b l a)) (seq_in (areas.log_b l c))) p x.newer)
         (subst (λ c. IsNewer (seq_in (areas.log_b l b)) (seq_in (areas.log_b l c))) q y.newer)
 
-module _ (g : Geometry) (o : ℕ → Cell) (s : State) (h : IsSound g o s) (left : Areas) (hl : AreLeft s.seen s.kept left) where
+module _ (g : Geometry) (o : ℕ → Cell) (s : State) (h : IsSound g o s) (left : Areas) (hl : AreLeft g s.seen s.kept left) where
   -- the entry of a sector is the seen one, or a lane has switched it and its word is the kept one
-  pub left_entry : (t : ℕ) → (entry_at left.map_at t ≡ entry_at s.seen.map_at t)
+  pub left_entry : (t : ℕ) → t < g.sectors → (entry_at left.map_at t ≡ entry_at s.seen.map_at t)
       ⊎ ((i : ℕ) × (i < g.lanes) × (is_switched (s.lanes i).phase ≡ true) × ((s.lanes i).sector ≡ t) × (left.map_at (t / 2) ≡ s.kept.map_at (t / 2)))
-  left_entry t =
-      elim (hl.map_left (t / 2)) [
+  left_entry t lt =
+      elim (hl.map_left (t / 2) (half_in_map t lt)) [
         | inr q ↦ inl (ap (λ w. entry_in w t) q)
         | inl q ↦ elim (h.map_kept (t / 2)) [
           | inl k ↦ inl (ap (λ w. entry_in w t) (q ∙ k))
@@ -89,7 +111,7 @@ module _ (g : Geometry) (o : ℕ → Cell) (s : State) (h : IsSound g o s) (left
   -- no entry that is left names the block of a lane that hasn't just switched
   apart_left : (l t : ℕ) → l < g.lanes → t < g.sectors → is_switched (s.lanes l).phase ≡ false → mapped left.map_at t ≢ (s.lanes l).block
   apart_left l t ll lt f q =
-      elim (left_entry t) [
+      elim (left_entry t lt) [
         | inl e ↦ h.blocks.apart t l lt ll (sym (ap (λ x. block_in x t) e) ∙ q)
         | inr w ↦ never (sym f ∙ ap (λ i. is_switched (s.lanes i).phase) (sym (h.blocks.lane_once w.0 l w.1 ll (sym (kept_block w.0 w.1 w.2 w.3 w.4) ∙ q))) ∙ w.2)
       ]
@@ -100,17 +122,17 @@ module _ (g : Geometry) (o : ℕ → Cell) (s : State) (h : IsSound g o s) (left
   -- the entry of a sector whose lock a lane has, if it hasn't just switched it
   locked_left : (l : ℕ) → l < g.lanes → is_locked (s.lanes l).phase ≡ true → is_switched (s.lanes l).phase ≡ false → mapped left.map_at (s.lanes l).sector ≡ mapped s.seen.map_at (s.lanes l).sector
   locked_left l ll k f =
-      elim (left_entry (s.lanes l).sector) [
+      elim (left_entry (s.lanes l).sector ((h.each l ll).knows.in_range (locked_uses (s.lanes l).phase k))) [
         | inl e ↦ ap (λ x. block_in x (s.lanes l).sector) e
         | inr w ↦ never (sym f ∙ ap (λ i. is_switched (s.lanes i).phase) (sym (the_lock g o s l h ll k w.0 w.1 (switched_locked (s.lanes w.0).phase w.2) (ap (λ x. x / 2) w.3))) ∙ w.2)
       ]
 
   module _ (l : ℕ) (ll : l < g.lanes) where
     kept_a : left.log_a l (s.lanes l).side ≡ s.kept.log_a l (s.lanes l).side
-    kept_a = elim (hl.a_left l (s.lanes l).side) [ inl q ↦ q | inr q ↦ q ∙ sym (h.each l ll).halves.current_a ]
+    kept_a = elim (hl.a_left l (s.lanes l).side ll (h.each l ll).halves.two) [ inl q ↦ q | inr q ↦ q ∙ sym (h.each l ll).halves.current_a ]
 
     kept_b : left.log_b l (s.lanes l).side ≡ s.kept.log_b l (s.lanes l).side
-    kept_b = elim (hl.b_left l (s.lanes l).side) [ inl q ↦ q | inr q ↦ q ∙ sym (h.each l ll).halves.current_b ]
+    kept_b = elim (hl.b_left l (s.lanes l).side ll (h.each l ll).halves.two) [ inl q ↦ q | inr q ↦ q ∙ sym (h.each l ll).halves.current_b ]
 
     half_kept : half_at left l (s.lanes l).side ≡ (s.lanes l).half
     half_kept = ap (λ a. half_in a (left.log_b l (s.lanes l).side)) kept_a ∙ ap (half_in (s.kept.log_a l (s.lanes l).side)) kept_b ∙ (h.each l ll).halves.current
@@ -128,7 +150,7 @@ module _ (g : Geometry) (o : ℕ → Cell) (s : State) (h : IsSound g o s) (left
         (λ t. let ph = logged_is (s.lanes l).phase t in let was = (h.each l ll).halves.logged t in
         Moves (pending_when left (s.lanes l).half (apart_halves ((h.each l ll).knows.in_range (ap uses_sector ph)) was) (ap (mapped left.map_at) was.0 ∙ locked_left l ll (ap is_locked ph) (ap is_switched ph) ∙ sym was.1)) (ap is_open ph) was.0 was.1 was.2)
         (λ f. decided (is_switched (s.lanes l).phase)
-        (λ t. elim (hl.map_left ((s.lanes l).sector / 2)) [ inl q ↦ redo t f q | inr q ↦ done t f q ])
+        (λ t. elim (hl.map_left ((s.lanes l).sector / 2) (half_in_map (s.lanes l).sector ((h.each l ll).knows.in_range (switched_uses (s.lanes l).phase t)))) [ inl q ↦ redo t f q | inr q ↦ done t f q ])
         (λ n. Rests (decided_half f n) ((h.each l ll).halves.old f)))
       where
         p : Lane
@@ -203,14 +225,14 @@ module _ (g : Geometry) (o : ℕ → Cell) (s : State) (h : IsSound g o s) (left
         back = let lt = hal.two in omega arith
 
         a : left.log_a l (other p.side) ≡ s.seen.log_a l (other p.side)
-        a = elim (hl.a_left l (other p.side)) [ inl e ↦ e ∙ hal.other_a (ap is_log_a_stored ph) | inr e ↦ e ]
+        a = elim (hl.a_left l (other p.side) ll (omega (arith, hal.two))) [ inl e ↦ e ∙ hal.other_a (ap is_log_a_stored ph) | inr e ↦ e ]
 
     at_rest : left.log_b l (other (s.lanes l).side) ≡ s.kept.log_b l (other (s.lanes l).side) → (side : ℕ) × IsCurrent left l side × Outcome g s left (s.lanes l) (half_at left l side) × Sized g (half_at left l side)
     at_rest q = ((s.lanes l).side, current_kept q, subst (Outcome g s left (s.lanes l)) (sym half_kept) rests_or, subst (Sized g) (sym half_kept) (h.each l ll).sized)
 
     pub some_side : (side : ℕ) × IsCurrent left l side × Outcome g s left (s.lanes l) (half_at left l side) × Sized g (half_at left l side)
     some_side =
-        elim (hl.b_left l (other (s.lanes l).side)) [
+        elim (hl.b_left l (other (s.lanes l).side) ll (other_two (s.lanes l).side (h.each l ll).halves.two)) [
           | inl q ↦ at_rest q
           | inr q ↦ decided (is_log_b_stored (s.lanes l).phase)
               (λ t. let m = moves_on t q in (other (s.lanes l).side, m.0, m.1, m.2))
@@ -248,4 +270,4 @@ module _ (g : Geometry) (o : ℕ → Cell) (s : State) (h : IsSound g o s) (left
         lt = (h.each l ll).knows.in_range (ap uses_sector ph)
 
         the_b : left.log_b l (other p.side) ≡ s.kept.log_b l (other p.side)
-        the_b = elim (hl.b_left l (other p.side)) [ inl e ↦ e | inr e ↦ e ∙ sym (hal.other_b (ap is_log_b_stored ph)) ]
+        the_b = elim (hl.b_left l (other p.side) ll (omega (arith, hal.two))) [ inl e ↦ e | inr e ↦ e ∙ sym (hal.other_b (ap is_log_b_stored ph)) ]

@@ -24,7 +24,9 @@ pub mod Showing
 pub mod Simulated
 pub mod Groups
 pub mod Openings
+pub mod Leaves
 pub mod Fresh
+pub mod Survivals
 pub mod Cores
 pub mod Callings
 pub mod Rooms

@@ -105,7 +105,7 @@ last left sides (suc k) t = go (last left sides k t) (is_pending left (half_at l
       | inr a ↦ inr (a.0, omega (arith, a.1), a.2, a.3, a.4)
     ]
 
-module _ (g : Geometry) (o : ℕ → Cell) (s : State) (h : IsSound g o s) (left : Areas) (hl : AreLeft s.seen s.kept left) (sides : ℕ → ℕ) (hs : (l : ℕ) → l < g.lanes → IsCurrent left l (sides l)) where
+module _ (g : Geometry) (o : ℕ → Cell) (s : State) (h : IsSound g o s) (left : Areas) (hl : AreLeft g s.seen s.kept left) (sides : ℕ → ℕ) (hs : (l : ℕ) → l < g.lanes → IsCurrent left l (sides l)) where
   half : ℕ → Half
   half l = half_at left l (sides l)
 
@@ -145,7 +145,7 @@ module _ (g : Geometry) (o : ℕ → Cell) (s : State) (h : IsSound g o s) (left
   unfolding Stays Changed
   sector_end t lt = elim (last left sides g.lanes t) [
     | inl a ↦ inl (
-      elim (left_entry g o s h left hl t) [
+      elim (left_entry g o s h left hl t lt) [
         | inl e ↦ a.0 ∙ e
         | inr w ↦ let r = redo_pending g o s h left hl w.0 w.1 (sides w.0) (hs w.0 w.1) w.2 (ap (λ x. left.map_at (x / 2)) w.3 ∙ w.4 ∙ ap (λ x. s.kept.map_at (x / 2)) (sym w.3)) in
             absurd (a.1 w.0 w.1 r.0 (r.1 ∙ w.3))
@@ -197,7 +197,7 @@ module _ (g : Geometry) (o : ℕ → Cell) (s : State) (h : IsSound g o s) (left
 
   -- the words of a sector's block are what was seen
   row_left : (t : ℕ) → t < g.sectors → (j : ℕ) → j < g.width → left.data_at (mapped s.seen.map_at t) j ≡ s.seen.data_at (mapped s.seen.map_at t) j
-  row_left t lt j lj = elim (hl.data_left (mapped s.seen.map_at t) j) [ inl q ↦ q ∙ h.settled t j lt lj | inr q ↦ q ]
+  row_left t lt j lj = elim (hl.data_left (mapped s.seen.map_at t) j (h.blocks.map_in t lt) lj) [ inl q ↦ q ∙ h.settled t j lt lj | inr q ↦ q ]
 
   contents_left : (t : ℕ) → t < g.sectors → Survives g o s t (cell_in g.width left.data_at (recovered left sides g.lanes t) t)
   unfolding Stays Changed
@@ -213,7 +213,7 @@ module _ (g : Geometry) (o : ℕ → Cell) (s : State) (h : IsSound g o s) (left
           let st = (h.each i li).stages in
           let size = st.size k.5 ∙ k.3 in
           listed-take g.width (left.data_at (s.lanes i).block) (s.lanes i).words (omega (arith, size))
-          (λ j lj. elim (hl.data_left (s.lanes i).block j) [
+          (λ j lj. elim (hl.data_left (s.lanes i).block j (h.blocks.lane_in i li) lj) [
             | inl q ↦ q ∙ st.kept_words j (subst (λ n. j < n) (sym k.4) lj)
             | inr q ↦ q ∙ st.seen_words j (subst (λ n. j < n) (sym k.3) lj)
           ])

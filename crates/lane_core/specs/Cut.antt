@@ -1,17 +1,17 @@
 -- What a cut may leave, and the map that opening recovers from it.
-use Rattle.std.specs.Prelude.{◌≡◌, ℕ, ◌+◌, ◌<◌, ◌≢◌, ◌==◌, ◌&&◌, not, ◌⊎◌, if◌then◌else◌, zero, suc, Bool, true, false}
-use Rattle.lane_core.specs.Areas.{Geometry, Areas, Half, half_in, seq_in, IsNewer, mapped, entry_at, block_in, normal}
+use Rattle.std.specs.Prelude.{◌≡◌, ℕ, ◌+◌, ◌*◌, ◌<◌, ◌≢◌, ◌==◌, ◌&&◌, not, ◌⊎◌, if◌then◌else◌, zero, suc, Bool, true, false}
+use Rattle.lane_core.specs.Areas.{Geometry, blocks_of, Areas, Half, half_in, seq_in, IsNewer, mapped, entry_at, block_in, normal}
 use Rattle.lane_core.specs.History.{Cell, end_of, cell_in}
 use Rattle.lane_core.specs.Machine.{State, Phase, LogBStored, Logged, other}
 use Rattle.lane_core.specs.Invariant.{Sized}
 use Rattle.arena_open.specs.declared.cell.Cell.TheVariants as cell
 
--- each word is the kept one or the seen one
-pub record AreLeft (seen kept left : Areas) : Type 0 where
-  pub data_left : (b k : ℕ) → (left.data_at b k ≡ kept.data_at b k) ⊎ (left.data_at b k ≡ seen.data_at b k)
-  pub map_left : (m : ℕ) → (left.map_at m ≡ kept.map_at m) ⊎ (left.map_at m ≡ seen.map_at m)
-  pub a_left : (l side : ℕ) → (left.log_a l side ≡ kept.log_a l side) ⊎ (left.log_a l side ≡ seen.log_a l side)
-  pub b_left : (l side : ℕ) → (left.log_b l side ≡ kept.log_b l side) ⊎ (left.log_b l side ≡ seen.log_b l side)
+-- each word of the arena is the kept one or the seen one, by itself
+pub record AreLeft (g : Geometry) (seen kept left : Areas) : Type 0 where
+  pub data_left : (b k : ℕ) → b < blocks_of g → k < g.width → (left.data_at b k ≡ kept.data_at b k) ⊎ (left.data_at b k ≡ seen.data_at b k)
+  pub map_left : (m : ℕ) → 2 * m < g.sectors → (left.map_at m ≡ kept.map_at m) ⊎ (left.map_at m ≡ seen.map_at m)
+  pub a_left : (l side : ℕ) → l < g.lanes → side < 2 → (left.log_a l side ≡ kept.log_a l side) ⊎ (left.log_a l side ≡ seen.log_a l side)
+  pub b_left : (l side : ℕ) → l < g.lanes → side < 2 → (left.log_b l side ≡ kept.log_b l side) ⊎ (left.log_b l side ≡ seen.log_b l side)
 
 -- the side of a lane's group whose half is the newer
 pub record IsCurrent (areas : Areas) (l side : ℕ) : Type 0 where

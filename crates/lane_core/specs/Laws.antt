@@ -113,7 +113,7 @@ EveryRun = (g : Geometry) (o : Cells) (s : State) (events : List Event) → IsSo
 abbrev pub EveryCut : Type 0
 EveryCut =
     (g : Geometry) (areas : Areas) (sides : ℕ → ℕ) (events : List Event) (left : Areas) → IsOpen g areas sides → AllFit g events
-    → AreLeft (run g (opened areas sides) events).seen (run g (opened areas sides) events).kept left
+    → AreLeft g (run g (opened areas sides) events).seen (run g (opened areas sides) events).kept left
     → ((l : ℕ) → l < g.lanes → (side : ℕ) × IsCurrent left l side)
     × ((after : ℕ → ℕ) → ((l : ℕ) → l < g.lanes → IsCurrent left l (after l)) → Recovers g (cell_of g areas.data_at areas.map_at) (run g (opened areas sides) events) left after)
 
@@ -125,7 +125,7 @@ OneIsCurrent = (left : Areas) (l a b : ℕ) → IsCurrent left l a → IsCurrent
 -- FlogBStore, or each such lane has stored its map word, a cut leaves the sector as the history ends.
 abbrev pub UnloggedWritesAreLost : Type 0
 UnloggedWritesAreLost =
-    (g : Geometry) (o : Cells) (s : State) (left : Areas) (sides : ℕ → ℕ) (t : ℕ) → IsSound g o s → AreLeft s.seen s.kept left → ((l : ℕ) → l < g.lanes → IsCurrent left l (sides l)) → t < g.sectors
+    (g : Geometry) (o : Cells) (s : State) (left : Areas) (sides : ℕ → ℕ) (t : ℕ) → IsSound g o s → AreLeft g s.seen s.kept left → ((l : ℕ) → l < g.lanes → IsCurrent left l (sides l)) → t < g.sectors
     → ((l : ℕ) → l < g.lanes → (s.lanes l).sector ≡ t → is_open (s.lanes l).phase ≡ false)
     → cell_in g.width left.data_at (recovered left sides g.lanes t) t ≡ end_of o s.history t
 
@@ -150,7 +150,7 @@ pub record HasMovesMade (g : Geometry) (left again : Areas) (sides : ℕ → ℕ
 
 abbrev pub CutsReopen : Type 0
 CutsReopen =
-    (g : Geometry) (o : Cells) (s : State) (left again : Areas) (sides : ℕ → ℕ) → IsSound g o s → AreLeft s.seen s.kept left → ((l : ℕ) → l < g.lanes → IsCurrent left l (sides l))
+    (g : Geometry) (o : Cells) (s : State) (left again : Areas) (sides : ℕ → ℕ) → IsSound g o s → AreLeft g s.seen s.kept left → ((l : ℕ) → l < g.lanes → IsCurrent left l (sides l))
     → HasMovesMade g left again sides → IsReopened g o s again sides
 
 -- Whatever lanes do, there is a legal history that has just the entries of their logs, without the reads that were cut, and it leaves

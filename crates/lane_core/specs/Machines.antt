@@ -1,12 +1,14 @@
 -- The core: what it keeps, and what one step does to it.
-use Rattle.std.specs.Prelude.{◌≡◌, ℕ, ◌<◌, [], map, slice_get, slice_set, Some}
+use Rattle.std.specs.Prelude.{◌≡◌, ℕ, ◌<◌, List, [], map, length, slice_get, slice_set, Some}
 use Rattle.lane_core.specs.declared.machine.Core.{Core}
 use Rattle.lane_core.specs.declared.now.LaneNow.{LaneNow}
 use Rattle.lane_core.specs.declared.phase.Phase.TheVariants.{Idle}
 use Rattle.lane_core.specs.declared.stepped.Stepped.{Stepped}
 use Rattle.lane_core.specs.declared.stepped.Stepped.TheVariants as stepped
 use Rattle.arena_open.specs.declared.state.ArenaState.{ArenaState}
-use Rattle.lane_core.specs.Arenas.{shape_in}
+use Rattle.lane_core.specs.Arenas.{areas_of, shape_in}
+use Rattle.lane_core.specs.Cut.{AreLeft, IsCurrent, Recovers}
+use Rattle.lane_core.specs.Places.{geometry}
 use Rattle.lane_core.specs.Idle.{idle_of}
 use Rattle.lane_core.specs.Rows.{new_row}
 use Rattle.lane_core.specs.History.{Cells}
@@ -49,3 +51,12 @@ pub record IsFresh (state : ArenaState) (core : Core) : Type 0 where
   pub row : core.row ≡ new_row state.words state.info.layout.lanes
   pub lanes : core.lanes.items ≡ map idle_of state.lanes
   pub history : core.history.entries ≡ []
+
+-- What a cut left of a core: each word is the kept one or the seen one, each lane has one current half, and whatever the core
+-- showed, opening recovers each sector as the history ends or as one write in flight has it.
+pub record CutSurvives (core : Core) (left : List ℕ) : Type 0 where
+  pub size : length left ≡ core.shape.total
+  pub words : (s : State) → CoreShows core s → AreLeft (geometry core.shape) s.seen s.kept (areas_of core.shape left)
+  pub current : (l : ℕ) → l < core.shape.lanes → (side : ℕ) × IsCurrent (areas_of core.shape left) l side
+  pub recovers : (opening : Cells) (s : State) → ShowsSound core.shape core.row core.lanes.items core.history opening s → (sides : ℕ → ℕ)
+      → ((l : ℕ) → l < core.shape.lanes → IsCurrent (areas_of core.shape left) l (sides l)) → Recovers (geometry core.shape) opening s (areas_of core.shape left) sides

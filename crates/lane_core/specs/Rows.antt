@@ -1,5 +1,7 @@
 -- The row of words of a core, and its history with the room that is kept for entries.
-use Rattle.std.specs.Prelude.{◌≡◌, ℕ, ◌+◌, ◌-◌, ◌*◌, ◌<◌, ◌≤◌, ◌^◌, Bool, true, false, List, [], ◌∷◌, ◌++◌, length, replicate, slice_index, slice_set}
+use Rattle.std.specs.Prelude.{◌≡◌, ℕ, ◌+◌, ◌-◌, ◌*◌, ◌<◌, ◌≤◌, ◌^◌, Bool, true, false, List, [], ◌∷◌, ◌++◌, length, replicate, slice_index, slice_set, take, drop}
+use Rattle.cut_words.specs.Words.{Words}
+use Rattle.cut_words.specs.Pending.{options_of}
 use Rattle.lane_core.specs.declared.history.Entry.{Entry}
 use Rattle.lane_core.specs.declared.shape.Shape.{Shape}
 use Rattle.lane_core.specs.Places.{Place, word_of, row_size}
@@ -24,6 +26,13 @@ stored_in row at value = record { words = slice_set row.words at value; pending 
 -- after it was kept
 abbrev pub kept_in : RowWords → ℕ → RowWords
 kept_in row at = record { words = slice_set row.words (length row.pending + at) (slice_index row.words at); pending = slice_set row.pending at false }
+
+-- the arena's words as words that lose power: the kept value of each, and the value that was stored since its last keep
+abbrev pub words_in : RowWords → Words
+words_in row = record {
+  kept = take (length row.pending) (drop (length row.pending) row.words);
+  stored = options_of row.pending (take (length row.pending) row.words);
+}
 
 -- a row has the words of a shape
 pub record IsRow (x : Shape) (row : RowWords) : Type 0 where

@@ -44,6 +44,7 @@ mod begin;
 mod buffer;
 mod call;
 mod calls;
+mod cut;
 mod history;
 mod lane;
 mod law;

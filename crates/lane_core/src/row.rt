@@ -1,6 +1,8 @@
-ghost use Rattle.std.specs.Prelude.{◌≡◌, ◌<◌, ◌+◌, ◌^◌, ◌++◌, length, replicate, slice_index, take, drop, IfOk};
-ghost use Rattle.lane_core.specs.Rows.{kept_in, new_row, put_in, stored_in};
+ghost use Rattle.std.specs.Prelude.{◌≡◌, ◌<◌, ◌+◌, ◌^◌, ◌++◌, length, replicate, slice_index, take, drop, if◌then◌else◌, Some, None, ◌*◌, ◌≤◌, IfOk};
+ghost use Rattle.cut_words.specs.Leaving.{LeavesFrom, LeavesOne};
+ghost use Rattle.lane_core.specs.Rows.{kept_in, new_row, put_in, stored_in, words_in};
 
+use nvd_media::Chooser;
 use nvd_words::Flags;
 use std::alloc::{AllocError, Global};
 use std::marker::Model;
@@ -22,6 +24,17 @@ impl Model for Row {
     ghost view = { λ row. record { words = row.words.items; pending = row.pending } };
 
     ghost invariant = { λ row. 2 * length row.pending ≤ length row.words.items };
+}
+
+/// What a power cut leaves of one word.
+fn leave_one<C: Chooser>(choose: &mut C, word: u64, kept: u64, stored: u64, pending: bool) -> u64
+    ensures { LeavesOne C.picks word kept (if pending then Some stored else None) result choose.old choose.new }
+{
+    if pending && choose.pick(word) {
+        stored
+    } else {
+        kept
+    }
 }
 
 impl Row {
@@ -92,5 +105,21 @@ impl Row {
     {
         let first = at as usize;
         &self.words[first..first + count as usize]
+    }
+
+    /// What a power cut leaves of the arena's words: the chooser is asked once for each word that was stored since its last
+    /// keep, in rising order, and says whether the stored value stays or the kept one.
+    pub fn leave<C: Chooser>(self, choose: &mut C) -> Vec<u64>
+        requires size { 2 * length self.pending ≤ length self.words }
+        ensures asked { LeavesFrom C.picks 0 (words_in self).kept (words_in self).stored result.items choose.old choose.new }
+    {
+        let Row { mut words, pending } = self;
+        let count = pending.len();
+        for i in 0..count {
+            let kept = words[count + i];
+            words[i] = leave_one(choose, i as u64, kept, words[i], pending.get(i));
+        }
+        words.truncate(count);
+        words
     }
 }
