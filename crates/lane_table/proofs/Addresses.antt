@@ -1,13 +1,14 @@
 -- The words of a table at the places of its shape.
-use Rattle.std.proofs.Common.{◌≡◌, ℕ, ◌+◌, ◌-◌, ◌/◌, ◌^◌, ◌<◌, sym, ap, ◌∙◌, subst, arith}
+use Rattle.std.proofs.Common.{◌≡◌, ℕ, ◌+◌, ◌-◌, ◌/◌, ◌^◌, ◌<◌, ◌≤◌, sym, ap, ◌∙◌, subst, arith}
 use Rattle.atomic_table.specs.Seated.{TableId}
 use Rattle.lane_core.specs.declared.shape.Shape.{Shape}
 use Rattle.lane_core.specs.Machine.{lock_of}
-use Rattle.lane_core.specs.Places.{IsShape, Place, SeenA, KeptA, SeenB, KeptB, SeenMap, KeptMap, Lock, IsIn, word_of, row_size, geometry}
+use Rattle.lane_core.specs.Places.{IsShape, Place, SeenData, KeptData, SeenA, KeptA, SeenB, KeptB, SeenMap, KeptMap, Lock, IsIn, word_of, row_size, geometry}
 use Rattle.lane_core.proofs.Places.{in_table}
 use Rattle.lane_table.specs.declared.committing.CommitWords.{CommitWords}
 use Rattle.lane_table.specs.Committed.{AreCommitWords}
 use Rattle.lane_table.specs.Conditions.{IsWord}
+use Rattle.lane_table.specs.Told.{blocks}
 use Rattle.lane_table.proofs.WriteLines.{lock_in, map_word_in}
 
 pub is_word : (x : Shape) → IsShape x → (id : TableId) → id.words ≡ row_size x → (p : Place) → IsIn x p → (at : ℕ) → at ≡ word_of x p → IsWord id x at p
@@ -35,3 +36,11 @@ module _ (x : Shape) (h : IsShape x) (number side sector : ℕ) (ln : number < x
         log_b = is_word x h id size (SeenB number (1 - side)) (ln, o) _ (log_b ∙ ap (λ n. n + 1) log_a);
         kept_log_b = is_word x h id size (KeptB number (1 - side)) (ln, o) _ (kept_log_b ∙ ap (λ n. x.total + (n + 1)) log_a);
       }
+
+-- the kept words of a block
+module _ (x : Shape) (h : IsShape x) (id : TableId) (size : id.words ≡ row_size x) (b : ℕ) (lb : b < blocks x) (some : 0 < x.width) where
+  pub kept_row : (at kept : ℕ) → at ≡ word_of x (SeenData b 0) → kept ≡ x.total + at → (kept ≡ word_of x (KeptData b 0)) × (kept + x.width ≤ id.words) × (id.words < 2 ^ 60)
+  kept_row at kept e f =
+      let last : x.width - 1 < x.width = omega arith in
+      let end = in_table x h (KeptData b (x.width - 1)) (lb, last) in
+      (f ∙ ap (λ n. x.total + n) e, omega (arith, size, e, f, end), omega (arith, size, h.small, h.few))

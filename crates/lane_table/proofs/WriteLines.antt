@@ -17,15 +17,16 @@ use Rattle.lane_core.specs.Places.{Place, SeenData, KeptData, SeenMap, KeptMap, 
 use Rattle.lane_core.proofs.Put.{put_at, put2_at, same_or_not}
 use Rattle.lane_core.proofs.Places.{put_again}
 use Rattle.lane_core.proofs.Elsewhere.{nowhere, but_seen_data, but_kept_data, but_seen_map, but_kept_map, but_seen_a, but_seen_b, but_kept_a, but_kept_b, but_lock}
-use Rattle.lane_core.proofs.Turns.{lock_take_sound, scan_again_sound, scan_on_sound, map_load_sound, lock_free_sound}
+use Rattle.lane_core.proofs.Own.{free_scanning}
+use Rattle.lane_core.proofs.Turns.{lock_take_sound, begin_write_sound, give_up_sound, scan_on_sound, map_load_sound, lock_free_sound}
 use Rattle.lane_core.proofs.Staging.{data_store_sound, data_keep_sound}
 use Rattle.lane_core.proofs.Logging.{log_a_store_sound, log_a_keep_sound, log_b_store_sound, log_b_keep_sound}
 use Rattle.lane_core.proofs.Switching.{map_store_sound, map_keep_sound}
 use Rattle.lane_table.specs.declared.table.Call.{Call}
 use Rattle.lane_table.specs.declared.table.Key.{Key}
 use Rattle.lane_table.specs.declared.table.View.{View}
-use Rattle.lane_table.specs.Law.{holds, opening_of, with, found, counted, looks}
-use Rattle.lane_table.specs.Told.{tracked, scanned, with_word, with_keep, kept_phase, locked, missed, known, a_stored, a_kept, b_stored, b_kept, switched, map_kept, freed, blocks}
+use Rattle.lane_table.specs.Law.{holds, opening_of, with, found, counted, uncounted, looks, with_by}
+use Rattle.lane_table.specs.Told.{begun, tracked, scanned, scan_phase, with_word, with_keep, kept_phase, locked, missed, known, a_stored, a_kept, b_stored, b_kept, switched, map_kept, freed, blocks}
 use Rattle.lane_table.proofs.Moves.{allows_step, allows_line, allows_weaker, phase_of, Stands}
 
 pub lock_in : (g : Geometry) (sector : ℕ) → 0 < g.lanes → lock_of g sector < g.lanes
@@ -62,6 +63,19 @@ kept_word x o s l k h ll e le lt = (h.each l ll).stages.seen_words (k - x.width)
 pub sector_in : (x : Shape) (o : ℕ → Cell) (v : View) (s : State) (ph : Phase) → Stands x o v s → v.lane.phase ≡ ph → uses_sector ph ≡ true → v.lane.sector < x.sectors
 sector_in x o v s ph h e uses = subst (λ (p : Lane). p.sector < x.sectors) h.lane ((h.sound.each v.number h.number).knows.in_range (ap uses_sector (phase_of x o v s ph h e) ∙ uses))
 
+-- the phase of a write that begins, and of one that goes on
+first_is : (x : Shape) → machine.first_phase (geometry x) ≡ scan_phase x 0
+first_is x = ap (λ b. if b then Staging 0 else Scanning 0) (swap x.lanes)
+  where
+    swap : (n : ℕ) → (n == 1) ≡ (0 + 1 == n)
+    swap n = grind arith
+
+next_is : (x : Shape) (j : ℕ) → (if j + 2 == x.lanes then Staging 0 else Scanning (j + 1)) ≡ scan_phase x (j + 1)
+next_is x j = ap (λ m. if m == x.lanes then Staging 0 else Scanning (j + 1)) two
+  where
+    two : j + 2 ≡ j + 1 + 1
+    two = omega arith
+
 module _ {S : Type 0} (key : Key) (slots id i : ℕ) (me : Me S View) (live : me.0.live ≡ true) where
   abbrev x : Shape
   x = key.shape
@@ -82,6 +96,24 @@ module _ {S : Type 0} (key : Key) (slots id i : ℕ) (me : Me S View) (live : me
 
   -- ---- up to Staged
 
+  -- WriteBegin: the lane's own reader word is loaded
+  pub begins_write : v.lane.phase ≡ Idle → i ≡ word_of x (Reader v.number) → Allows (holds key) slots id me i (λ n. n) (λ n w. w ≡ begun me)
+  begins_write e ei =
+      at_place (Reader v.number) (λ n. n) (λ n w. w ≡ begun me) ei
+      (allows_step uncounted x o slots id v me.1 (Reader v.number) (λ n. n) (λ n w. w ≡ begun me) live
+      (λ s h. h.number)
+      (λ s h n is. record {
+        new = record (s.lanes v.number) { phase = machine.first_phase (geometry x); words = [] };
+        next = machine.begin_write (geometry x) s v.number;
+        sound = begin_write_sound (geometry x) o s v.number h.sound h.number (phase_of x o v s _ h e);
+        lanes = refl;
+        here = sym is;
+        there = λ t ne. nowhere x s (machine.begin_write (geometry x) s v.number).lanes s.history t;
+        tells = ap (λ (p : Lane). (with_by uncounted n v (record p { phase = machine.first_phase (geometry x); words = [] }), me.1)) h.lane
+            ∙ ap (λ (y : Shape). (with_by uncounted n v (record (v.lane) { phase = machine.first_phase (geometry y); words = [] }), me.1)) (sym h.shape)
+            ∙ ap (λ ph. (with_by uncounted n v (record (v.lane) { phase = ph; words = [] }), me.1)) (first_is v.shape);
+      }))
+
   abbrev scan_tells : ℕ → ℕ → Me S View → Type 0
   scan_tells j n w = (n ≡ suc v.lane.block → w ≡ tracked n me) × (n ≢ suc v.lane.block → w ≡ scanned j n me)
 
@@ -91,13 +123,13 @@ module _ {S : Type 0} (key : Key) (slots id i : ℕ) (me : Me S View) (live : me
       (λ s h. other_in j v.number x.lanes ((h.sound.each v.number h.number).knows.scans j (phase_of x o v s _ h e)) h.number)
       (λ s h n is. elim (same_or_not n (suc v.lane.block)) [
         | inl z ↦ record {
-          new = record (s.lanes v.number) { phase = Scanning 0 };
-          next = machine.scan_again (geometry x) s v.number;
-          sound = scan_again_sound (geometry x) o s v.number h.sound h.number j (phase_of x o v s _ h e);
+          new = record (s.lanes v.number) { phase = Idle };
+          next = machine.give_up (geometry x) s v.number;
+          sound = give_up_sound (geometry x) o s v.number h.sound h.number (Scanning j) (free_scanning j) (phase_of x o v s _ h e) refl;
           lanes = refl;
           here = sym is;
-          there = λ t ne. nowhere x s (machine.scan_again (geometry x) s v.number).lanes s.history t;
-          tells = (λ _. ap (λ (p : Lane). (found n v (record p { phase = Scanning 0 }), me.1)) h.lane, λ ne. absurd (ne z));
+          there = λ t ne. nowhere x s (machine.give_up (geometry x) s v.number).lanes s.history t;
+          tells = (λ _. ap (λ (p : Lane). (found n v (record p { phase = Idle }), me.1)) h.lane, λ ne. absurd (ne z));
         }
         | inr nz ↦ record {
           new = record (s.lanes v.number) { phase = if j + 2 == x.lanes then Staging 0 else Scanning (j + 1); words = [] };
@@ -109,7 +141,8 @@ module _ {S : Type 0} (key : Key) (slots id i : ℕ) (me : Me S View) (live : me
           tells = (
             λ z. absurd (nz z),
             λ _. ap (λ (p : Lane). (found n v (record p { phase = if j + 2 == x.lanes then Staging 0 else Scanning (j + 1); words = [] }), me.1)) h.lane
-                ∙ ap (λ (y : Shape). (found n v (record (v.lane) { phase = if j + 2 == y.lanes then Staging 0 else Scanning (j + 1); words = [] }), me.1)) (sym h.shape),
+                ∙ ap (λ (y : Shape). (found n v (record (v.lane) { phase = if j + 2 == y.lanes then Staging 0 else Scanning (j + 1); words = [] }), me.1)) (sym h.shape)
+                ∙ ap (λ ph. (found n v (record (v.lane) { phase = ph; words = [] }), me.1)) (next_is v.shape j),
           );
         }
       ])

@@ -1,5 +1,5 @@
 -- What contracts say of lanes and of their arena.
-use Rattle.std.specs.Prelude.{◌≡◌, List}
+use Rattle.std.specs.Prelude.{◌≡◌, ℕ, List, length}
 use Rattle.atomic_table.specs.Seated.{TableId}
 use Rattle.lane_core.specs.declared.history.Entry.{Entry}
 use Rattle.lane_core.specs.declared.shape.Shape.{Shape}
@@ -39,3 +39,7 @@ owned_in k = record { number = k.number; lane = k.seat.me.0.lane; shape = k.seat
 
 abbrev pub log_in : Kit → List Entry
 log_in k = k.log.items
+
+-- for how many more calls the lane has room
+abbrev pub spare_in : Kit → ℕ
+spare_in k = length k.rooms.items

@@ -5,5 +5,6 @@ pub mod Conditions
 pub mod Committed
 pub mod Begun
 pub mod Kits
-pub mod Outcomes
 pub mod Closed
+pub mod Stages
+pub mod Outcomes

@@ -1,13 +1,28 @@
 -- What a call on a lane gives.
-use Rattle.std.specs.Prelude.{◌≡◌, ℕ, ◌<◌, suc}
+use Rattle.std.specs.Prelude.{◌≡◌, ℕ, ◌+◌, ◌<◌, List, [], suc}
+use Rattle.lane_core.specs.declared.lane.Lane.{Lane as Lane_now}
+use Rattle.lane_core.specs.declared.phase.Phase.TheVariants.{Idle, Staged as InStaged}
+use Rattle.lane_core.specs.Machine.{other_lane}
+use Rattle.lane_table.specs.declared.lanes.Lane.{Lane}
 use Rattle.lane_table.specs.declared.lanes.Staged.{Staged}
 use Rattle.lane_table.specs.declared.outcome.CommitOutcome.{CommitOutcome}
 use Rattle.lane_table.specs.declared.outcome.CommitOutcome.TheVariants.{Done, MapBusy, Cut}
+use Rattle.lane_table.specs.declared.outcome.StageOutcome.{StageOutcome}
+use Rattle.lane_table.specs.declared.outcome.StageOutcome.TheVariants as stage
 use Rattle.lane_table.specs.declared.table.Call.{Call}
 use Rattle.lane_table.specs.Committed.{way}
 use Rattle.lane_table.specs.Fuse.{Fell, Burnt}
 use Rattle.lane_table.specs.Kits.{IsSame}
-use Rattle.lane_table.specs.Told.{missed}
+use Rattle.lane_table.specs.Stages.{stage_steps}
+use Rattle.lane_table.specs.Told.{missed, IsAfter}
+
+-- Staged: a scan of each other lane, and two steps for each word. Tracked: the last of the scans found one more than the free block in that lane's
+-- reader word, and the lane is without a call. Cut: as many as the fuse had
+abbrev pub Stages : List ℕ → Lane → StageOutcome → Type 0
+Stages ws l (stage.Staged s) = IsAfter (stage_steps l.kit.seat.me.0.shape) l.kit.seat.me (record (l.kit.seat.me.0.lane) { phase = InStaged; words = ws }) s.kit.seat.me × (s.words.items ≡ ws) × IsSame l.kit s.kit × Fell (stage_steps l.kit.seat.me.0.shape) l.kit.fuse s.kit.fuse
+Stages ws l (stage.Tracked k r b) = (j : ℕ) × (j + 1 < l.kit.seat.me.0.shape.lanes) × (r ≡ other_lane l.kit.number j) × (b ≡ l.mine.block) × IsAfter (j + 1) l.kit.seat.me (record (l.kit.seat.me.0.lane) { phase = Idle; words = [] }) k.kit.seat.me
+    × (k.kit.seat.me.0.count.last ≡ suc b) × (k.kit.rooms ≡ l.kit.rooms) × IsSame l.kit k.kit × Fell (j + 1) l.kit.fuse k.kit.fuse
+Stages ws l (stage.Cut k) = (n : ℕ) × (p : Lane_now) × (n < stage_steps l.kit.seat.me.0.shape) × IsAfter n l.kit.seat.me p k.kit.seat.me × (p.log ≡ l.kit.seat.me.0.lane.log) × IsSame l.kit k.kit × Burnt n l.kit.fuse k.kit.fuse
 
 -- Done: nine steps. MapBusy: one, which found one more than the holder; the words are as they were. Cut: as many as the fuse had
 abbrev pub Commits : Call → Staged → CommitOutcome → Type 0

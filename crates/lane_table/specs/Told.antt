@@ -1,6 +1,6 @@
 -- What each kind of step does to the seat that makes it: `before` and `after` are the seat's view with the slots that it holds
 -- (none here), and n is what the step found.
-use Rattle.std.specs.Prelude.{◌≡◌, ◌≢◌, ℕ, ◌+◌, ◌*◌, ◌^◌, ◌<◌, ◌≤◌, ◌==◌, if◌then◌else◌, List, [], ◌∷◌, ◌++◌, zero, suc}
+use Rattle.std.specs.Prelude.{◌≡◌, ◌≢◌, ℕ, ◌+◌, ◌*◌, ◌^◌, ◌<◌, ◌≤◌, ◌==◌, if◌then◌else◌, [], ◌∷◌, ◌++◌, zero, suc}
 use mathlib.Core.Option.{some}
 use Rattle.atomic_table.specs.Table.{Me, Step}
 use Rattle.lane_core.specs.declared.lane.Lane.{Lane}
@@ -10,9 +10,12 @@ use Rattle.lane_core.specs.declared.shape.Shape.{Shape}
 use Rattle.lane_core.specs.Areas.{next_seq}
 use Rattle.lane_core.specs.Machine.{other, looked, wrote}
 use Rattle.lane_table.specs.declared.table.Call.{Call}
-use Rattle.lane_table.specs.declared.table.Count.{Count}
 use Rattle.lane_table.specs.declared.table.View.{View}
 use Rattle.lane_table.specs.Law.{spent, with, with_by, found, uncounted}
+
+-- after k counted steps the lane of a seat is p, and all else is as it was
+abbrev pub IsAfter : {S : Type 0} → ℕ → Me S View → Lane → Me S View → Type 0
+IsAfter k me p me' = (me' ≡ (record (me.0) { lane = p; count = me'.0.count }, me.1)) × (me'.0.count.steps ≡ me.0.count.steps + k)
 
 -- blocks of an arena of a shape: each sector has one, and so has each lane
 abbrev pub blocks : Shape → ℕ
@@ -22,9 +25,13 @@ blocks x = x.sectors + x.lanes
 abbrev pub kept_phase : Shape → ℕ → Phase
 kept_phase x k = if k + 1 == 2 * x.width then Staged else Staging (k + 1)
 
--- k steps more
-abbrev pub more : ℕ → ℕ → Count → Count
-more k n c = record c { steps = c.steps + k }
+-- where a write stands after j scans
+abbrev pub scan_phase : Shape → ℕ → Phase
+scan_phase x j = if j + 1 == x.lanes then Staging 0 else Scanning j
+
+-- where it stands after j keeps
+abbrev pub keep_phase : Shape → ℕ → Phase
+keep_phase x j = if j == x.width then Staged else Staging (x.width + j)
 
 module _ {S : Type 0} where
   -- the seat after a store, and after a look that found n
@@ -41,22 +48,25 @@ module _ {S : Type 0} where
 
   -- ---- a write, up to Staged
 
-  -- after a scan that found the reader of the free block
+  -- a write begins: with one lane there is no other to look at
+  abbrev pub begun : Me S View → Me S View
+  begun me = (with_by uncounted 0 me.0 (record (me.0.lane) { phase = scan_phase me.0.shape 0; words = [] }), me.1)
+
+  abbrev pub write_begin : Step S → Me S View → ℕ → Me S View → Type 0
+  write_begin step before n after = after ≡ begun before
+
+  -- after a scan that found the reader of the free block: the call is given up
   abbrev pub tracked : ℕ → Me S View → Me S View
-  tracked n me = on_found n me (record (me.0.lane) { phase = Scanning 0 })
+  tracked n me = on_found n me (record (me.0.lane) { phase = Idle })
 
   -- after a scan of the j-th other lane, which doesn't read the free block
   abbrev pub scanned : ℕ → ℕ → Me S View → Me S View
-  scanned j n me = on_found n me (record (me.0.lane) { phase = if j + 2 == me.0.shape.lanes then Staging 0 else Scanning (j + 1); words = [] })
+  scanned j n me = on_found n me (record (me.0.lane) { phase = scan_phase me.0.shape (j + 1); words = [] })
 
   abbrev pub rtt_scan : Step S → Me S View → ℕ → Me S View → Type 0
   rtt_scan step before n after =
       (j : ℕ) → before.0.lane.phase ≡ Scanning j
       → (n ≡ suc before.0.lane.block → after ≡ tracked n before) × (n ≢ suc before.0.lane.block → after ≡ scanned j n before)
-
-  -- after the first k stores of these words
-  abbrev pub with_words : Me S View → ℕ → List ℕ → Me S View
-  with_words me k ws = (with_by (more k) 0 me.0 (record (me.0.lane) { phase = Staging k; words = ws }), me.1)
 
   abbrev pub with_word : Me S View → ℕ → ℕ → Me S View
   with_word me k w = on me (record (me.0.lane) { phase = Staging (k + 1); words = me.0.lane.words ++ w ∷ [] })

@@ -12,7 +12,7 @@ pub struct Arena {
     pub(crate) shape: Shape,
     ghost shape_is: { table.shared.key.shape ≡ shape },
     ghost is_shape: { IsShape shape },
-    ghost some_lanes: { 0 < shape.lanes },
+    ghost some: { (0 < shape.lanes) × (0 < shape.width) },
     ghost size: { table.shared.table_id.words ≡ row_size shape },
     ghost no_slots: { table.shared.table_id.slots ≡ 0 },
 }

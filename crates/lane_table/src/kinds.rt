@@ -38,6 +38,15 @@ impl Join<View> for JoinSeat {
 
 // ---- a write
 
+/// The lane's own reader word is loaded. No line of the algorithm: the view learns that a write begins.
+pub struct WriteBegin;
+
+impl Play<Call, View> for WriteBegin {
+    ghost use Rattle.lane_table.specs.Told.{write_begin};
+
+    ghost then = { write_begin };
+}
+
 /// The reader word of another lane is loaded.
 pub struct RttScan;
 

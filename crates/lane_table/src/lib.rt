@@ -26,12 +26,14 @@
 //! that state; so every run of lanes in threads is a run of the machine, of which `lane_core` has the theorem.
 //!
 //! A write's call joins its lane's view at LockTake, and its words one by one as they are stored: until then no step can tell them.
+//! A view counts its steps and has what the last two looks found, so a call can't claim a step that it didn't make.
 //!
 //! # The promises
 //!
 //! | promise | call | definition |
 //! |---|---|---|
 //! | the rule holds of a new table, and each lane's seat knows its lane | [`Arena::of`] | `IsOpenArena`, `AreFresh` of specs/Begun.antt |
+//! | staging is one look at each other lane's reader word, then a store and a keep of each word; a lane that is told of a reader has looked, and found it | [`Lane::try_stage`] | `Stages` of specs/Outcomes.antt |
 //! | a commit is the nine steps in order, or one step that found the lock's holder, or as many as the fuse had | [`Staged::try_commit`] | `Commits` of specs/Outcomes.antt, `way` of specs/Committed.antt |
 //! | a refused commit gives the lane back with its words | the same | `Commits`, case MapBusy |
 //! | a fuse that is set falls by one with each step; a step that is due without one isn't made | each step | `Fell`, `Burnt` of specs/Fuse.antt |
@@ -52,6 +54,8 @@ mod opening;
 mod outcome;
 mod pieces;
 mod spots;
+mod staged;
+mod staging;
 mod steps;
 mod table;
 mod words;
@@ -61,5 +65,5 @@ pub use arena::Arena;
 pub use closing::{CloseRefused, Closed};
 pub use fuse::Fuse;
 pub use lanes::{Kit, Lane, LaneEnd, Staged, Stopped};
-pub use outcome::CommitOutcome;
+pub use outcome::{CommitOutcome, StageOutcome};
 pub use table::{Call, Count, Key, LaneSeat, Law, Owned, View, WordTable, Words};

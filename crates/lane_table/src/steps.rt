@@ -3,21 +3,108 @@
 //! Each store has its condition in two clauses: `at` says which word it is of, and `value` what is stored. A keep stores the lane's
 //! own value in the kept word.
 ghost use Rattle.std.specs.Prelude.{◌≡◌, ◌≢◌, ◌+◌, ◌-◌, ◌*◌, ◌/◌, ◌^◌, ◌<◌, ◌≤◌, true, false, suc, slice_index, IfSome, IfNone, Some, None};
-ghost use Rattle.lane_core.specs.declared.phase.Phase.TheVariants.{Idle, Staging, Staged, Locked, Known, LogAStored, LogA, LogBStored, Logged, Switched, Kept};
+ghost use Rattle.lane_core.specs.declared.phase.Phase.TheVariants.{Idle, Scanning, Staging, Staged, Locked, Known, LogAStored, LogA, LogBStored, Logged, Switched, Kept};
 ghost use Rattle.map_table.specs.Entry.{with_entry};
 ghost use Rattle.lane_core.specs.Areas.{word_a, word_b, next_seq, normal};
-ghost use Rattle.lane_core.specs.Machine.{other, looked, lock_of};
+ghost use Rattle.lane_core.specs.Machine.{other, other_lane, looked, lock_of};
 ghost use Rattle.lane_core.specs.Places.{geometry, SeenData, KeptData, SeenA, KeptA, SeenB, KeptB, SeenMap, KeptMap, Reader, Lock};
 ghost use Rattle.lane_table.specs.Conditions.{IsSeated, IsWord};
 ghost use Rattle.lane_table.specs.Fuse.{Fell, Burnt};
-ghost use Rattle.lane_table.specs.Told.{with_word, with_keep, locked, missed, known, a_stored, a_kept, b_stored, b_kept, switched, map_kept, freed, called, blocks};
+ghost use Rattle.lane_table.specs.Told.{begun, tracked, scanned, with_word, with_keep, locked, missed, known, a_stored, a_kept, b_stored, b_kept, switched, map_kept, freed, blocks};
 
 use crate::fuse::Fuse;
 use crate::kinds::{
     DataKeep, DataStore, FlogAKeep, FlogAStore, FlogBKeep, FlogBStore, LockFree, LockTake, MapKeep,
-    MapLoad, MapStore, ReadBegin,
+    MapLoad, MapStore, RttScan, WriteBegin,
 };
 use crate::table::{Call, LaneSeat, Words};
+
+/// A write begins. It is no line of the algorithm, changes no word and costs no fuse: the lane's own reader word is loaded, so that
+/// the view learns of it.
+#[inline]
+pub fn write_begin(table: &Words, seat: &mut LaneSeat, at: usize)
+    requires seat { IsSeated Idle table.now.table_id seat.old.table_id seat.old.me }
+    requires at { IsWord table.now.table_id table.now.key.shape at (Reader seat.old.me.0.number) }
+    ensures table { seat.new.table_id ≡ seat.old.table_id }
+    ensures begun { seat.new.me ≡ begun seat.old.me }
+{
+    table.load::<WriteBegin>(seat, at);
+}
+
+/// RttScan: loads the reader word of the `j`-th other lane. If that reads the free block, the write is given up.
+#[inline]
+pub fn rtt_scan(
+    table: &Words,
+    seat: &mut LaneSeat,
+    fuse: &mut Fuse,
+    at: usize,
+    j: u32,
+) -> Option<u64>
+    requires seat { IsSeated (Scanning j) table.now.table_id seat.old.table_id seat.old.me }
+    requires at { IsWord table.now.table_id table.now.key.shape at (Reader (other_lane seat.old.me.0.number j)) }
+    ensures table { seat.new.table_id ≡ seat.old.table_id }
+    ensures tracked { IfSome result (λ n. n ≡ suc seat.old.me.0.lane.block → seat.new.me ≡ tracked n seat.old.me) }
+    ensures scanned { IfSome result (λ n. n ≢ suc seat.old.me.0.lane.block → seat.new.me ≡ scanned j n seat.old.me) }
+    ensures made { IfSome result (λ n. Fell 1 fuse.old fuse.new) }
+    ensures cut { result ≡ None → (seat.new.me ≡ seat.old.me) × Burnt 0 fuse.old fuse.new }
+{
+    let _ = j;
+    if !fuse.spend() {
+        return None;
+    }
+    Some(table.load::<RttScan>(seat, at))
+}
+
+/// DataStore: stores word `k` of the call in the free block.
+#[inline]
+pub fn data_store(
+    table: &Words,
+    seat: &mut LaneSeat,
+    fuse: &mut Fuse,
+    at: usize,
+    k: usize,
+    word: u64,
+) -> bool
+    requires seat { IsSeated (Staging k) table.now.table_id seat.old.table_id seat.old.me }
+    requires k { k < table.now.key.shape.width }
+    requires at { IsWord table.now.table_id table.now.key.shape at (SeenData seat.old.me.0.lane.block k) }
+    ensures table { seat.new.table_id ≡ seat.old.table_id }
+    ensures made { result ≡ true → (seat.new.me ≡ with_word seat.old.me k word) × Fell 1 fuse.old fuse.new }
+    ensures cut { result ≡ false → (seat.new.me ≡ seat.old.me) × Burnt 0 fuse.old fuse.new }
+{
+    let _ = k;
+    if !fuse.spend() {
+        return false;
+    }
+    table.store::<DataStore>(seat, at, word);
+    true
+}
+
+/// DataKeep: keeps word `k` of the free block. What is kept is the lane's own word.
+#[inline]
+pub fn data_keep(
+    table: &Words,
+    seat: &mut LaneSeat,
+    fuse: &mut Fuse,
+    at: usize,
+    k: usize,
+    word: u64,
+) -> bool
+    requires seat { IsSeated (Staging (table.now.key.shape.width + k)) table.now.table_id seat.old.table_id seat.old.me }
+    requires k { k < table.now.key.shape.width }
+    requires at { IsWord table.now.table_id table.now.key.shape at (KeptData seat.old.me.0.lane.block k) }
+    requires word { word ≡ slice_index seat.old.me.0.lane.words k }
+    ensures table { seat.new.table_id ≡ seat.old.table_id }
+    ensures made { result ≡ true → (seat.new.me ≡ with_keep seat.old.me (table.now.key.shape.width + k)) × Fell 1 fuse.old fuse.new }
+    ensures cut { result ≡ false → (seat.new.me ≡ seat.old.me) × Burnt 0 fuse.old fuse.new }
+{
+    let _ = k;
+    if !fuse.spend() {
+        return false;
+    }
+    table.store::<DataKeep>(seat, at, word);
+    true
+}
 
 /// LockTake: one compare-and-exchange of the lock of the map word, which tells the write's call. It returns what was found: 0 if the
 /// lane has the lock now, else one more than the lane that has it. `None` if the fuse was spent.

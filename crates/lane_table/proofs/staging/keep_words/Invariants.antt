@@ -1,0 +1,12 @@
+use Rattle.std.proofs.Common.{◌≡◌}
+use Rattle.lane_table.specs.Fuse.{Fell}
+use Rattle.lane_table.specs.Stages.{after_keeps}
+use Rattle.lane_table.specs.Told.{IsAfter}
+use Rattle.lane_table.proofs.staging.keep_words.Given as goal
+
+abbrev pub invariant-loop-k : goal.invariant-loop-k
+invariant-loop-k l = record {
+  table : l.seat.table_id ≡ l.initial.seat.table_id;
+  after : IsAfter l.k l.initial.seat.me (after_keeps l.table.key.shape l.k l.initial.seat.me.0.lane) l.seat.me;
+  fell : Fell l.k l.initial.fuse l.fuse;
+}

@@ -1,0 +1,165 @@
+//! A lane without a call: what it can be asked, and how it stages a write.
+ghost use Rattle.std.specs.Prelude.{◌≡◌, ◌≤◌, ◌⊎◌, length, vec_len, All, OnOk};
+ghost use Rattle.lane_table.specs.Conditions.{IsRoom};
+
+use crate::arena::Arena;
+use crate::fuse::Fuse;
+use crate::lanes::{Kit, Lane, Staged, Stopped};
+use crate::outcome::StageOutcome;
+use crate::staging::{StageFate, stage};
+use std::alloc::{AllocError, Global};
+
+/// A call's words, in room that was kept for them.
+fn fill(room: &mut Vec<u64>, words: &[u64])
+    requires { IsRoom (length words.now) room.old }
+    ensures { room.new.items ≡ words.now }
+{
+    for word in words {
+        room.push_reserved(*word);
+    }
+}
+
+/// Rooms for the words of so many calls.
+fn more_rooms(
+    alloc: Global,
+    rooms: &mut Vec<Vec<u64>>,
+    width: usize,
+    calls: usize,
+) -> Result<(), AllocError>
+    requires rooms { All (IsRoom width) rooms.old.items }
+    ensures rooms { All (IsRoom width) rooms.new.items }
+    ensures enough { OnOk result (calls ≤ vec_len rooms.new) }
+    ensures few { (vec_len rooms.new ≤ vec_len rooms.old) ⊎ (vec_len rooms.new ≤ calls) }
+{
+    if calls <= rooms.len() {
+        return Ok(());
+    }
+    for _ in rooms.len()..calls {
+        let room = Vec::with_capacity(alloc, width)?;
+        rooms.push(room)?;
+    }
+    Ok(())
+}
+
+impl Lane {
+    ghost use Rattle.std.specs.Prelude.{◌≡◌, ◌<◌, ◌≤◌, length, vec_len, OnOk};
+    ghost use Rattle.lane_table.specs.Fuse.{of_left};
+    ghost use Rattle.lane_table.specs.Kits.{IsOf, IsSame, spare_in};
+    ghost use Rattle.lane_table.specs.Outcomes.{Stages};
+
+    /// The lane's number.
+    pub fn number(&self) -> u32
+        ensures { result ≡ self.now.kit.number }
+    {
+        self.kit.number
+    }
+
+    /// For how many more calls there is room.
+    pub fn spare(&self) -> usize
+        ensures { result ≡ spare_in self.now.kit }
+    {
+        self.kit.rooms.len()
+    }
+
+    /// The steps that are left, if a fuse is set.
+    pub fn left(&self) -> Option<u64>
+        ensures { result ≡ of_left self.now.kit.fuse }
+    {
+        self.kit.fuse.left()
+    }
+
+    /// Sets or takes away the lane's fuse.
+    pub fn set_fuse(&mut self, steps: Option<u64>)
+        ensures fuse { of_left self.new.kit.fuse ≡ steps }
+        ensures same { IsSame self.old.kit self.new.kit }
+        ensures seat { self.new.kit.seat ≡ self.old.kit.seat }
+    {
+        self.kit.fuse = Fuse::of(steps);
+    }
+
+    /// Keeps room for so many calls, each with the words of a sector, so that they take no memory. The one refusal is out of memory.
+    pub fn reserve(&mut self, alloc: Global, arena: &Arena, calls: usize) -> Result<(), AllocError>
+        requires arena { IsOf arena.now self.old.kit }
+        ensures enough { OnOk result (calls ≤ spare_in self.new.kit) }
+        ensures same { IsSame self.old.kit self.new.kit }
+        ensures seat { self.new.kit.seat ≡ self.old.kit.seat }
+        ensures fuse { self.new.kit.fuse ≡ self.old.kit.fuse }
+    {
+        self.kit.log.reserve(calls)?;
+        more_rooms(
+            alloc,
+            &mut self.kit.rooms,
+            arena.shape.width as usize,
+            calls,
+        )
+    }
+
+    /// Stages a write of these words: looks once at each other lane's reader word, stores the words in the free block, and keeps
+    /// them. If another lane reads the free block the lane comes back without the call. No memory is taken, and nothing waits.
+    pub fn try_stage(self, arena: &Arena, words: &[u64]) -> StageOutcome
+        requires arena { IsOf arena.now self.kit }
+        requires words { length words.now ≡ arena.now.shape.width }
+        requires spare { 0 < spare_in self.kit }
+        ensures stages { Stages words.now self result }
+    {
+        let Lane { kit, mine } = self;
+        let Kit {
+            mut seat,
+            number,
+            mut fuse,
+            log,
+            mut rooms,
+        } = kit;
+        let fate = stage(
+            &arena.table.shared,
+            &mut seat,
+            &mut fuse,
+            &arena.shape,
+            mine,
+            words,
+        );
+        match fate {
+            StageFate::Staged => {
+                let mut room = match rooms.pop() {
+                    Some(room) => room,
+                    None => unreachable!(),
+                };
+                fill(&mut room, words);
+                StageOutcome::Staged(Staged {
+                    kit: Kit {
+                        seat,
+                        number,
+                        fuse,
+                        log,
+                        rooms,
+                    },
+                    mine,
+                    words: room,
+                })
+            }
+            StageFate::Tracked(reader) => StageOutcome::Tracked {
+                lane: Lane {
+                    kit: Kit {
+                        seat,
+                        number,
+                        fuse,
+                        log,
+                        rooms,
+                    },
+                    mine,
+                },
+                reader,
+                block: mine.block,
+            },
+            StageFate::Cut => StageOutcome::Cut(Stopped {
+                kit: Kit {
+                    seat,
+                    number,
+                    fuse,
+                    log,
+                    rooms,
+                },
+            }),
+        }
+    }
+}

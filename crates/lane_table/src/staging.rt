@@ -1,0 +1,147 @@
+//! A free block gets a write's words, seen and kept: loops over steps.
+ghost use Rattle.std.specs.Prelude.{◌≡◌, ◌<◌, ◌≤◌, ◌+◌, ◌*◌, ◌-◌, ◌^◌, [], length, suc};
+ghost use Rattle.lane_core.specs.declared.phase.Phase.TheVariants.{Idle, Scanning, Staging, Staged};
+ghost use Rattle.lane_core.specs.Places.{word_of, row_size, IsShape, SeenData, KeptData};
+ghost use Rattle.lane_table.specs.Conditions.{IsMine, IsSeated};
+ghost use Rattle.lane_table.specs.Fuse.{Fell, Burnt};
+ghost use Rattle.lane_table.specs.Stages.{Scanned, Stored, Kept, StageEnds};
+ghost use Rattle.lane_table.specs.Told.{scan_phase, blocks};
+
+use crate::fuse::Fuse;
+use crate::pieces::Mine;
+use crate::steps::{data_keep, data_store, rtt_scan, write_begin};
+use crate::table::{LaneSeat, Words};
+use crate::words::{block_word, kept, reader_word};
+use lane_core::Shape;
+
+/// How a scan of the other lanes ends.
+#[derive(Clone, Copy, Debug, PartialEq, Eq)]
+pub enum Looked {
+    /// Nobody reads the free block.
+    Clear,
+    /// This lane reads it. It was found after so many scans.
+    Reader(u32, u32),
+    /// The fuse was spent after so many scans.
+    Cut(u32),
+}
+
+/// Looks at the reader words of all other lanes, by rising numbers, until one has the free block.
+pub fn scan(
+    table: &Words,
+    seat: &mut LaneSeat,
+    fuse: &mut Fuse,
+    shape: &Shape,
+    mine: Mine,
+) -> Looked
+    requires shape { (table.now.key.shape ≡ shape.now) × (seat.old.me.0.shape ≡ shape.now) }
+    requires table { IsShape shape.now × (table.now.table_id.words ≡ row_size shape.now) }
+    requires seat { IsSeated (scan_phase shape.now 0) table.now.table_id seat.old.table_id seat.old.me }
+    requires none { seat.old.me.0.lane.words ≡ [] }
+    requires mine { IsMine mine seat.old.me.0 × (mine.number < shape.now.lanes) }
+    ensures table { seat.new.table_id ≡ seat.old.table_id }
+    ensures scanned { Scanned seat.old.me seat.new.me fuse.old fuse.new result }
+{
+    for j in 0..shape.lanes - 1 {
+        let other = if j < mine.number { j } else { j + 1 };
+        let Some(found) = rtt_scan(table, seat, fuse, reader_word(shape, other), j) else {
+            return Looked::Cut(j);
+        };
+        if found == u64::from(mine.block) + 1 {
+            return Looked::Reader(other, j + 1);
+        }
+    }
+    Looked::Clear
+}
+
+/// Stores the call's words in the free block, of which `at` is the first word. It returns how many were stored: all, or as many as
+/// the fuse had steps.
+pub fn store_words(
+    table: &Words,
+    seat: &mut LaneSeat,
+    fuse: &mut Fuse,
+    at: usize,
+    words: &[u64],
+) -> usize
+    requires seat { IsSeated (Staging 0) table.now.table_id seat.old.table_id seat.old.me }
+    requires none { seat.old.me.0.lane.words ≡ [] }
+    requires words { length words.now ≡ table.now.key.shape.width }
+    requires at { (at ≡ word_of table.now.key.shape (SeenData seat.old.me.0.lane.block 0)) × (at + length words.now ≤ table.now.table_id.words) × (table.now.table_id.words < 2 ^ 60) }
+    ensures table { seat.new.table_id ≡ seat.old.table_id }
+    ensures stored { Stored seat.old.me seat.new.me fuse.old fuse.new words.now result }
+{
+    for (k, word) in words.iter().enumerate() {
+        if !data_store(table, seat, fuse, at + k, k, *word) {
+            return k;
+        }
+    }
+    words.len()
+}
+
+/// Keeps the words of the free block, of which `at` is the first kept word. It returns how many were kept.
+pub fn keep_words(
+    table: &Words,
+    seat: &mut LaneSeat,
+    fuse: &mut Fuse,
+    at: usize,
+    words: &[u64],
+) -> usize
+    requires seat { IsSeated (Staging table.now.key.shape.width) table.now.table_id seat.old.table_id seat.old.me }
+    requires words { (seat.old.me.0.lane.words ≡ words.now) × (length words.now ≡ table.now.key.shape.width) }
+    requires shape { seat.old.me.0.shape ≡ table.now.key.shape }
+    requires at { (at ≡ word_of table.now.key.shape (KeptData seat.old.me.0.lane.block 0)) × (at + length words.now ≤ table.now.table_id.words) × (table.now.table_id.words < 2 ^ 60) }
+    requires some { 0 < table.now.key.shape.width }
+    ensures table { seat.new.table_id ≡ seat.old.table_id }
+    ensures kept { Kept seat.old.me seat.new.me fuse.old fuse.new table.now.key.shape result }
+{
+    for (k, word) in words.iter().enumerate() {
+        if !data_keep(table, seat, fuse, at + k, k, *word) {
+            return k;
+        }
+    }
+    words.len()
+}
+
+/// How staging ends.
+#[derive(Clone, Copy, Debug, PartialEq, Eq)]
+pub enum StageFate {
+    /// The free block has the words, seen and kept.
+    Staged,
+    /// This lane reads the free block.
+    Tracked(u32),
+    /// The fuse was spent.
+    Cut,
+}
+
+/// Stages a write: scans the other lanes, stores the words in the free block, and keeps them.
+pub fn stage(
+    table: &Words,
+    seat: &mut LaneSeat,
+    fuse: &mut Fuse,
+    shape: &Shape,
+    mine: Mine,
+    words: &[u64],
+) -> StageFate
+    requires shape { (table.now.key.shape ≡ shape.now) × (seat.old.me.0.shape ≡ shape.now) }
+    requires table { IsShape shape.now × (table.now.table_id.words ≡ row_size shape.now) }
+    requires seat { IsSeated Idle table.now.table_id seat.old.table_id seat.old.me }
+    requires mine { IsMine mine seat.old.me.0 × (mine.number < shape.now.lanes) × (mine.block < blocks shape.now) }
+    requires words { (length words.now ≡ shape.now.width) × (0 < shape.now.width) }
+    ensures table { seat.new.table_id ≡ seat.old.table_id }
+    ensures ends { StageEnds seat.old.me seat.new.me fuse.old fuse.new words.now result }
+{
+    write_begin(table, seat, reader_word(shape, mine.number));
+    match scan(table, seat, fuse, shape, mine) {
+        Looked::Reader(reader, _) => StageFate::Tracked(reader),
+        Looked::Cut(_) => StageFate::Cut,
+        Looked::Clear => {
+            let at = block_word(shape, mine.block);
+            if store_words(table, seat, fuse, at, words) < words.len() {
+                return StageFate::Cut;
+            }
+            if keep_words(table, seat, fuse, kept(shape, at), words) < words.len() {
+                return StageFate::Cut;
+            }
+            StageFate::Staged
+        }
+    }
+}
