@@ -2,59 +2,16 @@
 //!
 //! ```text
 //! nvdimm_shell IN OUT COMMAND ..
-//!
-//!  words ──► command                                       words, commands, command_words
-//!  IN/*.bin ──► image set ──► lines ──► standard output, exit status
-//!   nvd_media   image_set │   labels, nfit, list, texts    top, main
-//!                 │       └──► a changed set, or what a power cut leaves of it ──► OUT/*.bin
-//!                 │            init
-//!                 └──► the first object that is missing or outside its limits: load_faults
 //! ```
 //!
-//! IN is an image directory; OUT is the directory of the image set that a command writes, and `-` for
-//! the commands that write none. [`top::run`] does the work over the outside's traits, so that its
-//! contract says all of it, and `main` gives it the real objects.
-//!
-//! A command is an entry of the table in `specs/Commands.antt`, a case of `Comes` in `specs/Run.antt`, and
-//! a handler that makes an answer or a report from the set that was loaded, without a source or a sink.
-//! Loading, faults of reading and writing and want of memory are handled once, for all commands, by
-//! `OnLoaded`, by `Ends` and in `top`. Only `info`, `read` and `create --mode sector` have contents in memory
-//! (`needs_contents`). For all others they stay in IN, and are copied as a set is saved, so reading may still fail then
-//! (`copies` and `FailedToRead` of `specs/Run.antt`).
+//! IN is an image directory. OUT is the directory of the image set that a command writes, and `-` for the commands that
+//! write none. All the work is [`shell_run::run`]'s; `main` gives it the directories and the standard streams.
 #![tactic(auto)]
-
-#[cfg(test)]
-mod areas;
-#[cfg(test)]
-mod change_tests;
-mod commands;
-#[cfg(test)]
-mod init_tests;
-mod laws;
-#[cfg(test)]
-mod list_areas;
-#[cfg(test)]
-mod list_rules;
-#[cfg(test)]
-mod list_tests;
-#[cfg(test)]
-mod refusal_tests;
-#[cfg(test)]
-mod sector_create_tests;
-#[cfg(test)]
-mod sector_tests;
-#[cfg(test)]
-mod sets;
-#[cfg(test)]
-mod tables;
-#[cfg(test)]
-mod tests;
-mod top;
-mod words;
 
 use nvd_files::{DirSink, DirSource, StdText};
 use nvd_media::{NoGate, SeedChooser, TextSink};
 use shell_reports::Status;
+use shell_run::run;
 use std::env;
 use std::fs::File;
 use std::io::{Eprint, ErrorKind};
@@ -109,7 +66,7 @@ fn status_of<R: Files<File = File> + AllocGlobal + Print + Input + Threads + Wai
     if source.is_empty() || sink.is_empty() || command.is_empty() {
         return usage(&mut text);
     }
-    top::run(
+    run(
         rt,
         rt.alloc(),
         command,

@@ -1,5 +1,0 @@
-use Rattle.nvdimm_shell.proofs.InitLeaves.{init_leaves}
-use Rattle.nvdimm_shell.proofs.laws.init_leaves_whole.Goals as goal
-
-pub returns : goal.returns
-returns g c = init_leaves g.C.Chooser.begins g.C.Chooser.picks c.args.choose.now

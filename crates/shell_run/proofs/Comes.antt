@@ -1,0 +1,247 @@
+-- What a command comes to, with the contents of the source.
+use Rattle.std.proofs.Common.{◌≡◌, ◌≢◌, ℕ, Bool, true, false, List, [], Option, Some, None, Result, Ok, Err, length, refl, sym, ap, ◌∙◌, subst}
+use Rattle.std.specs.Prelude.{IfOk, IfSome, IsSome, IsTrue, MatchOption, OnOk}
+use Rattle.std.specs.Option.{ForSome, option_map}
+use Rattle.nvd_media.specs.Images.{Images}
+use Rattle.cut_words.specs.Words.{Words}
+use Rattle.image_set.specs.declared.fault.LoadFault.{LoadFault}
+use Rattle.image_set.specs.declared.fault.LoadFault.TheVariants.{ReadFault, OutOfMemory}
+use Rattle.image_set.specs.declared.loading.Loaded.{Loaded}
+use Rattle.image_set.specs.declared.outline.Outline.{Outline}
+use Rattle.image_set.specs.Load.{ImageSet, Loads, image_set_in, loading}
+use Rattle.image_set.specs.Outline.{HasContents, Outlines, contents_in, image_set_with, objects_with}
+use Rattle.shell_reports.specs.declared.outcome.Report.{Report}
+use Rattle.shell_reports.specs.LoadFaults.{load_outcome}
+use Rattle.shell_reports.specs.Outcome.{Outcome, usage}
+use Rattle.shell_reports.specs.Saved.{Saves, outcome_of}
+use Rattle.shell_changes.specs.declared.answer.Answer.{Answer}
+use Rattle.shell_changes.specs.declared.answer.Left.{Left}
+use Rattle.shell_changes.specs.declared.answer.Left.TheVariants.{Whole, Copied}
+use Rattle.shell_changes.specs.Answers.{ComesFrom, HasSizes, outcome_with, whole_outcome}
+use Rattle.shell_changes.specs.Saved.{AreObjects, AreSaved, HasContentsOf, HasItsContents, HasSize, copies_contents, objects_saved}
+use Rattle.shell_run.specs.declared.words.Command.{Command}
+use Rattle.shell_run.specs.Run.{ComesTold, IsDue, LoadedComes, OnLoaded, copies, copies_by, copies_found, needs_contents}
+use Rattle.shell_run.specs.Words.{command_of}
+
+-- ---- the outcome of an answer
+
+outcome_is : (answer : Answer) (outcome : Outcome) (contents : List (List ℕ)) → outcome.ending ≡ answer.report.ending → outcome.text ≡ answer.report.text.items
+    → outcome.saved ≡ option_map (objects_saved contents) answer.saved → outcome ≡ outcome_with answer contents
+outcome_is answer outcome contents ends says saves = λ i. record { ending = ends i; text = says i; saved = saves i }
+
+-- with the contents of a source it is that with so many contents
+saved_by : (held : Option Images) (source : Images) (sizes : List ℕ) (saved : Option Left) (set : Option Images) → held ≡ Some source → IfSome saved (HasSize sizes) → AreSaved held saved set
+    → set ≡ option_map (objects_saved (contents_in source (length sizes))) saved
+saved_by held source sizes None set told sized are = are
+saved_by held source sizes (Some (Whole left)) set told sized (objects, is, saves) = saves ∙ ap (λ (o : Images). Some o) is
+saved_by held source sizes (Some (Copied left)) set told sized (objects, is, saves) =
+    saves ∙ ap (λ (o : Images). Some o) (is source told) ∙ ap (λ (s : List ℕ). Some (objects_with left (contents_in source (length s)))) sized
+
+pub from_with : (held : Option Images) (source : Images) (sizes : List ℕ) (answer : Answer) (outcome : Outcome) → held ≡ Some source → HasSizes sizes answer → ComesFrom held answer outcome
+    → outcome ≡ outcome_with answer (contents_in source (length sizes))
+from_with held source sizes answer outcome told sized comes =
+    outcome_is answer outcome (contents_in source (length sizes)) comes.ends comes.says (saved_by held source sizes answer.saved outcome.saved told sized comes.saves)
+
+-- where no contents are copied it is one, whatever is told
+whole_by : (held : Option Images) (contents : List (List ℕ)) (saved : Option Left) (set : Option Images) → copies_contents saved ≡ false → AreSaved held saved set → set ≡ option_map (objects_saved contents) saved
+whole_by held contents None set whole are = are
+whole_by held contents (Some (Whole left)) set whole (objects, is, saves) = saves ∙ ap (λ (o : Images). Some o) is
+whole_by held contents (Some (Copied left)) set whole are = absurd (let e = whole in cc)
+
+pub from_whole : (held : Option Images) (contents : List (List ℕ)) (answer : Answer) (outcome : Outcome) → copies_contents answer.saved ≡ false → ComesFrom held answer outcome → outcome ≡ outcome_with answer contents
+from_whole held contents answer outcome whole comes = outcome_is answer outcome contents comes.ends comes.says (whole_by held contents answer.saved outcome.saved whole comes.saves)
+
+copies_nothing : (answer : Answer) → answer.saved ≡ None → copies_contents answer.saved ≡ false
+copies_nothing answer none = ap copies_contents none
+
+-- what an answer that saves nothing comes to
+pub from_none : (held : Option Images) (answer : Answer) (outcome due : Outcome) → answer.saved ≡ None → ((contents : List (List ℕ)) → outcome_with answer contents ≡ due) → ComesFrom held answer outcome → outcome ≡ due
+from_none held answer outcome due none says comes = from_whole held [] answer outcome (copies_nothing answer none) comes ∙ says []
+
+-- ---- reports
+
+-- an answer that is a report
+pub reported_with : {E F X : Type 0} (r : Result Report E) (a : Result Answer F) (due : X → Outcome) → IfOk a (λ answer. r ≡ Ok answer.report) → IfOk a (λ answer. answer.saved ≡ None)
+    → IfOk r (λ report. (x : X) → outcome_of report ≡ due x) → IfOk a (λ answer. (x : X) (contents : List (List ℕ)) → outcome_with answer contents ≡ due x)
+reported_with {E} {F} {X} r (Ok answer) due same none says = λ x contents.
+    let said : (x : X) → outcome_of answer.report ≡ due x = subst (λ (y : Result Report E). IfOk y (λ report. (x : X) → outcome_of report ≡ due x)) same says in
+    ap (λ (saved : Option Left). record { ending = answer.report.ending; text = answer.report.text.items; saved = option_map (objects_saved contents) saved }) none ∙ said x
+reported_with r (Err e) due same none says = tt
+
+-- what holds of an answer holds of a result with it
+pub if_same : {E F : Type 0} (P : Answer → Type 0) (r : Result Answer E) (a : Result Answer F) → IfOk r (λ answer. a ≡ Ok answer) → IfOk a P → IfOk r P
+if_same {E} {F} P (Ok answer) a same holds = subst (λ (y : Result Answer F). IfOk y P) same holds
+if_same P (Err e) a same holds = tt
+
+pub if_all : {A E : Type 0} (P : A → Type 0) (r : Result A E) → ((x : A) → P x) → IfOk r P
+if_all P (Ok x) all = all x
+if_all P (Err e) all = tt
+
+pub if_then : {A E : Type 0} (P Q : A → Type 0) (r : Result A E) → ((x : A) → P x → Q x) → IfOk r P → IfOk r Q
+if_then P Q (Ok x) then p = then x p
+if_then P Q (Err e) then p = tt
+
+pub if_both : {A E : Type 0} (P Q R : A → Type 0) (r : Result A E) → ((x : A) → P x → Q x → R x) → IfOk r P → IfOk r Q → IfOk r R
+if_both P Q R (Ok x) both p q = both x p q
+if_both P Q R (Err e) both p q = tt
+
+-- ---- by the command
+
+module _ (leaves : ℕ → List (Option Words) → List (Option (List ℕ)) → Type 0) (command like : Command) (is : command ≡ like) where
+  pub outlined_by : {E : Type 0} (outline : Outline) (r : Result Answer E) → IfOk r (λ answer. (contents : List (List ℕ)) → LoadedComes leaves like (image_set_with outline contents) (outcome_with answer contents))
+      → IfOk r (λ answer. (contents : List (List ℕ)) → LoadedComes leaves command (image_set_with outline contents) (outcome_with answer contents))
+  outlined_by outline r comes = subst (λ (c : Command). IfOk r (λ answer. (contents : List (List ℕ)) → LoadedComes leaves c (image_set_with outline contents) (outcome_with answer contents))) (sym is) comes
+
+  pub loaded_by : {E : Type 0} (loaded : ImageSet) (r : Result Answer E) → IfOk r (λ answer. LoadedComes leaves like loaded (whole_outcome answer)) → IfOk r (λ answer. LoadedComes leaves command loaded (whole_outcome answer))
+  loaded_by loaded r comes = subst (λ (c : Command). IfOk r (λ answer. LoadedComes leaves c loaded (whole_outcome answer))) (sym is) comes
+
+  pub copies_by_it : {E : Type 0} (r : Result Answer E) → copies like ≡ true → IfOk r (λ answer. IsTrue (copies_contents answer.saved) → IsTrue (copies command))
+  copies_by_it r does = if_all (λ (answer : Answer). IsTrue (copies_contents answer.saved) → IsTrue (copies command)) r (λ answer copied. subst (λ (b : Bool). IsTrue b) (sym (ap copies is ∙ does)) refl)
+
+  pub needs_it : (b : Bool) → needs_contents command ≡ b → needs_contents like ≡ b
+  needs_it b needs = ap needs_contents (sym is) ∙ needs
+
+-- a report
+pub report_comes : {E F : Type 0} (r : Result Report E) (a : Result Answer F) (due : List (List ℕ) → Outcome) → IfOk a (λ answer. r ≡ Ok answer.report) → IfOk a (λ answer. answer.saved ≡ None)
+    → IfOk r (λ report. (contents : List (List ℕ)) → outcome_of report ≡ due contents) → IfOk a (λ answer. (contents : List (List ℕ)) → outcome_with answer contents ≡ due contents)
+report_comes r a due same none says = if_then _ _ a (λ answer all contents. all contents contents) (reported_with r a due same none says)
+
+pub report_is : {E F : Type 0} (r : Result Report E) (a : Result Answer F) (due : Outcome) → IfOk a (λ answer. r ≡ Ok answer.report) → IfOk a (λ answer. answer.saved ≡ None)
+    → IfOk r (λ report. outcome_of report ≡ due) → IfOk a (λ answer. (contents : List (List ℕ)) → outcome_with answer contents ≡ due)
+report_is {E} r a due same none says =
+    report_comes r a (λ _. due) same none (if_then _ (λ report. (contents : List (List ℕ)) → outcome_of report ≡ due) r (λ report said contents. said) says)
+
+-- ---- contents that are copied
+
+pub none_copied : (saved : Option Left) (P : Type 0) → copies_contents saved ≡ false → IsTrue (copies_contents saved) → P
+none_copied saved P whole does = absurd (let e = subst (λ (b : Bool). IsTrue b) whole does in cc)
+
+there_by : (saved : Option Left) (source : Images) → copies_contents saved ≡ false → IfSome saved (λ left. HasItsContents left source)
+there_by None source whole = tt
+there_by (Some (Whole left)) source whole = tt
+there_by (Some (Copied left)) source whole = absurd (let e = whole in cc)
+
+-- there are none, so they are there
+pub whole_there : (held : Option Images) (saved : Option Left) → copies_contents saved ≡ false → HasContentsOf held saved
+whole_there held saved whole = λ source told. there_by saved source whole
+
+contents_by : (saved : Option Left) (sizes : List ℕ) (source : Images) → IfSome saved (HasSize sizes) → HasContents sizes source → IfSome saved (λ left. HasItsContents left source)
+contents_by None sizes source sized has = tt
+contents_by (Some (Whole left)) sizes source sized has = tt
+contents_by (Some (Copied left)) sizes source sized has = subst (λ (s : List ℕ). HasContents s source) (sym sized) has
+
+-- or they have the sizes that are stated
+pub outline_there : (held : Option Images) (loaded : Result Outline LoadFault) (outline : Outline) (answer : Answer) → loaded ≡ Ok outline → ForSome held (λ set. IfOk loaded (λ o. HasContents o.sizes set))
+    → HasSizes outline.sizes answer → HasContentsOf held answer.saved
+outline_there held loaded outline answer is there sized = λ source told.
+    contents_by answer.saved outline.sizes source sized (subst (λ (l : Result Outline LoadFault). IfOk l (λ o. HasContents o.sizes source)) is (there source told))
+
+pub some_copied : (saved : Option Left) → IsTrue (copies_contents saved) → IsSome saved
+some_copied None does = absurd (let e = does in cc)
+some_copied (Some left) does = refl
+
+-- ---- a set that is saved
+
+-- the contents that are copied have the sizes that are stated
+pub set_there : (held : Option Images) (saved : Option Left) (set : Left) → saved ≡ Some set → HasContentsOf held saved → ForSome held (HasItsContents set)
+set_there held saved set is there = λ source told. subst (λ (s : Option Left). IfSome s (λ left. HasItsContents left source)) is (there source told)
+
+-- its objects are those of the answer
+pub set_saved : {T E : Type 0} (held : Option Images) (saved : Option Left) (set : Left) (made made' : Option Images) → saved ≡ Some set → (r : Result T E)
+    → OnOk r ((objects : Images) × AreObjects held set objects × Saves (Some objects) made made') → OnOk r ((all : Option Images) × AreSaved held saved all × Saves all made made')
+set_saved held saved set made made' is (Ok x) (objects, are, saves) =
+    subst (λ (s : Option Left). (all : Option Images) × AreSaved held s all × Saves all made made') (sym is) (Some objects, (objects, are, refl), saves)
+set_saved held saved set made made' is (Err e) none = tt
+
+-- ---- a command
+
+module _ (leaves : ℕ → List (Option Words) → List (Option (List ℕ)) → Type 0) (command : Command) (held : Option Images) (left : Option (List ℕ)) where
+  -- what an answer comes to is what a command is told
+  abbrev pub IsTold : Answer → Type 0
+  IsTold answer = (outcome : Outcome) → ComesFrom held answer outcome → ComesTold leaves command held left outcome
+
+  pub outlined_told : (loaded : Result Outline LoadFault) (outline : Outline) (answer : Answer) → loaded ≡ Ok outline → ForSome held (Outlines loaded) → HasSizes outline.sizes answer
+      → ((contents : List (List ℕ)) → LoadedComes leaves command (image_set_with outline contents) (outcome_with answer contents)) → IsTold answer
+  outlined_told loaded outline answer is told sized comes = λ outcome from set script at reads.
+      let contents = contents_in set (length outline.sizes) in
+      let told' : ForSome held (Outlines (Ok outline)) = subst (λ (l : Result Outline LoadFault). ForSome held (Outlines l)) is told in
+      let loads : Ok (image_set_with outline contents) ≡ loading set = told' set at (λ e. (let h = e in cc)) (λ e. (let h = e in cc)) in
+      let same : outcome ≡ outcome_with answer contents = from_with held set outline.sizes answer outcome at sized from in
+      subst (λ (o : Outcome). OnLoaded (LoadedComes leaves command) (loading set) o) (sym same)
+      (subst (λ (l : Result ImageSet LoadFault). OnLoaded (LoadedComes leaves command) l (outcome_with answer contents)) loads (comes contents))
+
+  pub unoutlined_told : (loaded : Result Outline LoadFault) (fault : LoadFault) (answer : Answer) → loaded ≡ Err fault → ForSome held (Outlines loaded) → answer.saved ≡ None
+      → ((contents : List (List ℕ)) → outcome_with answer contents ≡ load_outcome fault) → fault ≢ ReadFault → fault ≢ OutOfMemory → IsTold answer
+  unoutlined_told loaded fault answer is told nothing says read memory = λ outcome from set script at reads.
+      let told' : ForSome held (Outlines (Err fault)) = subst (λ (l : Result Outline LoadFault). ForSome held (Outlines l)) is told in
+      let none : Err fault ≡ loading set = told' set at (λ e. read (let h = e in cc)) (λ e. memory (let h = e in cc)) in
+      subst (λ (l : Result ImageSet LoadFault). OnLoaded (LoadedComes leaves command) l outcome) none (from_none held answer outcome (load_outcome fault) nothing says from)
+
+  pub loaded_told : (found : Result Loaded LoadFault) (loaded : Loaded) (answer : Answer) → found ≡ Ok loaded → ForSome held (Loads found) → copies_contents answer.saved ≡ false
+      → LoadedComes leaves command (image_set_in loaded) (whole_outcome answer) → IsTold answer
+  loaded_told found loaded answer is told whole comes = λ outcome from set script at reads.
+      let told' : ForSome held (Loads (Ok loaded)) = subst (λ (l : Result Loaded LoadFault). ForSome held (Loads l)) is told in
+      let loads : Ok (image_set_in loaded) ≡ loading set = told' set at (λ e. (let h = e in cc)) (λ e. (let h = e in cc)) in
+      let same : outcome ≡ whole_outcome answer = from_whole held [] answer outcome whole from in
+      subst (λ (o : Outcome). OnLoaded (LoadedComes leaves command) (loading set) o) (sym same)
+      (subst (λ (l : Result ImageSet LoadFault). OnLoaded (LoadedComes leaves command) l (whole_outcome answer)) loads comes)
+
+  pub unloaded_told : (found : Result Loaded LoadFault) (fault : LoadFault) (answer : Answer) → found ≡ Err fault → ForSome held (Loads found) → answer.saved ≡ None
+      → ((contents : List (List ℕ)) → outcome_with answer contents ≡ load_outcome fault) → fault ≢ ReadFault → fault ≢ OutOfMemory → IsTold answer
+  unloaded_told found fault answer is told nothing says read memory = λ outcome from set script at reads.
+      let told' : ForSome held (Loads (Err fault)) = subst (λ (l : Result Loaded LoadFault). ForSome held (Loads l)) is told in
+      let none : Err fault ≡ loading set = told' set at (λ e. read (let h = e in cc)) (λ e. memory (let h = e in cc)) in
+      subst (λ (l : Result ImageSet LoadFault). OnLoaded (LoadedComes leaves command) l outcome) none (from_none held answer outcome (load_outcome fault) nothing says from)
+
+-- an answer on a set that isn't loaded, from the four things that are known of it
+pub if_told : {E : Type 0} (leaves : ℕ → List (Option Words) → List (Option (List ℕ)) → Type 0) (command : Command) (held : Option Images) (left : Option (List ℕ)) (r : Result Answer E) (fault : LoadFault)
+    → ((answer : Answer) → answer.saved ≡ None → ((contents : List (List ℕ)) → outcome_with answer contents ≡ load_outcome fault) → fault ≢ ReadFault → fault ≢ OutOfMemory → IsTold leaves command held left answer)
+    → IfOk r (λ answer. answer.saved ≡ None) → IfOk r (λ answer. (contents : List (List ℕ)) → outcome_with answer contents ≡ load_outcome fault)
+    → IfOk r (λ answer. fault ≢ ReadFault) → IfOk r (λ answer. fault ≢ OutOfMemory) → IfOk r (IsTold leaves command held left)
+if_told leaves command held left (Ok answer) fault all nothing says read memory = all answer nothing says read memory
+if_told leaves command held left (Err e) fault all nothing says read memory = tt
+
+-- ---- the words
+
+-- what is found for a command is what is due for its words
+pub command_due : {E : Type 0} (leaves : ℕ → List (Option Words) → List (Option (List ℕ)) → Type 0) (words : List (List ℕ)) (held : Option Images) (left : Option (List ℕ)) (command : Command) (r : Result Answer E)
+    → command_of words ≡ Some command → IfOk r (IsTold leaves command held left) → IfOk r (λ answer. (outcome : Outcome) → ComesFrom held answer outcome → IsDue leaves words held left outcome)
+command_due leaves words held left command (Ok answer) said told = λ outcome comes.
+    subst (λ (o : Option Command). MatchOption o (outcome ≡ usage) (λ c. ComesTold leaves c held left outcome)) (sym said) (told outcome comes)
+command_due leaves words held left command (Err e) said told = tt
+
+-- and so is what is said of words that aren't a command line
+pub usage_due : (leaves : ℕ → List (Option Words) → List (Option (List ℕ)) → Type 0) (words : List (List ℕ)) (held : Option Images) (left : Option (List ℕ)) (answer : Answer)
+    → command_of words ≡ None → answer.saved ≡ None → ((contents : List (List ℕ)) → outcome_with answer contents ≡ usage) → (outcome : Outcome) → ComesFrom held answer outcome → IsDue leaves words held left outcome
+usage_due leaves words held left answer none nothing says = λ outcome comes.
+    subst (λ (o : Option Command). MatchOption o (outcome ≡ usage) (λ c. ComesTold leaves c held left outcome)) (sym none) (from_none held answer outcome usage nothing says comes)
+
+-- a command that copies contents is one of the words
+pub command_copies : {E : Type 0} (words : List (List ℕ)) (command : Command) (r : Result Answer E) → command_of words ≡ Some command
+    → IfOk r (λ answer. IsTrue (copies_contents answer.saved) → IsTrue (copies command)) → IfOk r (λ answer. IsTrue (copies_contents answer.saved) → IsTrue (copies_by words))
+command_copies words command (Ok answer) said does = λ copied. subst (λ (o : Option Command). IsTrue (copies_found o)) (sym said) (does copied)
+command_copies words command (Err e) said does = tt
+
+-- ---- a set that isn't finished
+
+-- where a set was to be saved, an outcome with a set was due
+saved_due : (held : Option Images) (saved : Option Left) → IsSome saved → (set : Images) × AreSaved held saved (Some set)
+saved_due held None some = absurd (let e = some in cc)
+saved_due held (Some (Whole left)) some = (objects_saved [] (Whole left), (objects_saved [] (Whole left), refl, refl))
+saved_due None (Some (Copied left)) some = (objects_with left [], (objects_with left [], (λ source is. absurd (let e = is in cc)), refl))
+saved_due (Some source) (Some (Copied left)) some =
+    let set : Images = objects_with left (contents_in source (length left.sizes)) in (
+      set,
+      (
+        set,
+        (λ source' is.
+            let same : source ≡ source' = (let e = is in cc) in
+            ap (λ (s : Images). objects_with left (contents_in s (length left.sizes))) same),
+        refl,
+      ),
+    )
+
+pub some_due : (held : Option Images) (answer : Answer) → IsSome answer.saved → (outcome : Outcome) × ComesFrom held answer outcome × IsSome outcome.saved
+some_due held answer some =
+    let due = saved_due held answer.saved some in
+    (record { ending = answer.report.ending; text = answer.report.text.items; saved = Some due.0 }, record { ends = refl; says = refl; saves = due.1 }, refl)

@@ -1,0 +1,57 @@
+use Rattle.std.proofs.Common.{◌≡◌, ◌∙◌, true, false, sym, ap, subst}
+use Rattle.shell_changes.specs.declared.answer.Answer.{Answer}
+use Rattle.shell_changes.specs.Remains.{LeavesBy}
+use Rattle.shell_changes.specs.Saved.{copies_contents}
+use Rattle.shell_changes.proofs.Remains.{copies_none}
+use Rattle.image_set.specs.Load.{image_set_in}
+use Rattle.shell_run.specs.declared.words.Command.TheVariants.{CreateSectors, Info, Read}
+use Rattle.shell_run.specs.Run.{needs_contents}
+use Rattle.shell_run.specs.Words.{GivesGoodName}
+use Rattle.shell_run.proofs.Comes.{if_then, loaded_by}
+use Rattle.shell_run.proofs.top.loaded_answer.Goals as goal
+
+pub unreachable-requires : goal.unreachable-requires
+unreachable-requires g c =
+    let both = sym c.requires.whole ∙ ap needs_contents c.in-Labels.is in
+    (let e = both in cc)
+
+pub unreachable-requires-in-Nfit : goal.unreachable-requires-in-Nfit
+unreachable-requires-in-Nfit g c =
+    let both = sym c.requires.whole ∙ ap needs_contents c.in-Nfit.is in
+    (let e = both in cc)
+
+pub unreachable-requires-in-List : goal.unreachable-requires-in-List
+unreachable-requires-in-List g c =
+    let both = sym c.requires.whole ∙ ap needs_contents c.in-List.is in
+    (let e = both in cc)
+
+pub unreachable-requires-in-Init : goal.unreachable-requires-in-Init
+unreachable-requires-in-Init g c =
+    let both = sym c.requires.whole ∙ ap needs_contents c.in-Init.is in
+    (let e = both in cc)
+
+pub unreachable-requires-in-Change : goal.unreachable-requires-in-Change
+unreachable-requires-in-Change g c =
+    let both = sym c.requires.whole ∙ ap needs_contents c.in-Change.is in
+    (let e = both in cc)
+
+pub returns-in-CreateSectors-clause-comes : goal.returns-in-CreateSectors-clause-comes
+returns-in-CreateSectors-clause-comes g c =
+    loaded_by (LeavesBy g.C.Chooser.begins g.C.Chooser.picks c.args.choose.now) c.args.command (CreateSectors c.in-CreateSectors.new c.in-CreateSectors.power) c.in-CreateSectors.is (image_set_in c.args.loaded) c.sectors_answer.result c.sectors_answer.ensures.comes
+
+pub returns-in-Info-clause-comes : goal.returns-in-Info-clause-comes
+returns-in-Info-clause-comes g c =
+    loaded_by (LeavesBy g.C.Chooser.begins g.C.Chooser.picks c.args.choose.now) c.args.command (Info c.in-Info.uuid) c.in-Info.is (image_set_in c.args.loaded) c.arenas_found.result c.arenas_found.ensures.comes
+
+pub returns-in-Info-clause-whole : goal.returns-in-Info-clause-whole
+returns-in-Info-clause-whole g c = if_then _ (λ (answer : Answer). copies_contents answer.saved ≡ false) c.arenas_found.result (λ answer none. copies_none answer none) c.arenas_found.ensures.saved
+
+pub returns-in-Read-clause-comes : goal.returns-in-Read-clause-comes
+returns-in-Read-clause-comes g c =
+    loaded_by (LeavesBy g.C.Chooser.begins g.C.Chooser.picks c.args.choose.now) c.args.command (Read c.in-Read.uuid c.in-Read.sector) c.in-Read.is (image_set_in c.args.loaded) c.sector_found.result c.sector_found.ensures.comes
+
+pub returns-in-Read-clause-whole : goal.returns-in-Read-clause-whole
+returns-in-Read-clause-whole g c = if_then _ (λ (answer : Answer). copies_contents answer.saved ≡ false) c.sector_found.result (λ answer none. copies_none answer none) c.sector_found.ensures.saved
+
+pub sectors_answer-requires-clause-name : goal.sectors_answer-requires-clause-name
+sectors_answer-requires-clause-name g c = subst GivesGoodName c.in-CreateSectors.is c.requires.name

@@ -1,0 +1,76 @@
+use Rattle.std.proofs.Common.{◌≡◌, ◌∙◌, true, false, refl, sym, ap, subst}
+use Rattle.std.specs.Prelude.{IsTrue}
+use Rattle.shell_changes.specs.declared.answer.Answer.{Answer}
+use Rattle.shell_changes.specs.Answers.{HasSizes}
+use Rattle.shell_changes.specs.Remains.{LeavesBy}
+use Rattle.shell_changes.specs.Saved.{copies_contents}
+use Rattle.shell_changes.proofs.Remains.{copies_none, no_sizes}
+use Rattle.shell_run.specs.declared.words.Command.TheVariants.{Labels, Nfit, Init, Change, CreateSectors, Info, Read}
+use Rattle.shell_run.specs.declared.words.Command.TheVariants as command
+use Rattle.shell_run.specs.Run.{copies, needs_contents}
+use Rattle.shell_run.specs.Words.{GivesGoodName}
+use Rattle.shell_run.proofs.Comes.{copies_by_it, if_then, needs_it, none_copied, outlined_by}
+use Rattle.shell_run.proofs.top.outlined_answer.Goals as goal
+
+pub returns-in-Labels-clause-comes : goal.returns-in-Labels-clause-comes
+returns-in-Labels-clause-comes g c = outlined_by (LeavesBy g.C.Chooser.begins g.C.Chooser.picks c.args.choose.now) c.args.command (Labels c.in-Labels.«module») c.in-Labels.is c.args.outline c.labels_found.result c.labels_found.ensures.comes
+
+pub returns-in-Labels-clause-sizes : goal.returns-in-Labels-clause-sizes
+returns-in-Labels-clause-sizes g c = if_then _ (HasSizes c.args.outline.sizes) c.labels_found.result (λ answer none. no_sizes c.args.outline.sizes answer none) c.labels_found.ensures.saved
+
+pub returns-in-Labels-clause-copying : goal.returns-in-Labels-clause-copying
+returns-in-Labels-clause-copying g c =
+    if_then _ (λ (answer : Answer). IsTrue (copies_contents answer.saved) → IsTrue (copies c.args.command)) c.labels_found.result (λ answer none. none_copied answer.saved (IsTrue (copies c.args.command)) (copies_none answer none)) c.labels_found.ensures.saved
+
+pub returns-in-Nfit-clause-comes : goal.returns-in-Nfit-clause-comes
+returns-in-Nfit-clause-comes g c = outlined_by (LeavesBy g.C.Chooser.begins g.C.Chooser.picks c.args.choose.now) c.args.command (Nfit) c.in-Nfit.is c.args.outline c.table_found.result c.table_found.ensures.comes
+
+pub returns-in-Nfit-clause-sizes : goal.returns-in-Nfit-clause-sizes
+returns-in-Nfit-clause-sizes g c = if_then _ (HasSizes c.args.outline.sizes) c.table_found.result (λ answer none. no_sizes c.args.outline.sizes answer none) c.table_found.ensures.saved
+
+pub returns-in-Nfit-clause-copying : goal.returns-in-Nfit-clause-copying
+returns-in-Nfit-clause-copying g c =
+    if_then _ (λ (answer : Answer). IsTrue (copies_contents answer.saved) → IsTrue (copies c.args.command)) c.table_found.result (λ answer none. none_copied answer.saved (IsTrue (copies c.args.command)) (copies_none answer none)) c.table_found.ensures.saved
+
+pub returns-in-List-clause-comes : goal.returns-in-List-clause-comes
+returns-in-List-clause-comes g c = outlined_by (LeavesBy g.C.Chooser.begins g.C.Chooser.picks c.args.choose.now) c.args.command (command.List) c.in-List.is c.args.outline c.list_found.result c.list_found.ensures.comes
+
+pub returns-in-List-clause-sizes : goal.returns-in-List-clause-sizes
+returns-in-List-clause-sizes g c = if_then _ (HasSizes c.args.outline.sizes) c.list_found.result (λ answer none. no_sizes c.args.outline.sizes answer none) c.list_found.ensures.saved
+
+pub returns-in-List-clause-copying : goal.returns-in-List-clause-copying
+returns-in-List-clause-copying g c =
+    if_then _ (λ (answer : Answer). IsTrue (copies_contents answer.saved) → IsTrue (copies c.args.command)) c.list_found.result (λ answer none. none_copied answer.saved (IsTrue (copies c.args.command)) (copies_none answer none)) c.list_found.ensures.saved
+
+pub returns-in-Init-clause-comes : goal.returns-in-Init-clause-comes
+returns-in-Init-clause-comes g c = outlined_by (LeavesBy g.C.Chooser.begins g.C.Chooser.picks c.args.choose.now) c.args.command (Init c.in-Init.«module» c.in-Init.power) c.in-Init.is c.args.outline c.init_answer.result c.init_answer.ensures.comes
+
+pub returns-in-Init-clause-copying : goal.returns-in-Init-clause-copying
+returns-in-Init-clause-copying g c = copies_by_it (LeavesBy g.C.Chooser.begins g.C.Chooser.picks c.args.choose.now) c.args.command (Init c.in-Init.«module» c.in-Init.power) c.in-Init.is c.init_answer.result refl
+
+pub returns-in-Change-clause-comes : goal.returns-in-Change-clause-comes
+returns-in-Change-clause-comes g c = outlined_by (LeavesBy g.C.Chooser.begins g.C.Chooser.picks c.args.choose.now) c.args.command (Change c.in-Change.change c.in-Change.power) c.in-Change.is c.args.outline c.change_answer.result c.change_answer.ensures.comes
+
+pub returns-in-Change-clause-copying : goal.returns-in-Change-clause-copying
+returns-in-Change-clause-copying g c = copies_by_it (LeavesBy g.C.Chooser.begins g.C.Chooser.picks c.args.choose.now) c.args.command (Change c.in-Change.change c.in-Change.power) c.in-Change.is c.change_answer.result refl
+
+pub change_answer-requires-clause-name : goal.change_answer-requires-clause-name
+change_answer-requires-clause-name g c = (subst GivesGoodName c.in-Change.is c.requires.name).0
+
+pub change_answer-requires-clause-plain : goal.change_answer-requires-clause-plain
+change_answer-requires-clause-plain g c = (subst GivesGoodName c.in-Change.is c.requires.name).1
+
+pub unreachable-requires : goal.unreachable-requires
+unreachable-requires g c =
+    let both = sym c.requires.outlined ∙ ap needs_contents c.in-CreateSectors.is in
+    (let e = both in cc)
+
+pub unreachable-requires-in-Info : goal.unreachable-requires-in-Info
+unreachable-requires-in-Info g c =
+    let both = sym c.requires.outlined ∙ ap needs_contents c.in-Info.is in
+    (let e = both in cc)
+
+pub unreachable-requires-in-Read : goal.unreachable-requires-in-Read
+unreachable-requires-in-Read g c =
+    let both = sym c.requires.outlined ∙ ap needs_contents c.in-Read.is in
+    (let e = both in cc)

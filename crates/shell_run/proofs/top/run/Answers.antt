@@ -1,0 +1,37 @@
+use Rattle.std.proofs.Common.{Option, sym, subst, arith}
+use Rattle.std.specs.Prelude.{map, string_bytes}
+use Rattle.nvd_media.specs.Images.{Images}
+use Rattle.shell_changes.specs.Answers.{ComesFrom}
+use Rattle.shell_changes.specs.Remains.{LeavesBy}
+use Rattle.shell_changes.specs.Saved.{HasContentsOf, copies_contents}
+use Rattle.shell_run.specs.Run.{Ends, IsDue, copies_by}
+use Rattle.shell_run.proofs.Ending.{ends_more, ends_stopped}
+use Rattle.shell_run.proofs.top.run.Goals as goal
+
+pub conclude-requires-clause-there : goal.conclude-requires-clause-there
+conclude-requires-clause-there g c = subst (λ (held : Option Images). HasContentsOf held c.in-Ok.answer.saved) (sym c.answer_to.ensures.same) c.in-Ok.ensures.there
+
+pub returns-in-Ok-clause-ends : goal.returns-in-Ok-clause-ends
+returns-in-Ok-clause-ends g c =
+    let words = map string_bytes c.args.words.now in
+    let held = g.S.ImageSource.held c.args.images.now in
+    let answer = c.in-Ok.answer in
+    let due = IsDue (LeavesBy g.C.Chooser.begins g.C.Chooser.picks c.args.choose.now) words held (g.T.TextSource.left c.args.script.now) in
+    let made = g.K.ImageSink.made c.args.out.now in
+    let made' = g.K.ImageSink.made c.conclude.new.out in
+    let text = g.O.TextSink.written c.args.text.now in
+    let text' = g.O.TextSink.written c.conclude.new.text in
+    ends_more (copies_contents answer.saved) (copies_by words) (ComesFrom held answer) due made made' text text' c.conclude.result c.in-Ok.ensures.copying c.in-Ok.ensures.due
+    (subst (λ (h : Option Images). Ends (copies_contents answer.saved) (ComesFrom h answer) made made' text text' c.conclude.result) c.answer_to.ensures.same c.conclude.ensures.ends)
+
+pub returns-in-Err-clause-ends : goal.returns-in-Err-clause-ends
+returns-in-Err-clause-ends g c =
+    let words = map string_bytes c.args.words.now in
+    ends_stopped (copies_by words) (IsDue (LeavesBy g.C.Chooser.begins g.C.Chooser.picks c.args.choose.now) words (g.S.ImageSource.held c.args.images.now) (g.T.TextSource.left c.args.script.now))
+    (g.K.ImageSink.made c.args.out.now) (g.O.TextSink.written c.args.text.now) (g.O.TextSink.written c.stopped.new.text) c.stopped.result c.in-Err.stop c.stopped.ensures.memory c.stopped.ensures.read
+
+pub returns-in-Ok-clause-read_fault : goal.returns-in-Ok-clause-read_fault
+returns-in-Ok-clause-read_fault g c = λ is.
+    let later = c.answer_to.ensures.later in
+    let rose = c.conclude.ensures.read is in
+    omega (arith, later, rose)

@@ -1,0 +1,39 @@
+-- The table of commands: each has a name, and a list of arguments for the words after it.
+use Rattle.std.specs.Prelude.{List, [], ◌∷◌, ℕ, Option, Some, None, if◌then◌else◌, codes}
+use Rattle.std.specs.Str.{bytes_eq}
+use Rattle.command_words.specs.App.{Described}
+use Rattle.command_words.specs.declared.argument.Form.TheVariants.{Place, Optional, Required}
+use Rattle.shell_run.specs.declared.commands.Kind.{Kind}
+use Rattle.shell_run.specs.declared.commands.Kind.TheVariants as kind
+
+-- the command that a name says
+unfoldable pub kind_of : List ℕ → Option Kind
+kind_of name =
+    if bytes_eq name (codes "labels") then Some kind.Labels
+    else if bytes_eq name (codes "nfit") then Some kind.Nfit
+    else if bytes_eq name (codes "list") then Some kind.List
+    else if bytes_eq name (codes "init") then Some kind.Init
+    else if bytes_eq name (codes "create") then Some kind.Create
+    else if bytes_eq name (codes "delete") then Some kind.Delete
+    else if bytes_eq name (codes "rename") then Some kind.Rename
+    else if bytes_eq name (codes "info") then Some kind.Info
+    else if bytes_eq name (codes "read") then Some kind.Read
+    else None
+
+-- the options on power cuts
+abbrev pub power_arguments : List Described
+power_arguments = (codes "cut", Optional) ∷ (codes "evict", Optional) ∷ []
+
+-- the arguments of a command
+abbrev pub arguments_of : Kind → List Described
+arguments_of kind.Labels = (codes "module", Place) ∷ []
+arguments_of kind.Nfit = []
+arguments_of kind.List = []
+arguments_of kind.Init = (codes "module", Place) ∷ power_arguments
+arguments_of kind.Create =
+    (codes "uuid", Required) ∷ (codes "name", Required) ∷ (codes "region", Required) ∷ (codes "size", Required) ∷ (codes "mode", Required)
+    ∷ (codes "sector", Optional) ∷ (codes "lanes", Optional) ∷ power_arguments
+arguments_of kind.Delete = (codes "uuid", Place) ∷ power_arguments
+arguments_of kind.Rename = (codes "uuid", Place) ∷ (codes "name", Place) ∷ power_arguments
+arguments_of kind.Info = (codes "uuid", Place) ∷ []
+arguments_of kind.Read = (codes "uuid", Place) ∷ (codes "sector", Place) ∷ []

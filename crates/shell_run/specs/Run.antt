@@ -1,0 +1,127 @@
+-- What a run does, seen from outside.
+use Rattle.std.specs.Prelude.{◌≡◌, ◌⊎◌, ℕ, Bool, true, false, IsTrue, IsSome, List, ◌++◌, Option, Some, None, Result, Ok, Err, MatchOption, codes, take}
+use Rattle.std.specs.Io.KnownBytes.{Keeps, Appends}
+use Rattle.nvd_media.specs.Images.{Images, Becomes, IsUnfinished}
+use Rattle.cut_words.specs.Words.{Words}
+use Rattle.image_set.specs.declared.fault.LoadFault.{LoadFault}
+use Rattle.image_set.specs.Load.{ImageSet, loading}
+use Rattle.shell_reports.specs.declared.status.Status.{Status}
+use Rattle.shell_reports.specs.declared.status.Status.TheVariants as status
+use Rattle.shell_run.specs.declared.words.Command.{Command}
+use Rattle.shell_run.specs.declared.words.Command.TheVariants.{Labels, Nfit, Init, Change, CreateSectors, Info, Read}
+use Rattle.shell_run.specs.declared.words.Command.TheVariants as command
+use Rattle.shell_run.specs.Words.{command_of}
+use Rattle.shell_reports.specs.Outcome.{Outcome, usage, lf, status_of}
+use Rattle.shell_reports.specs.LoadFaults.{load_outcome}
+use Rattle.shell_reports.specs.Labels.{labels_outcome}
+use Rattle.shell_reports.specs.Nfit.{nfit_outcome}
+use Rattle.shell_reports.specs.Saved.{Saves}
+use Rattle.shell_changes.specs.Init.{InitComes}
+use Rattle.shell_changes.specs.Namespaces.{CommandComes}
+use Rattle.shell_reports.specs.List.{list_outcome}
+use Rattle.shell_reports.specs.Sectors.{info_outcome, read_outcome}
+use Rattle.shell_changes.specs.Sectors.{SectorsCome}
+
+-- ---- a case for each command
+
+-- what a command may come to on the set that it loads; `leaves` says what a power cut may leave of the words of label areas, by
+-- the number from which the chooser is begun
+abbrev pub LoadedComes : (ℕ → List (Option Words) → List (Option (List ℕ)) → Type 0) → Command → ImageSet → Outcome → Type 0
+LoadedComes leaves (Labels m) loaded outcome = outcome ≡ labels_outcome m loaded
+LoadedComes leaves Nfit loaded outcome = outcome ≡ nfit_outcome loaded
+LoadedComes leaves command.List loaded outcome = outcome ≡ list_outcome loaded
+LoadedComes leaves (Init m power) loaded outcome = InitComes leaves m power loaded outcome
+LoadedComes leaves (Change c power) loaded outcome = CommandComes leaves c power loaded outcome
+LoadedComes leaves (CreateSectors new power) loaded outcome = SectorsCome leaves new power loaded outcome
+LoadedComes leaves (Info uuid) loaded outcome = outcome ≡ info_outcome uuid loaded
+LoadedComes leaves (Read uuid sector) loaded outcome = outcome ≡ read_outcome uuid sector loaded
+
+-- by the set that is loaded, or by why none is
+abbrev pub OnLoaded : (ImageSet → Outcome → Type 0) → Result ImageSet LoadFault → Outcome → Type 0
+OnLoaded comes (Ok loaded) outcome = comes loaded outcome
+OnLoaded comes (Err fault) outcome = outcome ≡ load_outcome fault
+
+-- what a command may come to, for images and a script: the whole set is loaded first
+abbrev pub Comes : (ℕ → List (Option Words) → List (Option (List ℕ)) → Type 0) → Command → Images → List ℕ → Outcome → Type 0
+Comes leaves command set script outcome = OnLoaded (LoadedComes leaves command) (loading set) outcome
+
+-- whether a command reads the script
+abbrev pub reads_script : Command → Bool
+reads_script (Labels m) = false
+reads_script Nfit = false
+reads_script command.List = false
+reads_script (Init m power) = false
+reads_script (Change c power) = false
+reads_script (CreateSectors new power) = false
+reads_script (Info uuid) = false
+reads_script (Read uuid sector) = false
+
+-- whether a command copies contents as it saves, so that reading may fail then
+abbrev pub copies : Command → Bool
+copies (Labels m) = false
+copies Nfit = false
+copies command.List = false
+copies (Init m power) = true
+copies (Change c power) = true
+copies (CreateSectors new power) = false
+copies (Info uuid) = false
+copies (Read uuid sector) = false
+
+-- whether a command works on the contents of modules, so that they are loaded
+abbrev pub needs_contents : Command → Bool
+needs_contents (Labels m) = false
+needs_contents Nfit = false
+needs_contents command.List = false
+needs_contents (Init m power) = false
+needs_contents (Change c power) = false
+needs_contents (CreateSectors new power) = true
+needs_contents (Info uuid) = true
+needs_contents (Read uuid sector) = true
+
+-- whether the words are those of a command that copies contents
+abbrev pub copies_found : Option Command → Bool
+copies_found None = false
+copies_found (Some command) = copies command
+
+abbrev pub copies_by : List (List ℕ) → Bool
+copies_by words = copies_found (command_of words)
+
+-- ---- once for all commands
+
+-- a command comes to this, whatever images and script are told
+abbrev pub ComesTold : (ℕ → List (Option Words) → List (Option (List ℕ)) → Type 0) → Command → Option Images → Option (List ℕ) → Outcome → Type 0
+ComesTold leaves command held left outcome =
+    (set : Images) (script : List ℕ) → held ≡ Some set → (IsTrue (reads_script command) → left ≡ Some script) → Comes leaves command set script outcome
+
+-- what the words come to
+abbrev pub IsDue : (ℕ → List (Option Words) → List (Option (List ℕ)) → Type 0) → List (List ℕ) → Option Images → Option (List ℕ) → Outcome → Type 0
+IsDue leaves words held left outcome = MatchOption (command_of words) (outcome ≡ usage) (λ command. ComesTold leaves command held left outcome)
+
+-- the script is as it was, unless the words are those of a command that reads it
+abbrev pub LeavesScript : List (List ℕ) → Option (List ℕ) → Option (List ℕ) → Type 0
+LeavesScript words left left' = MatchOption (command_of words) (left' ≡ left) (λ command. reads_script command ≡ false → left' ≡ left)
+
+-- the text has a front of what was to be printed
+abbrev pub AppendsPart : Option (List ℕ) → Option (List ℕ) → List ℕ → Type 0
+AppendsPart text text' bytes = (n : ℕ) × Appends text text' (take n bytes)
+
+-- after a read fault nothing was written; or, of a command that copies contents as it saves, an outcome was due that has a set,
+-- and the set isn't finished
+abbrev pub FailedToRead : Bool → (Outcome → Type 0) → Option Images → Option Images → Type 0
+FailedToRead copying due made made' =
+    (made' ≡ made) ⊎ (IsTrue copying × ((outcome : Outcome) × due outcome × IsSome outcome.saved × Becomes made made' IsUnfinished))
+
+-- after a write fault an outcome was due and its set wasn't finished and nothing was printed; or an outcome was due and
+-- printing stopped before its end; or printing `read fault` did
+abbrev pub FailedToWrite : Bool → (Outcome → Type 0) → Option Images → Option Images → Option (List ℕ) → Option (List ℕ) → Type 0
+FailedToWrite copying due made made' text text' =
+    ((outcome : Outcome) × due outcome × IsSome outcome.saved × Becomes made made' IsUnfinished × Keeps text text')
+    ⊎ ((outcome : Outcome) × due outcome × Saves outcome.saved made made' × AppendsPart text text' outcome.text)
+    ⊎ (FailedToRead copying due made made' × AppendsPart text text' (codes "read fault" ++ lf))
+
+-- what stands outside after a status, of a command that copies contents as it saves or doesn't
+abbrev pub Ends : Bool → (Outcome → Type 0) → Option Images → Option Images → Option (List ℕ) → Option (List ℕ) → Status → Type 0
+Ends copying due made made' text text' status.ReadFault = FailedToRead copying due made made' × Appends text text' (codes "read fault" ++ lf)
+Ends copying due made made' text text' status.WriteFault = FailedToWrite copying due made made' text text'
+Ends copying due made made' text text' status.OutOfMemory = (made' ≡ made) × Keeps text text'
+Ends copying due made made' text text' other = (outcome : Outcome) × due outcome × (status_of outcome.ending ≡ other) × Saves outcome.saved made made' × Appends text text' outcome.text

@@ -1,0 +1,27 @@
+//! A run of the program over the outside's traits: words, an image set, and what is printed and saved.
+//!
+//! ```text
+//!  words ──► command                                        words, commands, command_words
+//!  image set ──► lines ──► text, status                     top
+//!      │   labels, nfit, list, info, read
+//!      │
+//!      ├──► a changed set, or its state after a crash ──► image set
+//!      │       init, create, delete, rename
+//!      └──► the first object that is missing or outside its limits
+//! ```
+//!
+//! [`run`] does the work, so its contract says all of it; `nvdimm_shell` gives it directories and the standard streams.
+//!
+//! A command is an entry of the table in `specs/Commands.antt`, a case of `Comes` in `specs/Run.antt`, and a handler that
+//! makes an answer from the set that was loaded, without a source or a sink. Loading, faults of reading and writing and
+//! running out of memory are handled once, for all commands, by `OnLoaded`, by `Ends` and in `top`. Contents are loaded for
+//! `info`, `read` and `create --mode sector` alone (`needs_contents`); the other commands that save copy them (`copies`).
+#![tactic(auto)]
+
+mod commands;
+mod laws;
+mod top;
+mod words;
+
+pub use laws::{accepted_is_ok, each_status_has_its_cause, init_leaves_whole};
+pub use top::run;

@@ -1,0 +1,425 @@
+ghost use Rattle.std.specs.Prelude.{◌≡◌, ◌≢◌, ◌⊎◌, ◌++◌, ◌≤◌, ℕ, List, codes, map, string_bytes, true, false, IfOk, IsSome, IsTrue, OnOk, None, Ok, Err, Option};
+ghost use Rattle.std.specs.Option.{ForSome};
+ghost use Rattle.std.specs.Io.KnownBytes.{Appends};
+ghost use Rattle.nvd_media.specs.Causes.{Rose};
+ghost use Rattle.nvd_media.specs.Images.{Images, Becomes, IsEmptySet, IsUnfinished};
+ghost use Rattle.image_set.specs.Load.{image_set_in};
+ghost use Rattle.image_set.specs.Outline.{IsOutlined, image_set_with};
+ghost use Rattle.image_set.specs.Sound.{IsSound};
+ghost use Rattle.shell_reports.specs.Labels.{labels_outcome};
+ghost use Rattle.shell_reports.specs.List.{list_outcome};
+ghost use Rattle.shell_reports.specs.LoadFaults.{load_outcome};
+ghost use Rattle.shell_reports.specs.Nfit.{nfit_outcome};
+ghost use Rattle.shell_reports.specs.Outcome.{Outcome, lf, status_of, usage};
+ghost use Rattle.shell_reports.specs.Saved.{Saves};
+ghost use Rattle.shell_reports.specs.Sectors.{info_outcome, read_outcome};
+ghost use Rattle.shell_changes.specs.Answers.{ComesFrom, HasSizes, outcome_with, whole_outcome};
+ghost use Rattle.shell_changes.specs.Remains.{LeavesBy};
+ghost use Rattle.shell_changes.specs.Saved.{AreSaved, HasContentsOf, copies_contents};
+ghost use Rattle.shell_run.specs.Run.{ComesTold, Ends, AppendsPart, IsDue, LeavesScript, LoadedComes, copies, copies_by, needs_contents, reads_script};
+ghost use Rattle.shell_run.specs.Words.{GivesGoodName};
+
+use crate::words::{Command, command_from};
+use command_words::WordsFault;
+use image_set::{CopyFault, LoadFault, Loaded, Outline, load, load_outline};
+use nvd_media::{Chooser, Gate, ImageSink, ImageSource, TextSink, TextSource};
+use shell_changes::{Answer, SavedSet, change_answer, init_answer, sectors_answer, without_set};
+use shell_reports::{
+    Ending, Report, Status, Stop, info_answer, labels_answer, list_answer, load_answer,
+    nfit_answer, read_answer, usage_answer,
+};
+use std::alloc::{AllocError, Global};
+use std::sync::Wait;
+use std::thread::Threads;
+use uuid::Uuid;
+
+/// The answer of a handler, or the stop for want of memory.
+fn found_memory(answer: Result<Answer, AllocError>) -> Result<Answer, Stop>
+    ensures same { IfOk result (λ x. answer ≡ Ok x) }
+    ensures memory { result ≢ Err Stop.ReadFault }
+{
+    match answer {
+        Ok(answer) => Ok(answer),
+        Err(_) => Err(Stop::OutOfMemory),
+    }
+}
+
+/// The answer of a handler that saves nothing.
+fn reported(report: Result<Report, AllocError>) -> Result<Answer, AllocError>
+    ensures same { IfOk result (λ answer. report ≡ Ok answer.report) }
+    ensures saved { IfOk result (λ answer. answer.saved ≡ None) }
+{
+    match report {
+        Ok(report) => Ok(without_set(report)),
+        Err(error) => Err(error),
+    }
+}
+
+/// The answer of `labels`.
+fn labels_found(alloc: Global, module: u32, outline: &Outline) -> Result<Answer, AllocError>
+    requires { IsOutlined outline.now }
+    ensures comes { IfOk result (λ answer. (contents : List (List ℕ)) → outcome_with answer contents ≡ labels_outcome «module» (image_set_with outline.now contents)) }
+    ensures saved { IfOk result (λ answer. answer.saved ≡ None) }
+{
+    let report = labels_answer(alloc, module, outline)?;
+    Ok(without_set(report))
+}
+
+/// The answer of `nfit`.
+fn table_found(alloc: Global, outline: &Outline) -> Result<Answer, AllocError>
+    requires { IsOutlined outline.now }
+    ensures comes { IfOk result (λ answer. (contents : List (List ℕ)) → outcome_with answer contents ≡ nfit_outcome (image_set_with outline.now contents)) }
+    ensures saved { IfOk result (λ answer. answer.saved ≡ None) }
+{
+    let report = nfit_answer(alloc, &outline.nfit)?;
+    Ok(without_set(report))
+}
+
+/// The answer of `list`.
+fn list_found(alloc: Global, outline: Outline) -> Result<Answer, AllocError>
+    requires { IsOutlined outline }
+    ensures comes { IfOk result (λ answer. (contents : List (List ℕ)) → outcome_with answer contents ≡ list_outcome (image_set_with outline contents)) }
+    ensures saved { IfOk result (λ answer. answer.saved ≡ None) }
+{
+    let report = list_answer(alloc, outline)?;
+    Ok(without_set(report))
+}
+
+/// The answer of `info`.
+fn arenas_found(alloc: Global, uuid: &Uuid, loaded: Loaded) -> Result<Answer, AllocError>
+    requires { IsSound loaded }
+    ensures comes { IfOk result (λ answer. whole_outcome answer ≡ info_outcome uuid.now (image_set_in loaded)) }
+    ensures saved { IfOk result (λ answer. answer.saved ≡ None) }
+{
+    let report = info_answer(alloc, uuid, loaded)?;
+    Ok(without_set(report))
+}
+
+/// The answer of `read`.
+fn sector_found(
+    alloc: Global,
+    uuid: &Uuid,
+    sector: u64,
+    loaded: Loaded,
+) -> Result<Answer, AllocError>
+    requires { IsSound loaded }
+    ensures comes { IfOk result (λ answer. whole_outcome answer ≡ read_outcome uuid.now sector (image_set_in loaded)) }
+    ensures saved { IfOk result (λ answer. answer.saved ≡ None) }
+{
+    let report = read_answer(alloc, uuid, sector, loaded)?;
+    Ok(without_set(report))
+}
+
+/// Whether a command works on the contents of modules.
+fn needs_contents(command: &Command) -> bool
+    ensures { result ≡ needs_contents command.now }
+{
+    match command {
+        Command::Labels(_) => false,
+        Command::Nfit => false,
+        Command::List => false,
+        Command::Init(_, _) => false,
+        Command::Change(_, _) => false,
+        Command::CreateSectors(_, _) => true,
+        Command::Info(_) => true,
+        Command::Read(_, _) => true,
+    }
+}
+
+/// What a command comes to on the set that it loads but for its contents.
+fn outlined_answer<C: Chooser>(
+    alloc: Global,
+    command: Command,
+    outline: Outline,
+    choose: &mut C,
+) -> Result<Answer, AllocError>
+    requires sound { IsOutlined outline }
+    requires name { GivesGoodName command }
+    requires outlined { needs_contents command ≡ false }
+    ensures comes { IfOk result (λ answer. (contents : List (List ℕ)) → LoadedComes (LeavesBy C.begins C.picks choose.old) command (image_set_with outline contents) (outcome_with answer contents)) }
+    ensures sizes { IfOk result (HasSizes outline.sizes) }
+    ensures copying { IfOk result (λ answer. IsTrue (copies_contents answer.saved) → IsTrue (copies command)) }
+{
+    match command {
+        Command::Labels(module) => labels_found(alloc, module, &outline),
+        Command::Nfit => table_found(alloc, &outline),
+        Command::List => list_found(alloc, outline),
+        Command::Init(module, power) => init_answer(alloc, module, power, outline, choose),
+        Command::Change(change, power) => change_answer(alloc, &change, power, outline, choose),
+        Command::CreateSectors(_, _) => unreachable!(),
+        Command::Info(_) => unreachable!(),
+        Command::Read(_, _) => unreachable!(),
+    }
+}
+
+/// What a command comes to on the set that it loads with its contents.
+fn loaded_answer<C: Chooser>(
+    alloc: Global,
+    command: Command,
+    loaded: Loaded,
+    choose: &mut C,
+) -> Result<Answer, AllocError>
+    requires sound { IsSound loaded }
+    requires name { GivesGoodName command }
+    requires whole { needs_contents command ≡ true }
+    ensures comes { IfOk result (λ answer. LoadedComes (LeavesBy C.begins C.picks choose.old) command (image_set_in loaded) (whole_outcome answer)) }
+    ensures whole { IfOk result (λ answer. copies_contents answer.saved ≡ false) }
+{
+    match command {
+        Command::Labels(_) => unreachable!(),
+        Command::Nfit => unreachable!(),
+        Command::List => unreachable!(),
+        Command::Init(_, _) => unreachable!(),
+        Command::Change(_, _) => unreachable!(),
+        Command::CreateSectors(new, power) => sectors_answer(alloc, &new, power, loaded, choose),
+        Command::Info(uuid) => arenas_found(alloc, &uuid, loaded),
+        Command::Read(uuid, sector) => sector_found(alloc, &uuid, sector, loaded),
+    }
+}
+
+/// The answer on a set that isn't loaded, or the stop where that is no finding about its objects.
+fn unloaded(alloc: Global, fault: LoadFault) -> Result<Answer, Stop>
+    ensures text { IfOk result (λ answer. (contents : List (List ℕ)) → outcome_with answer contents ≡ load_outcome fault) }
+    ensures saved { IfOk result (λ answer. answer.saved ≡ None) }
+    ensures source { IfOk result (λ _. fault ≢ LoadFault.ReadFault) }
+    ensures memory { IfOk result (λ _. fault ≢ LoadFault.OutOfMemory) }
+    ensures failed { result ≡ Err Stop.ReadFault → fault ≡ LoadFault.ReadFault }
+{
+    match fault {
+        LoadFault::ReadFault => Err(Stop::ReadFault),
+        LoadFault::OutOfMemory => Err(Stop::OutOfMemory),
+        _ => found_memory(reported(load_answer(alloc, fault))),
+    }
+}
+
+/// What a command comes to that needs no contents: the set is loaded but for them.
+fn perform_outlined<S: ImageSource, T: TextSource, C: Chooser>(
+    alloc: Global,
+    command: Command,
+    images: &mut S,
+    _script: &mut T,
+    choose: &mut C,
+) -> Result<Answer, Stop>
+    requires name { GivesGoodName command }
+    requires outlined { needs_contents command ≡ false }
+    ensures told { IfOk result (λ answer. (outcome : Outcome) → ComesFrom (S.held images.old) answer outcome → ComesTold (LeavesBy C.begins C.picks choose.old) command (S.held images.old) (T.left _script.old) outcome) }
+    ensures copying { IfOk result (λ answer. IsTrue (copies_contents answer.saved) → IsTrue (copies command)) }
+    ensures there { IfOk result (λ answer. HasContentsOf (S.held images.old) answer.saved) }
+    ensures same { S.held images.new ≡ S.held images.old }
+    ensures unread { reads_script command ≡ false → T.left _script.new ≡ T.left _script.old }
+    ensures failed { result ≡ Err Stop.ReadFault → Rose (S.faults images.old) (S.faults images.new) }
+    ensures later { S.faults images.old ≤ S.faults images.new }
+{
+    match load_outline(alloc, images) {
+        Ok(outline) => found_memory(outlined_answer(alloc, command, outline, choose)),
+        Err(fault) => unloaded(alloc, fault),
+    }
+}
+
+/// What a command comes to that needs contents: the whole set is loaded.
+fn perform_whole<S: ImageSource, T: TextSource, C: Chooser>(
+    alloc: Global,
+    command: Command,
+    images: &mut S,
+    _script: &mut T,
+    choose: &mut C,
+) -> Result<Answer, Stop>
+    requires name { GivesGoodName command }
+    requires whole { needs_contents command ≡ true }
+    ensures told { IfOk result (λ answer. (outcome : Outcome) → ComesFrom (S.held images.old) answer outcome → ComesTold (LeavesBy C.begins C.picks choose.old) command (S.held images.old) (T.left _script.old) outcome) }
+    ensures whole { IfOk result (λ answer. copies_contents answer.saved ≡ false) }
+    ensures same { S.held images.new ≡ S.held images.old }
+    ensures unread { reads_script command ≡ false → T.left _script.new ≡ T.left _script.old }
+    ensures failed { result ≡ Err Stop.ReadFault → Rose (S.faults images.old) (S.faults images.new) }
+    ensures later { S.faults images.old ≤ S.faults images.new }
+{
+    match load(alloc, images) {
+        Ok(loaded) => found_memory(loaded_answer(alloc, command, loaded, choose)),
+        Err(why) => unloaded(alloc, why),
+    }
+}
+
+/// What a command comes to.
+fn perform<S: ImageSource, T: TextSource, C: Chooser>(
+    alloc: Global,
+    command: Command,
+    images: &mut S,
+    script: &mut T,
+    choose: &mut C,
+) -> Result<Answer, Stop>
+    requires name { GivesGoodName command }
+    ensures told { IfOk result (λ answer. (outcome : Outcome) → ComesFrom (S.held images.old) answer outcome → ComesTold (LeavesBy C.begins C.picks choose.old) command (S.held images.old) (T.left script.old) outcome) }
+    ensures copying { IfOk result (λ answer. IsTrue (copies_contents answer.saved) → IsTrue (copies command)) }
+    ensures there { IfOk result (λ answer. HasContentsOf (S.held images.old) answer.saved) }
+    ensures same { S.held images.new ≡ S.held images.old }
+    ensures unread { reads_script command ≡ false → T.left script.new ≡ T.left script.old }
+    ensures failed { result ≡ Err Stop.ReadFault → Rose (S.faults images.old) (S.faults images.new) }
+    ensures later { S.faults images.old ≤ S.faults images.new }
+{
+    if needs_contents(&command) {
+        perform_whole(alloc, command, images, script, choose)
+    } else {
+        perform_outlined(alloc, command, images, script, choose)
+    }
+}
+
+/// The answer to words that aren't a command line.
+fn misused(alloc: Global) -> Result<Answer, Stop>
+    ensures text { IfOk result (λ answer. (contents : List (List ℕ)) → outcome_with answer contents ≡ usage) }
+    ensures saved { IfOk result (λ answer. answer.saved ≡ None) }
+    ensures memory { result ≢ Err Stop.ReadFault }
+{
+    found_memory(reported(usage_answer(alloc)))
+}
+
+/// What the words come to.
+fn answer_to<S: ImageSource, T: TextSource, C: Chooser>(
+    alloc: Global,
+    words: &[String],
+    images: &mut S,
+    script: &mut T,
+    choose: &mut C,
+) -> Result<Answer, Stop>
+    ensures due { IfOk result (λ answer. (outcome : Outcome) → ComesFrom (S.held images.old) answer outcome
+        → IsDue (LeavesBy C.begins C.picks choose.old) (map string_bytes words.now) (S.held images.old) (T.left script.old) outcome) }
+    ensures copying { IfOk result (λ answer. IsTrue (copies_contents answer.saved) → IsTrue (copies_by (map string_bytes words.now))) }
+    ensures there { IfOk result (λ answer. HasContentsOf (S.held images.old) answer.saved) }
+    ensures same { S.held images.new ≡ S.held images.old }
+    ensures unread { LeavesScript (map string_bytes words.now) (T.left script.old) (T.left script.new) }
+    ensures failed { result ≡ Err Stop.ReadFault → Rose (S.faults images.old) (S.faults images.new) }
+    ensures later { S.faults images.old ≤ S.faults images.new }
+{
+    match command_from(alloc, words) {
+        Ok(command) => perform(alloc, command, images, script, choose),
+        Err(WordsFault::Usage) => misused(alloc),
+        Err(WordsFault::OutOfMemory) => Err(Stop::OutOfMemory),
+    }
+}
+
+/// Saves an image set, if there is one.
+fn save_if<S: ImageSource, K: ImageSink>(
+    alloc: Global,
+    saved: Option<SavedSet>,
+    images: &mut S,
+    out: &mut K,
+) -> Result<(), CopyFault>
+    requires empty { ForSome (K.made out.old) IsEmptySet }
+    requires there { HasContentsOf (S.held images.old) saved }
+    ensures saved { OnOk result ((set : Option Images) × AreSaved (S.held images.old) saved set × Saves set (K.made out.old) (K.made out.new)) }
+    ensures unread { result ≡ Err CopyFault.ReadFault → IsTrue (copies_contents saved) × Becomes (K.made out.old) (K.made out.new) IsUnfinished }
+    ensures unwritten { result ≡ Err CopyFault.WriteFault → IsSome saved × Becomes (K.made out.old) (K.made out.new) IsUnfinished }
+    ensures memory { result ≡ Err CopyFault.OutOfMemory → K.made out.new ≡ K.made out.old }
+    ensures same { S.held images.new ≡ S.held images.old }
+    ensures read { result ≡ Err CopyFault.ReadFault → Rose (S.faults images.old) (S.faults images.new) }
+    ensures written { result ≡ Err CopyFault.WriteFault → Rose (K.faults out.old) (K.faults out.new) }
+{
+    match saved {
+        Some(set) => set.save(alloc, images, out),
+        None => Ok(()),
+    }
+}
+
+/// Prints the text of an answer whose image set, if it has one, is saved.
+fn printed<O: TextSink>(ending: Ending, bytes: &[u8], text: &mut O) -> Status
+    ensures all { result ≡ status_of ending → Appends (O.written text.old) (O.written text.new) bytes.now }
+    ensures part { result ≢ status_of ending → (result ≡ Status.WriteFault) × AppendsPart (O.written text.old) (O.written text.new) bytes.now }
+    ensures failed { result ≡ Status.WriteFault → Rose (O.faults text.old) (O.faults text.new) }
+{
+    match text.write(bytes) {
+        Ok(()) => ending.status(),
+        Err(_) => Status::WriteFault,
+    }
+}
+
+/// Ends a run that has no answer.
+fn stopped<O: TextSink>(stop: Stop, text: &mut O) -> Status
+    ensures memory { stop ≡ Stop.OutOfMemory → (result ≡ Status.OutOfMemory) × (O.written text.new ≡ O.written text.old) }
+    ensures read { stop ≡ Stop.ReadFault → ((result ≡ Status.WriteFault) × AppendsPart (O.written text.old) (O.written text.new) (codes "read fault" ++ lf)) ⊎ ((result ≡ Status.ReadFault) × Appends (O.written text.old) (O.written text.new) (codes "read fault" ++ lf)) }
+    ensures failed { result ≡ Status.WriteFault → Rose (O.faults text.old) (O.faults text.new) }
+{
+    match stop {
+        Stop::OutOfMemory => Status::OutOfMemory,
+        Stop::ReadFault => match text.write(b"read fault\n") {
+            Ok(()) => Status::ReadFault,
+            Err(_) => Status::WriteFault,
+        },
+    }
+}
+
+/// Saves the image set of an answer, if it has one, and then prints its text. Where the source fails as contents are
+/// copied the set isn't finished, and the text is `read fault`.
+#[tactic(auto, using(crate::proofs::Ending::endings))]
+fn conclude<S: ImageSource, K: ImageSink, O: TextSink>(
+    alloc: Global,
+    answer: Answer,
+    images: &mut S,
+    out: &mut K,
+    text: &mut O,
+) -> Status
+    requires empty { ForSome (K.made out.old) IsEmptySet }
+    requires there { HasContentsOf (S.held images.old) answer.saved }
+    ensures ends { Ends (copies_contents answer.saved) (ComesFrom (S.held images.old) answer) (K.made out.old) (K.made out.new) (O.written text.old) (O.written text.new) result }
+    ensures read { result ≡ Status.ReadFault → Rose (S.faults images.old) (S.faults images.new) }
+    ensures failed { result ≡ Status.WriteFault → Rose (K.faults out.old) (K.faults out.new) ⊎ Rose (O.faults text.old) (O.faults text.new) }
+    ensures same { S.held images.new ≡ S.held images.old }
+{
+    let Answer { report, saved } = answer;
+    let Report {
+        ending,
+        text: bytes,
+    } = report;
+    match save_if(alloc, saved, images, out) {
+        Ok(()) => printed(ending, &bytes, text),
+        Err(CopyFault::ReadFault) => stopped(Stop::ReadFault, text),
+        Err(CopyFault::WriteFault) => Status::WriteFault,
+        Err(CopyFault::OutOfMemory) => Status::OutOfMemory,
+    }
+}
+
+/// Does what the words ask for, and answers how it ended.
+///
+/// The words are those after the two directories of the command line: a command's name and what follows
+/// it. `out` was not written to, where it tells.
+///
+/// - `ends`: what is printed and saved is what is due for the words, the images and the script, as far
+///   as they are told (`specs/Run.antt`). Status 2 is due exactly where the words aren't a command line,
+///   3 where the images show a fault, 0 else; after 5 the text is `read fault`, and nothing was written, or, of
+///   `init`, `create --mode raw`, `delete` and `rename`, which copy contents as they save (`copies`), a set that isn't
+///   finished; 7 is the one status that is free, and prints nothing. Where power is cut the chooser is begun once, and
+///   what is left is what it picks.
+/// - `read_fault`, `write_fault`: status 5 comes only where the count of faults of the images rose in this
+///   call, 6 only where that of `out` or of the text did.
+/// - `kept`, `unread`: the images are never written, and a script is left that the command doesn't read.
+#[tactic(auto, using(crate::proofs::Ending::endings))]
+pub fn run<
+    R: Threads + Wait + Sync,
+    S: ImageSource,
+    T: TextSource,
+    K: ImageSink,
+    O: TextSink,
+    C: Chooser,
+    G: Gate,
+>(
+    _rt: &R,
+    alloc: Global,
+    words: &[String],
+    images: &mut S,
+    script: &mut T,
+    out: &mut K,
+    text: &mut O,
+    choose: &mut C,
+    _gate: &G,
+) -> Status
+    requires { ForSome (K.made out.old) IsEmptySet }
+    ensures ends { Ends (copies_by (map string_bytes words.now)) (IsDue (LeavesBy C.begins C.picks choose.old) (map string_bytes words.now) (S.held images.old) (T.left script.old))
+        (K.made out.old) (K.made out.new) (O.written text.old) (O.written text.new) result }
+    ensures read_fault { result ≡ Status.ReadFault → Rose (S.faults images.old) (S.faults images.new) }
+    ensures write_fault { result ≡ Status.WriteFault → Rose (K.faults out.old) (K.faults out.new) ⊎ Rose (O.faults text.old) (O.faults text.new) }
+    ensures kept { S.held images.new ≡ S.held images.old }
+    ensures unread { LeavesScript (map string_bytes words.now) (T.left script.old) (T.left script.new) }
+{
+    match answer_to(alloc, words, images, script, choose) {
+        Ok(answer) => conclude(alloc, answer, images, out, text),
+        Err(stop) => stopped(stop, text),
+    }
+}

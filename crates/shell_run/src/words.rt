@@ -1,0 +1,141 @@
+//! What the words of a command line ask for.
+ghost use Rattle.std.specs.Prelude.{◌≡◌, ◌≢◌, IfOk, IfSome, Some, None, Err, map, string_bytes};
+ghost use Rattle.command_words.specs.Parsed.{rows};
+ghost use Rattle.shell_changes.specs.SectorWords.{GivesName};
+ghost use Rattle.shell_run.specs.Words.{command_of, command_with, command_in, creation_of, power_in, GivesGoodName};
+
+use crate::commands::Kind;
+use command_words::{Parsed, WordsFault, parse};
+use sector_namespaces::NewSectors;
+use shell_changes::{Created, created_in, delete_in, rename_in};
+use shell_reports::Power;
+use std::alloc::Global;
+use uuid::Uuid;
+
+/// What the words ask for.
+#[derive(Clone, Copy, Debug)]
+pub enum Command {
+    /// Print the current index block and the labels of a module.
+    Labels(u32),
+    /// Print the modules and regions of the firmware's table.
+    Nfit,
+    /// Print the namespaces.
+    List,
+    /// Write fresh index blocks into the label area of a module.
+    Init(u32, Power),
+    /// Make a namespace without sectors, or remove or rename one.
+    Change(namespace_map::Command, Power),
+    /// Make a namespace of sectors.
+    CreateSectors(NewSectors, Power),
+    /// Print the arenas of a namespace.
+    Info(Uuid),
+    /// Print a sector of a namespace.
+    Read(Uuid, u64),
+}
+
+/// The greatest number of a module.
+const LAST_MODULE: u64 = 63;
+
+/// The options on power cuts.
+fn power_in(values: &Parsed<'_>) -> Option<Power>
+    ensures { result ≡ power_in (rows values.now) }
+{
+    let steps = values.optional_number("cut", 0, u64::MAX)?;
+    let seed = values.optional_number("evict", 0, u64::MAX)?;
+    Some(Power {
+        steps,
+        seed: seed.unwrap_or(0),
+    })
+}
+
+/// A namespace is made, of either mode.
+fn creation_of(created: Created, power: Power) -> Command
+    requires name { GivesName created }
+    ensures command { result ≡ creation_of created power }
+    ensures name { GivesGoodName result }
+{
+    match created {
+        Created::Raw(command) => Command::Change(command, power),
+        Created::Sectors(new) => Command::CreateSectors(new, power),
+    }
+}
+
+/// The command that the values of its arguments make.
+fn command_in(kind: Kind, values: &Parsed<'_>) -> Option<Command>
+    ensures command { result ≡ command_in kind (rows values.now) }
+    ensures name { IfSome result GivesGoodName }
+{
+    match kind {
+        Kind::Labels => {
+            let module = values.number("module", 0, LAST_MODULE)?;
+            Some(Command::Labels(module as u32))
+        }
+        Kind::Nfit => Some(Command::Nfit),
+        Kind::List => Some(Command::List),
+        Kind::Init => {
+            let module = values.number("module", 0, LAST_MODULE)?;
+            let power = power_in(values)?;
+            Some(Command::Init(module as u32, power))
+        }
+        Kind::Create => {
+            let created = created_in(values)?;
+            let power = power_in(values)?;
+            Some(creation_of(created, power))
+        }
+        Kind::Delete => {
+            let change = delete_in(values)?;
+            Some(Command::Change(change, power_in(values)?))
+        }
+        Kind::Rename => {
+            let change = rename_in(values)?;
+            Some(Command::Change(change, power_in(values)?))
+        }
+        Kind::Info => Some(Command::Info(values.uuid("uuid")?)),
+        Kind::Read => {
+            let uuid = values.uuid("uuid")?;
+            Some(Command::Read(uuid, values.number("sector", 0, u64::MAX)?))
+        }
+    }
+}
+
+/// A command, or that the words say none.
+fn command_or_usage(command: Option<Command>) -> Result<Command, WordsFault>
+    requires name { IfSome command GivesGoodName }
+    ensures name { IfOk result GivesGoodName }
+    ensures said { IfOk result (λ found. command ≡ Some found) }
+    ensures none { result ≡ Err WordsFault.Usage → command ≡ None }
+    ensures words { result ≢ Err WordsFault.OutOfMemory }
+{
+    match command {
+        Some(command) => Ok(command),
+        None => Err(WordsFault::Usage),
+    }
+}
+
+/// The command of a name with the words after it.
+fn command_with(alloc: Global, kind: Kind, words: &[String]) -> Result<Command, WordsFault>
+    ensures command { IfOk result (λ command. command_with kind (map string_bytes words.now) ≡ Some command) }
+    ensures usage { result ≡ Err WordsFault.Usage → command_with kind (map string_bytes words.now) ≡ None }
+    ensures name { IfOk result GivesGoodName }
+{
+    match parse(alloc, kind.arguments(), words) {
+        Ok(values) => command_or_usage(command_in(kind, &values)),
+        Err(fault) => Err(fault),
+    }
+}
+
+/// The command that the words say; `Usage` exactly where they aren't a command line, unless memory is
+/// wanting.
+pub fn command_from(alloc: Global, words: &[String]) -> Result<Command, WordsFault>
+    ensures command { IfOk result (λ command. command_of (map string_bytes words.now) ≡ Some command) }
+    ensures usage { result ≡ Err WordsFault.Usage → command_of (map string_bytes words.now) ≡ None }
+    ensures name { IfOk result GivesGoodName }
+{
+    let [name, others @ ..] = words else {
+        return Err(WordsFault::Usage);
+    };
+    match Kind::of_name(name.as_str()) {
+        Some(kind) => command_with(alloc, kind, others),
+        None => Err(WordsFault::Usage),
+    }
+}
