@@ -1,5 +1,5 @@
 -- A call that begins keeps what a core keeps.
-use Rattle.std.proofs.Common.{◌≡◌, ℕ, ◌+◌, ◌*◌, ◌/◌, ◌<◌, ◌≤◌, ◌==◌, if◌then◌else◌, zero, suc, Bool, true, false, List, [], ◌∷◌, length, get_or, take, slice_get, slice_set, Some, refl, sym, ap, ◌∙◌, subst, arith, length-set}
+use Rattle.std.proofs.Common.{◌≡◌, ℕ, ◌<◌, ◌≤◌, ◌==◌, if◌then◌else◌, zero, suc, Bool, true, false, List, [], ◌∷◌, length, take, slice_get, slice_set, Some, refl, sym, ap, ◌∙◌, subst, arith, length-set}
 use Rattle.nvd_words.specs.declared.tag.Tag.{Tag}
 use Rattle.lane_core.specs.declared.history.Entry.{Entry}
 use Rattle.lane_core.specs.declared.lane.Lane.{Lane}
@@ -13,7 +13,6 @@ use Rattle.lane_core.specs.Invariant.{stored}
 use Rattle.lane_core.specs.Places.{IsShape, geometry}
 use Rattle.lane_core.specs.Rows.{RowWords, Recorded}
 use Rattle.lane_core.specs.After.{uses_cell, uses_looked}
-use Rattle.lane_core.specs.Ready.{IsFilled}
 use Rattle.lane_core.specs.Showing.{Shown, lane_at, lane_of}
 use Rattle.lane_core.specs.Cores.{owing, ShowsSound}
 use Rattle.lane_core.specs.Begins.{is_idle, read_begun, write_begun}

@@ -1,28 +1,27 @@
 -- A step of a lane keeps what a core keeps.
-use Rattle.std.proofs.Common.{◌≡◌, ℕ, ◌+◌, ◌-◌, ◌*◌, ◌/◌, ◌^◌, ◌<◌, ◌≤◌, ◌≢◌, ◌==◌, ◌⊎◌, nat_lt, if◌then◌else◌, cond, inl, inr, zero, suc, Bool, true, false, List, [], ◌∷◌, ◌++◌, length, get_or, slice_get, slice_set, slice_index, Some, refl, sym, ap, ap₂, ◌∙◌, subst, arith, length-set, get_or-set_same, get_or-set_other}
+use Rattle.std.proofs.Common.{◌≡◌, ℕ, ◌+◌, ◌*◌, ◌/◌, ◌<◌, ◌≤◌, ◌==◌, nat_lt, if◌then◌else◌, inl, inr, zero, suc, Bool, true, false, List, [], ◌∷◌, length, get_or, slice_get, slice_set, slice_index, Some, refl, sym, ap, ◌∙◌, subst, arith, length-set, get_or-set_same, get_or-set_other}
 use Rattle.std.proofs.lemmas.Option.{get_or_from_slice_get, slice_get_within, slice_get-get_or}
 use Rattle.map_table.specs.Entry.{entry_in}
 use Rattle.map_table.specs.declared.kinds.Kind.{Kind}
 use Rattle.map_table.specs.declared.kinds.Kind.TheVariants as kind
-use Rattle.lane_core.specs.declared.history.Entry.{Entry}
 use Rattle.lane_core.specs.declared.lane.Lane.{Lane}
 use Rattle.lane_core.specs.declared.now.LaneNow.{LaneNow}
 use Rattle.lane_core.specs.declared.phase.Phase.{Phase}
 use Rattle.lane_core.specs.declared.phase.Phase.TheVariants.{Idle, Scanning, Staging, Staged, Locked, Known, LogAStored, LogA, LogBStored, Logged, Switched, Kept, Called, Looking, Published, Moved, Reading}
 use Rattle.lane_core.specs.declared.shape.Shape.{Shape}
-use Rattle.lane_core.specs.Areas.{block_in, mapped}
+use Rattle.lane_core.specs.Areas.{block_in}
 use Rattle.lane_core.specs.History.{Cells}
 use Rattle.lane_core.specs.Machine.{State, data_store, data_keep}
 use Rattle.lane_core.specs.Invariant.{IsSound, uses_sector}
-use Rattle.lane_core.specs.Places.{IsShape, SeenMap, IsIn, geometry}
+use Rattle.lane_core.specs.Places.{SeenMap, geometry}
 use Rattle.lane_core.specs.Rows.{RowWords, Recorded, grown}
-use Rattle.lane_core.specs.Lines.{looked_now, read_now, scanned, kept_phase}
+use Rattle.lane_core.specs.Lines.{looked_now, read_now}
 use Rattle.lane_core.specs.After.{cell_found, row_after, lane_after, past_after, lane_looked, past_looked, kind_found, map_found, is_free, is_unmoved, uses_words, uses_cell, uses_looked, wants_lock, owes_entry}
 use Rattle.lane_core.specs.Ready.{IsFilled, IsReady}
-use Rattle.lane_core.specs.Showing.{Shown, lane_of, line_of}
+use Rattle.lane_core.specs.Showing.{lane_of, line_of}
 use Rattle.lane_core.specs.Cores.{owed, owing, ShowsSound}
 use Rattle.lane_core.proofs.Put.{never, same_or_not}
-use Rattle.lane_core.proofs.Showing.{lane_is, lane_lt}
+use Rattle.lane_core.proofs.Showing.{lane_lt}
 use Rattle.lane_core.proofs.Simulated.{line_at}
 use Rattle.lane_core.proofs.Staging.{data_store_sound, data_keep_sound}
 use Rattle.lane_core.proofs.Whole.{took_sound, stepped_sound}

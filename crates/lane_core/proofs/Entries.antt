@@ -3,7 +3,7 @@ use Rattle.std.proofs.Common.{◌≡◌, ℕ, ◌/◌, ◌^◌, ◌<◌, ◌≤�
 use Rattle.map_table.specs.Entry.{entry_in, with_entry}
 use Rattle.lane_core.specs.Areas.{put, kind_in, block_in, normal, word_a, word_b, lba_in, old_in, new_in, seq_in, next_seq, entry_at, IsNewer}
 use Rattle.map_table.specs.declared.kinds.Kind.TheVariants as kind
-use Rattle.map_table.specs.Entry.{entry_of, normal_of, has_zero, has_error, kind_of, block_of, block_bits, weight_of}
+use Rattle.map_table.specs.Entry.{entry_of, normal_of, has_zero, has_error, kind_of, block_of, block_bits}
 use Rattle.lane_core.proofs.Put.{put_at, put_other, same_or_not}
 
 pub entry_in-with_same : (w s e : ℕ) → e < 2 ^ 32 → entry_in (with_entry w s e) s ≡ e

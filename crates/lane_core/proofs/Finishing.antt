@@ -2,7 +2,7 @@
 use Rattle.std.proofs.Common.{◌≡◌, ℕ, ◌<◌, ◌≤◌, ◌≢◌, ◌==◌, inl, inr, zero, suc, Bool, true, false, List, [], ◌∷◌, ◌++◌, refl, sym, ap, ◌∙◌, subst, arith, if◌then◌else◌}
 use Rattle.lane_core.specs.Areas.{Geometry}
 use Rattle.lane_core.specs.History.{Cell, Entry, IsLegal, of_lane, end_of, after, changes_nothing, cell_of, listed}
-use Rattle.lane_core.specs.Machine.{State, Lane, looked}
+use Rattle.lane_core.specs.Machine.{State, looked}
 use Rattle.lane_core.specs.Invariant.{IsSound, is_reading, only_if, open_entry}
 use Rattle.lane_core.specs.Finished.{IsAccount}
 use Rattle.lane_core.proofs.Put.{same_or_not}

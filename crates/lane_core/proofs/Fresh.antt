@@ -1,26 +1,23 @@
 -- A core that was just made shows the state of the arena that was opened.
-use Rattle.std.proofs.Common.{◌≡◌, ℕ, zero, suc, ◌+◌, ◌-◌, ◌*◌, ◌/◌, ◌^◌, ◌<◌, ◌≤◌, true, false, List, [], ◌∷◌, ◌++◌, length, map, replicate, get_or, slice_get, Some, refl, sym, ap, ◌∙◌, subst, arith, append_assoc}
+use Rattle.std.proofs.Common.{◌≡◌, ℕ, zero, suc, ◌+◌, ◌-◌, ◌*◌, ◌<◌, false, List, [], ◌∷◌, ◌++◌, length, map, replicate, get_or, slice_get, Some, refl, sym, ap, ◌∙◌, subst, arith, append_assoc}
 use Rattle.std.proofs.lemmas.List.{get_or_append_left, get_or-append_right, length-append, length-map, get_or-map, length-replicate}
 use Rattle.std.proofs.lemmas.Option.{get_or_from_slice_get, slice_get_within}
-use Rattle.flog.specs.declared.group.Group.{Group}
 use Rattle.flog.specs.declared.half.Half.{Half}
 use Rattle.arena_layout.specs.declared.layout.Layout.{Layout}
 use Rattle.arena_open.specs.declared.opened.LaneState.{LaneState}
 use Rattle.arena_open.specs.declared.state.ArenaState.{ArenaState}
 use Rattle.arena_open.specs.Moves.{IsOpenState, groups_of_lanes, lane_of as state_lane}
-use Rattle.lane_core.specs.declared.lane.Lane.{Lane}
 use Rattle.lane_core.specs.declared.now.LaneNow.{LaneNow}
 use Rattle.lane_core.specs.declared.phase.Phase.TheVariants.{Idle}
 use Rattle.lane_core.specs.declared.shape.Shape.{Shape}
-use Rattle.lane_core.specs.Cut.{half_at}
 use Rattle.lane_core.specs.Opening.{opened, opened_lane}
-use Rattle.lane_core.specs.Places.{IsShape, Place, SeenData, KeptData, SeenMap, KeptMap, SeenA, KeptA, SeenB, KeptB, Reader, Lock, IsIn, Shows, word_of, row_size, value_of, shape_of}
+use Rattle.lane_core.specs.Places.{IsShape, SeenData, KeptData, SeenMap, KeptMap, SeenA, KeptA, SeenB, KeptB, Reader, Lock, Shows, word_of, row_size}
 use Rattle.lane_core.specs.Rows.{Recorded, new_row}
 use Rattle.lane_core.specs.After.{uses_words, uses_cell, wants_lock, uses_looked}
 use Rattle.lane_core.specs.Ready.{IsFilled}
 use Rattle.lane_core.specs.Showing.{lane_of}
 use Rattle.lane_core.specs.Cores.{owing, ShowsSound}
-use Rattle.lane_core.specs.Arenas.{areas_of, no_group, side_in, shape_in, areas_in, sides_in, cells_in}
+use Rattle.lane_core.specs.Arenas.{areas_of, no_group, shape_in, areas_in, sides_in, cells_in}
 use Rattle.lane_core.specs.Idle.{idle_of}
 use Rattle.lane_core.specs.declared.machine.Core.{Core}
 use Rattle.lane_core.specs.Machines.{IsCore, IsFresh}
@@ -28,7 +25,7 @@ use Rattle.std.specs.Prelude.{IfOk}
 use Rattle.std.proofs.Common.{Result, Ok, Err}
 use Rattle.lane_core.proofs.Put.{never}
 use Rattle.lane_core.proofs.Shapes.{shape_is}
-use Rattle.lane_core.proofs.Places.{in_table, seen_data_low, seen_map_low, seen_a_low, seen_b_low}
+use Rattle.lane_core.proofs.Places.{seen_data_low, seen_map_low, seen_a_low, seen_b_low}
 use Rattle.lane_core.proofs.Groups.{LaneRead, lane_read, groups_each}
 use Rattle.lane_core.proofs.Openings.{state_open}
 use Rattle.lane_core.proofs.Beginning.{opened_sound}

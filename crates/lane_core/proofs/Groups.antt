@@ -1,10 +1,10 @@
 -- The log groups of an arena that was opened.
-use Rattle.std.proofs.Common.{◌≡◌, ℕ, zero, suc, ◌+◌, ◌-◌, ◌*◌, ◌/◌, ◌%◌, ◌^◌, ◌<◌, ◌≤◌, ◌⊎◌, inl, inr, Bool, true, false, not, List, [], ◌∷◌, length, get_or, Option, Some, None, Result, Ok, Err, refl, sym, ap, ap₂, ◌∙◌, subst, subst₂, arith}
-use Rattle.std.specs.Prelude.{◌&&◌, ◌||◌, ◌==◌, nat_le, slice_index, IsTrue, if◌then◌else◌}
+use Rattle.std.proofs.Common.{◌≡◌, ℕ, zero, suc, ◌+◌, ◌/◌, ◌<◌, ◌⊎◌, inl, inr, Bool, true, false, not, List, [], ◌∷◌, length, get_or, Option, Some, None, Result, Ok, Err, refl, sym, ap, ap₂, ◌∙◌, subst, subst₂, arith}
+use Rattle.std.specs.Prelude.{◌&&◌, ◌==◌, nat_le, slice_index, IsTrue, if◌then◌else◌}
 use Rattle.std.specs.Option.{option_map}
 use Rattle.std.specs.List.{range_with_len}
 use Rattle.nvd_words.specs.Checks.{first_fault, fault_if, value_unless}
-use Rattle.nvd_words.specs.Ring.{is_newer, successor_of}
+use Rattle.nvd_words.specs.Ring.{is_newer}
 use Rattle.flog.specs.declared.half.Half.{Half}
 use Rattle.flog.specs.declared.group.Group.{Group}
 use Rattle.flog.specs.declared.group.FlogFault.{FlogFault}
@@ -16,12 +16,11 @@ use Rattle.arena_layout.specs.declared.layout.Layout.{Layout}
 use Rattle.arena_open.specs.declared.refused.OpenRefused.{OpenRefused}
 use Rattle.arena_open.specs.Places.{group_words}
 use Rattle.arena_open.specs.Reading.{with_group, groups_of, groups_in}
-use Rattle.lane_core.specs.Areas.{Geometry, Areas, IsNewer, next_seq, lba_in, old_in, new_in, seq_in, half_in}
-use Rattle.lane_core.specs.Machine.{other}
+use Rattle.lane_core.specs.Areas.{Areas, IsNewer, next_seq, lba_in, old_in, new_in, seq_in}
 use Rattle.lane_core.specs.Invariant.{Sized}
 use Rattle.lane_core.specs.Cut.{IsCurrent, half_at}
 use Rattle.lane_core.specs.Places.{shape_of}
-use Rattle.lane_core.specs.Arenas.{areas_of, no_group, side_in}
+use Rattle.lane_core.specs.Arenas.{areas_of, no_group}
 
 -- ---- one group
 

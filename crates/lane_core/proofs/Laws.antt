@@ -1,6 +1,5 @@
 -- The laws in the form in which they are stated.
-use Rattle.std.proofs.Common.{◌≡◌, ℕ, ◌<◌, inl, inr, refl, sym, ap, ◌∙◌, arith, false, true}
-use Rattle.lane_core.specs.Areas.{has_bytes}
+use Rattle.std.proofs.Common.{inl, inr, refl, sym, ap, ◌∙◌, arith}
 use Rattle.lane_core.specs.Machine.{Scanning, Staging, Called, Reading}
 use Rattle.lane_core.specs.Laws.{WriteBegins, CallsAreGivenUp, RttScan, DataStore, DataKeep, LockTake, MapLoad, FlogAStore, FlogAKeep, FlogBStore, FlogBKeep, MapStore, MapKeep, LockFree, ReadBegins, MapLook, RttSet, MapCheck, DataLoad, RttClear, OpenedIsSound, FormattedIsOpen, EveryRun, EveryCut, OneIsCurrent, UnloggedWritesAreLost, EachIsNamed, CutsReopen, EveryAccount}
 use Rattle.lane_core.proofs.Put.{never}

@@ -1,9 +1,7 @@
 -- What a cut leaves of a row, word after word.
-use Rattle.std.proofs.Common.{◌≡◌, ℕ, ◌+◌, ◌*◌, ◌<◌, ◌≤◌, ◌≢◌, Bool, true, false, cond, if◌then◌else◌, List, [], ◌∷◌, ◌++◌, length, get_or, take, drop, slice_set, Option, Some, None, refl, sym, ap, ◌∙◌, subst, arith, append-nil, append_assoc, get_or-set_other, get_or-set_same, length-set, take_all}
-use Rattle.std.proofs.lemmas.List.{get_or-drop, get_or-take, length-drop, length-take-le, take_more, take-set, take-take}
-use Rattle.cut_words.specs.Words.{Words, IsLeft}
+use Rattle.std.proofs.Common.{◌≡◌, ℕ, ◌+◌, ◌*◌, ◌<◌, ◌≤◌, Bool, false, cond, if◌then◌else◌, List, [], ◌∷◌, ◌++◌, length, get_or, take, drop, slice_set, Option, Some, None, sym, ap, ◌∙◌, subst, arith, append-nil, append_assoc, get_or-set_other, get_or-set_same, length-set}
+use Rattle.std.proofs.lemmas.List.{get_or-drop, get_or-take, length-drop, length-take-le, take_more, take-set}
 use Rattle.cut_words.specs.Leaving.{LeavesOne, LeavesFrom}
-use Rattle.cut_words.specs.Pending.{options_of}
 use Rattle.cut_words.proofs.Since.{option_at, length_options}
 use Rattle.cut_words.proofs.Left.{leaves_on, leaves_end}
 use Rattle.lane_core.specs.Rows.{RowWords, words_in}

@@ -1,21 +1,20 @@
 -- An arena that was opened is open for lanes.
-use Rattle.std.proofs.Common.{◌≡◌, ℕ, zero, suc, ◌+◌, ◌*◌, ◌/◌, ◌^◌, ◌<◌, ◌≤◌, ◌≢◌, List, [], ◌∷◌, ◌++◌, length, map, get_or, Result, Ok, refl, sym, ap, ◌∙◌, subst, arith, inl, inr}
-use Rattle.std.specs.List.{All}
+use Rattle.std.proofs.Common.{◌≡◌, ℕ, zero, suc, ◌+◌, ◌/◌, ◌<◌, List, [], ◌∷◌, length, get_or, Ok, refl, sym, ap, ◌∙◌, subst, arith}
 use Rattle.std.proofs.lemmas.List.{get_or_append_left, get_or-append_right, length-append, length-map, get_or-map}
 use Rattle.std.proofs.lemmas.List.FromFn.{get_or-map-range_with_len, length-map-range_with_len}
 use Rattle.flog.specs.declared.group.Group.{Group}
 use Rattle.flog.specs.declared.half.Half.{Half}
-use Rattle.map_table.specs.Entry.{entry_of, entry_in}
-use Rattle.map_table.specs.Blocks.{blocks_from, blocks_of, count_of, NamesEachOnce}
+use Rattle.map_table.specs.Entry.{entry_of}
+use Rattle.map_table.specs.Blocks.{blocks_from, blocks_of, NamesEachOnce}
 use Rattle.arena_layout.specs.declared.layout.Layout.{Layout}
 use Rattle.arena_layout.specs.Layout.{IsLayout}
 use Rattle.arena_open.specs.declared.state.ArenaState.{ArenaState}
 use Rattle.arena_open.specs.Reading.{entry_at, map_in, free_of, groups_in}
 use Rattle.arena_open.specs.Moves.{IsOpenState, groups_of_lanes}
 use Rattle.arena_open.proofs.OnceMore.{Apart, apart_once, block_index, length_blocks}
-use Rattle.lane_core.specs.Areas.{Geometry, IsGeometry, Areas, mapped, block_in}
+use Rattle.lane_core.specs.Areas.{Areas, mapped, block_in}
 use Rattle.lane_core.specs.Invariant.{Sized}
-use Rattle.lane_core.specs.Cut.{IsCurrent, EachOnce, half_at}
+use Rattle.lane_core.specs.Cut.{EachOnce, half_at}
 use Rattle.lane_core.specs.Opening.{IsOpen}
 use Rattle.lane_core.specs.Places.{geometry, shape_of}
 use Rattle.lane_core.specs.Arenas.{areas_of, no_group, side_in, shape_in, areas_in, sides_in}

@@ -1,5 +1,5 @@
 -- Histories that grow by one entry, and cells.
-use Rattle.std.proofs.Common.{◌≡◌, ℕ, ◌+◌, ◌^◌, ◌<◌, ◌≤◌, ◌≢◌, ◌==◌, ◌⊎◌, inl, inr, zero, suc, Bool, true, false, refl, sym, ap, ◌∙◌, arith, if◌then◌else◌, cond, subst, filter, List, [], ◌∷◌, ◌++◌, length, get_or, take, replicate, add-one, take-suc}
+use Rattle.std.proofs.Common.{◌≡◌, ℕ, ◌+◌, ◌^◌, ◌<◌, ◌≤◌, ◌≢◌, ◌==◌, zero, suc, Bool, true, false, refl, sym, ap, ◌∙◌, arith, cond, subst, filter, List, [], ◌∷◌, ◌++◌, length, get_or, take, replicate, add-one, take-suc}
 use Rattle.map_table.specs.declared.kinds.Kind.{Kind}
 use Rattle.map_table.specs.declared.kinds.Kind.TheVariants as kind
 use Rattle.lane_core.specs.declared.history.Act.TheVariants as act

@@ -1,5 +1,5 @@
 -- Each place has a word of its own.
-use Rattle.std.proofs.Common.{◌≡◌, ℕ, ◌+◌, ◌*◌, ◌<◌, ◌≤◌, ◌≢◌, ◌⊎◌, inl, inr, suc, List, length, get_or, refl, sym, ap, ap₂, ◌∙◌, subst, arith, slice_set, get_or-set_same, get_or-set_other, mul-le-mul_right, suc-mul}
+use Rattle.std.proofs.Common.{◌≡◌, ℕ, ◌+◌, ◌*◌, ◌<◌, ◌≤◌, ◌≢◌, inl, inr, suc, List, length, get_or, refl, sym, ap, ap₂, ◌∙◌, subst, arith, slice_set, get_or-set_same, get_or-set_other, mul-le-mul_right, suc-mul}
 use Rattle.lane_core.specs.Machine.{State}
 use Rattle.lane_core.specs.Areas.{put}
 use Rattle.lane_core.proofs.Put.{put_at, put_elim, same_or_not}

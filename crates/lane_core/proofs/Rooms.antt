@@ -1,17 +1,15 @@
 -- Room for entries changes nothing else.
-use Rattle.std.proofs.Common.{◌≡◌, ℕ, ◌≤◌, List, length, replicate, slice_get, slice_set, Some, sym, ap, ◌∙◌, subst, arith}
+use Rattle.std.proofs.Common.{ℕ, ◌≤◌, List, slice_get, slice_set, sym, ap, ◌∙◌, subst, arith}
 use Rattle.nvd_words.specs.declared.tag.Tag.{Tag}
 use Rattle.lane_core.specs.declared.machine.Core.{Core}
-use Rattle.lane_core.specs.declared.now.LaneNow.{LaneNow}
 use Rattle.lane_core.specs.declared.shape.Shape.{Shape}
 use Rattle.lane_core.specs.History.{Cells}
 use Rattle.lane_core.specs.Machine.{State, begin_read, begin_write}
 use Rattle.lane_core.specs.Places.{IsShape, geometry}
-use Rattle.lane_core.specs.Rows.{Recorded}
 use Rattle.lane_core.specs.Invariant.{IsSound}
 use Rattle.lane_core.specs.Ready.{IsFilled}
 use Rattle.lane_core.specs.Showing.{Shown}
-use Rattle.lane_core.specs.Cores.{owing, ShowsSound}
+use Rattle.lane_core.specs.Cores.{owing}
 use Rattle.lane_core.specs.Machines.{IsCore, CoreShows}
 use Rattle.lane_core.specs.Begins.{read_begun, write_begun, HasRoom, IsIdleLane, KeepsRest, ReadStarts, WriteStarts}
 

@@ -1,13 +1,12 @@
 -- Worked rows: two lanes, sectors of one word.
-use Rattle.std.proofs.Common.{◌≡◌, ℕ, ◌+◌, ◌<◌, List, [], ◌∷◌, ◌++◌, refl, zero, suc, length, true, false}
+use Rattle.std.proofs.Common.{◌≡◌, ℕ, ◌+◌, List, [], ◌∷◌, ◌++◌, refl, zero, suc}
 use Rattle.nvd_words.specs.declared.tag.Tag.{Tag}
 use Rattle.map_table.specs.Entry.{entry_of, entry_in, with_entry}
-use Rattle.arena_open.specs.declared.cell.Cell.{Cell}
 use Rattle.arena_open.specs.declared.cell.Cell.TheVariants as cell
 use Rattle.lane_core.specs.declared.history.Act.TheVariants as act
-use Rattle.lane_core.specs.Areas.{Geometry, Areas, put, kind_in, block_in, normal, word_a, word_b, lba_in, old_in, new_in, seq_in, next_seq}
-use Rattle.lane_core.specs.History.{Entry, cell_in, cell_of, listed, end_of}
-use Rattle.lane_core.specs.Machine.{Phase, Scanning, Staging, Staged, Locked, LogBStored, Logged, Reading, Idle, State, lock_of, data_store, data_load}
+use Rattle.lane_core.specs.Areas.{Geometry, put, kind_in, block_in, normal, word_a, word_b, lba_in, old_in, new_in, seq_in, next_seq}
+use Rattle.lane_core.specs.History.{cell_in, cell_of, listed}
+use Rattle.lane_core.specs.Machine.{Scanning, Staging, Staged, Locked, Logged, Reading, State, lock_of, data_store, data_load}
 use Rattle.lane_core.specs.Runs.{Event, Write, Store, Take, Read, Step, run}
 use Rattle.lane_core.specs.Cut.{recovered}
 use Rattle.lane_core.specs.Opening.{formatted, opened}

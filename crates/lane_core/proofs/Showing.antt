@@ -1,5 +1,5 @@
 -- A step of a lane of a core is the line of its phase.
-use Rattle.std.proofs.Common.{◌≡◌, ℕ, ◌+◌, ◌-◌, ◌*◌, ◌/◌, ◌^◌, ◌<◌, ◌≤◌, ◌≢◌, ◌==◌, ◌⊎◌, nat_lt, min, if◌then◌else◌, inl, inr, zero, suc, Bool, true, false, List, [], ◌∷◌, ◌++◌, length, get_or, take, drop, replicate, slice_get, slice_set, slice_index, Some, refl, sym, ap, ap₂, ◌∙◌, subst, arith, length-set, take-suc, get_or-set_same, get_or-set_other}
+use Rattle.std.proofs.Common.{◌≡◌, ℕ, ◌<◌, ◌≢◌, inl, inr, List, length, get_or, slice_get, slice_set, Some, sym, ap, ◌∙◌, subst, length-set, get_or-set_same, get_or-set_other}
 use Rattle.std.proofs.lemmas.Option.{get_or_from_slice_get, slice_get_within, slice_get-get_or}
 use Rattle.lane_core.specs.declared.history.Entry.{Entry}
 use Rattle.lane_core.specs.declared.lane.Lane.{Lane}
@@ -9,7 +9,7 @@ use Rattle.lane_core.specs.declared.shape.Shape.{Shape}
 use Rattle.lane_core.specs.Areas.{put}
 use Rattle.lane_core.specs.Machine.{State}
 use Rattle.lane_core.specs.Places.{IsShape, Place, IsIn, Shows, word_of, value_of}
-use Rattle.lane_core.specs.Rows.{RowWords, IsRow}
+use Rattle.lane_core.specs.Rows.{RowWords}
 use Rattle.lane_core.specs.Showing.{Shown, lane_at, lane_of}
 use Rattle.lane_core.proofs.Put.{put_at, put_other, same_or_not}
 use Rattle.lane_core.proofs.Places.{shows_stored, in_table}

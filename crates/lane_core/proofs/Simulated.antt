@@ -1,5 +1,5 @@
 -- Each line of the code is the step of the state that has its name.
-use Rattle.std.proofs.Common.{◌≡◌, ℕ, ◌+◌, ◌-◌, ◌*◌, ◌/◌, ◌^◌, ◌<◌, ◌≤◌, ◌≢◌, ◌==◌, nat_lt, min, if◌then◌else◌, zero, suc, Bool, true, false, List, [], ◌∷◌, ◌++◌, length, get_or, take, drop, replicate, slice_get, slice_set, slice_index, Some, refl, sym, ap, ap₂, ◌∙◌, subst, subst₂, arith, length-set, length-drop, take-suc, take_all, get_or-set_same, get_or-drop, add-one, mod-lt}
+use Rattle.std.proofs.Common.{◌≡◌, ℕ, ◌+◌, ◌-◌, ◌*◌, ◌/◌, ◌<◌, ◌≤◌, ◌==◌, nat_lt, if◌then◌else◌, suc, Bool, true, false, List, [], ◌∷◌, ◌++◌, length, get_or, take, drop, replicate, slice_get, slice_set, slice_index, Some, refl, sym, ap, ap₂, ◌∙◌, subst, subst₂, arith, length-set, length-drop, take-suc, take_all, get_or-set_same, get_or-drop, add-one, mod-lt}
 use Rattle.std.proofs.lemmas.List.{take-set}
 use Rattle.map_table.specs.Entry.{entry_in, with_entry}
 use Rattle.map_table.specs.declared.kinds.Kind.{Kind}
@@ -7,20 +7,19 @@ use Rattle.map_table.specs.declared.kinds.Kind.TheVariants as kind
 use Rattle.arena_open.specs.declared.cell.Cell.{Cell}
 use Rattle.arena_open.specs.declared.cell.Cell.TheVariants as cell
 use Rattle.lane_core.specs.declared.history.Act.TheVariants as act
-use Rattle.lane_core.specs.declared.history.Entry.{Entry}
 use Rattle.lane_core.specs.declared.lane.Lane.{Lane}
 use Rattle.lane_core.specs.declared.now.LaneNow.{LaneNow}
 use Rattle.lane_core.specs.declared.phase.Phase.{Phase}
 use Rattle.lane_core.specs.declared.phase.Phase.TheVariants.{Idle, Scanning, Staging, Staged, Locked, Known, LogAStored, LogA, LogBStored, Logged, Switched, Kept, Called, Looking, Published, Moved, Reading}
 use Rattle.lane_core.specs.declared.shape.Shape.{Shape}
-use Rattle.lane_core.specs.Areas.{put, block_in, kind_in, normal, next_seq, word_a, word_b, entry_at}
+use Rattle.lane_core.specs.Areas.{put, kind_in, normal, next_seq, word_a, word_b, entry_at}
 use Rattle.lane_core.specs.History.{listed}
 use Rattle.lane_core.specs.Machine.{State, lock_of, other, other_lane, looked, wrote, read, scan_again, scan_on, data_store, data_keep, lock_take, map_load, log_a_store, log_a_keep, log_b_store, log_b_keep, map_store, map_keep, lock_free, look, look_cell, rtt_set, check_same, check_moved, clear_moved, data_load, clear_done}
 use Rattle.lane_core.specs.Invariant.{stored, uses_sector}
-use Rattle.lane_core.specs.Runs.{stepped, took, found}
-use Rattle.lane_core.specs.Places.{IsShape, Place, SeenData, KeptData, SeenMap, KeptMap, SeenA, KeptA, SeenB, KeptB, Reader, Lock, IsIn, word_of, row_size, value_of, geometry}
+use Rattle.lane_core.specs.Runs.{stepped, found}
+use Rattle.lane_core.specs.Places.{IsShape, SeenData, KeptData, SeenMap, KeptMap, SeenA, KeptA, SeenB, KeptB, Reader, Lock, IsIn, word_of, value_of, geometry}
 use Rattle.lane_core.specs.Rows.{RowWords, Recorded, grown, stored_in, kept_in, put_in}
-use Rattle.lane_core.specs.Lines.{looked_now, read_now, wrote_now, word_at, kept_phase, scanned}
+use Rattle.lane_core.specs.Lines.{looked_now, read_now, wrote_now, word_at, kept_phase}
 use Rattle.lane_core.specs.After.{row_after, lane_after, past_after, lane_looked, past_looked, kind_found, map_found, is_free, is_unmoved, lock_wanted, cell_found, uses_words, uses_cell, uses_looked}
 use Rattle.lane_core.specs.Ready.{IsReady}
 use Rattle.lane_core.specs.Showing.{Shown, loads, lane_at, lane_of, line_of}
@@ -28,7 +27,7 @@ use Rattle.lane_core.proofs.Put.{put_at, put2_at}
 use Rattle.lane_core.proofs.Past.{listed-take}
 use Rattle.lane_core.proofs.Places.{put_again, data_ends}
 use Rattle.lane_core.proofs.Elsewhere.{nowhere, but_seen_data, but_seen_map, but_seen_a, but_seen_b, but_kept_data, but_kept_map, but_kept_a, but_kept_b, but_reader, but_lock}
-use Rattle.lane_core.proofs.Showing.{lane_is, lane_lt, still, moves}
+use Rattle.lane_core.proofs.Showing.{lane_is, still, moves}
 
 module _ (x : Shape) (row : RowWords) (lanes : List LaneNow) (past : Recorded) (s : State) (l : ℕ) (p : LaneNow) (hs : IsShape x) (h : Shown x row lanes past.entries s) (at : slice_get lanes l ≡ Some p) (ready : IsReady x row l p past.room) where
   me : (ph : Phase) → p.phase ≡ ph → s.lanes l ≡ lane_at x.width p ph (s.lanes l).log

@@ -3,14 +3,10 @@ use Rattle.std.proofs.Common.{◌≡◌, ℕ, ◌<◌, List, length, get_or, sli
 use Rattle.std.proofs.lemmas.Option.{slice_get-get_or}
 use Rattle.lane_core.specs.declared.now.LaneNow.{LaneNow}
 use Rattle.lane_core.specs.declared.shape.Shape.{Shape}
-use Rattle.lane_core.specs.declared.stepped.Stepped.{Stepped}
-use Rattle.lane_core.specs.declared.stepped.Stepped.TheVariants as stepped
-use Rattle.lane_core.specs.declared.phase.Phase.TheVariants.{Idle}
 use Rattle.lane_core.specs.History.{Cells}
 use Rattle.lane_core.specs.Machine.{State}
 use Rattle.lane_core.specs.Rows.{RowWords, Recorded}
-use Rattle.lane_core.specs.After.{answer_after, lane_after, past_after, row_after}
-use Rattle.lane_core.specs.Ready.{IsReady}
+use Rattle.lane_core.specs.After.{lane_after, past_after, row_after}
 use Rattle.lane_core.specs.Showing.{Shown, line_of}
 use Rattle.lane_core.specs.Cores.{ShowsSound}
 use Rattle.lane_core.proofs.Cores.{ready, stepped_core}

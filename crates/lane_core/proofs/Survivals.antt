@@ -1,7 +1,7 @@
 -- What a cut leaves of the words of a core.
-use Rattle.std.proofs.Common.{◌≡◌, ℕ, ◌+◌, ◌*◌, ◌<◌, ◌≤◌, ◌⊎◌, inl, inr, Bool, true, false, cond, List, length, get_or, Option, Some, None, refl, sym, ap, ◌∙◌, subst, arith}
+use Rattle.std.proofs.Common.{◌≡◌, ℕ, ◌+◌, ◌*◌, ◌<◌, ◌≤◌, ◌⊎◌, inl, inr, Bool, true, false, cond, List, length, get_or, Some, None, sym, ap, ◌∙◌, subst, arith}
 use Rattle.std.specs.Prelude.{unwrap_or}
-use Rattle.cut_words.specs.Words.{Words, IsLeft}
+use Rattle.cut_words.specs.Words.{IsLeft}
 use Rattle.cut_words.specs.Leaving.{LeavesFrom}
 use Rattle.cut_words.proofs.ByWord.{is_left}
 use Rattle.lane_core.specs.declared.machine.Core.{Core}
@@ -10,7 +10,7 @@ use Rattle.lane_core.specs.declared.history.Entry.{Entry}
 use Rattle.lane_core.specs.declared.shape.Shape.{Shape}
 use Rattle.lane_core.specs.Machine.{State}
 use Rattle.lane_core.specs.Cut.{AreLeft}
-use Rattle.lane_core.specs.Places.{IsShape, Place, SeenData, KeptData, SeenMap, KeptMap, SeenA, KeptA, SeenB, KeptB, IsIn, word_of, value_of, geometry}
+use Rattle.lane_core.specs.Places.{IsShape, SeenData, KeptData, SeenMap, KeptMap, SeenA, KeptA, SeenB, KeptB, word_of, geometry}
 use Rattle.lane_core.specs.Rows.{RowWords, words_in}
 use Rattle.lane_core.specs.Showing.{Shown}
 use Rattle.lane_core.specs.Arenas.{areas_of}

@@ -1,5 +1,5 @@
 -- Every event keeps the invariant, and so does every list of them.
-use Rattle.std.proofs.Common.{◌≡◌, ℕ, ◌/◌, ◌<◌, ◌≤◌, ◌≢◌, ◌==◌, ◌⊎◌, zero, suc, Bool, true, false, refl, sym, ap, ◌∙◌, arith, if◌then◌else◌, List, [], ◌∷◌}
+use Rattle.std.proofs.Common.{◌≡◌, ℕ, ◌<◌, ◌≤◌, ◌≢◌, ◌==◌, zero, suc, Bool, true, false, refl, sym, ap, ◌∙◌, arith, if◌then◌else◌, List, [], ◌∷◌}
 use Rattle.map_table.specs.Entry.{entry_in}
 use Rattle.lane_core.specs.Areas.{Geometry, entry_at, kind_in, has_bytes}
 use Rattle.lane_core.specs.Machine.{Phase, Idle, Scanning, Staging, Staged, Locked, Known, LogAStored, LogA, LogBStored, Logged, Switched, Kept, Called, Looking, Published, Moved, Reading, State, lock_of}

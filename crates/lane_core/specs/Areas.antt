@@ -3,7 +3,7 @@ use Rattle.std.specs.Prelude.{◌≡◌, ℕ, ◌+◌, ◌*◌, ◌/◌, ◌%◌
 pub use Rattle.flog.specs.declared.half.Half.{Half}
 use Rattle.map_table.specs.declared.kinds.Kind.{Kind}
 use Rattle.map_table.specs.declared.kinds.Kind.TheVariants as kind
-use Rattle.map_table.specs.Entry.{entry_of, entry_in, normal_of, with_entry}
+use Rattle.map_table.specs.Entry.{entry_of, entry_in, normal_of}
 use Rattle.nvd_words.specs.Ring.{successor_of}
 
 -- the sizes of an arena

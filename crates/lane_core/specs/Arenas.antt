@@ -1,10 +1,8 @@
 -- The words of an arena in memory, and the core that stands for it.
-use Rattle.std.specs.Prelude.{◌≡◌, ℕ, ◌+◌, ◌*◌, ◌<◌, List, slice_index, slice_index_or}
-use Rattle.flog.specs.declared.half.Half.{Half}
+use Rattle.std.specs.Prelude.{ℕ, ◌+◌, ◌*◌, List, slice_index, slice_index_or}
 use Rattle.flog.specs.declared.group.Group.{Group}
 use Rattle.arena_open.specs.declared.state.ArenaState.{ArenaState}
 use Rattle.arena_open.specs.Moves.{groups_of_lanes}
-use Rattle.arena_open.specs.Reading.{cell_at}
 use Rattle.lane_core.specs.declared.shape.Shape.{Shape}
 use Rattle.lane_core.specs.Areas.{Areas}
 use Rattle.lane_core.specs.History.{Cells, cell_of}

@@ -1,5 +1,5 @@
 -- The history of a run that has ended: reads that were cut are left out of it.
-use Rattle.std.specs.Prelude.{◌≡◌, ℕ, ◌<◌, ◌≤◌, ◌==◌, if◌then◌else◌, List, [], ◌∷◌}
+use Rattle.std.specs.Prelude.{◌≡◌, ℕ, ◌<◌, ◌≤◌, List, []}
 use Rattle.lane_core.specs.Areas.{Geometry}
 use Rattle.lane_core.specs.History.{Cell, Entry, IsLegal, of_lane, end_of}
 

@@ -1,5 +1,5 @@
 -- Histories of an arena: the calls on its sectors, one after another, and what they leave. They know no block, lane word or lock.
-use Rattle.std.specs.Prelude.{◌≡◌, ⊤, ℕ, ◌==◌, Bool, true, false, filter, replicate, if◌then◌else◌, List, [], ◌∷◌, ◌++◌, zero, suc}
+use Rattle.std.specs.Prelude.{◌≡◌, ⊤, ℕ, ◌==◌, Bool, true, false, filter, replicate, List, [], ◌∷◌, ◌++◌, zero, suc}
 pub use Rattle.nvd_words.specs.declared.tag.Tag.{Tag}
 pub use Rattle.arena_open.specs.declared.cell.Cell.{Cell}
 use Rattle.arena_open.specs.declared.cell.Cell.TheVariants as cell

@@ -1,5 +1,5 @@
 -- What the lines of the code do to a row and a lane of a core.
-use Rattle.std.specs.Prelude.{◌≡◌, ℕ, ◌+◌, ◌-◌, ◌*◌, ◌/◌, ◌<◌, ◌≤◌, ◌^◌, ◌==◌, if◌then◌else◌, List, length, slice_index, take, drop, suc, Option, Some, None}
+use Rattle.std.specs.Prelude.{ℕ, ◌+◌, ◌*◌, ◌<◌, ◌^◌, ◌==◌, if◌then◌else◌, length, slice_index, suc}
 use Rattle.map_table.specs.Entry.{entry_in}
 use Rattle.arena_open.specs.declared.cell.Cell.{Cell}
 use Rattle.lane_core.specs.declared.history.Entry.{Entry}

@@ -1,5 +1,5 @@
 -- The core: what it keeps, and what one step does to it.
-use Rattle.std.specs.Prelude.{◌≡◌, ℕ, ◌<◌, List, [], map, length, slice_get, slice_set, Some}
+use Rattle.std.specs.Prelude.{◌≡◌, ℕ, ◌<◌, List, [], map, length, slice_set}
 use Rattle.lane_core.specs.declared.machine.Core.{Core}
 use Rattle.lane_core.specs.declared.now.LaneNow.{LaneNow}
 use Rattle.lane_core.specs.declared.phase.Phase.TheVariants.{Idle}

@@ -1,10 +1,10 @@
 -- The row of words of a core, and its history with the room that is kept for entries.
-use Rattle.std.specs.Prelude.{◌≡◌, ℕ, ◌+◌, ◌-◌, ◌*◌, ◌<◌, ◌≤◌, ◌^◌, Bool, true, false, List, [], ◌∷◌, ◌++◌, length, replicate, slice_index, slice_set, take, drop}
+use Rattle.std.specs.Prelude.{◌≡◌, ℕ, ◌+◌, ◌-◌, ◌*◌, ◌<◌, ◌^◌, Bool, true, false, List, [], ◌∷◌, ◌++◌, length, replicate, slice_index, slice_set, take, drop}
 use Rattle.cut_words.specs.Words.{Words}
 use Rattle.cut_words.specs.Pending.{options_of}
 use Rattle.lane_core.specs.declared.history.Entry.{Entry}
 use Rattle.lane_core.specs.declared.shape.Shape.{Shape}
-use Rattle.lane_core.specs.Places.{Place, word_of, row_size}
+use Rattle.lane_core.specs.Places.{row_size}
 
 -- all words, and of each word of the arena whether it was stored since its last keep
 pub record RowWords : Type 0 where

@@ -1,19 +1,16 @@
 -- What a core shows of a state, and the line that a step of one of its lanes is.
-use Rattle.std.specs.Prelude.{◌≡◌, ℕ, ◌+◌, ◌<◌, ◌≤◌, nat_lt, if◌then◌else◌, Bool, List, length, take, slice_get, slice_index, Some}
+use Rattle.std.specs.Prelude.{◌≡◌, ℕ, nat_lt, if◌then◌else◌, List, length, take, slice_get, slice_index, Some}
 use Rattle.lane_core.specs.declared.history.Entry.{Entry}
 use Rattle.lane_core.specs.declared.lane.Lane.{Lane}
 use Rattle.lane_core.specs.declared.now.LaneNow.{LaneNow}
 use Rattle.lane_core.specs.declared.phase.Phase.{Phase}
 use Rattle.lane_core.specs.declared.phase.Phase.TheVariants.{Staging, Staged, Reading}
 use Rattle.lane_core.specs.declared.shape.Shape.{Shape}
-use Rattle.lane_core.specs.History.{Cells}
 use Rattle.lane_core.specs.Machine.{State, data_store, data_keep}
-use Rattle.lane_core.specs.Invariant.{IsSound, stored}
+use Rattle.lane_core.specs.Invariant.{stored}
 use Rattle.lane_core.specs.Runs.{stepped, took}
-use Rattle.lane_core.specs.Places.{IsShape, Shows, geometry}
-use Rattle.lane_core.specs.Rows.{RowWords, Recorded, IsRow}
-use Rattle.lane_core.specs.Ready.{IsFilled}
-use Rattle.lane_core.specs.After.{owes_entry}
+use Rattle.lane_core.specs.Places.{Shows, geometry}
+use Rattle.lane_core.specs.Rows.{RowWords, IsRow}
 
 -- so many words has a read loaded
 abbrev pub loads : Phase → ℕ

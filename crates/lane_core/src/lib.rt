@@ -38,6 +38,17 @@
 //! | what a cut left opens again, with these contents | [`cuts_reopen`] | `IsReopened` |
 //! | reads that were cut may be left out | [`every_account`], [`some_calls_may_be_left_out`] | `IsAccount`, `SomeMayGo` |
 //! | a new arena is one of which all this speaks | [`formatted_is_open`], [`opened_is_sound`] | `IsOpen` |
+//!
+//! **The code.** A [`Core`] has the arena's words as they are seen and as they are kept, the reader table and the locks in one
+//! row (`specs/Places.antt`), its lanes, and the history as a list of entries. Each line is one function over the row and a lane
+//! (`lines.rt`, `looks.rt`); `steps.rt` picks the line of the phase. The core shows a `State` (`specs/Showing.antt`).
+//!
+//! | call | promise | clause |
+//! |---|---|---|
+//! | [`Core::of`] | it shows the state of the arena that was opened | `core`, `fresh` |
+//! | [`Core::begin`] | a call begins, in an idle lane alone, with room for its entry and its answer | `busy`, `begun`, `refused` |
+//! | [`Core::step`] | it is the line of the lane's phase, and `Nothing` exactly for an idle lane | `line`, `core` |
+//! | [`Core::cut`] | the chooser is asked once for each word stored since its last keep; what is left survives | `asked`, `survives` |
 #![tactic(auto)]
 
 mod begin;

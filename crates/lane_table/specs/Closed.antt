@@ -41,6 +41,6 @@ pub record IsClosed (k : Key) (ends : List LaneEnd) (c : Closed) : Type 0 where
   pub leaves : (t : ℕ) → t < k.shape.sectors → end_of (opening_of k) history t ≡ cells_in k.shape c.seen.items t
   pub same_end : (t : ℕ) → t < k.shape.sectors → end_of (opening_of k) history t ≡ end_of (opening_of k) state.history t
   -- whatever a cut leaves of the words recovers: each lane has a current half, and each sector is as the history ends or as one write in flight
-  pub survives : (left : Areas) → AreLeft state.seen state.kept left
+  pub survives : (left : Areas) → AreLeft (geometry k.shape) state.seen state.kept left
       → ((l : ℕ) → l < k.shape.lanes → (side : ℕ) × IsCurrent left l side)
       × ((after : ℕ → ℕ) → ((l : ℕ) → l < k.shape.lanes → IsCurrent left l (after l)) → Recovers (geometry k.shape) (opening_of k) state left after)

@@ -1,4 +1,4 @@
-use Rattle.std.proofs.Common.{◌<◌, length, sym, ap, ◌∙◌, subst}
+use Rattle.std.proofs.Common.{◌<◌, sym, ap, ◌∙◌, subst}
 use Rattle.lane_core.specs.Begins.{is_idle}
 use Rattle.lane_core.proofs.Callings.{some_lane, idle_is}
 use Rattle.lane_core.proofs.machine.Core.begin.Goals as goal

@@ -1,5 +1,5 @@
-use Rattle.std.proofs.Common.{◌≡◌, replicate, refl, subst}
-use Rattle.lane_core.specs.Begins.{HasRoom, ReadStarts}
+use Rattle.std.proofs.Common.{replicate, refl, subst}
+use Rattle.lane_core.specs.Begins.{ReadStarts}
 use Rattle.lane_core.proofs.Rooms.{room_core, read_by}
 use Rattle.lane_core.proofs.machine.Core.begin_read.Goals as goal
 

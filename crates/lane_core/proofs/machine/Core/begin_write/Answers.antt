@@ -1,5 +1,5 @@
-use Rattle.std.proofs.Common.{◌≡◌, refl, subst}
-use Rattle.lane_core.specs.Begins.{HasRoom, WriteStarts}
+use Rattle.std.proofs.Common.{refl, subst}
+use Rattle.lane_core.specs.Begins.{WriteStarts}
 use Rattle.lane_core.proofs.Rooms.{room_core, write_by}
 use Rattle.lane_core.proofs.machine.Core.begin_write.Goals as goal
 
