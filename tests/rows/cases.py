@@ -210,7 +210,7 @@ def changes(size):
     for words, text in ((create(SECOND), "NoSlot 0"), (create(FIRST, name="a"), "Exists"), (["OUT", "delete", SECOND], "NoSuch"),
                         (["OUT", "rename", SECOND, "c"], "NoSuch"), (create(SECOND, "0"), "BadSize 0"), (create(SECOND, "4096"), "BadSize 4096"),
                         (create(SECOND, region="1"), "NoRegion 1"), (create(SECOND, "0", long, "1"), "BadName 64"),
-                        (["OUT", "rename", SECOND, long], "BadName 64"), (create(SECOND, "8192", "v", "0", "sector"), "NoSlot 0")):
+                        (["OUT", "rename", SECOND, long], "BadName 64"), (create(SECOND, "8192", "v", "0", "sector"), "BadSize 8192")):
         yield words, REFUSED, f"refused {text}\n"
     yield ["OUT", "rename", FIRST, "c", "--cut", "0"], CUT, "cut 0\n"
     yield ["OUT", "delete", FIRST, "--cut=391"], CUT, "cut 391\n"
