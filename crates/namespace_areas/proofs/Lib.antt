@@ -6,6 +6,7 @@ pub mod Lists
 pub mod CanMake
 pub mod Placed
 pub mod Opening
+pub mod OnModules
 pub mod Named
 pub mod Order
 pub mod Parts

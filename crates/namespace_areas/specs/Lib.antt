@@ -6,3 +6,4 @@ pub mod Groups
 pub mod GroupSeen
 pub mod Finding
 pub mod Refusals
+pub mod Regions

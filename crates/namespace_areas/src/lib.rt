@@ -102,6 +102,7 @@ mod group_labels;
 mod groups;
 mod modules;
 mod open;
+mod regions;
 mod words;
 
 pub use area::Area;
@@ -118,4 +119,5 @@ pub use group_labels::{
 };
 pub use groups::LabelGroups;
 pub use open::open_areas;
+pub use regions::Regions;
 pub use words::into_words;
