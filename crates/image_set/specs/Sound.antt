@@ -13,12 +13,12 @@ use Rattle.image_set.specs.declared.loading.Loaded.{Loaded}
 abbrev pub size_of : Words → ℕ
 size_of words = 8 * length words.kept
 
--- a label area, if there is one, has a size that it may have, and no word of it is pending
+-- a label area, where there is one, has a label area's size, and no word of it is pending
 pub record IsArea (area : Option Words) : Type 0 where
   pub sized : (words : Words) → area ≡ Some words → IsAreaSize (size_of words)
   pub kept : (words : Words) → area ≡ Some words → words ≡ settled words.kept
 
--- each number has 64 bits
+-- each number is one of 64 bits
 pub record AreWords (values : List ℕ) : Type 0 where
   pub each : (i : ℕ) → slice_index values i < 2 ^ 64
 

@@ -83,13 +83,13 @@ fn with_area(
 }
 
 impl Outline {
-    /// Takes a module's label area out. It returns `None` if the table doesn't name the module or
-    /// the module has no label area.
+    /// Takes a module's label area out, where there is one: `None` where the table doesn't name the
+    /// module, or it has no label area.
     ///
-    /// - `area`, `settled`: its bytes are the area's; it has a size that a label area may have, and
-    ///   no word of it is pending.
-    /// - `sound`, `others`: the rest of the set is valid. With another label area put back, it is
-    ///   the original set with that label area instead, whatever the contents are.
+    /// - `area`, `settled`: its bytes are the area's; it has a label area's size, and no word of it is
+    ///   pending.
+    /// - `sound`, `others`: the rest of the set is sound, and with a label area put back it is the set
+    ///   with that label area in place of the one that was taken, whatever the contents are.
     pub fn take_area(self, module: u32) -> (Outline, Option<CutWords>)
         requires { IsOutlined self }
         ensures area { (contents : List (List ℕ)) → option_map bytes_kept result.1 ≡ area_of (image_set_with self contents) «module» }
