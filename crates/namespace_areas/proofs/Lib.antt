@@ -1,6 +1,7 @@
 pub mod Slots
 pub mod OneChange
 pub mod Seen
+pub mod Steps
 pub mod Went
 pub mod Lists
 pub mod CanMake

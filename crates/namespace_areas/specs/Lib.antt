@@ -1,5 +1,6 @@
 pub mod Areas
 pub mod Seen
+pub mod Steps
 pub mod Went
 pub mod Opening
 pub mod Groups
