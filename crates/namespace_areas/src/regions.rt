@@ -108,9 +108,8 @@ impl Regions {
     }
 
     /// Returns the interleave sets, by region number.
-    pub fn sets(&self) -> &[InterleaveSet]
-        ensures sets { result.now ≡ self.now }
-        ensures few { length self.now < 2 ^ 32 }
+    pub fn as_slice(&self) -> &[InterleaveSet]
+        ensures { result.now ≡ self.now }
     {
         self.sets.as_slice()
     }

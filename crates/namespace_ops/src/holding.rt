@@ -13,8 +13,7 @@ use crate::recovering::recover;
 use crate::room::Room;
 use cut_words::{Fuse, PowerCut};
 use interleave::InterleaveSet;
-use namespace_areas::{Area, LabelGroups, slots_in};
-use nvd_words::Items;
+use namespace_areas::{Area, LabelGroups, Regions, slots_in};
 use std::alloc::{AllocError, Global};
 use std::marker::Model;
 
@@ -22,7 +21,7 @@ use std::marker::Model;
 /// work in. Where power is cut in a command it is **stopped**, and no command is left.
 #[derive(Debug, Drop)]
 pub struct Holding {
-    pub(crate) sets: Items<InterleaveSet>,
+    pub(crate) sets: Regions,
     pub(crate) areas: Vec<Area>,
     pub(crate) groups: LabelGroups,
     pub(crate) room: Room,
@@ -47,10 +46,9 @@ impl Holding {
     /// of the areas, and a change's for two.
     pub fn of(
         alloc: Global,
-        sets: Items<InterleaveSet>,
+        sets: Regions,
         areas: Vec<Area>,
     ) -> Result<Holding, AllocError>
-        requires few_sets { length sets < 2 ^ 32 }
         requires few { length areas.items < 2 ^ 32 }
         requires regions { AreRegions sets }
         requires held { AreHeld areas.items }
@@ -86,7 +84,7 @@ impl Holding {
         ensures stopped { self.new.stopped ≡ not (is_ok result) }
     {
         let done = recover(
-            self.sets.as_slice(),
+            &self.sets,
             &mut self.areas,
             &mut self.groups,
             &mut self.room,
@@ -108,6 +106,13 @@ impl Holding {
         ensures { result ≡ self.now.stopped }
     {
         self.stopped
+    }
+
+    /// The interleave sets, and the regions of each module.
+    pub(crate) fn regions(&self) -> &Regions
+        ensures { result.now ≡ self.now.sets }
+    {
+        &self.sets
     }
 
     /// The interleave sets, by region number.
