@@ -1,5 +1,5 @@
 //! What is held of an image set while commands run.
-ghost use Rattle.std.specs.Prelude.{◌≡◌, ◌<◌, ◌^◌, false, not, length, is_ok, IfOk, OnOk};
+ghost use Rattle.std.specs.Prelude.{◌≡◌, ◌<◌, ◌^◌, true, false, not, length, is_ok, IfOk, OnOk};
 ghost use Rattle.namespace_map.specs.Left.{AreRegions};
 ghost use Rattle.namespace_areas.specs.Areas.{labels_of};
 ghost use Rattle.namespace_map.specs.Commands.{recovered};
@@ -10,6 +10,7 @@ ghost use Rattle.namespace_areas.specs.Went.{Went};
 ghost use Rattle.namespace_ops.specs.Held.{AreCurrent};
 
 use crate::recovering::recover;
+use crate::registry::Registry;
 use crate::room::Room;
 use cut_words::{Fuse, PowerCut};
 use interleave::InterleaveSet;
@@ -40,21 +41,21 @@ impl Model for Holding {
 }
 
 impl Holding {
-    /// Holds areas over interleave sets, which are those of regions of which no two meet.
+    /// Holds what a registry has opened, with the labels by UUID that it has found. Its interleave sets are those of
+    /// regions of which no two meet, and its areas are held: each is as it was read.
     ///
-    /// The areas are held: each is as it was read. The one error is want of memory, of which a label's for each slot
-    /// of the areas, and a change's for two.
-    pub fn of(
-        alloc: Global,
-        sets: Regions,
-        areas: Vec<Area>,
-    ) -> Result<Holding, AllocError>
-        requires few { length areas.items < 2 ^ 32 }
-        requires regions { AreRegions sets }
-        requires held { AreHeld areas.items }
-        ensures { IfOk result (λ h. h ≡ record { sets = sets; areas = areas.items; stopped = false }) }
+    /// The one error is want of memory, of which a label's for each slot of the areas, and a change's for two.
+    pub fn of(alloc: Global, registry: Registry) -> Result<Holding, AllocError>
+        requires regions { AreRegions registry.sets }
+        requires held { AreHeld registry.areas }
+        ensures { IfOk result (λ h. h ≡ record { sets = registry.sets; areas = registry.areas; stopped = false }) }
     {
-        let groups = LabelGroups::of(alloc, &areas)?;
+        let Registry {
+            sets,
+            areas,
+            groups,
+        } = registry;
+        let areas = areas.into_vec();
         let slots = slots_in(&areas);
         let room = Room {
             own: Vec::with_capacity(alloc, slots)?,
@@ -113,6 +114,13 @@ impl Holding {
         ensures { result.now ≡ self.now.sets }
     {
         &self.sets
+    }
+
+    /// Power was cut outside a command on labels, as in the format of an arena: no command is left.
+    pub fn stop(&mut self)
+        ensures { self.new ≡ record { sets = self.old.sets; areas = self.old.areas; stopped = true } }
+    {
+        self.stopped = true;
     }
 
     /// The interleave sets, by region number.

@@ -43,10 +43,10 @@ impl From<AllocError> for OpenFault {
 /// The namespaces of an image set: the interleave sets of its regions, and the label areas of its modules.
 #[derive(Debug, Drop)]
 pub struct Registry {
-    sets: Regions,
-    areas: Items<Area>,
+    pub(crate) sets: Regions,
+    pub(crate) areas: Items<Area>,
     // The labels of all areas by UUID.
-    groups: LabelGroups,
+    pub(crate) groups: LabelGroups,
 }
 
 impl Model for Registry {
@@ -195,14 +195,6 @@ impl Registry {
         ensures { result.now ≡ set_at self.now.sets region }
     {
         &self.sets.as_slice()[region as usize]
-    }
-
-    /// The interleave sets by the regions' numbers, and the label areas by the modules' numbers.
-    pub fn into_parts(self) -> (Regions, Items<Area>)
-        ensures sets { result.0 ≡ self.sets }
-        ensures areas { result.1 ≡ self.areas }
-    {
-        (self.sets, self.areas)
     }
 
     /// The label areas, by the modules' numbers.
