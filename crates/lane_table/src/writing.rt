@@ -1,13 +1,45 @@
 //! Writes: a lane is staged, and then commits.
+ghost use Rattle.std.specs.Prelude.{◌≡◌, ◌<◌, ◌≤◌};
+ghost use Rattle.lane_core.specs.declared.history.Act.TheVariants as act;
+ghost use Rattle.lane_core.specs.Areas.{next_seq};
+ghost use Rattle.lane_core.specs.Machine.{other};
+
 use crate::arena::Arena;
 use crate::committing::{Fate, commit};
-use crate::lanes::{Kit, Lane, Staged, Stopped};
+use crate::lanes::{Kit, Lane, Staged, Stopped, kit_of};
 use crate::outcome::CommitOutcome;
 use crate::pieces::{Mine, seq_after};
 use crate::spots::commit_words;
 use crate::table::Call;
 use lane_core::{Act, Entry};
 use nvd_words::{Items, Tag};
+
+/// The entry of a write.
+fn written(lane: u32, call: Call, words: Vec<u64>) -> Entry
+    ensures { result ≡ record { lane = lane; tag = call.tag; sector = call.sector; act = act.Write words.items } }
+{
+    Entry {
+        lane,
+        tag: call.tag,
+        sector: call.sector,
+        act: Act::Write(Items::from_vec(words)),
+    }
+}
+
+/// What the code knows of its lane after a commit that left it this free block.
+fn mine_after(mine: Mine, block: u32) -> Mine
+    requires written { 1 ≤ mine.seq }
+    requires ring { mine.seq ≤ 3 }
+    requires side { mine.side < 2 }
+    ensures { result ≡ record { number = mine.number; block = block; side = other mine.side; seq = next_seq mine.seq } }
+{
+    Mine {
+        number: mine.number,
+        block,
+        side: 1 - mine.side,
+        seq: seq_after(mine.seq),
+    }
+}
 
 impl Staged {
     ghost use Rattle.std.specs.Prelude.{◌≡◌, ◌<◌};
@@ -33,59 +65,23 @@ impl Staged {
         let call = Call { tag, sector };
         match commit(&arena.table.shared, &mut seat, &mut fuse, at, mine, call) {
             Fate::Done(block) => {
-                log.push_reserved(Entry {
-                    lane: number,
-                    tag,
-                    sector,
-                    act: Act::Write(Items::from_vec(words)),
-                });
+                log.push_reserved(written(number, call, words));
                 CommitOutcome::Done(Lane {
-                    kit: Kit {
-                        seat,
-                        number,
-                        fuse,
-                        log,
-                        rooms,
-                    },
-                    mine: Mine {
-                        number,
-                        block,
-                        side: 1 - mine.side,
-                        seq: seq_after(mine.seq),
-                    },
+                    kit: kit_of(seat, number, fuse, log, rooms),
+                    mine: mine_after(mine, block),
                 })
             }
-            Fate::Busy(holder) => CommitOutcome::MapBusy {
-                staged: Staged {
-                    kit: Kit {
-                        seat,
-                        number,
-                        fuse,
-                        log,
-                        rooms,
-                    },
-                    mine,
-                    words,
-                },
-                holder,
-            },
+            Fate::Busy(holder) => {
+                let kit = kit_of(seat, number, fuse, log, rooms);
+                let staged = Staged { kit, mine, words };
+                CommitOutcome::MapBusy { staged, holder }
+            }
             Fate::Cut(made) => {
                 if made >= 7 {
-                    log.push_reserved(Entry {
-                        lane: number,
-                        tag,
-                        sector,
-                        act: Act::Write(Items::from_vec(words)),
-                    });
+                    log.push_reserved(written(number, call, words));
                 }
                 CommitOutcome::Cut(Stopped {
-                    kit: Kit {
-                        seat,
-                        number,
-                        fuse,
-                        log,
-                        rooms,
-                    },
+                    kit: kit_of(seat, number, fuse, log, rooms),
                 })
             }
         }
