@@ -3,13 +3,11 @@ use Rattle.std.proofs.Common.{◌≡◌, ℕ, ◌+◌, ◌-◌, ◌/◌, ◌^◌
 use Rattle.atomic_table.specs.Seated.{TableId}
 use Rattle.lane_core.specs.declared.shape.Shape.{Shape}
 use Rattle.lane_core.specs.Machine.{lock_of}
-use Rattle.lane_core.specs.Places.{IsShape, Place, SeenData, KeptData, SeenA, KeptA, SeenB, KeptB, SeenMap, KeptMap, Reader, Lock, IsIn, word_of, row_size, geometry}
+use Rattle.lane_core.specs.Places.{IsShape, Place, SeenData, KeptData, SeenA, KeptA, SeenB, KeptB, SeenMap, KeptMap, Lock, IsIn, word_of, row_size, geometry}
 use Rattle.lane_core.proofs.Places.{in_table}
 use Rattle.lane_table.specs.declared.committing.CommitWords.{CommitWords}
-use Rattle.lane_table.specs.declared.loading.ReadWords.{ReadWords}
 use Rattle.lane_table.specs.Committed.{AreCommitWords}
 use Rattle.lane_table.specs.Conditions.{IsWord}
-use Rattle.lane_table.specs.Reads.{AreReadWords}
 use Rattle.lane_table.specs.Told.{blocks}
 use Rattle.lane_table.proofs.WriteLines.{lock_in, map_word_in}
 
@@ -46,18 +44,3 @@ module _ (x : Shape) (h : IsShape x) (id : TableId) (size : id.words ≡ row_siz
       let last : x.width - 1 < x.width = omega arith in
       let end = in_table x h (KeptData b (x.width - 1)) (lb, last) in
       (f ∙ ap (λ n. x.total + n) e, omega (arith, size, e, f, end), omega (arith, size, h.small, h.few))
-
--- the words of a read
-pub read_words_are : (x : Shape) → IsShape x → (number sector block : ℕ) → number < x.lanes → sector < x.sectors → block < blocks x → 0 < x.width
-    → (w : ReadWords) → w.reader ≡ word_of x (Reader number) → w.map ≡ word_of x (SeenMap (sector / 2)) → w.block ≡ word_of x (SeenData block 0)
-    → (id : TableId) → id.words ≡ row_size x → AreReadWords id x number sector block w
-read_words_are x h number sector block ln ls lb some w reader map first id size =
-    let last : x.width - 1 < x.width = omega arith in
-    let end = in_table x h (SeenData block (x.width - 1)) (lb, last) in
-    record {
-      reader = is_word x h id size (Reader number) ln _ reader;
-      map = is_word x h id size (SeenMap (sector / 2)) (map_word_in x.sectors sector ls) _ map;
-      first = first;
-      last = omega (arith, size, first, end, some);
-      few = omega (arith, size, h.small, h.few);
-    }

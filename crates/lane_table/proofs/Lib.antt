@@ -10,3 +10,4 @@ pub mod Gathers
 pub mod Closes
 pub mod Loads
 pub mod Opens
+pub mod Rows

@@ -21,11 +21,11 @@ unfolding kind_in block_in entry_of
 found_is e t r k q z = ap (λ k. found_by k r.block) (sym z) ∙ ap (λ (r : Entry). found_by r.kind r.block) q
 
 -- what was found tells whether the block has the bytes
-pub block_found : (k : Kind) (b c : ℕ) → found_by k b ≡ found.Block c → (has_bytes k ≡ true) × (b ≡ c)
-block_found kind.Zero b c e = absurd cc
-block_found kind.Bad b c e = absurd cc
-block_found kind.Initial b c e = (refl, cc)
-block_found kind.Normal b c e = (refl, cc)
+pub block_found : (k : Kind) (b c : ℕ) → found_by k b ≡ found.Block c → has_bytes k ≡ true
+block_found kind.Zero b c e = cc
+block_found kind.Bad b c e = cc
+block_found kind.Initial b c e = refl
+block_found kind.Normal b c e = refl
 
 pub goes_looking : {S : Type 0} (k : Kind) (n : ℕ) (me : Me S View) → has_bytes k ≡ true → looked_at k n me ≡ looking n me
 goes_looking kind.Zero n me e = absurd cc

@@ -15,7 +15,7 @@ use Rattle.lane_core.specs.Areas.{put, block_in, kind_in, has_bytes, entry_at}
 use Rattle.lane_core.specs.History.{cell_of}
 use Rattle.lane_core.specs.Machine as machine
 use Rattle.lane_core.specs.Machine.{State, looked, read}
-use Rattle.lane_core.specs.Places.{Place, SeenData, SeenMap, Reader, word_of, geometry}
+use Rattle.lane_core.specs.Places.{SeenData, SeenMap, Reader, word_of, geometry}
 use Rattle.lane_core.proofs.Put.{put_at, put_other, put_elim, same_or_not}
 use Rattle.lane_core.proofs.Elsewhere.{nowhere, but_reader}
 use Rattle.lane_core.proofs.Own.{free_called}
@@ -28,7 +28,7 @@ use Rattle.lane_table.specs.declared.table.View.{View}
 use Rattle.lane_table.specs.Law.{holds, opening_of, found, counted, uncounted, looks, with}
 use Rattle.lane_table.specs.Told.{answered, called, looking, looked_at, published, reading, moved, with_load, given_up, answered_with_words, blocks}
 use Rattle.lane_table.proofs.Moves.{allows_step, allows_line, allows_weaker, phase_of, Goes, Stands}
-use Rattle.lane_table.proofs.WriteLines.{map_word_in, sector_in}
+use Rattle.lane_table.proofs.WriteLines.{at_place, map_word_in, sector_in, stores}
 
 same_either : (n : ℕ) → either (n == 0) 0 n ≡ n
 same_either n = grind arith
@@ -46,14 +46,6 @@ module _ {S : Type 0} (key : Key) (slots id i : ℕ) (me : Me S View) (live : me
 
   abbrev v : View
   v = me.0
-
-  -- the word at a place
-  at_place : (p : Place) (f : ℕ → ℕ) (fact : ℕ → Me S View → Type 0) → i ≡ word_of x p → Allows (holds key) slots id me (word_of x p) f fact → Allows (holds key) slots id me i f fact
-  at_place p f fact ei h = subst (λ i. Allows (holds key) slots id me i f fact) (sym ei) h
-
-  stores : (m value : ℕ) (p : Place) (fact : ℕ → Me S View → Type 0) → i ≡ word_of x p → m ≡ value
-      → Allows (holds key) slots id me (word_of x p) (λ _. value) fact → Allows (holds key) slots id me i (λ _. m) fact
-  stores m value p fact ei em h = at_place p (λ _. m) fact ei (subst (λ m. Allows (holds key) slots id me (word_of x p) (λ _. m) fact) (sym em) h)
 
   -- ---- the looks at the map
 
@@ -74,7 +66,7 @@ module _ {S : Type 0} (key : Key) (slots id i : ℕ) (me : Me S View) (live : me
       → Allows (holds key) slots id me i (λ n. either (n == 0) 0 n) (λ n w. (t : Call) → some call ≡ some t → w ≡ called t me)
   begins_read call e ls ei =
       let b : ℕ → Me S View → Type 0 = λ n w. (t : Call) → some call ≡ some t → w ≡ called t me in
-      at_place (Reader v.number) (λ n. either (n == 0) 0 n) b ei
+      at_place key slots id i me live (Reader v.number) (λ n. either (n == 0) 0 n) b ei
       (allows_weaker (holds key) slots id me _ (λ n. either (n == 0) 0 n) (λ n w. w ≡ called call me) b
       (λ n w q t et. let same : call ≡ t = cc in q ∙ ap (λ t. called t me) same) (begins call e ls))
 
@@ -135,7 +127,7 @@ module _ {S : Type 0} (key : Key) (slots id i : ℕ) (me : Me S View) (live : me
   -- MapLook
   pub looks_map : v.lane.phase ≡ Called → i ≡ word_of x (SeenMap (v.lane.sector / 2)) → Allows (holds key) slots id me i (λ n. n) look_tells
   looks_map e ei =
-      at_place (SeenMap (v.lane.sector / 2)) (λ n. n) look_tells ei
+      at_place key slots id i me live (SeenMap (v.lane.sector / 2)) (λ n. n) look_tells ei
       (allows_step looks x o slots id v me.1 (SeenMap (v.lane.sector / 2)) (λ n. n) look_tells live
       (λ s h. map_word_in x.sectors v.lane.sector (sector_in x o v s _ h e refl))
       (λ s h n is. by_kind (said n) s h n is e refl))
@@ -148,7 +140,7 @@ module _ {S : Type 0} (key : Key) (slots id i : ℕ) (me : Me S View) (live : me
   -- MapCheck
   pub checks_map : v.lane.phase ≡ Published → i ≡ word_of x (SeenMap (v.lane.sector / 2)) → Allows (holds key) slots id me i (λ n. n) check_tells
   checks_map e ei =
-      at_place (SeenMap (v.lane.sector / 2)) (λ n. n) check_tells ei
+      at_place key slots id i me live (SeenMap (v.lane.sector / 2)) (λ n. n) check_tells ei
       (allows_step looks x o slots id v me.1 (SeenMap (v.lane.sector / 2)) (λ n. n) check_tells live
       (λ s h. map_word_in x.sectors v.lane.sector (sector_in x o v s _ h e refl))
       (λ s h n is. elim (same_or_not (entry_in n v.lane.sector) (entry_in v.lane.loaded v.lane.sector)) [
@@ -178,7 +170,7 @@ module _ {S : Type 0} (key : Key) (slots id i : ℕ) (me : Me S View) (live : me
   -- RttSet
   pub sets_reader : (m : ℕ) → v.lane.phase ≡ Looking → i ≡ word_of x (Reader v.number) → m ≡ suc (looked v.lane) → Allows (holds key) slots id me i (λ _. m) (λ n w. w ≡ published me)
   sets_reader m e ei em =
-      stores m (suc (looked v.lane)) (Reader v.number) (λ n w. w ≡ published me) ei em
+      stores key slots id i me live m (suc (looked v.lane)) (Reader v.number) (λ n w. w ≡ published me) ei em
       (allows_line counted x o slots id v me.1 (Reader v.number) (λ _. suc (looked v.lane)) (λ n p. record p { phase = Published }) live
       (λ s h. h.number)
       (λ s h n is. record {
@@ -196,7 +188,7 @@ module _ {S : Type 0} (key : Key) (slots id i : ℕ) (me : Me S View) (live : me
   -- RttClear of a read that moved: the call is given up with the same step
   pub clears_moved : v.lane.phase ≡ Moved → i ≡ word_of x (Reader v.number) → Allows (holds key) slots id me i (λ _. 0) (λ n w. clear_tells w)
   clears_moved e ei =
-      at_place (Reader v.number) (λ _. 0) (λ n w. clear_tells w) ei
+      at_place key slots id i me live (Reader v.number) (λ _. 0) (λ n w. clear_tells w) ei
       (allows_step counted x o slots id v me.1 (Reader v.number) (λ _. 0) (λ n w. clear_tells w) live
       (λ s h. h.number)
       (λ s h n is. let called : Lane = record (s.lanes v.number) { phase = Called } in
@@ -214,7 +206,7 @@ module _ {S : Type 0} (key : Key) (slots id i : ℕ) (me : Me S View) (live : me
   -- RttClear after the last word: the read is answered
   pub clears_read : v.lane.phase ≡ Reading x.width → i ≡ word_of x (Reader v.number) → Allows (holds key) slots id me i (λ _. 0) (λ n w. clear_tells w)
   clears_read e ei =
-      at_place (Reader v.number) (λ _. 0) (λ n w. clear_tells w) ei
+      at_place key slots id i me live (Reader v.number) (λ _. 0) (λ n w. clear_tells w) ei
       (allows_step counted x o slots id v me.1 (Reader v.number) (λ _. 0) (λ n w. clear_tells w) live
       (λ s h. h.number)
       (λ s h n is. record {
@@ -246,6 +238,6 @@ module _ {S : Type 0} (key : Key) (slots id i : ℕ) (me : Me S View) (live : me
       → Allows (holds key) slots id me i (λ n. n) (λ n w. (j : ℕ) → v.lane.phase ≡ Reading j → w ≡ with_load me j n)
   loads_data k e lt inside ei =
       let b : ℕ → Me S View → Type 0 = λ n w. (j : ℕ) → v.lane.phase ≡ Reading j → w ≡ with_load me j n in
-      at_place (SeenData (looked v.lane) k) (λ n. n) b ei
+      at_place key slots id i me live (SeenData (looked v.lane) k) (λ n. n) b ei
       (allows_weaker (holds key) slots id me _ (λ n. n) (λ n w. w ≡ with_load me k n) b
       (λ n w q j ej. let z : k ≡ j = cc in q ∙ ap (λ j. with_load me j n) z) (loads_word k e lt inside))

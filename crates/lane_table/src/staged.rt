@@ -46,6 +46,7 @@ fn more_rooms(
     requires rooms { All (IsRoom width) rooms.old.items }
     ensures rooms { All (IsRoom width) rooms.new.items }
     ensures enough { OnOk result (calls ≤ vec_len rooms.new) }
+    ensures more { vec_len rooms.old ≤ vec_len rooms.new }
     ensures few { (vec_len rooms.new ≤ vec_len rooms.old) ⊎ (vec_len rooms.new ≤ calls) }
 {
     if calls <= rooms.len() {
@@ -90,6 +91,8 @@ impl Lane {
         ensures fuse { of_left self.new.kit.fuse ≡ steps }
         ensures same { IsSame self.old.kit self.new.kit }
         ensures seat { self.new.kit.seat ≡ self.old.kit.seat }
+        ensures rooms { self.new.kit.rooms ≡ self.old.kit.rooms }
+        ensures mine { self.new.mine ≡ self.old.mine }
     {
         self.kit.fuse = Fuse::of(steps);
     }
@@ -98,9 +101,11 @@ impl Lane {
     pub fn reserve(&mut self, alloc: Global, arena: &Arena, calls: usize) -> Result<(), AllocError>
         requires arena { IsOf arena.now self.old.kit }
         ensures enough { OnOk result (calls ≤ spare_in self.new.kit) }
+        ensures more { spare_in self.old.kit ≤ spare_in self.new.kit }
         ensures same { IsSame self.old.kit self.new.kit }
         ensures seat { self.new.kit.seat ≡ self.old.kit.seat }
         ensures fuse { self.new.kit.fuse ≡ self.old.kit.fuse }
+        ensures mine { self.new.mine ≡ self.old.mine }
     {
         self.kit.log.reserve(calls)?;
         more_rooms(

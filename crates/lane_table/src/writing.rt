@@ -6,6 +6,7 @@ ghost use Rattle.lane_core.specs.Machine.{other};
 
 use crate::arena::Arena;
 use crate::committing::{Fate, commit};
+use crate::fuse::Fuse;
 use crate::lanes::{Kit, Lane, Staged, Stopped, kit_of};
 use crate::outcome::CommitOutcome;
 use crate::pieces::{Mine, seq_after};
@@ -43,8 +44,21 @@ fn mine_after(mine: Mine, block: u32) -> Mine
 
 impl Staged {
     ghost use Rattle.std.specs.Prelude.{◌≡◌, ◌<◌};
-    ghost use Rattle.lane_table.specs.Kits.{IsOf};
+    ghost use Rattle.lane_table.specs.Fuse.{of_left};
+    ghost use Rattle.lane_table.specs.Kits.{IsOf, IsSame};
     ghost use Rattle.lane_table.specs.Outcomes.{Commits};
+
+    /// Sets or takes away the lane's fuse.
+    pub fn set_fuse(&mut self, steps: Option<u64>)
+        ensures fuse { of_left self.new.kit.fuse ≡ steps }
+        ensures same { IsSame self.old.kit self.new.kit }
+        ensures seat { self.new.kit.seat ≡ self.old.kit.seat }
+        ensures rooms { self.new.kit.rooms ≡ self.old.kit.rooms }
+        ensures words { self.new.words ≡ self.old.words }
+        ensures mine { self.new.mine ≡ self.old.mine }
+    {
+        self.kit.fuse = Fuse::of(steps);
+    }
 
     /// Commits the write to a sector of the arena. It takes the lock of the sector's map word with one compare-and-exchange, and
     /// gives the lane back as it was if another lane has it. No memory is taken, and nothing waits.
