@@ -1,7 +1,7 @@
 #!/bin/sh
-# Times `create` on an image set of 64 modules, one interleave set, each with a label area of 1 MiB and 4,000 labels, beside
-# `init` of one module of the same set with that module's label area empty, which changes one area and saves the set too; it copies contents
-# that `create` loads, so what `create` takes beyond it has that loading as well. The new namespace fits behind the others, at the last unit of the region alone.
+# Times `create` on an image set of 64 modules in one interleave set, each with a label area of 1 MiB and 4,000 labels. Compares
+# it with `init` of one module of the same set whose label area is empty: that also changes an area and saves the set. `init`
+# copies the contents that `create` loads, so the difference includes loading. The new namespace fits only at the region's last unit.
 # usage: bench/create.sh   (wants the proved build: NVD_BUILD=proved ./nvd samples/small - list)
 # shellcheck source=bench/lib.sh
 . "$(dirname -- "$0")/lib.sh"

@@ -1,6 +1,6 @@
 #!/bin/sh
-# Times `create --mode sector` of a namespace of 32 MiB on an image set of two modules of 32 MiB, beside `init` of one module of the same
-# set with that module's label area empty, which copies it and changes one area. Medians of three runs.
+# Times `create --mode sector` of a namespace of 32 MiB on an image set of two modules of 32 MiB. Compares it with `init` of one
+# module of the same set whose label area is empty: that copies the set and changes one area. Medians of three runs.
 # usage: bench/create_sector.sh   (wants the proved build: NVD_BUILD=proved ./nvd samples/small - list)
 # shellcheck source=bench/lib.sh
 . "$(dirname -- "$0")/lib.sh"

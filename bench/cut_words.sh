@@ -1,5 +1,5 @@
 #!/bin/sh
-# Times load, store and keep on 512 MiB of words, and tells how much memory they take.
+# Times load, store and keep on 512 MiB of words, and measures how much memory they take.
 # usage: bench/cut_words.sh   (proves and builds a program over cut_words in a scratch copy)
 # shellcheck source=bench/lib.sh
 . "$(dirname -- "$0")/lib.sh"

@@ -1,7 +1,7 @@
 #!/bin/sh
-# Times `load` on an image set of 512 MiB in one module, made of sparse files, against `cat` of its contents into a
-# pipe at whose end the bytes are turned into words that are kept in memory. Each figure is the least of nine runs,
-# taken in turns. Also tells how much memory loading takes.
+# Times `load` on an image set of 512 MiB in one module, made of sparse files. Compares it with `cat` of the contents into a
+# program that converts the bytes to words in memory. Each figure is the least of nine runs, alternating. Also measures how
+# much memory loading takes.
 # usage: bench/image_set.sh   (proves and builds a program over image_set in a scratch copy)
 # shellcheck source=bench/lib.sh
 . "$(dirname -- "$0")/lib.sh"

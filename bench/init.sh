@@ -1,7 +1,6 @@
 #!/bin/sh
-# Times `init` on an image set of 512 MiB in one module beside `cp` of the set, `cp` with `sync` of the copy (a saved set
-# is on the disk when `init` is done), each with the set read from the disk, and from
-# the system's page cache. Least of four rounds.
+# Times `init` on an image set of 512 MiB in one module. Compares it with `cp` of the set, and with `cp` and `sync`, since the
+# saved set is on the disk when `init` ends. Each reads the set from the disk, then from the page cache. Least of four rounds.
 # usage: bench/init.sh   (wants the proved build: NVD_BUILD=proved ./nvd samples/small - list)
 # shellcheck source=bench/lib.sh
 . "$(dirname -- "$0")/lib.sh"

@@ -1,8 +1,8 @@
 #!/bin/sh
 # Times place and offset_of on a two-way set and on a set of four modules with sixteen lines each: nanoseconds a call, best of
-# five rounds of ten million random places. Then read_nfit on a table of 1 MiB in which 64 modules share one interleave structure
-# of 8,192 lines in as many regions as there is room for, and interleave_set on each region: milliseconds for all, each refused
-# by Cover. Runs the program three times, and takes the least of each time.
+# five rounds of ten million random places. Then times read_nfit on a table of 1 MiB, in which 64 modules share an interleave
+# structure of 8,192 lines in as many regions as fit, and interleave_set on each region, which Cover refuses: milliseconds for
+# all. Runs the program three times, and takes the least of each time.
 # usage: bench/interleave.sh   (proves and builds a program over interleave in a scratch copy)
 # shellcheck source=bench/lib.sh
 . "$(dirname -- "$0")/lib.sh"

@@ -1,8 +1,8 @@
 # shellcheck shell=sh
 # What the scripts of this folder share; each begins with:  . "$(dirname -- "$0")/lib.sh"
 #
-# A script prints a row for each figure (`row`, or `row` of bench/rows.py): | figure | asked | measured |. Status 77 says that it can't
-# run here, with the reason on standard error. It works in the new directory $work, which is removed at its end.
+# A script prints a row for each figure (`row`, or `row` of bench/rows.py): | figure | asked | measured |. Status 77 means that it
+# can't run here; the reason is on standard error. It works in the new directory $work, which is removed at its end.
 set -eu
 top=$(CDPATH='' cd -- "$(dirname -- "$0")/.." && pwd)
 work=$(mktemp -d)
@@ -11,7 +11,7 @@ trap 'exit 130' INT
 trap 'exit 143' TERM
 export PYTHONDONTWRITEBYTECODE=1 PYTHONPATH="$top/bench:$top/samples"
 
-# skip REASON: says why the script can't run here
+# skip REASON: prints why the script can't run here, and ends it
 skip() {
     echo "$(basename -- "$0"): $1" >&2
     exit 77
@@ -38,9 +38,9 @@ proved() {
         skip 'wants the proved build: NVD_BUILD=proved ./nvd samples/small - nfit makes it'
 }
 
-# scratch NAME LIBRARY ..: goes into a new crate, a program from bench/*.rt.txt (the script's own) over these libraries, in a copy of
-# the repository's crates that stand below; those of the kit are named too. With BENCH_KEEP=DIRECTORY the copy stays there, in a
-# folder by the script's name, so that a second run proves nothing that the first one did: its figures are those of a quiet machine.
+# scratch NAME LIBRARY ..: enters a new crate, made from the script's own bench/*.rt.txt and these libraries, in a copy of the
+# repository's crates that they need; libraries of the kit are named too. With BENCH_KEEP=DIRECTORY the copy stays there, in a
+# folder with the script's name. A second run then proves nothing again, and measures on a quiet machine.
 scratch() {
     want rt
     crate=$1
@@ -76,7 +76,7 @@ scratch() {
     cd "$copy/crates/$crate"
 }
 
-# build: proves, builds and runs the scratch crate, with an argument where $given is set; its lines stand in $work/figures then
+# build: proves, builds and runs the scratch crate, with an argument if $given is set; its output is in $work/figures then
 given=
 build() {
     rt run ${given:+-- "$given"} </dev/null >"$work/figures" 2>"$work/log" || {

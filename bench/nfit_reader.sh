@@ -1,6 +1,6 @@
 #!/bin/sh
 # Times read_nfit on tables of 64 KiB to 1 MiB. "apart": the mappings of one module share no bytes. "piled":
-# all mappings are into one region, and those of one module share all their bytes, so that each pair is looked at.
+# all mappings are into one region, and those of one module share all their bytes, so each pair is compared.
 # Each figure is the best of seven.
 # usage: bench/nfit_reader.sh   (proves and builds a program over nfit_reader in a scratch copy)
 # shellcheck source=bench/lib.sh

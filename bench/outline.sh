@@ -1,7 +1,7 @@
 #!/bin/sh
-# Times the commands that leave contents where they are, on an image set of 512 MiB in one module with a raw namespace: `labels`,
-# `nfit` and `list`, which read none, and `rename`, which copies them as it saves, beside `cp`. Medians of nine runs; of `rename`
-# and `cp` the least of four, from the page cache.
+# Times the commands that don't load contents, on an image set of 512 MiB in one module with a raw namespace: `labels`, `nfit` and
+# `list`, which read none, and `rename`, which copies them as it saves. Compares `rename` with `cp`. Medians of nine runs; for
+# `rename` and `cp` the least of four, from the page cache.
 # usage: bench/outline.sh   (wants the proved build: NVD_BUILD=proved ./nvd samples/small - list)
 # shellcheck source=bench/lib.sh
 . "$(dirname -- "$0")/lib.sh"

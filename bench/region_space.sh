@@ -1,9 +1,8 @@
 #!/bin/sh
-# Times Space::of and first_fit on the extents of 64 modules, as many on each: 1,000, 2,000 and 4,000, so 64,000, 128,000 and
-# 256,000 in all. Three kinds of lists: "alike", where each owner has an extent on each module, at one offset, and the whole is
-# taken up to the last unit; "scattered", where each unit is taken on one module alone, module after module, so that each extent is
-# in the way by itself; "clashing", where the last two extents of the list are the only pair that meets. The least of
-# five, and how much memory the program held at most.
+# Times Space::of and first_fit on the extents of 64 modules: 1,000, 2,000 and 4,000 on each, so 64,000, 128,000 and 256,000 in
+# all. There are three kinds of lists. "alike": each owner has an extent on each module at the same offset, and all but the last
+# unit is taken. "scattered": each unit is taken on only one module, module after module, so first_fit must pass each extent
+# separately. "clashing": only the last two extents of the list overlap. The least of five, and the program's peak memory.
 # usage: bench/region_space.sh   (proves and builds a program over region_space in a scratch copy)
 # shellcheck source=bench/lib.sh
 . "$(dirname -- "$0")/lib.sh"

@@ -1,8 +1,7 @@
 #!/bin/sh
-# Times `save` on an image set of 512 MiB in one module, made of sparse files: loading and saving less loading alone,
-# against `cp` of its contents, and against `cp` and then `sync` of the copy, since each write of a saved set is on the
-# disk when it is done. Each figure is the least of five runs, taken in turns. Also tells how much memory loading and
-# saving take.
+# Times `save` on an image set of 512 MiB in one module, made of sparse files: loading and saving, minus loading alone. Compares
+# it with `cp` of the contents, and with `cp` and `sync`, since a saved set is on the disk. Each figure is the least of five
+# runs, alternating. Also measures how much memory loading and saving take.
 # usage: bench/save.sh   (proves and builds a program over image_set in a scratch copy)
 # shellcheck source=bench/lib.sh
 . "$(dirname -- "$0")/lib.sh"

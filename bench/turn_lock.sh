@@ -1,5 +1,5 @@
 #!/bin/sh
-# Turns at a turn lock beside the kit's Mutex: the median of seven runs, in nanoseconds a turn and in turns a second.
+# Times turns at a turn lock, and at the kit's Mutex: the median of seven runs, in nanoseconds a turn and in turns a second.
 # usage: bench/turn_lock.sh   (proves and builds a program over turn_lock in a scratch copy)
 # shellcheck source=bench/lib.sh
 . "$(dirname -- "$0")/lib.sh"

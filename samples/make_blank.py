@@ -1,12 +1,12 @@
 #!/usr/bin/env python3
-"""Makes an image set of modules that nothing was written to yet: no index blocks, no namespaces, contents of zeros.
+"""Makes an image set of blank modules: no index blocks, no namespaces, contents of zeros.
 
 All modules together are region 0, an interleave set with lines of 4,096 bytes. The firmware's table is written from the
-fields of ACPI 6.5, section 5.2.25, by nothing of the program.
+fields of ACPI 6.5, section 5.2.25, without the program.
 usage: make_blank.py DIRECTORY [--modules N] [--size BYTES] [--labels BYTES]
 
-N is 1 to 64 (2 where it isn't given); BYTES of --size, the contents of each module, a multiple of 4,096, at most 512 MiB in all
-modules together (1 MiB); those of --labels, the label area of each module, a multiple of 256 from 1,024 to 1 MiB (128 KiB).
+N is 1 to 64 (default 2). --size is the contents of each module: a multiple of 4,096, at most 512 MiB in all modules together
+(default 1 MiB). --labels is the label area of each module: a multiple of 256 from 1,024 to 1 MiB (default 128 KiB).
 """
 import argparse
 import os
@@ -22,7 +22,7 @@ LIMIT = 512 << 20
 
 
 def nfit(modules, size):
-    """One range of all modules in turn, a line of each; a module alone has no interleave structure."""
+    """One range over all modules, in alternating lines; a single module has no interleave structure."""
     interleave = 1 if modules > 1 else 0
     table = bytearray(struct.pack("<4sIBB6s8sI4sI4x", b"NFIT", 0, 1, 0, b"NVDSMP", b"BLANKSET", 1, b"NVDM", 1))
     table += struct.pack("<HHHHII16sQQQ", 0, 56, 1, 0, 0, 0, PERSISTENT_MEMORY.bytes_le, 1 << 32, modules * size, 0)

@@ -2,7 +2,7 @@
 """Makes the image set samples/small: one module of 64 KiB with a label area of 4,096 bytes and two labels.
 
 The files are written from the formats' own fields (UEFI 2.10, section 13.19; ACPI 6.5, section 5.2.25),
-by nothing of the program, so that what the program prints of them is a check of both.
+without the program, so the program's output checks both.
 usage: make_small.py [DIRECTORY]
 """
 import os

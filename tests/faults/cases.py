@@ -1,5 +1,5 @@
-"""The cases of tests/faults/run: each is an image set with one fault, the words behind it, the exit status, the text (of `list`, `nfit` and
-`labels` with status 0 the end of a line), and a word of what nvd then says, if it has to say something."""
+"""The cases of tests/faults/run: each is an image set with one fault, the words after it, the exit status, the text (for `list`, `nfit` and
+`labels` with status 0 the end of a line), and a word that nvd must say, if any."""
 import struct
 
 from sets import FIRST, INNER, LINE, OUTER, SECOND, SIZE, SLOTS, THIRD, area, checked, control, info, interleave, mapping, of_version, pair, part
@@ -15,7 +15,7 @@ def changed(data, at, text):
 
 
 def create(name, value):
-    """The words of a create with another value of an option."""
+    """Returns the words of a create with another value of an option."""
     at = CREATE.index(name)
     return [*CREATE[: at + 1], value, *CREATE[at + 2 :]]
 
@@ -50,7 +50,7 @@ def usage():
 
 
 def tables():
-    """Firmware's tables that aren't read."""
+    """Firmware tables that are refused."""
     good = two()
     many = [piece for m in range(65) for piece in (mapping(m, ways=65), control(m))]
     alone = {"lines": 0, "ways": 1, "offset": 0}
@@ -97,7 +97,7 @@ def areas():
 
 
 def regions():
-    """Regions that are no interleave sets, and namespaces that meet."""
+    """Regions that aren't interleave sets, and namespaces that overlap."""
     for text, nfit in (
             ("Ways 3 2", two(spa(), mapping(0, ways=3), mapping(1, ways=3), interleave())),
             ("Twice 0", two(spa(), mapping(0), mapping(0, offset=LINE, start=SIZE), interleave())),
@@ -114,7 +114,7 @@ def regions():
 
 
 def statuses():
-    """What `list` says of the labels of one UUID."""
+    """What `list` prints of the labels of one UUID."""
     wide = two(spa(), mapping(0), mapping(1, offset=LINE), interleave((0, 2)))
     for text, first, second, nfit in (
             ("complete", [part(0)], [part(1)], None),
@@ -157,7 +157,7 @@ def refusals():
 
 
 def group(old, new, seq, padding=bytes(32)):
-    """A lane's log group, of which the first half alone was written."""
+    """Returns a lane's log group with only the first half written."""
     return struct.pack("<IIII16x", 0, old, new, seq) + padding
 
 

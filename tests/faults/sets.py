@@ -1,4 +1,4 @@
-"""Image sets with one fault each, written from the fields of UEFI 2.10 and ACPI 6.5, by nothing of the program."""
+"""Image sets with one fault each, written from the fields of UEFI 2.10 and ACPI 6.5, without the program."""
 import os
 import struct
 import sys
@@ -90,7 +90,7 @@ INFO_AT = LOG_AT + 64 * LANES
 
 
 def info(seal=True, **fields):
-    """An info block, with these fields as they stand here."""
+    """An info block with these fields."""
     it = {"signature": b"BTT_ARENA_INFO\0\0", "parent": FIRST.bytes, "flags": 0, "major": 2, "minor": 0, "sector": SECTOR, "outer": OUTER, "block": SECTOR,
           "inner": INNER, "lanes": LANES, "info": 4096, "next": 0, "data": 4096, "map": MAP_AT, "log": LOG_AT, "backup": INFO_AT, **fields}
     numbers = ["flags", "major", "minor", "sector", "outer", "block", "inner", "lanes", "info", "next", "data", "map", "log", "backup"]
@@ -100,7 +100,7 @@ def info(seal=True, **fields):
 
 
 def sectors(first=None, entries=(), halves=(), mode=BTT_2_0):
-    """A set of one module with a sector namespace of 16 MiB, of which these map entries and log halves are others."""
+    """A set of one module with a sector namespace of 16 MiB, with these map entries and log halves changed."""
     entry = dict(entries)
     half = dict(halves)
     backup = info()

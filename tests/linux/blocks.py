@@ -3,12 +3,12 @@
 
 usage: blocks.py PROGRAM BLANK WORK   (BLANK is samples/make_blank.py; the sets are made in the folder WORK)
 
-A set has one module of 17 MiB. Its first MiB is a namespace without sectors, and the one of sectors lies behind it, so that its bytes
-are those of the contents from the first byte of its extent on. ndctl reads 8,192 bytes of a file, and has to take exactly one block
-of the namespace's first ones; the same block of its last 4,096, which are the other info block; and none once a byte is changed.
+A set has one module of 17 MiB. Its first MiB is a raw namespace, and the sector namespace follows, so its bytes are those of the
+contents from the first byte of its extent on. ndctl reads 8,192 bytes of a file. It must find exactly one info block in the namespace's
+first bytes, the same one in its last 4,096 bytes, and none if a byte is changed.
 
-The size is the one that `list` prints; the numbers of sectors, blocks and lanes are those of `info`. Where the areas lie follows from
-these, as Linux plans it: the data behind the first block, and map, log and other block, in whole pages, at the end.
+`list` prints the size; `info` prints the numbers of sectors, blocks and lanes. The offsets of the areas follow from them by Linux's
+layout: the data after the first block; map, log and the other block, in whole pages, at the end.
 """
 import json
 import os
@@ -29,7 +29,7 @@ def pages(count):
 
 
 def block_of(size, sector, sectors, blocks, lanes):
-    """What ndctl has to print of the info block of an arena that is its own parent."""
+    """What ndctl must print of the info block of an arena that is its own parent."""
     other = size - 4096
     log = other - pages(64 * lanes)
     return {
@@ -66,7 +66,7 @@ def main():
         return done.returncode, done.stdout
 
     def taken(data):
-        """The blocks that ndctl finds in a file's first bytes and takes, or what it says in their place."""
+        """Returns the blocks that ndctl accepts in a file's first bytes, or what it says instead."""
         with open(place("bytes"), "wb") as file:
             file.write(data)
         done = subprocess.run(["ndctl", "read-infoblock", "-j", "-V", "-i", place("bytes")], capture_output=True, text=True, check=False)
@@ -76,7 +76,7 @@ def main():
             return f"status {done.returncode}: {done.stdout}{done.stderr}"
 
     def namespace_in(source):
-        """The bytes of the namespace of sectors, and its size."""
+        """Returns the bytes of the sector namespace, and its size."""
         lines = run(source, "-", "list")[1].splitlines()
         at = next((n for n, line in enumerate(lines) if line.startswith(f"ns {MADE} ")), None)
         if at is None:

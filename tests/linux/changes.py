@@ -3,8 +3,8 @@
 
 usage: changes.py NAME SET PROGRAM WORK   (the set is unpacked in the folder SET; WORK is made, and has the sets that are)
 
-What is listed of each set that is made has to be what was listed before but for the namespace that was changed; no byte of
-the contents, of the firmware's table or of the lists of bad ranges may change. A set without complete namespaces is passed over.
+Each new set must list the same as before, except for the changed namespace. No byte of the contents, the firmware's table or the lists of
+bad ranges may change. A set without complete namespaces is skipped.
 """
 import os
 import shutil
@@ -27,7 +27,7 @@ def main():
         return done.returncode, done.stdout
 
     def made(what, source, *words):
-        """The set that a command makes, whose objects beside the label areas are those of its source."""
+        """Makes a set by a command, and checks that only label areas differ from its source."""
         nonlocal count
         count += 1
         out = os.path.join(work, str(count))
@@ -40,7 +40,7 @@ def main():
         return out
 
     def listed(source):
-        """The lines of each namespace, by its UUID."""
+        """Returns the lines of each namespace, by its UUID."""
         entries = {}
         for line in run(source, "-", "list")[1].splitlines():
             if line.startswith("ns "):

@@ -1,15 +1,15 @@
 #!/usr/bin/env python3
-"""Compares the lines of `nfit`, `list` and `labels 0` on one image set with what Linux and ndctl said of it.
+"""Compares the lines of `nfit`, `list` and `labels 0` on one image set with what Linux and ndctl reported.
 
 usage: compare.py NAME TRUTH WORK   (the lines are WORK/NAME.nfit, WORK/NAME.list and WORK/NAME.labels)
 
 It prints a line for each thing compared: `ok SET WHAT`, or `differs SET WHAT` with both sides.
 
 Regions and namespaces are those of sysfs (regions.txt, namespaces.txt). An extent is what `ndctl read-labels`
-prints of a label; ndctl prints some free slots too, which repeat a used one's place here. GUIDs stand there
-in byte order. An area with label version 1.1 isn't read, so its namespaces are not expected, and `labels 0` has
-to say the version. Linux then shows the cookies that version 1.1 has, made of fewer fields, so of these regions
-the size alone is compared.
+prints of a label. ndctl also prints some free slots, here with the same extent as a used one. It prints GUIDs
+in byte order. An area with label version 1.1 isn't read, so its namespaces aren't expected, and `labels 0` must
+print the version. Linux then shows the cookies of version 1.1, made of fewer fields, so only the size of these
+regions is compared.
 """
 import json
 import lzma

@@ -4,8 +4,8 @@
 usage: sectors.py NAME TRUTH SET PROGRAM   (the set is unpacked in the folder SET)
 
 truth/sectors.txt.xz has a line for each block device, with its namespace, its sector size and count, and a line for each
-sector that isn't all zero, with the MD5 of its bytes. Each of these is read, and a sector that isn't among them, which has
-to be zeros; and the sector behind the last, which there is none of. Linux uses 256 lanes.
+sector that isn't all zero, with the MD5 of its bytes. Each of these is read, and one other sector, which must be zeros; and the
+sector after the last one, which must be refused. Linux uses 256 lanes.
 """
 import hashlib
 import lzma

@@ -1,7 +1,7 @@
 """Label areas and what `labels 0` prints of them: patches of AREA, the text, the status.
 
-The bytes come from a script that knows the formats from UEFI 2.10, section 13.19, and from Linux; the program made none of them. A patch is
-an offset and the bytes that stand there.
+The bytes come from a script that knows the formats from UEFI 2.10, section 13.19, and from Linux; none from the program. A patch is
+an offset and the bytes there.
 """
 
 # The size of AREA in bytes.
@@ -31,13 +31,13 @@ AREA = [
 
 # AREA with some bytes changed.
 CASES = [
-    # as it stands
+    # unchanged
     (
         [],
         "index 1 seq 1 slots 2 free 1\nlabel 0 11111111-1111-4111-8111-111111111111 \"a\" pos 0 of 1 dpa 0 size 4194304 flags 0 lba 512 mode raw cookie 0000a3de00001235\n",
         0,
     ),
-    # both sides fresh: the newer one counts
+    # both sides fresh: the newer one is current
     (
         [
             (276, b"\x02"),
@@ -55,7 +55,7 @@ CASES = [
         "index 0 seq 3 slots 2 free 2\n",
         0,
     ),
-    # of equal sequence numbers the higher offset counts
+    # equal sequence numbers: the one at the higher offset is current
     (
         [
             (20, b"\x02"),
@@ -117,7 +117,7 @@ CASES = [
         "image labels 0 NoIndex\n",
         3,
     ),
-    # one block closed: the other one counts
+    # one block closed: the other one is current
     (
         [(276, b"\x00"), (320, b"/"), (324, b"\xc8\x86")],
         "index 0 seq 3 slots 2 free 2\n",

@@ -1,4 +1,4 @@
-"""The rows of tests/rows/run: each is the files of an image set, the words of a command, its status and its text."""
+"""The rows of tests/rows/run: each has the files of an image set, the words of a command, its status and its text."""
 from areas import AREA, AREA_SIZE, CASES, LINUX, LINUX_SIZE, LINUX_TEXT
 from lists import AGREED, ALONE, LISTS, MEETING, ONE, RULES, SINGLES, UNITS, WIDE
 from tables import ONE_WAY, TWO_LINES, TWO_WAY
@@ -8,7 +8,7 @@ BYTES = 8192
 FIRST, SECOND = "11111111-1111-4111-8111-111111111111", "22222222-2222-4222-8222-222222222222"
 NONE = "11111111-1111-4111-8111-111111111112"
 
-# What makes of TWO_WAY and TWO_LINES tables of two modules of BYTES each.
+# Patches that turn TWO_WAY and TWO_LINES into tables of two modules of BYTES each.
 SMALL = [(81, b"\x40"), (83, b"\0"), (113, b"\x20"), (115, b"\0"), (161, b"\x20"), (163, b"\0")]
 MODULES = "module 0 handle 16\nmodule 1 handle 32\n"
 SMALL_TEXT = MODULES + "region 0 index 1 base 4294967296 length 16384 modules 0 1 cookie 0002e2420000346b unit 4096\n"
@@ -78,7 +78,7 @@ def labels():
 
 
 def unloaded():
-    """Sets that aren't loaded: the first object that is wrong is named."""
+    """Sets that are refused: the first wrong object is named."""
     zeros = bytes
     for other, text in (
             ({"complete": None}, "mark Missing"),
@@ -105,7 +105,7 @@ def unloaded():
             ({"nfit": None, "complete": None}, "mark Missing"),
             ({"contents_0": None, "labels_0": zeros(1)}, "labels 0 Size 1"),
             ({"contents_0": zeros(4096), "labels_1": zeros(1)}, "labels 1 Size 1"),
-            # 272 bytes that say 276, and a mapping of a range that isn't there
+            # 272 bytes with a Length of 276, and a mapping of a missing range
             ({"nfit": table_of(TWO_WAY[:272], [(4, b"\x14")])}, "nfit Length 276 272"),
             ({"nfit": table_of(TWO_WAY, [(44, b"\x03")])}, "nfit MissingIndex 0 1")):
         for words in (["-", "nfit"], ["-", "labels", "0"], ["-", "list"], ["OUT", "init", "0"], ["OUT", "delete", FIRST]):
@@ -118,7 +118,7 @@ def tables():
 
 
 def lists():
-    """What the labels of one UUID make by each rule, several UUIDs, names and modes."""
+    """The status of the labels of one UUID by each rule; several UUIDs, names and modes."""
     for table, rows in ((TWO_WAY, RULES), (patched(table_of(TWO_WAY, WIDE), []), UNITS), (TWO_WAY, LISTS)):
         for first, second, status, text in rows:
             yield with_areas(first, second, table), ["-", "list"], status, text
@@ -130,7 +130,7 @@ def lists():
 
 
 def command_lines():
-    """Words that are no command line, and some that are."""
+    """Words that aren't a command line, and some that are."""
     none = (["labels"], ["label", "0"], ["Labels", "0"], ["labels 0"], ["0", "labels"], ["labels", ""], ["labels", "007"], ["labels", "+1"],
             ["labels", "-1"], ["labels", "64"], ["labels", "18446744073709551616"], ["labels", "0x1"], ["labels", "0", "0"],
             ["labels", "--module", "0"], ["labels", "--module=0"], ["labels", "0", "--cut", "1"], ["labels", "--help"], ["labels", "0", "--help"],
@@ -160,7 +160,7 @@ def command_lines():
 
 
 def refusals():
-    """What the labels that are there refuse."""
+    """Commands that existing labels refuse."""
     whole, read_only, local = [], [(592, b"\x15"), (760, b"\x09\xf1v\xfa\xf5J")], [(592, b"\x02"), (760, b"\xf6\xf0v\xfa\xb1")]
     other, delete, rename = create(SECOND), ["OUT", "delete", FIRST], ["OUT", "rename", FIRST, "b"]
     yield with_areas(whole, None), other, REFUSED, "refused ModuleLabels 1\n"
@@ -178,7 +178,7 @@ def refusals():
 
 
 def sectors():
-    """Namespaces whose sectors aren't read."""
+    """Namespaces whose sectors can't be read."""
     mode = (656, b"\xfc;c\x185\x17\x17B\x8a\xc9\x17#\x92\x82\xd3\xf8")
     first = [(609, b"\0"), mode, (760, b"A\x8e\xdcp\xc61\x13\xbe")]
     second = [(609, b"\0"), mode, (760, b"A\x8e\xddp\xc61>\xbe")]
@@ -186,10 +186,10 @@ def sectors():
             (with_areas([], []), FIRST, REFUSED, "refused NotSector\n"),
             (with_areas([], []), NONE, REFUSED, "refused NoSuch\n"),
             (with_areas(first, None), FIRST, REFUSED, "refused NotComplete\n"),
-            # labels whose extents meet come first, and a region whose lines are covered twice before these
+            # labels whose extents overlap come first, and a region whose lines are covered twice before these
             (with_areas(MEETING, None), FIRST, IMAGE, f"image labels Overlap {FIRST} {SECOND}\n"),
             (with_areas(first, None, TWO_LINES), NONE, IMAGE, "image region 0 Cover 1\n"),
-            # no arena stands in zeros, and no sector is looked for
+            # zeros aren't an arena, and no sector is read
             (with_areas(first, second), FIRST, IMAGE, f"image arena {FIRST} 0 Info Signature\n")):
         for words in (["-", "info", uuid], ["-", "read", uuid, "99"]):
             yield files, words, status, text
@@ -203,7 +203,7 @@ def cases():
 def changes(size):
     """Commands on the pair with the first namespace, in label areas of this many bytes, that was made by `create`."""
     if size == 1536:
-        # no room is left beside labels either
+        # there is no room beside labels either
         yield create(SECOND, "16384"), REFUSED, "refused NoSpace 8192\n"
         return
     long = "n" * 64

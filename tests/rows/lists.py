@@ -1,7 +1,7 @@
 """Label areas of a set of two modules, and what `list` prints: patches of both areas of AGREED (None: no area), the status, the text.
 
-The bytes come from a script that knows the formats from UEFI 2.10, section 13.19, and ACPI 6.5, section 5.2.25, and from Linux; the program made none of them. A patch is
-an offset and the bytes that stand there.
+The bytes come from a script that knows the formats from UEFI 2.10, section 13.19, and ACPI 6.5, section 5.2.25, and from Linux; none from the program. A patch is
+an offset and the bytes there.
 """
 
 # Two areas of 1,024 bytes, by the bytes that aren't zero: each has a label of the whole set of the pair,
@@ -181,7 +181,7 @@ RULES = [
         0,
         "ns 11111111-1111-4111-8111-111111111111 \"a\" region 0 mode raw lba 512 size 12288 incomplete Twice 0\nextent 0 0 4096\nextent 0 4096 4096\nextent 1 0 4096\n",
     ),
-    # two labels of one extent are of one owner
+    # two labels of one extent have one owner
     (
         ([]),
         ([
@@ -304,12 +304,12 @@ RULES = [
     ),
 ]
 
-# What makes the lines of the pair 8,192 bytes long, and so the unit; the cookie is 0003a2420000446b.
+# Patches that make the lines of the pair, and so the unit, 8,192 bytes long; the cookie is 0003a2420000446b.
 WIDE = [(169, b"\x20"), (205, b"\x20"), (225, b"\x20")]
 
 # AGREED with some bytes changed, under a table with WIDE.
 UNITS = [
-    # a size that is no multiple of it
+    # a size that isn't a multiple of it
     (
         ([(601, b"D\x00\x00B\xa2\x03"), (761, b"\xc0w\xfaY\xa7\xd8")]),
         ([(601, b"D\x00\x00B\xa2\x03"), (761, b"\xc0x\xfaY\xa7\x03>")]),
@@ -369,7 +369,7 @@ LISTS = [
         0,
         "ns 11111111-1111-4111-8111-111111111111 \"a\" region 0 mode raw lba 512 size 4096 incomplete Missing 1\nextent 0 4096 4096\nns 12000000-0000-4000-8000-000000000000 \"w\" region 0 mode raw lba 512 size 4096 incomplete Missing 0\nextent 1 0 4096\nns 22222222-2222-4222-8222-222222222222 \"a\" region 0 mode raw lba 512 size 4096 incomplete Missing 1\nextent 0 0 4096\n",
     ),
-    # extents of two UUIDs meet
+    # extents of two UUIDs overlap
     (
         ([
             (320, b".:2\xd8\xa7\x86\x93'\x00"),
@@ -414,7 +414,7 @@ LISTS = [
         0,
         "ns 11111111-1111-4111-8111-111111111111 \"a\" region 0 mode raw lba 512 size 4096 incomplete Missing 0\nextent 1 0 4096\n",
     ),
-    # an area that can't be read is passed over
+    # an area that can't be read is skipped
     (
         ([
             (0, b"\x00\x00\x00\x00\x00\x00\x00\x00\x00\x00\x00\x00\x00\x00\x00"),
@@ -623,7 +623,7 @@ SINGLES = [
     ),
 ]
 
-# Two UUIDs of which extents meet on module 0: what differs from its area in the pair.
+# Two UUIDs whose extents overlap on module 0: the differences from its area in the pair.
 MEETING = [
     (320, b".:2\xd8\xa7\x86\x93'\x00"),
     (625, b" "),

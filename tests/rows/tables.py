@@ -1,11 +1,10 @@
-"""Firmware tables of two modules: one range in turn over both, and one whose lines are covered
-twice; and of one module.
+"""Firmware tables: one range alternating over two modules; the same with lines that are covered twice; and one module.
 
-The bytes come from a script that knows the formats from ACPI 6.5, section 5.2.25, and from Linux; the program made none of them. A patch is
-an offset and the bytes that stand there.
+The bytes come from a script that knows the formats from ACPI 6.5, section 5.2.25, and from Linux; none from the program. A patch is
+an offset and the bytes there.
 """
 
-# A table with one range over two modules, lines of 4,096 bytes in turn, that Linux 6.1 took.
+# A table with one range over two modules, with alternating lines of 4,096 bytes, that Linux 6.1 accepted.
 TWO_WAY = [
     0x4e, 0x46, 0x49, 0x54, 0x28, 0x01, 0x00, 0x00, 0x01, 0xc6, 0x4f, 0x57, 0x4e, 0x4d, 0x41, 0x44,
     0x48, 0x41, 0x52, 0x4e, 0x45, 0x53, 0x53, 0x20, 0x01, 0x00, 0x00, 0x00, 0x48, 0x52, 0x4e, 0x53,

@@ -1,4 +1,4 @@
-//! Two arenas of 16 MiB, one behind the other.
+//! A chain of two arenas of 16 MiB.
 ghost use Rattle.arena_layout.specs.Layout.{IsLayout};
 
 use arena_layout::{Info, Layout, plan, write_info};
@@ -12,10 +12,10 @@ use std::alloc::{AllocError, Global};
 use std::test::Fail;
 use uuid::Uuid;
 
-/// Where the arenas begin: 512 words stand before the first.
+/// The first word of each arena: there are 512 words before the first one.
 const FIRST: [u64; 2] = [512, 512 + 2_097_152];
 
-/// Where the blocks, the map and the flog begin in each of them, in words.
+/// The first word of the blocks, the map and the flog in each of them.
 const DATA: u64 = 512;
 
 const MAP: u64 = 16_625_664 / 8;
@@ -27,12 +27,12 @@ fn parent() -> Uuid {
     Uuid::from_u128(2)
 }
 
-/// What a space without pending words holds.
+/// Returns the words of a space without pending words.
 fn words_of(alloc: Global, space: CutWords) -> Vec<u64> {
     space.leave(&mut ListChooser::new(Vec::new(alloc)))
 }
 
-/// Formats an arena at a word of these. It takes as many steps as these.
+/// Formats an arena at a word. It takes exactly this many steps.
 fn with_arena(alloc: Global, words: Vec<u64>, at: u64, layout: &Layout) -> Result<Vec<u64>, Fail>
     requires { IsLayout layout.now }
 {
@@ -46,7 +46,7 @@ fn with_arena(alloc: Global, words: Vec<u64>, at: u64, layout: &Layout) -> Resul
     Ok(words_of(alloc, space))
 }
 
-/// An info block that names an arena behind this one.
+/// Returns an info block that names an arena after this one.
 #[tactic(auto, unfolding(arena_layout::specs::Info::is_version))]
 fn first_block(layout: &Layout) -> [u8; 4096]
     requires { IsLayout layout.now }
@@ -71,7 +71,7 @@ fn set_word(words: &mut Vec<u64>, place: u64, value: u64) {
     }
 }
 
-/// The words of the two arenas, with other values at places of them.
+/// Returns the words of the two arenas, with these words changed.
 fn chained(alloc: Global, changes: &[(u8, u64, u64)]) -> Result<Vec<u64>, Fail> {
     let layout = plan(16 << 20, 512, 256)?;
     let mut words = vec![in alloc; 0; 4_194_816]?;
@@ -89,7 +89,7 @@ fn chained(alloc: Global, changes: &[(u8, u64, u64)]) -> Result<Vec<u64>, Fail> 
     Ok(words)
 }
 
-/// Opens the chain with a fuse of so many steps, and what is left of them.
+/// Opens the chain with a fuse of `steps` steps, and returns how many are left.
 fn open_both(
     alloc: Global,
     words: Vec<u64>,
@@ -105,7 +105,7 @@ fn open_both(
     Ok((chain, fuse.left()))
 }
 
-/// Reads the chain where it lies.
+/// Reads the chain without copying its words.
 fn read_both(
     alloc: Global,
     words: Vec<u64>,
@@ -118,7 +118,7 @@ fn read_both(
     Ok(read_chain(alloc, space, FIRST[0], &parent()))
 }
 
-/// A sector's place, and its first and last word, `None` where it is bad or isn't there.
+/// A sector's place, and its first and last word; `None` if it is bad or doesn't exist.
 type Sector = (Option<(usize, u32)>, Option<(u64, u64)>);
 
 fn opened_sector(chain: &Chain, sector: u64) -> Sector {
@@ -143,8 +143,8 @@ fn read_sector(chain: &ReadChain<CutWords>, sector: u64) -> Sector {
     }
 }
 
-/// In each arena lane 0 was to move sector 9 from block 9 to 32,202. In arena 1 the sectors 0 to 3 are
-/// normal, bad, zero and initial.
+/// In each arena lane 0 has a pending move of sector 9 from block 9 to 32,202. In arena 1 the
+/// sectors 0 to 3 are normal, bad, zero and initial.
 fn with_moves(alloc: Global) -> Result<Vec<u64>, Fail> {
     let mut changes = vec![in alloc; (1, MAP, 0x4000_0001_C000_0000), (1, MAP + 1, 0x8000_0002)]?;
     for arena in [0, 1] {

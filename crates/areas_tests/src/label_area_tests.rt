@@ -9,8 +9,8 @@ use nvd_media::ListChooser;
 use std::alloc::{AllocError, Global};
 use uuid::Uuid;
 
-/// What an area of 1,024 bytes shows: its current side, Seq, how many slots are free, and the Dpa of
-/// the label of each slot. `None` where the area is stopped.
+/// The contents of an area of 1,024 bytes: its current side, Seq, the number of free slots, and the
+/// Dpa of the label in each slot. `None` if the area is stopped.
 type Seen = Option<(Side, u32, u32, [Option<u64>; 2])>;
 
 fn dpa_of(labels: &[Option<Label>], slot: usize) -> Option<u64> {
@@ -28,7 +28,7 @@ fn shown(area: &LabelArea) -> Seen {
     Some((area.side(), area.seq(), area.free_slots(), labels))
 }
 
-/// Takes an area of 1,024 bytes up: opens it, or initialises it with so many steps.
+/// Opens an area of 1,024 bytes, or initialises it with `steps` steps.
 fn taken(
     alloc: Global,
     words: Vec<u64>,
@@ -44,7 +44,7 @@ fn taken(
     })
 }
 
-/// What the words show when they are opened.
+/// Opens words and returns their contents.
 fn look(alloc: Global, words: &[u64]) -> Result<Result<Seen, AreaFault>, AllocError> {
     let words = Vec::from_slice(alloc, words)?;
     Ok(match taken(alloc, words, None)? {
@@ -53,12 +53,13 @@ fn look(alloc: Global, words: &[u64]) -> Result<Result<Seen, AreaFault>, AllocEr
     })
 }
 
-/// What is left where nothing stays but what was kept.
+/// Returns the words after a crash that loses all pending values.
 fn left(alloc: Global, words: CutWords) -> Vec<u64> {
     words.leave(&mut ListChooser::new(Vec::new(alloc)))
 }
 
-/// The words of an area of zeros that is initialised with so many steps, and whether it was refused.
+/// Initialises an area of zeros with `steps` steps; returns its words after a crash, and the
+/// refusal.
 fn initialised(alloc: Global, steps: u64) -> Result<(Vec<u64>, Option<AreaFault>), AllocError> {
     Ok(match taken(alloc, vec![in alloc; 0; 128]?, Some(steps))? {
         Ok(area) => (left(alloc, area.into_words()), None),
@@ -92,7 +93,7 @@ fn an_area_is_initialised(rt: HostRuntime) -> Result<(), AllocError> {
     Ok(())
 }
 
-/// A label at a device address.
+/// Returns a label at a device address.
 fn label_at(dpa: u64) -> Option<Label>
     ensures { IfSome result IsSound }
 {
@@ -118,8 +119,8 @@ fn label_at(dpa: u64) -> Option<Label>
     })
 }
 
-/// Makes a change: puts the label at a device address, takes slot 0 out, or both. `None` where the area
-/// can't be changed so.
+/// Makes a change: puts the label at a device address, frees slot 0, or both. It returns `None` if
+/// the area can't be changed so.
 fn made(
     area: &mut LabelArea,
     steps: u64,
@@ -143,7 +144,8 @@ fn made(
     })
 }
 
-/// Opens an area, makes a change, and cuts power: the answer, and the words that are left.
+/// Opens an area, makes a change, and cuts power; returns the result, and the words after the
+/// crash.
 fn changed(
     alloc: Global,
     words: Vec<u64>,
@@ -160,7 +162,7 @@ fn changed(
     }
 }
 
-/// Labels come and go, one change after another; after each the area is opened again.
+/// Labels are put and removed, one change after another; after each the area is opened again.
 #[test]
 fn labels_are_changed(rt: HostRuntime) -> Result<(), AllocError> {
     let alloc = rt.alloc();

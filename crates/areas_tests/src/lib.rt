@@ -1,8 +1,7 @@
-//! Tests of rows of words that lose power, and of what stands in them: label areas, and arenas with
-//! their chains.
+//! Tests of words that lose power, and of label areas, arenas and chains in them.
 //!
-//! The contracts say what every power cut leaves, and each refusal. Here stand whole rows before and
-//! after a few cuts, and one call of each public function.
+//! The contracts state every state after a crash, and every refusal. These tests compare whole rows
+//! of words before and after a few crashes, and call each public function once.
 #![tactic(auto)]
 
 #[cfg(test)]

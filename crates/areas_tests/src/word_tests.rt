@@ -13,7 +13,8 @@ fn change(words: &mut CutWords, fuse: &mut Fuse) -> Result<(), PowerCut> {
     Ok(())
 }
 
-/// The words 5, 6 and 9, changed; or 7 and 8 written as a run into the last two. Whether the fuse lasted.
+/// The words 5, 6 and 9, changed, or with 7 and 8 written as a run into the last two; and whether
+/// the fuse lasted.
 fn changed(alloc: Global, run: bool, fuse: &mut Fuse) -> Result<(CutWords, bool), AllocError> {
     let mut words = CutWords::new(alloc, vec![in alloc; 5, 6, 9]?)?;
     let made = if run {
@@ -45,7 +46,7 @@ fn what_a_cut_leaves(rt: HostRuntime) -> Result<(), AllocError> {
     Ok(())
 }
 
-/// The first answers from two seeds, worked out from the generator's rule by another program.
+/// The first answers for two seeds, computed from the generator's rule by another program.
 #[test]
 fn a_seed_decides(rt: HostRuntime) {
     for (seed, want) in [

@@ -1,4 +1,4 @@
--- The first fault of a list, one after another.
+-- The first fault of a list.
 use Rattle.std.proofs.Common.{◌≡◌, List, [], ◌∷◌, Option, Some, None, refl}
 use Rattle.nvd_words.specs.Checks.{first_fault}
 use Rattle.nvd_words.proofs.Checks.{fault_if-true, fault_if-false}

@@ -1,4 +1,4 @@
--- Bytes that are read as an info, and have zeros where a reader looks at nothing, are that info's spelling.
+-- Bytes that are read as an info, and have zeros in the ignored places, are that info's encoding.
 use Rattle.std.proofs.Common.{◌≡◌, ℕ, zero, suc, ◌+◌, ◌%◌, ◌<◌, ◌≤◌, true, List, [], ◌∷◌, ◌++◌, length, take, drop, get_or, replicate, Result, Ok, Err, refl, sym, ap, ◌∙◌, arith, append_assoc}
 use Rattle.std.specs.Prelude.{IfOk}
 use Rattle.std.specs.Int.{w16, w32, w64, to_le_bytes, from_le_bytes}
@@ -43,7 +43,7 @@ num8 : (l : List ℕ) (a : ℕ) → Small l → a + 8 ≤ length l → to_le_byt
 unfolding number_at
 num8 l a s le = le_bytes_8 (take 8 (drop a l)) (from_le_bytes w64 (take 8 (drop a l))) (length_part l a 8 le) (small_take 8 (drop a l) (small_drop a l s)) refl
 
--- a part, and what stands after it
+-- a part, and the rest after it
 cut : (l : List ℕ) (a n m : ℕ) (x r : List ℕ) → m ≡ a + n → x ≡ take n (drop a l) → drop m l ≡ r → drop a l ≡ x ++ r
 cut l a n m x r e f g =
     sym (take-append-drop n (drop a l)) ∙ ap (λ (y : List ℕ). y ++ drop n (drop a l)) (sym f)
@@ -56,7 +56,7 @@ signature_part : (bytes : List ℕ) → has_signature bytes ≡ true → signatu
 unfolding has_signature
 signature_part bytes e = sym ((bytes_eq-Decides (take 16 bytes) signature).0 e)
 
--- the numbers of the fields, as they stand in the bytes
+-- the numbers in the fields, as bytes
 fields_flat : (bytes : List ℕ) → length bytes ≡ 4096 → Small bytes → HasZeros bytes → number_at w32 bytes 76 ≡ 4096
     → drop 48 bytes ≡ (to_le_bytes w32 (number_at w32 bytes 48 % 2)) ++ ((to_le_bytes w16 (number_at w16 bytes 52)) ++ ((to_le_bytes w16 (number_at w16 bytes 54)) ++ ((to_le_bytes w32 (number_at w32 bytes 56)) ++ ((to_le_bytes w32 (number_at w32 bytes 60)) ++ ((to_le_bytes w32 (number_at w32 bytes 64)) ++ ((to_le_bytes w32 (number_at w32 bytes 68)) ++ ((to_le_bytes w32 (number_at w32 bytes 72)) ++ ((to_le_bytes w32 4096) ++ ((to_le_bytes w64 (number_at w64 bytes 80)) ++ ((to_le_bytes w64 (number_at w64 bytes 88)) ++ ((to_le_bytes w64 (number_at w64 bytes 96)) ++ ((to_le_bytes w64 (number_at w64 bytes 104)) ++ ((to_le_bytes w64 (number_at w64 bytes 112)) ++ (unused ++ drop 4088 bytes))))))))))))))
 fields_flat bytes len small zeros size =
@@ -83,7 +83,7 @@ bytes_flat bytes len small zeros size signed =
     (cut bytes 16 16 32 (bytes_at bytes 16 16) (bytes_at bytes 32 16 ++ drop 48 bytes) refl refl
     (cut bytes 32 16 48 (bytes_at bytes 32 16) (drop 48 bytes) refl refl refl))
 
--- all but the Checksum
+-- all bytes before the Checksum
 body_part : (bytes : List ℕ) → length bytes ≡ 4096 → Small bytes → HasZeros bytes → number_at w32 bytes 76 ≡ 4096 → has_signature bytes ≡ true
     → bytes ≡ body_of (info_of bytes) ++ drop 4088 bytes
 unfolding info_of layout_of

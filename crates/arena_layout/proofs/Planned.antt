@@ -83,7 +83,7 @@ plan_is size sector lanes is some few low high =
       size_high = omega (arith, all, inside, s.whole_high);
     }
 
--- ---- what was planned
+-- ---- the planned layout
 
 four : {A F : Type 0} (v w : A) (a b c d : F) (p q r s : Bool) → checked v ((a, p) ∷ (b, q) ∷ (c, r) ∷ (d, s) ∷ []) ≡ Ok w
     → (p ≡ false) × (q ≡ false) × (r ≡ false) × (s ≡ false) × (v ≡ w)

@@ -1,4 +1,4 @@
--- What was read, from its checks.
+-- The info that was read, from its checks.
 use Rattle.std.proofs.Common.{◌≡◌, ℕ, ◌+◌, ◌%◌, ◌<◌, ◌≤◌, Bool, true, false, not, eqb, ltb, List, [], ◌∷◌, Option, Some, None, Result, Ok, Err, refl, sym, subst, inl, inr, arith, ◌⊎◌}
 use Rattle.std.specs.Prelude.{◌&&◌, ◌||◌, IfOk}
 use Rattle.std.specs.Option.{option_map}
@@ -17,7 +17,7 @@ use Rattle.arena_layout.specs.Layout.{least_size, IsLayout, has_sector, has_inne
 use Rattle.arena_layout.specs.Info.{bytes_at, has_signature, has_checksum, is_version, has_parent, has_error, has_areas, layout_of, info_of, layout_fault_of, info_reading, IsArenaOf}
 use Rattle.arena_layout.proofs.Passing.{passed_is, size_inside}
 
--- the layout is the first that fails
+-- the layout is the first check that fails
 pub layout_first : (bytes parent : List ℕ) (rest : ℕ) (field : LayoutField) → true ≡ has_signature bytes → true ≡ has_checksum bytes
     → true ≡ is_version (number_at w16 bytes 52) (number_at w16 bytes 54) → true ≡ has_parent bytes parent → false ≡ has_error bytes
     → Some field ≡ layout_fault_of bytes rest → Err (fault.Layout field) ≡ info_reading bytes parent rest
@@ -113,7 +113,7 @@ all_passed bytes parent rest info e =
       info_is = t.6;
     }
 
--- ---- what was read is sound
+-- ---- an info that was read is valid
 
 pub parts_of_areas : (bytes : List ℕ) → has_areas bytes ≡ true → (number_at w32 bytes 76 ≡ 4096) × (has_pages (layout_of bytes) ≡ true) × (has_order (layout_of bytes) ≡ true)
 unfolding has_areas

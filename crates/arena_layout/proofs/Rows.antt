@@ -1,4 +1,4 @@
--- Worked rows, computed.
+-- Worked examples, computed on the definitions.
 use Rattle.std.proofs.Common.{◌≡◌, Result, Ok, Err, true, false, refl}
 use Rattle.nvd_words.specs.Checks.{checked}
 use Rattle.arena_layout.specs.declared.layout.Layout.{Layout}
@@ -7,7 +7,7 @@ use Rattle.arena_layout.specs.declared.layout.LayoutFault.TheVariants.{Sector, F
 use Rattle.arena_layout.specs.Layout.{is_sector, has_order, has_size, has_next}
 use Rattle.arena_layout.specs.Plan.{whole_size, log_size, available_of, inner_of, internal_of, map_size, plan_of, is_lane_count, planned}
 
--- what Linux lays out in 32 MiB with sectors of 512 bytes
+-- Linux's layout of 32 MiB with sectors of 512 bytes
 abbrev thirty_two : Layout
 thirty_two = record {
   size = 33554432;
@@ -22,7 +22,7 @@ thirty_two = record {
   info_off = 33550336;
 }
 
--- and in 16 MiB
+-- Linux's layout of 16 MiB
 abbrev sixteen : Layout
 sixteen = record {
   size = 16777216;
@@ -37,7 +37,7 @@ sixteen = record {
   info_off = 16773120;
 }
 
--- and in 17 MiB with sectors of 4,224 bytes
+-- Linux's layout of 17 MiB with sectors of 4,224 bytes
 abbrev seventeen : Layout
 seventeen = record {
   size = 17825792;
@@ -82,7 +82,7 @@ pub plan_no_lane : planned 16777215 512 0 ≡ refused (Free 0)
 unfolding checked is_sector is_lane_count
 plan_no_lane = refl
 
--- an offset near 2^64 is no place: sums don't wrap
+-- an offset near 2^64 is refused: sums don't wrap
 pub far_map : has_order (record thirty_two { map_off = 18446744073709547520 }) ≡ false
 unfolding has_order
 far_map = refl

@@ -1,4 +1,4 @@
--- What holds of each of the seven sector sizes.
+-- Facts about each of the seven sector sizes.
 use Rattle.std.proofs.Common.{◌≡◌, ℕ, ◌+◌, ◌*◌, ◌%◌, ◌^◌, ◌≤◌, true, eqb, refl, sym, subst, inl, inr, arith}
 use Rattle.std.specs.Prelude.{◌||◌}
 use Rattle.std.proofs.lemmas.Bool.{eqb-true, or_cases}

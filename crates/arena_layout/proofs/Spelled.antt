@@ -1,4 +1,4 @@
--- The spelling of an info block.
+-- The encoding of an info block.
 use Rattle.std.proofs.Common.{◌≡◌, ℕ, zero, suc, ◌+◌, List, ◌∷◌, ◌++◌, length, take, drop, replicate, sym, ap, ◌∙◌, arith, append_assoc}
 use Rattle.std.specs.Int.{w16, w32, w64, to_le_bytes}
 use Rattle.std.proofs.lemmas.List.{take_all, length-append, length-replicate, length-take, take_at, take-append-drop}
@@ -42,7 +42,7 @@ pub length_unused : length unused ≡ 3968
 unfolding unused
 length_unused = length-replicate {A = ℕ} 3968 0
 
--- the bytes before the sum is written
+-- the bytes before the checksum is written
 before_sum : (x : List ℕ) (info : Info) → take 120 x ≡ head_of info → drop 120 x ≡ replicate 3976 0 → x ≡ body_of info ++ replicate 8 0
 before_sum x info front back =
     sym (take-append-drop 120 x) ∙ ap (λ (l : List ℕ). l ++ drop 120 x) front ∙ ap (λ (l : List ℕ). head_of info ++ l) (back ∙ zeros_are)
@@ -54,7 +54,7 @@ length_head x info len front = sym (ap length front) ∙ omega (arith, length-ta
 pub length_body_by : (info : Info) → length (head_of info) ≡ 120 → length (body_of info) ≡ 4088
 length_body_by info len = ap length (body_is info) ∙ omega (arith, length-append (head_of info) unused, len, length_unused)
 
--- the bytes with the sum
+-- the bytes with the checksum
 pub spelled_by : (x y : List ℕ) (info : Info) (sum : ℕ) → length x ≡ 4096 → length y ≡ 4096 → take 120 x ≡ head_of info → drop 120 x ≡ replicate 3976 0
     → sum ≡ fletcher64_of x → take 4096 y ≡ take 4088 x ++ to_le_bytes w64 sum → y ≡ spelling_of info
 unfolding spelling_of

@@ -1,4 +1,4 @@
--- Bytes are read exactly where they stand for an info.
+-- Bytes are read exactly if they encode an info.
 use Rattle.std.proofs.Common.{◌≡◌, ℕ, ◌%◌, true, false, List, take, None, Result, Ok, refl, sym, ap, ◌∙◌, subst, arith}
 use Rattle.std.specs.Int.{w16, w32, w64}
 use Rattle.std.proofs.lemmas.Bool.{eq-eqb, ne_eqb, eqb-true}
@@ -40,7 +40,7 @@ summed : (bytes : List ℕ) → number_at w64 bytes 4088 ≡ fletcher64_of (with
 unfolding has_checksum
 summed bytes e = eq-eqb (number_at w64 bytes 4088) (fletcher64_of (without_eight bytes 4088)) e
 
--- what the info of bytes says of them
+-- the facts that an info has about its bytes
 record Said (bytes parent : List ℕ) (rest : ℕ) : Type 0 where
   parent_is : has_parent bytes parent ≡ true
   no_error : has_error bytes ≡ false

@@ -1,7 +1,7 @@
--- Bytes put one after another.
+-- Bytes stored one after another.
 use Rattle.std.proofs.Common.{◌≡◌, ℕ, List, ◌++◌, ap, ◌∙◌, append_assoc}
 
--- a part that was put, and what was put after it
+-- a part that was stored, and the part stored after it
 on : (before now last part more : List ℕ) → now ≡ before ++ part → last ≡ now ++ more → last ≡ before ++ (part ++ more)
 on before now last part more e f = f ∙ ap (λ (l : List ℕ). l ++ more) e ∙ append_assoc before part more
 

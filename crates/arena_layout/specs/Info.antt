@@ -14,7 +14,7 @@ use Rattle.arena_layout.specs.declared.info.InfoFault.{InfoFault}
 use Rattle.arena_layout.specs.declared.info.InfoFault.TheVariants as fault
 use Rattle.arena_layout.specs.Layout.{IsLayout, has_sector, has_inner, has_lanes, has_blocks, has_pages, has_order, has_size, has_next}
 
--- so many bytes at a place
+-- `count` bytes at an offset
 abbrev pub bytes_at : List ℕ → ℕ → ℕ → List ℕ
 bytes_at bytes at count = take count (drop at bytes)
 
@@ -31,7 +31,7 @@ has_signature bytes = bytes_eq (take 16 bytes) signature
 unfoldable pub has_checksum : List ℕ → Bool
 has_checksum bytes = number_at w64 bytes 4088 == fletcher64_of (without_eight bytes 4088)
 
--- the versions that are read and written: 2.0. This is the one place that says so.
+-- the versions that are supported: 2.0. No other definition decides it.
 unfoldable pub is_version : ℕ → ℕ → Bool
 is_version major minor = (major == 2) && (minor == 0)
 
@@ -42,7 +42,7 @@ has_parent bytes parent = bytes_eq (bytes_at bytes 32 16) parent
 unfoldable pub has_error : List ℕ → Bool
 has_error bytes = number_at w32 bytes 48 % 2 == 1
 
--- the layout that the fields say; its size ends with the backup of the info block
+-- the layout in the fields; the backup of the info block is its end
 unfoldable pub layout_of : List ℕ → Layout
 layout_of bytes = record {
   size = number_at w64 bytes 112 + 4096;
@@ -57,7 +57,7 @@ layout_of bytes = record {
   info_off = number_at w64 bytes 112;
 }
 
--- what the fields say; of Flags only bit 0 is read
+-- the info in the fields; of Flags only bit 0 is read
 unfoldable pub info_of : List ℕ → Info
 info_of bytes = record {
   uuid = bytes_at bytes 16 16;
@@ -69,11 +69,11 @@ info_of bytes = record {
   layout = layout_of bytes;
 }
 
--- InfoSize, and where the areas stand
+-- InfoSize, and the offsets of the areas
 unfoldable pub has_areas : List ℕ → Bool
 has_areas bytes = (number_at w32 bytes 76 == 4096) && has_pages (layout_of bytes) && has_order (layout_of bytes)
 
--- the first part of the layout relation that fails, with so many bytes up to the namespace's end
+-- the first part of the layout relation that fails, with `rest` bytes up to the namespace's end
 unfoldable pub layout_fault_of : List ℕ → ℕ → Option LayoutField
 layout_fault_of bytes rest = first_fault (
     fault_if (not (has_sector (layout_of bytes))) field.Sector
@@ -96,27 +96,27 @@ info_faults bytes parent rest =
     ∷ option_map fault.Layout (layout_fault_of bytes rest)
     ∷ []
 
--- what 4,096 bytes stand for, or the first check that fails
+-- the decoded info, or the first check that fails
 abbrev pub info_reading : List ℕ → List ℕ → ℕ → Result Info InfoFault
 info_reading bytes parent rest = value_unless (info_of bytes) (first_fault (info_faults bytes parent rest))
 
--- ---- what an info block says is sound
+-- ---- valid infos
 
--- what can be written
+-- an info that can be written
 pub record IsInfo (info : Info) : Type 0 where
   pub layout : IsLayout info.layout
   pub flags : info.flags ≡ 0
   pub version : IsTrue (is_version info.major info.minor)
   pub next : IsTrue ((info.next == 0) || (info.next == info.layout.size))
 
--- an arena of a namespace with so many bytes from the arena's first one on
+-- an arena of a namespace with `rest` bytes from the arena's first byte on
 pub record IsArenaOf (parent : List ℕ) (rest : ℕ) (info : Info) : Type 0 where
   pub sound : IsInfo info
   pub parent_is : info.parent ≡ parent
   pub size_inside : info.layout.size ≤ rest
   pub next_inside : info.next < rest
 
--- 4,096 bytes stand for an info: their fields are the info's, the checksum is right, and the arena is sound
+-- 4,096 bytes encode an info: the fields are the info's, the checksum is correct, and the arena is valid
 pub record StandsFor (bytes parent : List ℕ) (rest : ℕ) (info : Info) : Type 0 where
   pub signature_is : take 16 bytes ≡ signature
   pub checksum_is : number_at w64 bytes 4088 ≡ fletcher64_of (without_eight bytes 4088)
@@ -124,10 +124,10 @@ pub record StandsFor (bytes parent : List ℕ) (rest : ℕ) (info : Info) : Type
   pub fields : info_of bytes ≡ info
   pub sound : IsArenaOf parent rest info
 
--- Ok is answered exactly where the bytes stand for the info
+-- the result is Ok exactly if the bytes encode the info
 abbrev pub IsReading : List ℕ → List ℕ → ℕ → Result Info InfoFault → Type 0
 IsReading bytes parent rest result = (info : Info) → (result ≡ Ok info) ↔ StandsFor bytes parent rest info
 
--- bytes are read as an info, wherever its arena lies inside the namespace
+-- the bytes are read as the info, wherever its arena is in the namespace
 abbrev pub ReadsBack : List ℕ → Info → Type 0
 ReadsBack bytes info = (rest : ℕ) → info.layout.size ≤ rest → info.next < rest → info_reading bytes info.parent rest ≡ Ok info

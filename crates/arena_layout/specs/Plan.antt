@@ -17,7 +17,7 @@ whole_size size = size / 4096 * 4096
 unfoldable pub log_size : ℕ → ℕ
 log_size lanes = round_up 4096 (64 * lanes)
 
--- what is left for the data and the map: all but the two info blocks and the log
+-- the bytes left for the blocks and the map, besides the two info blocks and the log
 unfoldable pub available_of : ℕ → ℕ → ℕ
 available_of size lanes = whole_size size - 8192 - log_size lanes
 
@@ -25,7 +25,7 @@ available_of size lanes = whole_size size - 8192 - log_size lanes
 unfoldable pub inner_of : ℕ → ℕ
 inner_of sector = round_up 64 sector
 
--- how many blocks there are: each takes its bytes and a map entry, and a page is kept for rounding the map
+-- the number of blocks: each takes its bytes and a map entry, and one page is reserved for rounding up the map
 unfoldable pub internal_of : ℕ → ℕ → ℕ
 internal_of available sector = (available - 4096) / (inner_of sector + 4)
 
@@ -33,7 +33,7 @@ internal_of available sector = (available - 4096) / (inner_of sector + 4)
 unfoldable pub map_size : ℕ → ℕ
 map_size external = round_up 4096 (4 * external)
 
--- the data stand after the first info block, then the map and the log at the end, then the other info block
+-- the blocks follow the first info block; the map, the log and the other info block are at the end
 unfoldable pub plan_of : ℕ → ℕ → ℕ → Layout
 plan_of size sector lanes =
     let available = available_of size lanes in
@@ -57,7 +57,7 @@ plan_of size sector lanes =
 unfoldable pub is_lane_count : ℕ → Bool
 is_lane_count lanes = nat_le 1 lanes && nat_le lanes 256
 
--- what is planned, or the first check that fails
+-- the planned layout, or the first check that fails
 abbrev pub plan_checks : ℕ → ℕ → ℕ → List (LayoutFault × Bool)
 plan_checks size sector lanes =
     (Sector sector, not (is_sector sector))

@@ -25,7 +25,7 @@ pub(crate) fn has_checksum(bytes: &[u8; 4096]) -> bool
     word_at(bytes, 4088) == fletcher64_without(bytes, 4088)
 }
 
-/// Whether a version is read and written. This is the one place that says so.
+/// Returns whether this version is supported, for reading and writing. No other code decides it.
 #[tactic(auto, unfolding(crate::specs::Info::is_version))]
 pub(crate) fn is_version(major: u16, minor: u16) -> bool
     ensures { result ≡ is_version major minor }
@@ -89,14 +89,14 @@ fn has_pages(bytes: &[u8; 4096]) -> bool
         && word_at(bytes, 112) % 4096 == 0
 }
 
-/// The bytes of the blocks.
+/// Returns the size of the blocks, in bytes.
 fn data_size(internal: u32, inner: u32) -> u64
     ensures { result ≡ internal * inner }
 {
     u64::from(internal) * u64::from(inner)
 }
 
-/// Whether an area of a size at a place ends before another one.
+/// Returns whether an area ends at or before the next one's offset.
 fn is_before(place: u64, size: u64, next: u64) -> bool
     ensures { result ≡ nat_le (place + size) next }
 {
@@ -143,7 +143,7 @@ fn has_next(bytes: &[u8; 4096], rest: u64) -> bool
     next == 0 || (u128::from(next) == u128::from(word_at(bytes, 112)) + 4096 && next < rest)
 }
 
-/// The first part of the layout relation that fails.
+/// Returns the first part of the layout relation that fails.
 #[tactic(auto, using(crate::proofs::First::firsts), unfolding(crate::specs::Info::layout_fault_of))]
 pub(crate) fn layout_fault(bytes: &[u8; 4096], rest: u64) -> Option<LayoutField>
     ensures fault { result ≡ layout_fault_of bytes.now rest }

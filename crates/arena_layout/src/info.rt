@@ -9,14 +9,15 @@ use crate::layout::{Layout, LayoutField};
 use nvd_words::{u16_at, u32_at, word_at};
 use uuid::Uuid;
 
-/// What an info block says. Its 4,096 bytes, the fields of the layout at [`Layout`]:
+/// The content of an info block. The fields of the layout are at [`Layout`]; these are the others
+/// of the 4,096 bytes:
 ///
 /// | offset | field |
 /// |---|---|
 /// | 0 | Sig: `BTT_ARENA_INFO` and two zero bytes |
 /// | 16 | the fields below and those of the layout |
 /// | 76 | InfoSize u32: 4,096 |
-/// | 120 | 3,968 unused bytes, ignored when read and written as zero |
+/// | 120 | 3,968 unused bytes, ignored by reads and written as zero |
 /// | 4088 | Checksum u64: Fletcher64 over the block with this field as zero |
 #[derive(Clone, Copy, Debug, PartialEq, Eq)]
 pub struct Info {
@@ -24,35 +25,36 @@ pub struct Info {
     pub uuid: Uuid,
     /// ParentUuid, 16 bytes at 32 in RFC 9562 order: the namespace's.
     pub parent: Uuid,
-    /// Flags, u32 at 48. Bit 0 is the error state, which is refused; the others are ignored, so this is 0.
+    /// Flags, u32 at 48. Bit 0 is the error state, which is refused; the other bits are ignored, so
+    /// this is 0.
     pub flags: u32,
     /// Major, u16 at 52.
     pub major: u16,
     /// Minor, u16 at 54.
     pub minor: u16,
-    /// NextOff, u64 at 80: where the next arena stands, 0 where there is none.
+    /// NextOff, u64 at 80: the offset of the next arena, 0 if there is none.
     pub next: u64,
     pub layout: Layout,
 }
 
-/// Why 4,096 bytes are no info block of a namespace.
+/// Why 4,096 bytes aren't an info block of a namespace.
 #[derive(Clone, Copy, Debug, PartialEq, Eq)]
 pub enum InfoFault {
     /// The first 16 bytes aren't the signature.
     Signature,
-    /// The checksum isn't that of the bytes.
+    /// The Checksum field isn't the checksum of the bytes.
     Checksum,
-    /// The version isn't one that is read.
+    /// This version isn't supported.
     Version { major: u16, minor: u16 },
-    /// ParentUuid isn't the namespace's.
+    /// ParentUuid isn't the namespace's UUID.
     Parent,
     /// Bit 0 of Flags is set: the arena is in the error state.
     ErrorState,
-    /// The layout relation fails, first at this field.
+    /// The layout relation fails; this is its first failing part.
     Layout { field: LayoutField },
 }
 
-/// Sixteen bytes at a place.
+/// Returns the sixteen bytes at an offset.
 fn sixteen_at(bytes: &[u8; 4096], at: usize) -> [u8; 16]
     requires { at + 16 ≤ 4096 }
     ensures { result ≡ bytes_at bytes.now at 16 }
@@ -123,11 +125,11 @@ fn read_checked(bytes: &[u8; 4096], parent: &Uuid, rest: u64) -> Result<Info, In
     Ok(info_in(bytes))
 }
 
-/// Reads an arena's info block, of a namespace with this UUID.
+/// Reads the info block of an arena in the namespace with the UUID `parent`.
 ///
-/// `rest` is the count of bytes from the arena's first byte to the namespace's end. Refusals, the first that holds:
-/// Signature, Checksum, Version, Parent, ErrorState, Layout with the first field that fails. Sums are whole numbers, so
-/// no offset near 2^64 wraps.
+/// `rest` is the number of bytes from the arena's first byte to the namespace's end. The call
+/// refuses with the first of Signature, Checksum, Version, Parent, ErrorState, and Layout with its
+/// first failing field. Sums of offsets don't wrap, not even near 2^64.
 pub fn read_info(bytes: &[u8; 4096], parent: &Uuid, rest: u64) -> Result<Info, InfoFault>
     ensures info { result ≡ info_reading bytes.now parent.now rest }
     ensures stands { IsReading bytes.now parent.now rest result }

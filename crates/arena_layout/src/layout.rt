@@ -1,17 +1,18 @@
-/// Where the areas of an arena stand. Offsets count in bytes from the arena's first one, its info block.
+/// The layout of an arena's areas. Offsets are in bytes from the arena's first byte, where its info
+/// block begins.
 #[derive(Clone, Copy, Debug, PartialEq, Eq)]
 pub struct Layout {
-    /// The arena's bytes: `info_off` and 4,096. From 16 MiB to 512 GiB.
+    /// The arena's size in bytes: `info_off` plus 4,096. From 16 MiB to 512 GiB.
     pub size: u64,
-    /// ExternalLbaSize, u32 at byte 56: the bytes of a sector.
+    /// ExternalLbaSize, u32 at byte 56: the size of a sector in bytes.
     pub sector: u32,
-    /// InternalLbaSize, u32 at 64: the bytes of a block, a multiple of 64.
+    /// InternalLbaSize, u32 at 64: the size of a block in bytes, a multiple of 64.
     pub inner: u32,
-    /// ExternalNLba, u32 at 60: how many sectors there are.
+    /// ExternalNLba, u32 at 60: the number of sectors.
     pub external: u32,
-    /// InternalNLba, u32 at 68: how many blocks there are, at most 2^30.
+    /// InternalNLba, u32 at 68: the number of blocks, at most 2^30.
     pub internal: u32,
-    /// NFree, u32 at 72: how many lanes there are, each with a free block; 1 to 256.
+    /// NFree, u32 at 72: the number of lanes, each with a free block; 1 to 256.
     pub lanes: u32,
     /// DataOff, u64 at 88: the first block.
     pub data_off: u64,
@@ -23,34 +24,35 @@ pub struct Layout {
     pub info_off: u64,
 }
 
-/// Why no arena is planned.
+/// Why no arena can be planned.
 #[derive(Clone, Copy, Debug, PartialEq, Eq)]
 pub enum LayoutFault {
-    /// The sector isn't 512, 520, 528, 4096, 4104, 4160 or 4224 bytes.
+    /// The sector size isn't 512, 520, 528, 4096, 4104, 4160 or 4224 bytes.
     Sector { bytes: u32 },
-    /// There aren't 1 to 256 lanes.
+    /// The number of lanes isn't 1 to 256.
     Free { count: u32 },
-    /// The arena is below 16 MiB.
+    /// The size is below 16 MiB.
     TooSmall { size: u64 },
-    /// The arena is above 512 GiB.
+    /// The size is above 512 GiB.
     TooLarge { size: u64 },
 }
 
-/// The part of the layout relation that an info block breaks.
+/// The part of the layout relation that an info block violates.
 #[derive(Clone, Copy, Debug, PartialEq, Eq)]
 pub enum LayoutField {
     /// ExternalLbaSize isn't one of the seven sector sizes.
     Sector,
-    /// InternalLbaSize isn't a multiple of 64, or is below the sector.
+    /// InternalLbaSize isn't a multiple of 64, or is less than the sector size.
     Inner,
     /// NFree isn't 1 to 256.
     Free,
-    /// There is no sector, or InternalNLba isn't ExternalNLba and NFree, or passes 2^30.
+    /// There is no sector, or InternalNLba isn't ExternalNLba plus NFree, or is above 2^30.
     Blocks,
-    /// InfoSize isn't 4,096, a place isn't a multiple of 4,096, or an area doesn't end before the next.
+    /// InfoSize isn't 4,096, an offset isn't a multiple of 4,096, or an area doesn't end before the
+    /// next one begins.
     Areas,
-    /// The arena isn't 16 MiB to 512 GiB, or passes the namespace's end.
+    /// The arena's size isn't 16 MiB to 512 GiB, or passes the namespace's end.
     Size,
-    /// NextOff is neither 0 nor the arena's end, or no byte follows there.
+    /// NextOff is neither 0 nor the arena's end, or the namespace ends there.
     Next,
 }

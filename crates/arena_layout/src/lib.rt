@@ -1,7 +1,7 @@
-//! The info block of a Block Translation Table arena, and where the arena's areas stand.
+//! The info block of a Block Translation Table arena, and the layout of the arena's areas.
 //!
-//! A namespace of mode sector is cut into arenas, each of which stands for itself. Its first 4,096 bytes are the info
-//! block, its last 4,096 bytes are a backup of it:
+//! A namespace of mode sector is divided into independent arenas. The first 4,096 bytes of an arena
+//! are the info block, the last 4,096 bytes a backup of it:
 //!
 //! ```text
 //!   0        DataOff                      MapOff           FlogOff          InfoOff
@@ -11,17 +11,23 @@
 //!     4,096    internal * inner bytes       4 * external     64 * lanes       4,096
 //! ```
 //!
-//! - A **sector** (external block) has `sector` bytes; a **block** (internal) has `inner` bytes, a multiple of 64.
-//! - There are as many blocks more than sectors as there are **lanes**: each lane owns one free block.
-//! - Offsets count from the arena's first byte. Opening reads the first info block alone (this project's rule).
+//! - A **sector** (external block) has `sector` bytes; a **block** (internal) has `inner` bytes, a
+//!   multiple of 64.
+//! - There are as many more blocks than sectors as there are **lanes**: each lane owns one free
+//!   block.
+//! - Offsets count from the arena's first byte. Opening reads only the first info block (this
+//!   project's rule).
 //!
-//! What holds is stated in `specs/`: `IsLayout` is the relation of the offsets, sums as whole numbers; `StandsFor` says
-//! which 4,096 bytes stand for an [`Info`], and [`read_info`] answers Ok exactly there, else the first failing check of
-//! `info_reading`; `spelling_of` is the one spelling that [`write_info`] writes, which reads back as its info, and
-//! which any readable bytes are that have zeros where a reader looks at nothing; `plan_of` is the layout of a new arena,
-//! Linux's rule, and an `IsLayout` for each size, sector and count of lanes that [`plan`] accepts.
+//! The definitions are in `specs/`. `IsLayout` relates the offsets, with sums that don't wrap.
+//! `StandsFor` says which 4,096 bytes encode an [`Info`]: [`read_info`] returns Ok exactly for
+//! those, else the first failing check of `info_reading`. `spelling_of` is the encoding that
+//! [`write_info`] writes. It reads back as its info, and any readable bytes with zeros in the
+//! ignored places are the encoding of their info. `plan_of` is the layout of a new arena, by
+//! Linux's rule. It is an `IsLayout` for each size, sector size and lane count that [`plan`]
+//! accepts.
 //!
-//! Sources: UEFI 2.10, section 6.2, BTT Info Block; for new arenas Linux, drivers/nvdimm/btt.c, alloc_arena.
+//! Sources: UEFI 2.10, section 6.2, BTT Info Block; for new arenas Linux, drivers/nvdimm/btt.c,
+//! alloc_arena.
 #![tactic(auto)]
 
 mod checks;

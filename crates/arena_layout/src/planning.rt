@@ -4,14 +4,14 @@ ghost use Rattle.arena_layout.specs.Plan.{whole_size, log_size, available_of, in
 
 use crate::layout::{Layout, LayoutFault};
 
-/// The areas are whole pages, and so is an info block.
+/// The areas and the info blocks are whole pages.
 const PAGE: u64 = 4096;
 /// 16 MiB.
 const LEAST_SIZE: u64 = 16 << 20;
 /// 512 GiB.
 const GREATEST_SIZE: u64 = 512 << 30;
 
-/// Whether a sector may have so many bytes.
+/// Returns whether this sector size is supported.
 #[tactic(auto, unfolding(crate::specs::Layout::is_sector))]
 pub(crate) fn is_sector(bytes: u32) -> bool
     ensures { result ≡ is_sector bytes }
@@ -27,7 +27,7 @@ fn is_lane_count(lanes: u32) -> bool
     1 <= lanes && lanes <= 256
 }
 
-/// The bytes of the log.
+/// Returns the size of the log, in bytes.
 #[tactic(auto, unfolding(crate::specs::Plan::log_size))]
 fn log_size(lanes: u32) -> u64
     requires { lanes ≤ 256 }
@@ -37,7 +37,7 @@ fn log_size(lanes: u32) -> u64
     (64 * u64::from(lanes)).div_ceil(PAGE) * PAGE
 }
 
-/// The bytes of the map.
+/// Returns the size of the map, in bytes.
 #[tactic(auto, unfolding(crate::specs::Plan::map_size))]
 fn map_size(external: u32) -> u64
     requires { external ≤ 2 ^ 30 }
@@ -47,7 +47,7 @@ fn map_size(external: u32) -> u64
     (4 * u64::from(external)).div_ceil(PAGE) * PAGE
 }
 
-/// What the info blocks and the log leave to the blocks and the map.
+/// Returns the bytes that are left for the blocks and the map, besides the info blocks and the log.
 #[tactic(auto, unfolding(crate::specs::Plan::available_of, crate::specs::Plan::whole_size))]
 fn available(size: u64, lanes: u32) -> u64
     requires low { least_size ≤ size }
@@ -60,7 +60,7 @@ fn available(size: u64, lanes: u32) -> u64
     size / PAGE * PAGE - 2 * PAGE - log_size(lanes)
 }
 
-/// The bytes of a block.
+/// Returns the size of a block, in bytes.
 #[tactic(auto, unfolding(crate::specs::Plan::inner_of))]
 fn inner_size(sector: u32) -> u32
     requires { IsTrue (is_sector sector) }
@@ -69,7 +69,7 @@ fn inner_size(sector: u32) -> u32
     sector.div_ceil(64) * 64
 }
 
-/// How many blocks fit, each with its map entry.
+/// Returns how many blocks fit, each with its map entry.
 fn internal_blocks(available: u64, sector: u32) -> u32
     requires sector { IsTrue (is_sector sector) }
     requires enough { 16752640 ≤ available }
@@ -129,9 +129,10 @@ fn plan_checked(size: u64, sector: u32, lanes: u32) -> Result<Layout, LayoutFaul
     Ok(laid_out(size, sector, lanes))
 }
 
-/// The layout of a new arena of `size` bytes, rounded down to 4,096, with sectors of `sector` bytes and so many lanes.
+/// Returns the layout of a new arena of `size` bytes, rounded down to a multiple of 4,096, with
+/// sectors of `sector` bytes and `lanes` lanes.
 ///
-/// Refusals, the first that holds: Sector, Free, TooSmall, TooLarge.
+/// It refuses with the first of Sector, Free, TooSmall and TooLarge that applies.
 pub fn plan(size: u64, sector: u32, lanes: u32) -> Result<Layout, LayoutFault>
     ensures plan { result ≡ planned size sector lanes }
     ensures layout { IfOk result IsLayout }

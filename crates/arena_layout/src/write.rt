@@ -9,7 +9,7 @@ use crate::layout::Layout;
 use nvd_words::fletcher64;
 use uuid::Uuid;
 
-/// Puts bytes at a place.
+/// Stores bytes at an offset.
 fn put(into: &mut [u8; 4096], at: usize, bytes: &[u8])
     requires { at + length bytes.now ≤ 4096 }
     ensures front { take (at + length bytes.now) into.new ≡ take at into.old ++ bytes.now }
@@ -52,7 +52,7 @@ fn put_u64(into: &mut [u8; 4096], at: usize, value: u64)
     put(into, at, &value.to_le_bytes());
 }
 
-/// The bytes from 0 to 55: Sig, Uuid, ParentUuid, Flags and the version.
+/// Writes bytes 0 to 55: Sig, Uuid, ParentUuid, Flags and the version.
 fn put_names(into: &mut [u8; 4096], info: &Info)
     ensures uuid_len { length info.now.uuid ≡ 16 }
     ensures parent_len { length info.now.parent ≡ 16 }
@@ -67,7 +67,7 @@ fn put_names(into: &mut [u8; 4096], info: &Info)
     put_u16(into, 54, info.minor);
 }
 
-/// The bytes from 56 to 79: sizes and counts, and the info block's own size.
+/// Writes bytes 56 to 79: sizes and counts, and InfoSize.
 fn put_counts(into: &mut [u8; 4096], layout: &Layout)
     ensures fits { layout.now.inner < 2 ^ 32 }
     ensures front { take 80 into.new ≡ take 56 into.old ++ counts_of layout.now }
@@ -81,7 +81,7 @@ fn put_counts(into: &mut [u8; 4096], layout: &Layout)
     put_u32(into, 76, 4096);
 }
 
-/// The bytes from 80 to 119: where the next arena and the areas stand.
+/// Writes bytes 80 to 119: NextOff and the offsets of the areas.
 fn put_places(into: &mut [u8; 4096], next: u64, layout: &Layout)
     ensures front { take 120 into.new ≡ take 80 into.old ++ places_of next layout.now }
     ensures back { (n : ℕ) → 120 ≤ n → drop n into.new ≡ drop n into.old }
@@ -106,10 +106,10 @@ fn spell(into: &mut [u8; 4096], info: &Info)
     put_u64(into, 4088, sum);
 }
 
-/// Writes the one spelling of an info block: unused bytes are zero, and the checksum is right.
+/// Writes an info block. The unused bytes are zero, and the checksum is correct.
 ///
-/// Conditions: the layout relation holds, `flags` is 0, the version is one that [`read_info`](crate::read_info)
-/// accepts, and `next` is 0 or the arena's size.
+/// The layout relation must hold, `flags` must be 0, the version must be one that
+/// [`read_info`](crate::read_info) accepts, and `next` must be 0 or the arena's size.
 pub fn write_info(into: &mut [u8; 4096], info: &Info)
     requires { IsInfo info.now }
     ensures spelling { into.new ≡ spelling_of info.now }

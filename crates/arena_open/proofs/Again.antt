@@ -1,4 +1,4 @@
--- Recovery that is run again.
+-- Running recovery again.
 use Rattle.std.proofs.Common.{◌≡◌, ℕ, zero, suc, ◌+◌, ◌/◌, List, [], ◌∷◌, length, take, drop, Result, Ok, refl, sym, ap, ◌∙◌, subst, inl, inr, arith}
 use Rattle.std.proofs.Math.ListN.{set}
 use Rattle.std.proofs.lemmas.List.{drop-set-add, drop_all, take_all, take-map}
@@ -18,7 +18,7 @@ use Rattle.arena_open.proofs.Rewritten.{with_rest, opens_next}
 abbrev after_some : Layout → List ℕ → List Half → ℕ → List ℕ
 after_some l words moves k = written_over words (take k (move_writes l words moves))
 
--- with some of the moves made good the others are pending
+-- with some of the moves completed, the others are pending
 pub opens_part : (moves : List Half) (words parent : List ℕ) (opened : Opened) (k : ℕ) → opening words parent ≡ Ok opened → opened.moves ≡ moves
     → opening (after_some opened.info.layout words moves k) parent ≡ Ok (with_rest opened (drop k moves))
 opens_part moves words parent opened zero is listed = is ∙ ap (λ (o : Opened). Ok o) (λ i. with_rest opened (listed i))
@@ -27,7 +27,7 @@ opens_part (half ∷ moves) words parent opened (suc k) is listed =
     opens_part moves (set words (move_write opened.info.layout words half).place (move_write opened.info.layout words half).value) parent (with_rest opened moves) k
     (opens_next words parent opened half moves (parts words parent opened is) listed) refl
 
--- and making these good gives the same words
+-- and completing these yields the same words
 pub ends_same : (moves : List Half) (l : Layout) (words : List ℕ) (k : ℕ)
     → written_over (after_some l words moves k) (move_writes l (after_some l words moves k) (drop k moves)) ≡ written_over words (move_writes l words moves)
 ends_same moves l words zero = refl

@@ -1,4 +1,4 @@
--- What opening answers, and what it leaves.
+-- The result of opening, and the words afterwards.
 use Rattle.std.proofs.Common.{◌≡◌, ◌≢◌, ℕ, Bool, List, [], length, drop, Option, Result, Ok, Err, sym, ap, ◌∙◌, subst}
 use Rattle.nvd_words.specs.Checks.{Answers}
 use Rattle.cut_words.specs.Words.{Words}

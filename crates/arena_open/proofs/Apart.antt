@@ -1,4 +1,4 @@
--- No two places of an arena share a word, and all lie in it.
+-- No two places of an arena share a word, and all lie inside it.
 use Rattle.std.proofs.Common.{◌≡◌, ℕ, ◌+◌, ◌*◌, ◌/◌, ◌%◌, ◌<◌, ◌≤◌, sym, ap, ◌∙◌, inl, inr, arith}
 use Rattle.std.proofs.Math.Nat.{mul-le-mul_left}
 use Rattle.std.proofs.lemmas.Bool.{cases_order}
@@ -6,7 +6,7 @@ use Rattle.arena_layout.specs.declared.layout.Layout.{Layout}
 use Rattle.arena_layout.specs.Layout.{IsLayout}
 use Rattle.arena_open.specs.Places.{Place, info_word, block_word, map_word, log_word, backup_word, IsAt, PlacesApart, PlacesInside}
 
--- ---- where the areas stand, in words
+-- ---- the offsets of the areas, in words
 
 pub record AreOrdered (l : Layout) : Type 0 where
   pub after_info : 512 ≤ l.data_off / 8
@@ -55,7 +55,7 @@ in_backup l ok k i a = (omega (arith, a.is), omega (arith, a.is, a.there, (order
 
 -- ---- apart
 
--- a number has one quotient and one rest
+-- a number has one quotient and one remainder
 pub one_of : (m b k b' k' : ℕ) → k < m → k' < m → b * m + k ≡ b' * m + k' → (b ≡ b') × (k ≡ k')
 one_of m b k b' k' in' in'' same = elim (cases_order b b') [
   | inl e ↦ (e, omega (arith, ap (λ (x : ℕ). x * m) e, same))

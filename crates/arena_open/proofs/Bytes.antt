@@ -22,7 +22,7 @@ further : (a b c d e f g h : ℕ) (bytes : List ℕ) (k : ℕ) → number_at w64
 unfolding number_at
 further a b c d e f g h bytes k = ap (λ (at : ℕ). from_le_bytes w64 (take 8 (drop at (a ∷ b ∷ c ∷ d ∷ e ∷ f ∷ g ∷ h ∷ bytes)))) (eight_more k)
 
--- a word of bytes is the number that stands there
+-- a word of bytes is the number at its offset
 pub word_index : (bytes : List ℕ) (k : ℕ) → k < length (words_in bytes) → get_or (words_in bytes) k 0 ≡ number_at w64 bytes (8 * k)
 unfolding number_at
 word_index [] k lt = absurd (omega arith)

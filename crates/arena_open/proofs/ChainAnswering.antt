@@ -1,4 +1,4 @@
--- What a chain answers, arena by arena, and under a fuse.
+-- The result for a chain, arena by arena, under a fuse.
 use Rattle.std.proofs.Common.{◌≡◌, ℕ, suc, ◌+◌, ◌-◌, ◌*◌, Bool, true, false, List, [], ◌∷◌, ◌++◌, length, map, drop, Option, Some, None, Result, Ok, Err, refl, sym, ap, ◌∙◌, arith}
 use Rattle.std.proofs.lemmas.Bool.{leb-true, le-leb}
 use Rattle.std.proofs.lemmas.List.{length-append}
@@ -81,7 +81,7 @@ module _ (words : List ℕ) (fault : Option OpenRefused) where
       ∙ (λ i. with_states (map (state_at words) links) (states_from (k_is i)
       ((burnt_both fuse (2 * length link.opened.moves) (length (chain_steps words links)) ∙ ap (burnt fuse) (sym c)) i) words fault more)))
 
--- ---- what one arena answered
+-- ---- the result for one arena
 
 pub record Answered (left : Option ℕ) (words : List ℕ) (read : Result Opened OpenRefused) (state : ArenaState) : Type 0 where
   pub opened : Opened

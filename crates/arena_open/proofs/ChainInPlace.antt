@@ -1,4 +1,4 @@
--- Arenas that are read where they lie: what they answer, and their sectors.
+-- Arenas that are read without copying their words: the result, and their sectors.
 use Rattle.std.proofs.Common.{◌≡◌, ◌≢◌, ℕ, ◌+◌, ◌*◌, ◌/◌, ◌%◌, ◌^◌, ◌<◌, ◌≤◌, List, [], ◌∷◌, ◌++◌, length, map, take, drop, get_or, Option, Some, None, Ok, Err, refl, sym, ap, ◌∙◌, subst, arith}
 use Rattle.std.specs.Prelude.{MatchOption, sum_by}
 use Rattle.std.specs.List.{All, slice_get}
@@ -33,7 +33,7 @@ pub record ReadSoFar (words : List ℕ) (first : ℕ) (parent : List ℕ) (at : 
 pub read_starts : (words : List ℕ) (first : ℕ) (parent : List ℕ) → first % 512 ≡ 0 → length words % 512 ≡ 0 → first < length words → ReadSoFar words first parent first []
 read_starts words first parent from to inside = record { joined = refl; inside = omega (arith, from, to, inside); each = All-nil (IsLink words) }
 
--- all of them, with power that stays on
+-- all of them, without a power cut
 states_all : (words : List ℕ) (fault : Option OpenRefused) (links : List Link) → states_from 0 None words fault links ≡ with_states (map (state_at words) links) (end_of (length links) fault)
 states_all words fault links =
     let count : 0 + length links ≡ length links = omega arith in
@@ -120,7 +120,7 @@ lies_in words links sector k own l = record {
     blank [] lt = absurd (omega (arith, lt))
     blank (x ∷ ls) lt = x
 
--- what the search in the arenas says of the states
+-- the search in the arenas, in terms of the states
 pub located : (words : List ℕ) (links slice : List Link) (states : List ArenaState) (sector : ℕ) (o : Option (ℕ × ℕ)) → slice ≡ links → map (state_at words) links ≡ states
     → MatchOption o (sum_by external_in slice ≤ sector) (λ place. LiesInLink slice sector place.0 place.1)
     → MatchOption o (sectors_of states ≤ sector) (λ place. LiesIn states sector place.0 place.1)
@@ -150,7 +150,7 @@ module _ (words : List ℕ) (links : List Link) (states : List ArenaState) (k at
         cell_there states sector k own d (state_of (drop at words) opened) l
         ∙ ap (λ (state : ArenaState). cell_at state.info.layout state.words own) (state_is (state_of (drop at words) opened))
 
--- the link that stands at an index
+-- the link at an index
 pub link_is : (links slice : List Link) (k at : ℕ) (opened : Opened) (link : Link) → slice ≡ links → link ≡ get_or slice k link → record { at = at; opened = opened } ≡ link
     → record { at = at; opened = opened } ≡ get_or links k (record { at = at; opened = opened })
 link_is links slice k at opened link same is view =

@@ -1,4 +1,4 @@
--- Sectors that run on from arena to arena.
+-- Sectors numbered from arena to arena.
 use Rattle.std.proofs.Common.{◌≡◌, ℕ, zero, suc, ◌+◌, ◌^◌, ◌<◌, ◌≤◌, List, [], ◌∷◌, ◌++◌, length, take, get_or, replicate, Some, None, refl, sym, ap, ◌∙◌, arith}
 use Rattle.std.specs.List.{flat_map, slice_get}
 use Rattle.std.proofs.lemmas.List.{get_or_append_left, get_or-append-add, length-append, length-replicate, get_or-replicate}
@@ -20,7 +20,7 @@ few_sectors states k d open' lt =
 sectors_cons : (state : ArenaState) (states : List ArenaState) → sectors_of (state ∷ states) ≡ external_of state + sectors_of states
 sectors_cons state states = sum_by-cons external_of state states
 
--- ---- lists that have so many elements for each arena
+-- ---- lists with so many elements for each arena
 
 module _ {X : Type 0} (part : ArenaState → List X) (count : (state : ArenaState) → length (part state) ≡ external_of state) where
   pub length_parts : (states : List ArenaState) → length (flat_map part states) ≡ sectors_of states

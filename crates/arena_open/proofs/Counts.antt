@@ -1,4 +1,4 @@
--- How many words a format writes, and how many steps it takes.
+-- How many words a format writes, and how many steps it makes.
 use Rattle.std.proofs.Common.{◌≡◌, ℕ, ◌+◌, ◌*◌, ◌/◌, ◌%◌, ◌<◌, ◌≤◌, List, ◌++◌, length, get_or, replicate, refl, ap, ◌∙◌, arith}
 use Rattle.std.specs.Int.{w64, to_le_bytes}
 use Rattle.std.proofs.lemmas.Bool.{lt-ltb, le-ltb}

@@ -1,4 +1,4 @@
--- What a cut leaves of words that are written one after another.
+-- The words after a crash during writes in sequence.
 use Rattle.std.proofs.Common.{◌≡◌, ◌≢◌, ◌⊎◌, ℕ, zero, suc, ◌+◌, ◌/◌, ◌<◌, List, [], ◌∷◌, length, take, get_or, replicate, Option, Some, None, unwrap_or, refl, sym, ap, ◌∙◌, subst, inl, inr, arith}
 use Rattle.std.proofs.Math.ListN.{set}
 use Rattle.std.proofs.lemmas.Bool.{cases_lt, cases_eq}
@@ -12,7 +12,7 @@ left_settled : (old left : List ℕ) → IsLeft (settled old) left → left ≡ 
 left_settled old left cut =
     ext_get_or 0 left old cut.same_length (λ i lt. elim (cut.each i) [ inl e ↦ e | inr e ↦ e ∙ seen_is old i ])
 
--- what a load gives of a word that wasn't stored to
+-- a load of a word that wasn't stored returns its old value
 seen_other : (old : List ℕ) (i v j : ℕ) → j ≢ i → seen_at (stepped (settled old) (store i v)) j ≡ get_or old j 0
 seen_other old i v j other =
     ap (λ (o : Option ℕ). unwrap_or o (get_or old j 0)) (get_or-set_other (replicate {A = Option ℕ} (length old) None) i j (Some v) None other) ∙ seen_is old j
@@ -25,7 +25,7 @@ seen_same old i v lt =
 left_other : (old : List ℕ) (i v : ℕ) (left : List ℕ) → IsLeft (stepped (settled old) (store i v)) left → (j : ℕ) → j ≢ i → get_or left j 0 ≡ get_or old j 0
 left_other old i v left cut j other = elim (cut.each j) [ inl e ↦ e | inr e ↦ e ∙ seen_other old i v j other ]
 
--- a store that wasn't kept
+-- a store that wasn't flushed
 left_stored : (old : List ℕ) (i v : ℕ) (left : List ℕ) → IsLeft (stepped (settled old) (store i v)) left → (left ≡ old) ⊎ (left ≡ set old i v)
 left_stored old i v left cut =
     let as_old : get_or left i 0 ≡ get_or old i 0 → left ≡ old =

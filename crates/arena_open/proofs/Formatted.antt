@@ -1,4 +1,4 @@
--- What stands after a format, from what became of the words.
+-- The arena after a format, from the words' final values.
 use Rattle.std.proofs.Common.{◌≡◌, ℕ, ◌+◌, ◌/◌, ◌≤◌, List, length, drop, Option, Result, Ok, Err, sym, ap, ◌∙◌, subst}
 use Rattle.std.specs.Prelude.{is_ok, OnOk}
 use Rattle.nvd_words.specs.Bytes.{AreBytes}
@@ -17,7 +17,7 @@ use Rattle.arena_open.specs.Format.{area_writes, format_writes, IsNewArena}
 use Rattle.arena_open.proofs.Written.{made_settled}
 use Rattle.arena_open.proofs.New.{new_arena}
 
--- bytes spell an info and read back as it
+-- bytes encode an info and read back as it
 pub record Spells (bytes : List ℕ) (info : Info) : Type 0 where
   pub spelling : bytes ≡ spelling_of info
   pub reads : ReadsBack bytes info

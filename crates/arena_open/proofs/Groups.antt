@@ -1,4 +1,4 @@
--- Reading the lanes of an arena, one after another.
+-- Reading the lanes of an arena one by one.
 use Rattle.std.proofs.Common.{◌≡◌, ℕ, suc, false, ◌+◌, ◌-◌, ◌<◌, ◌≤◌, List, [], ◌∷◌, ◌++◌, Result, Ok, Err, refl, sym, ap, ◌∙◌, append_assoc, arith}
 use Rattle.std.specs.Prelude.{OnOk}
 use Rattle.std.specs.Result.{is_err}
@@ -13,7 +13,7 @@ use Rattle.arena_open.specs.declared.refused.OpenRefused.TheVariants as refused
 use Rattle.arena_open.specs.Places.{group_words}
 use Rattle.arena_open.specs.Reading.{with_group, groups_of, groups_in}
 
--- groups before those that are still to be read
+-- groups in front of those still to be read
 abbrev pub with_front : List Group → Result (List Group) OpenRefused → Result (List Group) OpenRefused
 with_front front (Err fault) = Err fault
 with_front front (Ok groups) = Ok (front ++ groups)
@@ -59,7 +59,7 @@ module _ (l : Layout) (words : List ℕ) where
       sym (was ∙ ap (λ (n : ℕ). with_front front (groups_of l words (range_with_len lane n))) (let e : top - lane ≡ 0 = omega arith in e)
       ∙ ap ok_of (append-nil front))
 
--- what holds where a push succeeded
+-- the clause of a push that succeeded
 pub pushed : {E : Type 0} (r : Result (Unit {0}) E) (P : Type 0) → false ≡ is_err r → OnOk r P → P
 pushed (Ok u) P e holds = holds
 pushed (Err x) P e holds = absurd (let f = e in cc)

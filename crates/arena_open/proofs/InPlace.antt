@@ -1,4 +1,4 @@
--- A sector's cell after all pending moves is that of its entry with these moves, in the words as they stand.
+-- A sector's cell after all pending moves is the cell of its moved entry, in the unchanged words.
 use Rattle.std.proofs.Common.{◌≡◌, ℕ, ◌+◌, ◌*◌, ◌/◌, ◌<◌, ◌≤◌, List, [], ◌∷◌, length, drop, get_or, Ok, refl, sym, ap, ◌∙◌, subst, arith}
 use Rattle.std.proofs.Math.ListN.{set}
 use Rattle.std.proofs.Math.Nat.{mul-le-mul_left}
@@ -23,7 +23,7 @@ use Rattle.arena_open.proofs.Ranges.{map_range}
 use Rattle.arena_open.proofs.Sectors.{sector_block}
 use Rattle.arena_open.proofs.States.{open_state, own_map}
 
--- moves write map words alone
+-- moves write only map words
 below_map : (l : Layout) (words : List ℕ) (moves : List Half) (i : ℕ) → i < l.map_off / 8 → get_or (written_over words (move_writes l words moves)) i 0 ≡ get_or words i 0
 below_map l words [] i lt = refl
 below_map l words (half ∷ halves) i lt =
@@ -66,7 +66,7 @@ module _ (words parent : List ℕ) (opened : Opened) (is : opening words parent 
       get_or-take (opened.info.layout.size / 8) (recovered words opened) (opened.info.layout.data_off / 8 + (b * (opened.info.layout.inner / 8) + k)) 0 (omega (arith, places, here))
       ∙ below_map opened.info.layout words opened.moves (opened.info.layout.data_off / 8 + (b * (opened.info.layout.inner / 8) + k)) here)
 
-  -- the block that a sector has
+  -- the block of a sector
   pub block_in : (sector : ℕ) → sector < opened.info.layout.external → (entry_of (get_or opened.entries sector 0) sector).block < opened.info.layout.internal
   block_in sector lt =
       let state : IsOpenState (state_of words opened) = open_state words parent opened is in

@@ -1,4 +1,4 @@
--- Arenas one behind another in the words of a namespace.
+-- Arenas in sequence in the words of a namespace.
 use Rattle.std.proofs.Common.{◌≡◌, ◌≢◌, ℕ, zero, suc, ◌+◌, ◌*◌, ◌/◌, ◌%◌, ◌<◌, ◌≤◌, List, [], ◌∷◌, ◌++◌, length, take, drop, Option, Some, None, Result, Ok, Err, refl, sym, ap, ◌∙◌, subst, arith}
 use Rattle.std.proofs.lemmas.Bool.{eq-eqb, ne_eqb}
 use Rattle.std.proofs.lemmas.List.{take-take, drop-take, append-nil, length-drop}
@@ -8,14 +8,14 @@ use Rattle.arena_open.specs.Reading.{opening}
 use Rattle.arena_open.specs.Chain.{Link, Links, no_more, with_link, behind_of, linked, chain_within, chain_of}
 use Rattle.arena_open.proofs.Own.{opening_same, Lies, lies}
 
--- the arenas from a word on, each of which opens and names the one behind it; the last one names the end
+-- the arenas from a word on, each of which opens and names the next; the last one names `end`
 abbrev pub Joined : List ℕ → List ℕ → ℕ → List Link → ℕ → Type 0
 Joined words parent at [] end = at ≡ end
 Joined words parent at (link ∷ links) end =
     (link.at ≡ at) × (at ≤ length words) × (opening (drop at words) parent ≡ Ok link.opened) × (link.opened.info.next ≢ 0)
     × Joined words parent (at + link.opened.info.next / 8) links end
 
--- ---- where the end lies
+-- ---- the end
 
 pub record Far (at : ℕ) (links : List Link) (end : ℕ) : Type 0 where
   pub ahead : 2097152 * length links + at ≤ end
@@ -36,7 +36,7 @@ take_part end at k a b same le =
     let front : take (at + k) a ≡ take (at + k) b = sym (take-take (at + k) end a le) ∙ ap (take (at + k)) same ∙ take-take (at + k) end b le in
     sym (drop-take at k a) ∙ ap (drop at) front ∙ drop-take at k b
 
--- words that are the same up to the end have the same arenas
+-- words that are equal up to the end have the same arenas
 pub joined_same : (a b parent : List ℕ) (at : ℕ) (links : List Link) (end : ℕ) → Joined a parent at links end → length b ≡ length a → take end a ≡ take end b
     → Joined b parent at links end
 joined_same a b parent at [] end j count same = j
@@ -105,7 +105,7 @@ reached words parent (suc n) at (link ∷ links) end j enough =
           ∙ (λ i. with_link (record { at = sym j.0 i; opened = link.opened }) (r.is i));
     }
 
--- the chain of a namespace, of which the first arenas are known
+-- the chain of a namespace whose first arenas are known
 module _ (words parent : List ℕ) (first : ℕ) (links : List Link) (end : ℕ) (j : Joined words parent first links end) (inside : end < length words) where
   abbrev r : Reached words parent first links end (length words)
   r = reached words parent (length words) first links end j (omega arith)
@@ -126,7 +126,7 @@ module _ (words parent : List ℕ) (first : ℕ) (links : List Link) (end : ℕ)
       chain_on (record { links = []; refused = Some fault }) (λ n. linked_refused n words parent end fault is)
       ∙ ap (λ (ls : List Link). record { links = ls; refused = Some fault }) (append-nil links)
 
--- an arena that opens, and whatever stands behind it
+-- an arena that opens, and whatever follows it
 pub record Behind (words parent : List ℕ) (first : ℕ) (links : List Link) (end : ℕ) (opened : Opened) : Type 0 where
   pub more : List Link
   pub fault : Option OpenRefused

@@ -28,7 +28,7 @@ use Rattle.arena_open.proofs.Counts.{length_map, length_log, map_index, log_inde
 use Rattle.arena_open.proofs.Runs.{map_run, log_run, backup_run, counted, run_misses, over_misses, over_run}
 use Rattle.arena_open.proofs.Ranges.{map_range, map_map, range-append, map_plus, range_once}
 
--- ---- what the areas hold
+-- ---- the words of the areas
 
 module _ (at : ℕ) (l : Layout) (block old : List ℕ) (ok : IsLayout l) (len : length block ≡ 512) (inside : at + l.size / 8 ≤ length old) where
   abbrev new : List ℕ
@@ -107,13 +107,13 @@ module _ (at : ℕ) (l : Layout) (block old : List ℕ) (ok : IsLayout l) (len :
       ∙ ap (λ (j : ℕ). new_group_word l.external j ((8 * lane + k) % 8)) (let e : (8 * lane + k) / 8 ≡ lane = omega arith in e)
       ∙ ap (new_group_word l.external lane) (let e : (8 * lane + k) % 8 ≡ k = omega arith in e))
 
--- words of a half that names no move, and zeros, stand for it
+-- the words of a half that makes no move, and zeros, are read as it
 group_by : (a b lane block external internal : ℕ) → b / 2 ^ 32 ≡ 1 → a % 2 ^ 32 ≡ lane → a / 2 ^ 32 % 2 ^ 30 ≡ block → b % 2 ^ 30 ≡ block → block < internal
     → group_reading (a ∷ b ∷ 0 ∷ 0 ∷ 0 ∷ 0 ∷ 0 ∷ 0 ∷ []) external internal ≡ Ok (record { side = 0; half = record { lba = lane; old = block; new = block; seq = 1 } })
 unfolding place_of is_padded are_ordered out_of_range current_side first_fault
 group_by a b lane block external internal seq lba old new' inside = rw (seq, lba, old, new', lt-leb internal block inside, eq-eqb block block refl) refl
 
--- the words of a new lane's group stand for its half
+-- the words of a new lane's group are read as its half
 pub group_reads : (external internal lane : ℕ) → lane < 256 → external + lane < internal → internal ≤ 2 ^ 30
     → group_reading (map (new_group_word external lane) (range_with_len 0 8)) external internal ≡ Ok (new_group external lane)
 group_reads external internal lane low inside few =
@@ -188,7 +188,7 @@ all_once l ok =
 
 -- ---- the whole
 
--- an info block that reads back is written
+-- the written info block reads back
 pub new_arena : (at : ℕ) (l : Layout) (uuid parent bytes old : List ℕ) → IsLayout l → at + l.size / 8 ≤ length old → length bytes ≡ 4096 → AreBytes bytes
     → ReadsBack bytes (new_info l uuid parent) → IsNewArena l uuid parent (drop at (written_over old (area_writes at l (words_in bytes))))
 unfolding opening

@@ -1,4 +1,4 @@
--- A pending move that is made good is pending no more, and no other becomes so: each block is named once.
+-- A pending move that is completed is no longer pending, and no other becomes pending: each block is named once.
 use Rattle.std.proofs.Common.{◌≡◌, ◌≢◌, ℕ, zero, suc, ◌+◌, ◌^◌, ◌<◌, ◌≤◌, Bool, true, false, not, cond, eqb, List, [], ◌∷◌, ◌++◌, length, map, get_or, refl, sym, ap, ◌∙◌, subst, inl, inr, arith}
 use Rattle.std.specs.Prelude.{◌&&◌, filter}
 use Rattle.std.specs.List.{All}
@@ -14,7 +14,7 @@ use Rattle.map_table.proofs.Entries.{normal_back}
 use Rattle.map_table.proofs.Counting.{count_of-cons, count_of-append}
 use Rattle.arena_open.specs.Reading.{is_pending, moved}
 
--- ---- lists whose numbers are apart
+-- ---- lists of distinct numbers
 
 abbrev pub Apart : List ℕ → Type 0
 Apart [] = Unit {0}
@@ -59,7 +59,7 @@ pub length_blocks : (sector : ℕ) (entries : List ℕ) → length (blocks_from 
 length_blocks sector [] = refl
 length_blocks sector (e ∷ entries) = ap suc (length_blocks (sector + 1) entries)
 
--- a sector's block is no free one
+-- a sector's block isn't a free one
 pub not_free : (n : ℕ) (entries free : List ℕ) (sector k d : ℕ) → NamesEachOnce n (blocks_of entries free) → sector < length entries → k < length free
     → (entry_of (get_or entries sector 0) sector).block ≢ get_or free k d
 not_free n entries free sector k d once lt lt' same =
@@ -73,14 +73,14 @@ not_free n entries free sector k d once lt lt' same =
     let below : get_or free k d < n = subst (λ (x : ℕ). x < n) (behind (blocks_from 0 entries) free k d) (once.below (length (blocks_from 0 entries) + k) d at') in
     omega (arith, once.once (get_or free k d) below, count_of-append (get_or free k d) (blocks_from 0 entries) free, one', two)
 
--- the free blocks are apart
+-- the free blocks are distinct
 pub free_apart : (n : ℕ) (entries free : List ℕ) → NamesEachOnce n (blocks_of entries free) → Apart free
 free_apart n entries free once =
     apart_once n free (λ k d lt. subst (λ (x : ℕ). x < n) (behind (blocks_from 0 entries) free k d)
     (once.below (length (blocks_from 0 entries) + k) d (omega (arith, length-append (blocks_from 0 entries) free))))
     (λ b lt. omega (arith, once.once b lt, count_of-append b (blocks_from 0 entries) free))
 
--- ---- one move is made
+-- ---- one move is completed
 
 and_false : (b : Bool) → (b && false) ≡ false
 and_false true = refl
@@ -102,7 +102,7 @@ module _ (entries : List ℕ) (half : Half) (inside : half.lba < length entries)
       ap (λ (e : ℕ). (entry_of e half.lba).block) (get_or-set_same entries half.lba (normal_of half.new) 0 inside)
       ∙ ap (λ (e : Entry). e.block) (normal_back half.new half.lba small)
 
-  -- a half for the move's sector names no pending move
+  -- a half for the move's sector isn't pending
   not_here : (other : Half) → other.lba ≡ half.lba → half.new ≢ other.old → is_pending made other ≡ false
   not_here other same apart =
       let b : (entry_of (get_or made other.lba 0) other.lba).block ≡ half.new = ap (λ (s : ℕ). (entry_of (get_or made s 0) s).block) same ∙ made_block in
@@ -110,7 +110,7 @@ module _ (entries : List ℕ) (half : Half) (inside : half.lba < length entries)
       ap (λ (x : ℕ). eqb x other.old) b ∙ ne_eqb half.new other.old apart in
       ap (λ (x : Bool). not (eqb other.old other.new) && x) e ∙ and_false (not (eqb other.old other.new))
 
-  -- a half for another sector names what it named
+  -- a half for another sector is pending as before
   as_before : (other : Half) → other.lba ≢ half.lba → is_pending made other ≡ is_pending entries other
   as_before other apart =
       ap (λ (e : ℕ). not (eqb other.old other.new) && eqb (entry_of e other.lba).block other.old) (get_or-set_other entries half.lba other.lba (normal_of half.new) 0 apart)
@@ -127,7 +127,7 @@ module _ (entries : List ℕ) (half : Half) (inside : half.lba < length entries)
         let p = and_parts (not (eqb half.old half.new)) (eqb (entry_of (get_or entries half.lba 0) half.lba).block half.old) pending in
         eqb-true (entry_of (get_or entries half.lba 0) half.lba).block half.old p.1
 
-    -- of another lane no half is pending for the move's sector
+    -- no other lane's half is pending for the move's sector
     other_sector : (other : Half) → other.old ≢ half.old → is_pending entries other ≡ true → other.lba ≢ half.lba
     other_sector other apart was same =
         let p = and_parts (not (eqb other.old other.new)) (eqb (entry_of (get_or entries other.lba 0) other.lba).block other.old) was in
@@ -147,7 +147,7 @@ module _ (entries : List ℕ) (half : Half) (inside : half.lba < length entries)
       | inr other' ↦ as_before other other'
     ]
 
--- ---- the first of the pending moves is made
+-- ---- the first of the pending moves is completed
 
 abbrev pub olds : List Half → List ℕ
 olds halves = map (λ half. half.old) halves

@@ -1,4 +1,4 @@
--- The parts of an opening.
+-- The parts of opening an arena.
 use Rattle.std.proofs.Common.{◌≡◌, ℕ, ◌+◌, ◌*◌, ◌/◌, ◌≤◌, List, length, drop, Result, Ok, Err, refl, sym, ap, ◌∙◌, subst, arith}
 use Rattle.std.specs.List.{range_with_len}
 use Rattle.std.proofs.lemmas.List.{length-drop}
@@ -41,7 +41,7 @@ opening_map words parent info groups e g = rw (e, g) refl
 pub err_same : {A B : Type 0} (x y : OpenRefused) (r : Result B OpenRefused) (s : Result A OpenRefused) → r ≡ Err x → r ≡ Err y → s ≡ Err x → s ≡ Err y
 err_same x y r s a b c = let e : x ≡ y = cc in c ∙ ap (λ f. Err f) e
 
--- what refuses the lanes refuses the arena
+-- a fault of the lanes is the arena's fault
 pub lanes_refused : (words parent : List ℕ) (info : Info) (r : Result Opened OpenRefused) (lanes : Result (List Group) OpenRefused) (fault : OpenRefused)
     → info_reading (info_bytes words) parent (8 * length words) ≡ Ok info → r ≡ Err fault → Answers refused.OutOfMemory lanes (groups_in info.layout words) → lanes ≡ Err fault
     → Answers refused.OutOfMemory r (opening words parent)
@@ -124,6 +124,6 @@ sound_parts words parent opened p =
 pub sound : (words parent : List ℕ) (opened : Opened) → opening words parent ≡ Ok opened → Sound words parent opened
 sound words parent opened is = sound_parts words parent opened (parts words parent opened is)
 
--- the arena lies in the words
+-- the arena lies inside the words
 pub arena_inside : (kept parent : List ℕ) (at : ℕ) (info : Info) → at ≤ length kept → IsArenaOf parent (8 * length (drop at kept)) info → at + info.layout.size / 8 ≤ length kept
 arena_inside kept parent at info le arena = omega (arith, arena.size_inside, length-drop at kept)

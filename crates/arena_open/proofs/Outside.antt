@@ -1,4 +1,4 @@
--- Recovery of an arena stores into its own words alone.
+-- Recovery of an arena stores only the arena's own words.
 use Rattle.std.proofs.Common.{◌≡◌, ℕ, ◌+◌, ◌/◌, ◌<◌, ◌≤◌, List, [], ◌∷◌, take, drop, Ok, refl, ◌∙◌, arith}
 use Rattle.std.specs.List.{All}
 use Rattle.std.proofs.Math.ListN.{set}

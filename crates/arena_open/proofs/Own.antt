@@ -1,4 +1,4 @@
--- What an arena opens as depends on its own words alone, and on how many words there are.
+-- How an arena opens depends only on its own words, and on the number of words.
 use Rattle.std.proofs.Common.{◌≡◌, ◌≢◌, ℕ, ◌+◌, ◌-◌, ◌*◌, ◌/◌, ◌%◌, ◌<◌, ◌≤◌, List, length, take, drop, Ok, sym, ap, ◌∙◌, inl, inr, arith}
 use Rattle.std.specs.Prelude.{IsTrue, ◌==◌, ◌||◌}
 use Rattle.std.proofs.lemmas.Bool.{cases_eq, ne_eqb}
@@ -34,7 +34,7 @@ opening_same a b parent opened is count same =
     ∙ sym (opening_map a parent opened.info opened.groups p.info_is p.groups_is)
     ∙ is
 
--- ---- where the arena and the next one lie
+-- ---- the place of the arena and of the next one
 
 pub record Lies (count at : ℕ) (opened : Opened) : Type 0 where
   pub whole : opened.info.layout.size % 4096 ≡ 0

@@ -1,4 +1,4 @@
--- Which moves are pending, and that their numbers are the arena's.
+-- Which moves are pending; their numbers are within the arena.
 use Rattle.std.proofs.Common.{◌≡◌, ◌≢◌, ℕ, suc, ◌^◌, ◌<◌, ◌≤◌, Bool, true, false, not, cond, eqb, leb, List, [], ◌∷◌, length, get_or, Option, Some, None, Result, Ok, Err, refl, sym, ap, subst, arith}
 use Rattle.std.specs.Prelude.{◌&&◌}
 use Rattle.std.specs.List.{All}
@@ -18,7 +18,7 @@ use Rattle.arena_open.specs.Places.{group_words}
 use Rattle.arena_open.specs.Halves.{IsMove, IsInRange, AreInRange, AreMoves}
 use Rattle.arena_open.specs.Reading.{with_group, groups_of, is_pending, moves_of}
 
--- ---- what a group that was read says
+-- ---- facts about a group that was read
 
 last_passed : {A F : Type 0} (v w : A) (o p q : Option F) → value_unless v (first_fault (o ∷ p ∷ q ∷ [])) ≡ Ok w → (q ≡ None) × (v ≡ w)
 unfolding first_fault
@@ -113,7 +113,7 @@ moves_by : (n : ℕ) (entries : List ℕ) (group : Group) (groups : List Group) 
 moves_by n entries group groups true e fits others = All-cons (IsMove n) group.half (moves_of entries groups) (fits (pending_differs entries group.half e)) others
 moves_by n entries group groups false e fits others = others
 
--- the numbers of pending moves are the arena's
+-- the numbers of pending moves are within the arena
 pub moves_fit : (n : ℕ) (entries : List ℕ) (groups : List Group) → AreInRange n groups → AreMoves n (moves_of entries groups)
 moves_fit n entries [] fit = All-nil (IsMove n)
 moves_fit n entries (group ∷ groups) fit =

@@ -1,4 +1,4 @@
--- Ranges of numbers, and the numbers that they name.
+-- Ranges of numbers.
 use Rattle.std.proofs.Common.{◌≡◌, ℕ, zero, suc, ◌+◌, ◌<◌, ◌≤◌, List, [], ◌∷◌, ◌++◌, map, refl, ap, ◌∙◌, inl, inr, arith}
 use Rattle.std.specs.List.{range_with_len}
 use Rattle.std.proofs.lemmas.Bool.{eq-eqb, ne_eqb, cases_lt}
@@ -23,7 +23,7 @@ range-append a (suc n) m =
     ap (λ (xs : List ℕ). a ∷ xs) (ap (λ (k : ℕ). range_with_len (a + 1) n ++ range_with_len k m) (let e : a + suc n ≡ a + 1 + n = omega arith in e) ∙ range-append (a + 1) n m)
     ∙ ap (range_with_len a) (let e : suc (n + m) ≡ suc n + m = omega arith in e)
 
--- numbers further on
+-- a shifted range
 pub map_plus : (e a n : ℕ) → map (λ k. e + k) (range_with_len a n) ≡ range_with_len (e + a) n
 map_plus e a zero = refl
 map_plus e a (suc n) =

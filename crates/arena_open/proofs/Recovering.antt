@@ -1,4 +1,4 @@
--- Recovery on a copy of an arena's words, and its answer.
+-- Recovery on a copy of an arena's words, and its result.
 use Rattle.std.proofs.Common.{◌≡◌, ℕ, ◌+◌, ◌*◌, ◌/◌, ◌<◌, Bool, true, false, List, [], ◌∷◌, ◌++◌, length, take, drop, get_or, Option, Ok, Err, refl, sym, ap, ◌∙◌, subst, arith}
 use Rattle.std.proofs.Math.ListN.{set}
 use Rattle.std.proofs.Math.Seq.{take-set-lt}
@@ -49,7 +49,7 @@ moves_taken l words (half ∷ halves) ok fit =
       words_are = ap (λ (ws : List ℕ). written_over ws (move_writes l ws halves)) next ∙ rest.words_are;
     }
 
--- ---- what the copy's moves make
+-- ---- the moves in the copy
 
 module _ (at : ℕ) (words : List ℕ) (opened : Opened) (ok : IsLayout opened.info.layout) (fit : AreMoves opened.info.layout.external opened.moves) where
   writes_by : (copy : List ℕ) (moves : List Half) → copy ≡ take (opened.info.layout.size / 8) words → moves ≡ opened.moves
@@ -83,7 +83,7 @@ module _ (at : ℕ) (words : List ℕ) (opened : Opened) (ok : IsLayout opened.i
       → Ok state ≡ state_if (lasts f (2 * length opened.moves)) words opened
   answers_state w w1 f f1 state a is = rw (lasted w w1 f f1 true a) (ap (λ (s : ArenaState). Ok s) is)
 
--- a vector whose slice was written
+-- a vector after its slice was written
 pub written_back : (n : ℕ) (now old : List ℕ) → n ≡ length old → length now ≡ length old → take n (now ++ drop (length now) old) ≡ now
 written_back n now old len same =
     ap (λ (r : List ℕ). take n (now ++ r)) (drop_all (length now) old (omega (arith, same))) ∙ ap (take n) (append-nil now) ∙ take_all n now (omega (arith, same, len))

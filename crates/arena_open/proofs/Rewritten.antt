@@ -1,4 +1,4 @@
--- An arena one of whose map words is written over: only one entry of the map differs.
+-- Writing one map word of an arena changes only one entry of the map.
 use Rattle.std.proofs.Common.{◌≡◌, ◌≢◌, ℕ, zero, suc, ◌+◌, ◌*◌, ◌/◌, ◌^◌, ◌<◌, ◌≤◌, List, [], ◌∷◌, length, map, get_or, Ok, refl, sym, ap, ◌∙◌, subst, inl, inr, arith}
 use Rattle.std.specs.Prelude.{filter}
 use Rattle.std.specs.List.{All, range_with_len}
@@ -98,7 +98,7 @@ groups_same l words now a (suc n) same fits =
     let rest : groups_of l now (range_with_len (a + 1) n) ≡ groups_of l words (range_with_len (a + 1) n) = groups_same l words now (a + 1) n same (omega arith) in
     λ i. with_group a (here i) (rest i)
 
--- ---- the first pending move is made good
+-- ---- the first pending move is completed
 
 abbrev pub with_rest : Opened → List Half → Opened
 with_rest opened rest = record { info = opened.info; groups = opened.groups; entries = opened.entries; moves = rest }

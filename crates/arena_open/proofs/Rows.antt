@@ -1,4 +1,4 @@
--- Worked rows, computed.
+-- Worked examples, computed on the definitions.
 use Rattle.std.proofs.Common.{◌≡◌, ℕ, ◌+◌, ◌*◌, ◌^◌, true, false, List, [], ◌∷◌, ◌++◌, take, refl}
 use Rattle.arena_layout.specs.declared.layout.Layout.{Layout}
 use Rattle.arena_layout.specs.Plan.{plan_of, available_of, whole_size, log_size, inner_of, internal_of, map_size}
@@ -12,7 +12,7 @@ use Rattle.arena_open.specs.Writes.{Write, write_steps, written_over, run_at}
 use Rattle.arena_open.specs.Format.{format_count}
 use Rattle.arena_open.specs.Reading.{is_pending, moves_of, moved, free_of}
 
--- ---- an arena of 16 MiB, and one of 32 MiB, of sectors of 512 bytes, with 256 lanes
+-- ---- an arena of 16 MiB, and one of 32 MiB, with sectors of 512 bytes and 256 lanes
 
 abbrev small : Layout
 small = plan_of 16777216 512 256
@@ -56,14 +56,14 @@ all_written = refl
 abbrev move : ℕ → ℕ → ℕ → Half
 move lba old new = record { lba = lba; old = old; new = new; seq = 1 }
 
--- entries of each kind for sector 1 that name block 5, and an initial one, which names block 1
+-- entries of each kind for sector 1 with block 5, and an initial one, with block 1
 pub pending_kinds :
     (is_pending (0 ∷ 0xC0000005 ∷ []) (move 1 5 7) ≡ true) × (is_pending (0 ∷ 0x80000005 ∷ []) (move 1 5 7) ≡ true)
     × (is_pending (0 ∷ 0x40000005 ∷ []) (move 1 5 7) ≡ true) × (is_pending (0 ∷ 5 ∷ []) (move 1 1 7) ≡ true) × (is_pending (0 ∷ 5 ∷ []) (move 1 5 7) ≡ false)
 unfolding entry_of
 pending_kinds = (refl, refl, refl, refl, refl)
 
--- a half that names no move, and one that the map shows
+-- a half that makes no move, and one that the map already shows
 pub not_pending : (is_pending (0 ∷ 0xC0000005 ∷ []) (move 1 5 5) ≡ false) × (is_pending (0 ∷ 0xC0000007 ∷ []) (move 1 5 7) ≡ false)
 unfolding entry_of
 not_pending = (refl, refl)

@@ -1,4 +1,4 @@
--- The runs of words that a format writes: they lie in the arena, and apart.
+-- The runs of words that a format writes: they lie inside the arena, and don't overlap.
 use Rattle.std.proofs.Common.{◌≡◌, ◌≢◌, ◌⊎◌, ℕ, zero, suc, ◌+◌, ◌*◌, ◌/◌, ◌<◌, ◌≤◌, Bool, List, [], ◌∷◌, ◌++◌, length, get_or, Option, Some, None, unwrap_or, refl, sym, ap, ◌∙◌, inl, inr, arith}
 use Rattle.std.specs.List.{All}
 use Rattle.std.proofs.Math.ListN.{set}
@@ -25,7 +25,7 @@ log_run at l = run_at (at + l.flog_off / 8) (new_log l.external l.lanes (log_cou
 abbrev pub backup_run : ℕ → Layout → List ℕ → List Write
 backup_run at l block = run_at (at + l.info_off / 8) block
 
--- ---- how many words the areas have
+-- ---- the number of words of the areas
 
 pub record Counted (l : Layout) : Type 0 where
   pub map_is : l.map_off / 8 + map_count l ≡ l.flog_off / 8
@@ -41,7 +41,7 @@ counted l ok = record {
   groups = omega (arith, ok.flog_whole, ok.info_whole, ok.after_flog);
 }
 
--- ---- they lie in the arena
+-- ---- they lie inside the arena
 
 pub map_fits : (at : ℕ) (l : Layout) (n : ℕ) → IsLayout l → at + l.size / 8 ≤ n → at + l.map_off / 8 + length (new_map l.external (map_count l)) ≤ n
 map_fits at l n ok inside = omega (arith, length_map l.external (map_count l), counted l ok, ordered l ok)
@@ -55,9 +55,9 @@ backup_fits at l block n ok len inside = omega (arith, ordered l ok)
 pub info_fits : (at : ℕ) (l : Layout) (block : List ℕ) (n : ℕ) → IsLayout l → length block ≡ 512 → at + l.size / 8 ≤ n → at + length block ≤ n
 info_fits at l block n ok len inside = omega (arith, ordered l ok)
 
--- ---- what a run leaves
+-- ---- the words after a run
 
--- writes pass by a word
+-- writes don't touch a word
 abbrev pub Misses : ℕ → List Write → Type 0
 Misses i writes = All (λ w. w.place ≢ i) writes
 
@@ -84,7 +84,7 @@ over_run old base (v ∷ values) (suc k) fits lt =
     ap (λ (i : ℕ). get_or (written_over (set old base v) (run_at (base + 1) values)) i 0) (let e : base + suc k ≡ base + 1 + k = omega arith in e)
     ∙ over_run (set old base v) (base + 1) values k (omega (arith, length-set old base v)) (omega arith)
 
--- ---- what any number of the steps leaves
+-- ---- the words after any number of the steps
 
 writes_fit : (P : ℕ → Type 0) (i : ℕ) (writes : List Write) → Misses i writes → All (Fits P i) (write_steps writes)
 writes_fit P i [] out = All-nil (Fits P i)
@@ -102,7 +102,7 @@ allowed_all : (P : Step → Type 0) (fuse : Option ℕ) (steps : List Step) → 
 allowed_all P None steps all = all
 allowed_all P (Some n) steps all = All-take P n steps all
 
--- words that the writes pass by are as they were
+-- untouched words have their old values
 pub made_outside : (w w1 : Words) (f f1 : Option ℕ) (writes : List Write) (made : Bool) (i : ℕ) → IsSettled w → Makes w w1 f f1 (write_steps writes) made → Misses i writes
     → (get_or w1.kept i 0 ≡ get_or w.kept i 0) × (get_or w1.stored i None ≡ None)
 made_outside w w1 f f1 writes made i was a out =

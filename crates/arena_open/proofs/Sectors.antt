@@ -1,4 +1,4 @@
--- Where a sector's words stand.
+-- The words of a sector.
 use Rattle.std.proofs.Common.{◌≡◌, ℕ, ◌+◌, ◌*◌, ◌/◌, ◌<◌, ◌≤◌, List, length, take, drop, get_or, sym, ap, ◌∙◌, subst, arith}
 use Rattle.std.proofs.Math.Nat.{mul-le-mul_left}
 use Rattle.std.proofs.lemmas.List.{ext_get_or, length-append, length-drop, length-take-le, get_or_append_left, get_or-take, get_or-drop}
@@ -13,7 +13,7 @@ use Rattle.arena_open.proofs.Apart.{ordered}
 use Rattle.arena_open.proofs.Opening.{length_map}
 use Rattle.arena_open.proofs.OnceMore.{block_index, length_blocks}
 
--- a sector's words lie in its block, and that in the arena
+-- a sector's words lie in its block, and the block in the arena
 pub block_fits : (l : Layout) (b : ℕ) → IsLayout l → b < l.internal → l.data_off / 8 + b * (l.inner / 8) + l.sector / 8 ≤ l.size / 8
 block_fits l b ok lt =
     let up : l.inner / 8 * (b + 1) ≤ l.inner / 8 * l.internal = mul-le-mul_left (l.inner / 8) (let le : b + 1 ≤ l.internal = omega arith in le) in

@@ -1,4 +1,4 @@
--- Opening, after some arenas.
+-- The state of opening after some arenas.
 use Rattle.std.proofs.Common.{◌≡◌, ◌≢◌, ℕ, ◌+◌, ◌*◌, ◌/◌, ◌%◌, ◌<◌, ◌≤◌, Bool, true, false, List, [], ◌∷◌, ◌++◌, length, map, take, drop, Option, Some, None, Result, Ok, Err, refl, sym, ap, ◌∙◌, subst, arith}
 use Rattle.std.specs.List.{All}
 use Rattle.std.proofs.lemmas.Grind.{flat_map-append}
@@ -22,7 +22,7 @@ use Rattle.arena_open.proofs.Outside.{take_over, drop_over, writes_of, writes_in
 use Rattle.arena_open.proofs.Joined.{Joined, Far, far, joined_same, joined_more, Reached, reached, chain_last, chain_refused, Behind, chain_some}
 use Rattle.arena_open.proofs.ChainAnswering.{count_steps, with_states, with_ok, with_err, one_state, one_cut, states_on, Answered, answered, Refusal, broken, cut, refusal}
 
--- what became of the words and of the fuse after the arenas before a word were opened
+-- the words and the fuse after the arenas before a word were opened
 pub record SoFar (old : Words) (fuse : Option ℕ) (first : ℕ) (parent : List ℕ) (now : Words) (left : Option ℕ) (at : ℕ) (states : List ArenaState) : Type 0 where
   pub links : List Link
   pub joined : Joined old.kept parent first links at
@@ -35,7 +35,7 @@ pub record SoFar (old : Words) (fuse : Option ℕ) (first : ℕ) (parent : List 
   pub settled : IsSettled now
   pub states_open : All IsOpenState states
 
--- what the opening of one arena says
+-- the result of opening one arena
 pub record Opens (now new : Words) (left left' : Option ℕ) (at : ℕ) (parent : List ℕ) (state : ArenaState) : Type 0 where
   pub answer : Ok state ≡ open_answer left (drop at now.kept) parent
   pub made : arena.Recovers now new left left' at parent
@@ -67,7 +67,7 @@ steps_more words links link more = flat_map-append (link_steps words) links (lin
 steps_last : (words : List ℕ) (links : List Link) (link : Link) → chain_steps words (links ++ link ∷ []) ≡ chain_steps words links ++ link_steps words link
 steps_last words links link = steps_more words links link [] ∙ ap (λ (s : List Step). chain_steps words links ++ s) (append-nil (link_steps words link))
 
--- the steps of an arena's recovery, by what it opens as
+-- the steps of an arena's recovery, from its decoded contents
 pub made_of : (now new : Words) (left left' : Option ℕ) (at : ℕ) (parent : List ℕ) (opened : Opened) (b : Bool) → opening (drop at now.kept) parent ≡ Ok opened
     → lasts left (2 * length opened.moves) ≡ b → arena.Recovers now new left left' at parent → Makes now new left left' (opened_steps at (drop at now.kept) opened) b
 made_of now new left left' at parent opened b is e made =
@@ -76,7 +76,7 @@ made_of now new left left' at parent opened b is e made =
     subst (λ (x : Bool). Makes now new left left' (opened_steps at (drop at now.kept) opened) x)
     (ap (lasts left) (count_steps now.kept (record { at = at; opened = opened })) ∙ e) m
 
--- what was made of a chain's steps, and whether all were
+-- which of a chain's steps were made, and whether all were
 all_made_by : (old new : Words) (fuse left : Option ℕ) (parent : List ℕ) (first : ℕ) (links : List Link) (fault : Option OpenRefused) (b : Bool)
     → chain_of old.kept parent first ≡ record { links = links; refused = fault } → Makes old new fuse left (chain_steps old.kept links) b → Recovers old new fuse left parent first
 all_made_by old new fuse left parent first links fault b is m =
@@ -84,11 +84,11 @@ all_made_by old new fuse left parent first links fault b is m =
     subst (λ (x : Bool). Makes old new fuse left (chain_steps old.kept links) x) m.all_made m in
     subst (λ (c : Links). Makes old new fuse left (chain_steps old.kept c.links) (lasts fuse (length (chain_steps old.kept c.links)))) (sym is) m'
 
--- ---- one arena more
+-- ---- one more arena
 
 module _ (old : Words) (fuse : Option ℕ) (first : ℕ) (parent : List ℕ) (now : Words) (left : Option ℕ) (at : ℕ) (states : List ArenaState)
     (s : SoFar old fuse first parent now left at states) where
-  -- what stands from here on is as it was
+  -- the words from here on are unchanged
   read_same : opening (drop at now.kept) parent ≡ opening (drop at old.kept) parent
   read_same = ap (λ (ws : List ℕ). opening ws parent) s.rest
 
@@ -120,7 +120,7 @@ module _ (old : Words) (fuse : Option ℕ) (first : ℕ) (parent : List ℕ) (no
   pub few : 2097152 * length states + first ≤ at
   few = omega (arith, count_states, (far old.kept parent first s.links at s.joined).ahead)
 
-  -- what a chain answers that goes on with these arenas
+  -- the result for a chain that continues with these arenas
   states_so : (fault : Option OpenRefused) (more : List Link)
       → states_from 0 fuse old.kept fault (s.links ++ more) ≡ with_states states (states_from (length states) left old.kept fault more)
   states_so fault more =

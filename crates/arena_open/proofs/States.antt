@@ -1,4 +1,4 @@
--- The state that opening gives, and what stands after it.
+-- The state that opening returns, and its properties.
 use Rattle.std.proofs.Common.{◌≡◌, ◌≢◌, ℕ, ◌+◌, ◌*◌, ◌/◌, ◌<◌, Bool, true, false, List, [], ◌∷◌, length, map, take, drop, Option, Result, Ok, Err, refl, sym, ap, ◌∙◌, subst, arith}
 use Rattle.std.specs.Prelude.{is_ok, OnOk, IfOk}
 use Rattle.std.proofs.lemmas.List.{take-take, length-take-le, get_or-take}
@@ -28,7 +28,7 @@ use Rattle.arena_open.proofs.Opening.{Parts, Sound, parts, sound_parts}
 use Rattle.arena_open.proofs.Rewritten.{groups_same}
 use Rattle.arena_open.proofs.Again.{opens_all, drop_shifted}
 
--- ---- the arena's own words say the same
+-- ---- the arena's own words suffice
 
 module _ (l : Layout) (words : List ℕ) (ok : IsLayout l) where
   abbrev pub own : List ℕ
@@ -77,7 +77,7 @@ open_state words parent opened is =
       once = subst (λ (bs : List ℕ). NamesEachOnce opened.info.layout.internal bs) (sym (λ i. blocks_of (entries i) (free_of (back opened.groups i)))) s.once;
     }
 
--- ---- from what was answered
+-- ---- from the result
 
 answered_by : (b : Bool) (words parent : List ℕ) (opened : Opened) (state : ArenaState) → opening words parent ≡ Ok opened → Ok state ≡ state_if b words opened → IsOpenState state
 answered_by true words parent opened state is e =
@@ -90,7 +90,7 @@ pub answered_state : (b : Bool) (words parent : List ℕ) (opened : Opened) (r :
 answered_state b words parent opened (Ok state) is answer = answered_by b words parent opened state is (answer (λ e. cc))
 answered_state b words parent opened (Err f) is answer = tt
 
--- ---- from what was made
+-- ---- from the steps made
 
 ok_same : (x y : Opened) (r : Result Opened OpenRefused) → r ≡ Ok x → r ≡ Ok y → x ≡ y
 ok_same x y r a b = cc

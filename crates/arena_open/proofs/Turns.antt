@@ -1,4 +1,4 @@
--- Moves that are made good, one after another.
+-- Moves that are completed one after another.
 use Rattle.std.proofs.Common.{◌≡◌, ℕ, zero, suc, ◌+◌, ◌/◌, ◌<◌, ◌≤◌, Bool, true, false, List, [], ◌∷◌, length, take, get_or, Option, refl, sym, ap, ◌∙◌, subst, arith}
 use Rattle.std.proofs.Math.ListN.{set}
 use Rattle.std.proofs.lemmas.List.{take_more, take_all, length-map, get_or-map}
@@ -18,7 +18,7 @@ pub length_moves : (l : Layout) (words : List ℕ) (moves : List Half) → lengt
 length_moves l words [] = refl
 length_moves l words (half ∷ halves) = ap suc (length_moves l (set words (move_write l words half).place (move_write l words half).value) halves)
 
--- each move is written over what the moves before it left
+-- each move is written over the result of the moves before it
 pub move_index : (l : Layout) (words : List ℕ) (moves : List Half) (i : ℕ) (d : Half) → i < length moves
     → get_or (move_writes l words moves) i no_write ≡ move_write l (written_over words (take i (move_writes l words moves))) (get_or moves i d)
 move_index l words [] i d lt = absurd (omega arith)
@@ -62,7 +62,7 @@ module _ (l : Layout) (at : ℕ) (words : List ℕ) (moves : List Half) where
   abbrev pub half_at : ℕ → Half
   half_at i = get_or moves i no_half
 
-  -- the word that the loop writes is the one of the list
+  -- the word that the loop writes is that of the list
   pub record Turn (i : ℕ) (now : List ℕ) (lba entry value : ℕ) : Type 0 where
     pub lt : i < length moves
     pub lba_is : lba ≡ (half_at i).lba
@@ -111,6 +111,6 @@ module _ (l : Layout) (at : ℕ) (words : List ℕ) (moves : List Half) where
   pub copy_end : (i : ℕ) (now : List ℕ) → length moves ≤ i → now ≡ so_far i → now ≡ written_over words all_writes
   copy_end i now le same = same ∙ ap (written_over words) (take_all i all_writes (omega (arith, length_moves l words moves)))
 
--- a move's word lies in the arena
+-- a move's word lies inside the arena
 pub move_inside : (l : Layout) (half : Half) → IsLayout l → half.lba < l.external → l.map_off / 8 + half.lba / 2 < l.size / 8
 move_inside l half ok lt = omega (arith, ordered l ok)

@@ -1,4 +1,4 @@
--- Words that are written one after another.
+-- Words that are written in sequence.
 use Rattle.std.proofs.Common.{◌≡◌, ℕ, zero, suc, ◌+◌, ◌*◌, ◌<◌, ◌≤◌, Bool, true, false, List, [], ◌∷◌, ◌++◌, length, take, drop, get_or, replicate, Option, Some, None, unwrap_or, refl, sym, ap, ◌∙◌, subst, inl, inr, arith}
 use Rattle.std.proofs.Math.ListN.{set}
 use Rattle.std.proofs.lemmas.Bool.{cases_lt}
@@ -50,7 +50,7 @@ pub made_clear : (w w1 : Words) (f f1 : Option ℕ) (writes : List Write) (i : �
 made_clear w w1 f f1 writes i was made =
     ap (λ (ws : Words). get_or ws.stored i None) (made_settled w w1 f f1 writes was made) ∙ settled_none (length (written_over w.kept writes)) i
 
--- what was made is settled again
+-- after completed writes no word is pending
 pub made_is_settled : (w w1 : Words) (f f1 : Option ℕ) (writes : List Write) → IsSettled w → Makes w w1 f f1 (write_steps writes) true → IsSettled w1
 made_is_settled w w1 f f1 writes was made =
     let e = made_settled w w1 f f1 writes was made in

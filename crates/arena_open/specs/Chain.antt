@@ -1,5 +1,5 @@
--- The arenas of a namespace: UEFI 2.10, section 6.2 (NextOff of the BTT Info Block) and section 6.3 (BTT theory of operation). That all
--- arenas are opened in order, each one's pending moves made good before the next is read, is this project's rule.
+-- The arenas of a namespace: UEFI 2.10, section 6.2 (NextOff of the BTT Info Block) and section 6.3 (BTT theory of operation). It
+-- is this project's rule to open all arenas in order, and to complete each one's pending moves before the next is read.
 use Rattle.std.specs.Prelude.{◌≡◌, ◌≢◌, ℕ, zero, suc, ◌+◌, ◌*◌, ◌/◌, ◌==◌, true, if◌then◌else◌, List, [], ◌∷◌, length, take, drop, map, Option, Some, None, Result, Ok, Err}
 use Rattle.std.specs.List.{flat_map}
 use Rattle.cut_words.specs.Words.{Words, Step}
@@ -14,34 +14,34 @@ use Rattle.arena_open.specs.declared.chain_refused.ChainRefused.{ChainRefused}
 
 -- ---- the chain in the words of a namespace
 
--- an arena: its first word in the namespace, and what the words from there to the namespace's end stand for
+-- an arena: its first word in the namespace, and its decoded contents
 pub record Link : Type 0 where
   pub at : ℕ
   pub opened : Opened
 
--- the arenas that open, in order, and why the one behind them doesn't, where one doesn't
+-- the arenas that open, in order, and the fault of the next one, if it is refused
 pub record Links : Type 0 where
   pub links : List Link
   pub refused : Option OpenRefused
 
--- no arena more
+-- no more arenas
 abbrev pub no_more : Links
 no_more = record { links = []; refused = None }
 
--- an arena before those behind it
+-- an arena before the rest
 abbrev pub with_link : Link → Links → Links
 with_link link behind = record { links = link ∷ behind.links; refused = behind.refused }
 
--- the next arena begins NextOff bytes behind the start of this one; where NextOff is 0 there is none
+-- the next arena begins NextOff bytes after the start of this one; if NextOff is 0 there is none
 abbrev pub behind_of : Link → (ℕ → Links) → Links
 behind_of link from = if link.opened.info.next == 0 then no_more else from (link.at + link.opened.info.next / 8)
 
--- the arena at a word, and those behind it
+-- the arena at a word, and the rest
 abbrev pub linked : ℕ → Result Opened OpenRefused → (ℕ → Links) → Links
 linked at (Err fault) from = record { links = []; refused = Some fault }
 linked at (Ok opened) from = let link : Link = record { at = at; opened = opened } in with_link link (behind_of link from)
 
--- the arenas from a word on, at most so many
+-- the arenas from a word on, at most n of them
 unfoldable pub chain_within : ℕ → List ℕ → List ℕ → ℕ → Links
 chain_within zero words parent at = no_more
 chain_within (suc n) words parent at = linked at (opening (drop at words) parent) (chain_within n words parent)
@@ -50,7 +50,7 @@ chain_within (suc n) words parent at = linked at (opening (drop at words) parent
 abbrev pub chain_of : List ℕ → List ℕ → ℕ → Links
 chain_of words parent first = chain_within (length words) words parent first
 
--- ---- making the pending moves good
+-- ---- completing the pending moves
 
 -- two steps for each pending move of an arena, in the namespace's words
 abbrev pub link_steps : List ℕ → Link → List Step
@@ -60,18 +60,18 @@ link_steps words link = opened_steps link.at (drop link.at words) link.opened
 abbrev pub chain_steps : List ℕ → List Link → List Step
 chain_steps words links = flat_map (link_steps words) links
 
--- what became of a namespace's words and of a fuse
+-- the effect on a namespace's words and on a fuse
 abbrev pub Recovers : Words → Words → Option ℕ → Option ℕ → List ℕ → ℕ → Type 0
 Recovers old new fuse left parent first =
     let steps = chain_steps old.kept (chain_of old.kept parent first).links in
     Makes old new fuse left steps (lasts fuse (length steps))
 
--- only the moves of the first so many arenas were made good, all of them
+-- only the moves of the first `count` arenas were completed, all of them
 abbrev pub RecoversFirst : ℕ → Words → Words → Option ℕ → Option ℕ → List ℕ → ℕ → Type 0
 RecoversFirst count old new fuse left parent first =
     Makes old new fuse left (chain_steps old.kept (take count (chain_of old.kept parent first).links)) true
 
--- ---- what opening answers
+-- ---- the result of opening
 
 abbrev pub state_at : List ℕ → Link → ArenaState
 state_at words link = state_of (drop link.at words) link.opened
@@ -80,12 +80,13 @@ abbrev pub with_state : ArenaState → Result (List ArenaState) ChainRefused →
 with_state state (Err fault) = Err fault
 with_state state (Ok states) = Ok (state ∷ states)
 
--- behind the last arena that opens stands none, or one that is refused
+-- after the last arena that opens there is none, or one that is refused
 abbrev pub end_of : ℕ → Option OpenRefused → Result (List ArenaState) ChainRefused
 end_of k None = Ok []
 end_of k (Some fault) = Err (record { arena = k; fault = fault })
 
--- arena k and those behind it: the states where the fuse lasts for two steps a move, else a power cut at the first arena where it doesn't
+-- arena k and the rest: the states if the fuse lasts for two steps a move, else a power cut at the first arena for which it
+-- doesn't
 abbrev pub states_from : ℕ → Option ℕ → List ℕ → Option OpenRefused → List Link → Result (List ArenaState) ChainRefused
 states_from k fuse words fault [] = end_of k fault
 states_from k fuse words fault (link ∷ links) =
@@ -93,7 +94,7 @@ states_from k fuse words fault (link ∷ links) =
     then with_state (state_at words link) (states_from (k + 1) (burnt fuse (2 * length link.opened.moves)) words fault links)
     else Err (record { arena = k; fault = open_refused.PowerCut })
 
--- the states of all arenas, or the first that is refused
+-- the states of all arenas, or the first refusal
 abbrev pub chain_answer : Option ℕ → List ℕ → List ℕ → ℕ → Result (List ArenaState) ChainRefused
 chain_answer fuse words parent first = let chain = chain_of words parent first in states_from 0 fuse words chain.refused chain.links
 
@@ -101,11 +102,11 @@ chain_answer fuse words parent first = let chain = chain_of words parent first i
 abbrev pub wants_memory : ℕ → ChainRefused
 wants_memory k = record { arena = k; fault = open_refused.OutOfMemory }
 
--- something else was answered
+-- the result isn't out of memory
 abbrev pub HasMemory : Result (List ArenaState) ChainRefused → Type 0
 HasMemory result = (k : ℕ) → result ≢ Err (wants_memory k)
 
--- ---- what recovery leaves
+-- ---- after recovery
 
 abbrev pub link_made : Link → Link
 link_made link = record { at = link.at; opened = with_all_made link.opened }

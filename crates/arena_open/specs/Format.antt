@@ -1,4 +1,4 @@
--- Formatting an arena: the order is this project's rule. The info block comes last, so that what is cut short is no arena.
+-- Formatting an arena. The order is this project's rule: the info block comes last, so an interrupted format leaves no arena.
 use Rattle.std.specs.Prelude.{◌≡◌, ℕ, ◌+◌, ◌-◌, ◌*◌, ◌/◌, ◌<◌, ◌≤◌, ◌⊎◌, List, [], ◌++◌, length, map, replicate, slice_index, slice_index_or, None, Ok}
 use Rattle.std.specs.List.{range_with_len}
 use Rattle.cut_words.specs.Words.{Words, Step}
@@ -12,14 +12,14 @@ use Rattle.arena_open.specs.declared.cell.Cell.TheVariants as cell
 use Rattle.arena_open.specs.Areas.{new_map, new_log, new_group, new_info}
 use Rattle.arena_open.specs.Reading.{opening, cell_at}
 
--- the words of the map area and of the log area
+-- the number of words of the map area and of the log area
 abbrev pub map_count : Layout → ℕ
 map_count l = (l.flog_off - l.map_off) / 8
 
 abbrev pub log_count : Layout → ℕ
 log_count l = (l.info_off - l.flog_off) / 8
 
--- the map area, the log area, the backup of the info block, the info block, of an arena whose first word is at a place
+-- the map area, the log area, the backup of the info block and the info block, of an arena whose first word is `at`
 abbrev pub area_writes : ℕ → Layout → List ℕ → List Write
 area_writes at l block =
     run_at (at + l.map_off / 8) (new_map l.external (map_count l))
@@ -32,24 +32,24 @@ format_writes at l uuid parent = area_writes at l (words_in (spelling_of (new_in
 abbrev pub format_steps : ℕ → Layout → List ℕ → List ℕ → List Step
 format_steps at l uuid parent = write_steps (format_writes at l uuid parent)
 
--- how many steps it takes: two for each word of the four areas
+-- the number of steps: two for each word of the four areas
 abbrev pub format_count : Layout → ℕ
 format_count l = 2 * (map_count l + log_count l + 1024)
 
--- a word lies in none of the four areas
+-- a word is in none of the four areas
 abbrev pub IsOutside : ℕ → Layout → ℕ → Type 0
 IsOutside at l i =
     ((i < at) ⊎ (at + 512 ≤ i))
     × ((i < at + l.map_off / 8) ⊎ (at + (l.info_off + 4096) / 8 ≤ i))
 
--- words outside the four areas are as they were, and none of them is pending
+-- words outside the four areas have their old values, and none of them is pending
 abbrev pub KeepsOutside : ℕ → Layout → Words → Words → Type 0
 KeepsOutside at l old new =
     (i : ℕ) → IsOutside at l i → (slice_index new.kept i ≡ slice_index old.kept i) × (slice_index_or new.stored i None ≡ None)
 
--- ---- what a new arena is
+-- ---- a new arena
 
--- each sector has the block of its number, each lane one behind them, and no move is pending
+-- each sector has the block of its number, each lane one after them, and no move is pending
 abbrev pub new_opened : Layout → List ℕ → List ℕ → Opened
 new_opened l uuid parent = record {
   info = new_info l uuid parent;

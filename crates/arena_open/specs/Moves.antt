@@ -1,5 +1,5 @@
--- Making pending moves good: UEFI 2.10, section 6.3 (BTT theory of operation, the Flog); that each changed map word is stored and then
--- kept, lane by lane, is this project's rule.
+-- Completing pending moves: UEFI 2.10, section 6.3 (BTT theory of operation, the Flog). It is this project's rule to store and
+-- flush the changed map words lane by lane.
 use Rattle.std.specs.Prelude.{◌≡◌, ℕ, ◌+◌, ◌*◌, ◌/◌, Bool, if◌then◌else◌, length, List, [], ◌∷◌, take, drop, map, slice_set, Option, Result, Ok, Err}
 use Rattle.cut_words.specs.Words.{Words, Step, IsLeftAfter}
 use Rattle.cut_words.specs.Fuses.{Makes, lasts}
@@ -32,11 +32,11 @@ move_writes l words (half ∷ halves) =
     let w = move_write l words half in
     w ∷ move_writes l (slice_set words w.place w.value) halves
 
--- the same writes in a space in which the arena's first word is at a place
+-- the same writes in a space in which `at` is the arena's first word
 abbrev pub shifted : ℕ → List Write → List Write
 shifted at writes = map (λ w. record { place = at + w.place; value = w.value }) writes
 
--- the words of an arena with its pending moves made good
+-- the words of an arena with its pending moves completed
 abbrev pub recovered : List ℕ → Opened → List ℕ
 recovered words opened = written_over words (move_writes opened.info.layout words opened.moves)
 
@@ -44,7 +44,7 @@ recovered words opened = written_over words (move_writes opened.info.layout word
 abbrev pub opened_steps : ℕ → List ℕ → Opened → List Step
 opened_steps at words opened = write_steps (shifted at (move_writes opened.info.layout words opened.moves))
 
--- no step where the arena doesn't open
+-- no steps if the arena doesn't open
 abbrev pub steps_if : ℕ → List ℕ → Result Opened OpenRefused → List Step
 steps_if at words (Err fault) = []
 steps_if at words (Ok opened) = opened_steps at words opened
@@ -52,7 +52,7 @@ steps_if at words (Ok opened) = opened_steps at words opened
 abbrev pub recovery_steps : ℕ → List ℕ → List ℕ → List Step
 recovery_steps at words parent = steps_if at words (opening words parent)
 
--- what became of the words of a space and of a fuse by a recovery
+-- the effect of a recovery on the words of a space and on a fuse
 abbrev pub Recovers : Words → Words → Option ℕ → Option ℕ → ℕ → List ℕ → Type 0
 Recovers old new fuse left at parent =
     let steps = recovery_steps at (drop at old.kept) parent in
@@ -75,15 +75,15 @@ state_of words opened = record {
   made = length opened.moves;
 }
 
--- the words from an arena's first one on stand for this, in some namespace
+-- the words from an arena's first one on open as this one, in some namespace
 abbrev pub IsOpened : List ℕ → Opened → Type 0
 IsOpened words opened = (parent : List ℕ) × (opening words parent ≡ Ok opened)
 
--- how many pending moves were made good
+-- how many pending moves were completed
 abbrev pub moves_made : ArenaState → ℕ
 moves_made state = state.made
 
--- the state where the fuse lasts for two steps a move, else a power cut
+-- the state if the fuse lasts for two steps a move, else a power cut
 abbrev pub state_if : Bool → List ℕ → Opened → Result ArenaState OpenRefused
 state_if lasted words opened = if lasted then Ok (state_of words opened) else Err refused.PowerCut
 
@@ -91,37 +91,37 @@ abbrev pub answer_of : Option ℕ → List ℕ → Result Opened OpenRefused →
 answer_of fuse words (Err fault) = Err fault
 answer_of fuse words (Ok opened) = state_if (lasts fuse (2 * length opened.moves)) words opened
 
--- what opening answers with a fuse
+-- the result of opening with a fuse
 abbrev pub open_answer : Option ℕ → List ℕ → List ℕ → Result ArenaState OpenRefused
 open_answer fuse words parent = answer_of fuse words (opening words parent)
 
--- ---- what recovery leaves
+-- ---- after recovery
 
--- the same arena with some of its moves made good, and the others pending
+-- the same arena with some of its moves completed and the others pending
 abbrev pub with_made : ℕ → Opened → Opened
 with_made k opened = record { info = opened.info; groups = opened.groups; entries = opened.entries; moves = drop k opened.moves }
 
--- the same arena with no move pending
+-- the same arena without pending moves
 abbrev pub with_all_made : Opened → Opened
 with_all_made opened = record { info = opened.info; groups = opened.groups; entries = opened.entries; moves = [] }
 
--- What was left of a recovery opens as the same arena, with the moves pending that weren't made good; making these good gives the
--- same words as one uncut recovery.
+-- The words after a crash during recovery open as the same arena, with the moves pending that weren't completed. Completing these
+-- yields the words of an uninterrupted recovery.
 pub record IsPartRecovered (words parent left : List ℕ) (opened : Opened) : Type 0 where
   pub count : ℕ
   pub opens : opening left parent ≡ Ok (with_made count opened)
   pub ends : recovered left (with_made count opened) ≡ recovered words opened
 
--- a law: recovery that is cut at any step, and run again, gives what one uncut recovery gives
+-- a law: a recovery that is interrupted at any step and run again has the result of an uninterrupted one
 abbrev pub RecoveryAgain : Type 0
 RecoveryAgain = (at : ℕ) (old parent : List ℕ) (opened : Opened) (n : ℕ) (left : List ℕ) → opening (drop at old) parent ≡ Ok opened
     → IsLeftAfter old (recovery_steps at (drop at old) parent) n left → IsPartRecovered (drop at old) parent (drop at left) opened
 
--- after a recovery no move is pending, and all else is as it was found
+-- after a recovery no move is pending, and the arena opens as before otherwise
 abbrev pub OpensAgain : List ℕ → List ℕ → List ℕ → Type 0
 OpensAgain words now parent = (opened : Opened) → opening words parent ≡ Ok opened → opening now parent ≡ Ok (with_all_made opened)
 
--- ---- states as opening gives them
+-- ---- states as opening returns them
 
 abbrev pub groups_of_lanes : List LaneState → List Group
 groups_of_lanes lanes = map (λ lane. lane.group) lanes

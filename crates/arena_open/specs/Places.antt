@@ -1,4 +1,4 @@
--- Which word of an arena is what: UEFI 2.10, section 6.2 (BTT data structures). Words count from the arena's first one.
+-- The words of an arena: UEFI 2.10, section 6.2 (BTT data structures). Words are counted from the arena's first one.
 use Rattle.std.specs.Prelude.{◌≡◌, ℕ, ◌+◌, ◌*◌, ◌/◌, ◌<◌, List, map, slice_index}
 use Rattle.std.specs.List.{range_with_len}
 use Rattle.arena_layout.specs.declared.layout.Layout.{Layout}
@@ -13,7 +13,7 @@ pub data Place : Type 0 where
   log_word : ℕ → ℕ → Place
   backup_word : ℕ → Place
 
--- the places that an arena of a layout has
+-- the places in an arena of this layout
 abbrev pub IsPlace : Layout → Place → Type 0
 IsPlace l (info_word k) = k < 512
 IsPlace l (block_word b k) = (b < l.internal) × (k < l.inner / 8)
@@ -21,7 +21,7 @@ IsPlace l (map_word w) = 2 * w < l.external
 IsPlace l (log_word lane k) = (lane < l.lanes) × (k < 8)
 IsPlace l (backup_word k) = k < 512
 
--- the word that stands at a place
+-- the word at a place
 abbrev pub word_of : Layout → Place → ℕ
 word_of l (info_word k) = k
 word_of l (block_word b k) = l.data_off / 8 + (b * (l.inner / 8) + k)
@@ -29,7 +29,7 @@ word_of l (map_word w) = l.map_off / 8 + w
 word_of l (log_word lane k) = l.flog_off / 8 + (8 * lane + k)
 word_of l (backup_word k) = l.info_off / 8 + k
 
--- a word of an arena is the one at a place
+-- word i of an arena is at this place
 pub record IsAt (l : Layout) (place : Place) (i : ℕ) : Type 0 where
   pub there : IsPlace l place
   pub is : word_of l place ≡ i
@@ -38,16 +38,16 @@ pub record IsAt (l : Layout) (place : Place) (i : ℕ) : Type 0 where
 abbrev pub PlacesApart : Type 0
 PlacesApart = (l : Layout) → IsLayout l → (p q : Place) (i : ℕ) → IsAt l p i → IsAt l q i → p ≡ q
 
--- a law: all places lie in the arena
+-- a law: all places lie inside the arena
 abbrev pub PlacesInside : Type 0
 PlacesInside = (l : Layout) → IsLayout l → (p : Place) (i : ℕ) → IsAt l p i → i < l.size / 8
 
--- ---- what stands there, in the words of an arena
+-- ---- the words at the places
 
 abbrev pub value_at : Layout → List ℕ → Place → ℕ
 value_at l words place = slice_index words (word_of l place)
 
--- so many words of a block, from its first one on
+-- the first `count` words of a block
 abbrev pub block_words : Layout → List ℕ → ℕ → ℕ → List ℕ
 block_words l words b count = map (λ k. value_at l words (block_word b k)) (range_with_len 0 count)
 

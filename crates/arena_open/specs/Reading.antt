@@ -1,5 +1,5 @@
--- What the words of an arena stand for: UEFI 2.10, section 6.3 (BTT theory of operation, opening an arena). The words are those from the
--- arena's first one to the namespace's end.
+-- Decoding the words of an arena: UEFI 2.10, section 6.3 (BTT theory of operation, opening an arena). The words are those from
+-- the arena's first one to the namespace's end.
 use Rattle.std.specs.Prelude.{ℕ, ◌*◌, ◌/◌, ◌==◌, length, Bool, not, ◌&&◌, List, [], ◌∷◌, take, map, filter, replicate, slice_index, slice_set, Result, Ok, Err}
 use Rattle.std.specs.List.{range_with_len}
 use Rattle.cut_words.specs.WordBytes.{bytes_of}
@@ -38,13 +38,13 @@ entry_at l words sector = entry_in (value_at l words (map_word (sector / 2))) se
 abbrev pub map_in : Layout → List ℕ → List ℕ
 map_in l words = map (entry_at l words) (range_with_len 0 l.external)
 
--- a lane's group before those of the lanes after it
+-- a lane's group in front of the other lanes'
 abbrev pub with_group : ℕ → Result Group FlogFault → Result (List Group) OpenRefused → Result (List Group) OpenRefused
 with_group lane (Err fault) others = Err (refused.Flog lane fault)
 with_group lane (Ok group) (Err fault) = Err fault
 with_group lane (Ok group) (Ok groups) = Ok (group ∷ groups)
 
--- the current halves of these lanes, or the first group that breaks the format
+-- the current halves of these lanes, or the first group that violates the format
 abbrev pub groups_of : Layout → List ℕ → List ℕ → Result (List Group) OpenRefused
 groups_of l words [] = Ok []
 groups_of l words (lane ∷ lanes) = with_group lane (group_reading (group_words l words lane) l.external l.internal) (groups_of l words lanes)
@@ -54,15 +54,15 @@ groups_in l words = groups_of l words (range_with_len 0 l.lanes)
 
 -- ---- pending moves
 
--- a half names a move that the map doesn't show: its sector still has the old block, whatever the entry's kind
+-- a half makes a move that the map doesn't show yet: its sector still has the old block, whatever the entry's kind
 abbrev pub is_pending : List ℕ → Half → Bool
 is_pending entries half = not (half.old == half.new) && ((entry_of (slice_index entries half.lba) half.lba).block == half.old)
 
--- the pending moves in order of lanes, all by one map
+-- the pending moves in the order of lanes, all by the same map
 abbrev pub moves_of : List ℕ → List Group → List Half
 moves_of entries groups = filter (is_pending entries) (map (λ group. group.half) groups)
 
--- a map with moves made, one after another: of two moves of one sector the later one counts
+-- a map with moves applied one after another; of two moves of one sector the later one counts
 abbrev pub moved : List ℕ → List Half → List ℕ
 moved entries [] = entries
 moved entries (half ∷ halves) = moved (slice_set entries half.lba (normal_of half.new)) halves
@@ -95,13 +95,13 @@ abbrev pub on_info : List ℕ → Result Info InfoFault → Result Opened OpenRe
 on_info words (Err fault) = Err (refused.Info fault)
 on_info words (Ok info) = on_groups words info (groups_in info.layout words)
 
--- what the words from an arena's first one on stand for in a namespace, or the first check that fails
+-- the decoded arena, or the first check that fails
 unfoldable pub opening : List ℕ → List ℕ → Result Opened OpenRefused
 opening words parent = on_info words (info_reading (info_bytes words) parent (8 * length words))
 
 -- ---- cells
 
--- what a sector's entry gives: zeros, nothing that can be read, or the first words of its block
+-- the cell of a sector's entry: zeros, bad, or the first words of its block
 abbrev pub cell_by : Layout → List ℕ → Kind → ℕ → Cell
 cell_by l words kind.Zero block = cell.Bytes (replicate (l.sector / 8) 0)
 cell_by l words kind.Bad block = cell.Bad

@@ -1,8 +1,8 @@
--- Words that are written one after another, each stored and then kept before the next one: this project's rule.
+-- Words that are written in sequence, each stored and flushed before the next: this project's rule.
 use Rattle.std.specs.Prelude.{◌≡◌, ◌⊎◌, ℕ, ◌+◌, ◌/◌, List, [], ◌∷◌, take, slice_set}
 use Rattle.cut_words.specs.Words.{Words, Step, store, keep, after, settled, IsLeftAfter}
 
--- a word, and the value that it gets
+-- a word and its new value
 pub record Write : Type 0 where
   pub place : ℕ
   pub value : ℕ
@@ -12,12 +12,12 @@ abbrev pub write_steps : List Write → List Step
 write_steps [] = []
 write_steps (w ∷ writes) = store w.place w.value ∷ keep w.place ∷ write_steps writes
 
--- words with these values in their places
+-- words with these values written
 abbrev pub written_over : List ℕ → List Write → List ℕ
 written_over words [] = words
 written_over words (w ∷ writes) = written_over (slice_set words w.place w.value) writes
 
--- values for the words from one on
+-- writes of these values from `base` on
 abbrev pub run_at : ℕ → List ℕ → List Write
 run_at base [] = []
 run_at base (v ∷ values) = record { place = base; value = v } ∷ run_at (base + 1) values
@@ -26,11 +26,12 @@ run_at base (v ∷ values) = record { place = base; value = v } ∷ run_at (base
 abbrev pub IsSettled : Words → Type 0
 IsSettled words = words ≡ settled words.kept
 
--- a law: after all steps none is pending, and each word has the value that was last written there, or its old one
+-- a law: after all steps no word is pending, and each has the value that was last written, or its old one
 abbrev pub WritesSettle : Type 0
 WritesSettle = (old : List ℕ) (writes : List Write) → after (settled old) (write_steps writes) ≡ settled (written_over old writes)
 
--- a law: a cut after n steps leaves the writes that n steps finish; the next one stands or not where its store was made
+-- a law: after a crash that follows n steps, the writes whose two steps were made are done; if the next one was stored, it may be
+-- done too
 abbrev pub WritesAreCut : Type 0
 WritesAreCut = (old : List ℕ) (writes : List Write) (n : ℕ) (left : List ℕ) → IsLeftAfter old (write_steps writes) n left
     → (left ≡ written_over old (take (n / 2) writes)) ⊎ (left ≡ written_over old (take (n / 2 + 1) writes))

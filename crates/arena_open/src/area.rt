@@ -9,32 +9,33 @@ use cut_words::{Fuse, PowerCut, WordSpace, write_word};
 use map_table::zero;
 use nvd_words::word_at;
 
-/// The words of an area, by number.
+/// The words of an area, by index.
 pub(crate) trait Area {
     ghost values: { Self → List ℕ };
 
     ghost sound: { Self → Type 0 };
 
-    /// How many there are.
+    /// Returns how many there are.
     fn count(&self) -> u64
         requires { sound self.now }
         ensures { result ≡ length (values self.now) };
 
-    /// One of them.
+    /// Returns one of them.
     fn word(&self, i: u64) -> u64
         requires sound { sound self.now }
         requires inside { i < length (values self.now) }
         ensures { result ≡ slice_index (values self.now) i };
 }
 
-/// The map area, of so many words: each sector's entry is Zero and has the block of its number.
+/// The map area, `count` words: each sector's entry is Zero and has the block of its own number.
 #[derive(Drop)]
 pub(crate) struct NewMap {
     pub external: u32,
     pub count: u64,
 }
 
-/// The log area, of so many words: each lane has the block of its number behind the sectors' blocks.
+/// The log area, `count` words: each lane has the block of its own number after the sectors'
+/// blocks.
 #[derive(Drop)]
 pub(crate) struct NewLog {
     pub external: u32,
@@ -75,7 +76,7 @@ impl Area for NewMap {
     }
 }
 
-/// Word k of a lane's group.
+/// Returns word k of a lane's group.
 fn new_group_word(external: u32, lane: u32, k: u64) -> u64
     requires external { external ≤ 2 ^ 30 }
     requires lane { lane < 256 }
@@ -121,10 +122,10 @@ impl Area for InfoBlock {
     }
 }
 
-/// Writes the words of an area from a place on, each stored and then kept before the next one.
+/// Writes the words of an area from `base` on. It stores and flushes each word before the next one.
 ///
-/// No word of the space is pending. `PowerCut` comes exactly where the fuse has fewer steps left than two for each
-/// word, and then as many were made as there were.
+/// No word of the space may be pending. It returns `PowerCut` exactly if fewer steps are left than
+/// two for each word. Then it has made as many as there were.
 pub(crate) fn write_area<W: WordSpace, A: Area>(
     space: &mut W,
     fuse: &mut Fuse,

@@ -11,10 +11,10 @@ use arena_layout::Layout;
 use map_table::{Entry, Kind, entry, entry_in};
 use nvd_words::Items;
 
-/// What a sector holds.
+/// The contents of a sector.
 #[derive(Debug, Drop)]
 pub enum Cell {
-    /// The sector's bytes, in words of eight; zeros too.
+    /// The sector's bytes as 64-bit words, also if they are all zero.
     Bytes(Items<u64>),
     /// The sector can't be read.
     Bad,
@@ -23,13 +23,13 @@ pub enum Cell {
 /// Whether a sector can be read.
 #[derive(Clone, Copy, Debug, PartialEq, Eq)]
 pub enum CellKind {
-    /// It holds bytes; zeros too.
+    /// It has bytes.
     Bytes,
     /// It can't be read.
     Bad,
 }
 
-/// The entry of a sector in the words of an arena.
+/// Returns the entry of a sector in the words of an arena.
 fn sector_entry(words: &[u64], layout: &Layout, sector: u32) -> Entry
     requires layout { IsLayout layout.now }
     requires sector { sector < layout.now.external }
@@ -46,7 +46,7 @@ pub(crate) fn put_zeros(into: &mut [u64])
     into.fill(0);
 }
 
-/// So many words from a place on.
+/// Returns `count` words from `first` on.
 fn words_at(words: &[u64], first: u64, count: usize) -> &[u64]
     requires { first + count ≤ length words.now }
     ensures value { result.now ≡ take count (drop first words.now) }
@@ -56,7 +56,7 @@ fn words_at(words: &[u64], first: u64, count: usize) -> &[u64]
     &words[first..first + count]
 }
 
-/// The first words of a block.
+/// Copies the first words of a block.
 fn copy_block(words: &[u64], layout: &Layout, block: u32, into: &mut [u64])
     requires layout { IsLayout layout.now }
     requires block { block < layout.now.internal }
@@ -68,7 +68,7 @@ fn copy_block(words: &[u64], layout: &Layout, block: u32, into: &mut [u64])
     into.copy_from_slice(words_at(words, first, into.len()));
 }
 
-/// What an entry gives.
+/// Copies the cell of an entry.
 fn read_cell(words: &[u64], layout: &Layout, entry: Entry, into: &mut [u64]) -> CellKind
     requires layout { IsLayout layout.now }
     requires block { entry.block < layout.now.internal }
@@ -93,13 +93,13 @@ fn read_cell(words: &[u64], layout: &Layout, entry: Entry, into: &mut [u64]) -> 
     }
 }
 
-/// Reads a sector's cell: its words go into `into`, which is left as it was where the cell is bad.
+/// Reads a sector's cell into `into`, which is unchanged if the cell is bad.
 ///
-/// A sector reads as zeros where its entry says so; an initial entry's block has the sector's own number, and its bytes
-/// count as they stand (this project's rule).
+/// A sector reads as zeros if its entry says so. An initial entry's block has the sector's own
+/// number, and the sector has its bytes (this project's rule).
 ///
-/// Conditions: the state is as [`open_arena`](crate::open_arena) gives it, the sector is there, and `into` has as many
-/// words as a sector.
+/// The state must be as [`open_arena`](crate::open_arena) returns it, the sector must exist, and
+/// `into` must have as many words as a sector.
 pub fn cell_of(state: &ArenaState, sector: u32, into: &mut [u64]) -> CellKind
     requires state { IsOpenState state.now }
     requires sector { sector < state.now.info.layout.external }

@@ -9,7 +9,8 @@ use crate::{ArenaState, CellKind, cell_of};
 use nvd_words::Items;
 use std::marker::Model;
 
-/// The arenas of a namespace, in order, opened and with no move pending. Contracts see the list of their states.
+/// The arenas of a namespace, in order, opened and without pending moves. Contracts see the list of
+/// their states.
 #[derive(Debug, Drop)]
 pub struct Chain {
     arenas: Items<ArenaState>,
@@ -35,7 +36,7 @@ impl Chain {
         Chain { arenas }
     }
 
-    /// The arenas, in order.
+    /// Returns the arenas, in order.
     pub fn arenas(&self) -> &[ArenaState]
         ensures value { result.now ≡ self.now }
         ensures open { AreOpen result.now }
@@ -43,7 +44,7 @@ impl Chain {
         self.arenas.as_slice()
     }
 
-    /// How many sectors all arenas have together.
+    /// Returns the number of sectors in all arenas together.
     pub fn sectors(&self) -> u64
         ensures { result ≡ sectors_of self.now }
     {
@@ -54,8 +55,8 @@ impl Chain {
         count
     }
 
-    /// The arena in which a sector of the namespace lies, and which of the arena's sectors it is. `None` comes exactly
-    /// where the namespace has no such sector.
+    /// Returns the arena of a sector of the namespace, and the sector's number in this arena. It
+    /// returns `None` exactly if the namespace has no such sector.
     pub fn locate(&self, sector: u64) -> Option<(usize, u32)>
         ensures { MatchOption result (sectors_of self.now ≤ sector) (λ place. LiesIn self.now sector place.0 place.1) }
     {
@@ -70,8 +71,8 @@ impl Chain {
         None
     }
 
-    /// How many bytes a sector has: the size of its arena's sectors. `None` comes exactly where the namespace has no such
-    /// sector.
+    /// Returns the size of a sector in bytes, that of its arena's sectors. It returns `None`
+    /// exactly if the namespace has no such sector.
     pub fn sector_size(&self, sector: u64) -> Option<u32>
         ensures { result ≡ slice_get (sizes_of self.now) sector }
     {
@@ -81,9 +82,9 @@ impl Chain {
         }
     }
 
-    /// Reads a sector's cell: its words go into `into`, which is left as it was where the cell is bad.
+    /// Reads a sector's cell into `into`, which is unchanged if the cell is bad.
     ///
-    /// Conditions: the namespace has the sector, and `into` has as many words as it.
+    /// The namespace must have the sector, and `into` must have as many words as the sector.
     pub fn read(&self, sector: u64, into: &mut [u64]) -> CellKind
         requires there { sector < sectors_of self.now }
         requires room { length into.old ≡ slice_index (sizes_of self.now) sector / 8 }

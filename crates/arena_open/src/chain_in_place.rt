@@ -1,4 +1,4 @@
-//! The arenas of a namespace, read where they lie.
+//! The arenas of a namespace, read without copying their words.
 ghost use Rattle.std.specs.Prelude.{◌≡◌, ◌+◌, ◌/◌, ◌%◌, ◌^◌, ◌<◌, ◌≤◌, None, MatchOption, length, map, slice_index, slice_index_or, sum_by};
 ghost use Rattle.std.specs.List.{All, HoldsAt, slice_get};
 ghost use Rattle.arena_open.specs.declared.cell.Cell.TheVariants.{Bad as bad_cell};
@@ -18,7 +18,7 @@ use std::alloc::Global;
 use std::marker::Model;
 use uuid::Uuid;
 
-/// An arena where it lies in a namespace's words: the word with which it begins, and what it stands for.
+/// An arena in a namespace's words: its first word, and what was read of it.
 #[derive(Debug, Drop)]
 pub(crate) struct ArenaAt {
     at: u64,
@@ -33,8 +33,9 @@ impl Model for ArenaAt {
     ghost view = { λ arena. record { at = arena.at; opened = arena.opened } };
 }
 
-/// The arenas of a namespace, in order, read where they lie: no word of them was copied, and none stored to. Contracts see the
-/// list of their states with all pending moves made good, as those of a [`Chain`](crate::Chain).
+/// The arenas of a namespace, in order, without a copy of their words and without a store.
+/// Contracts see the list of their states with all pending moves completed, as for a
+/// [`Chain`](crate::Chain).
 #[derive(Drop)]
 pub struct ReadChain<W: WordSpace> {
     space: W,
@@ -54,7 +55,7 @@ impl<W: WordSpace> Model for ReadChain<W> {
     ghost invariant = { λ chain. AreRead (W.words chain.space) chain.arenas };
 }
 
-/// How many sectors arenas have together.
+/// Returns the number of sectors in these arenas together.
 fn sectors_in(arenas: &[ArenaAt]) -> u64
     requires { IsFew arenas.now }
     ensures { result ≡ sum_by external_in arenas.now }
@@ -66,7 +67,7 @@ fn sectors_in(arenas: &[ArenaAt]) -> u64
     count
 }
 
-/// The arena in which a sector of all of them lies, and which of the arena's sectors it is.
+/// Returns the arena of a sector, and the sector's number in this arena.
 fn locate_in(arenas: &[ArenaAt], sector: u64) -> Option<(usize, u32)>
     ensures { MatchOption result (sum_by external_in arenas.now ≤ sector) (λ place. LiesInLink arenas.now sector place.0 place.1) }
 {
@@ -89,14 +90,14 @@ impl<W: WordSpace> ReadChain<W> {
         ReadChain { space, arenas }
     }
 
-    /// How many arenas there are.
+    /// Returns the number of arenas.
     pub fn len(&self) -> usize
         ensures { result ≡ length self.now }
     {
         self.arenas.len()
     }
 
-    /// What the info block of an arena says. The arena is there.
+    /// Returns the info of an arena, which must exist.
     pub fn info(&self, k: usize) -> &Info
         requires { k < length self.now }
         ensures { HoldsAt (λ state. result.now ≡ state.info) self.now k }
@@ -105,7 +106,7 @@ impl<W: WordSpace> ReadChain<W> {
         &arena.opened.info
     }
 
-    /// How many moves are pending in the words of an arena. The arena is there.
+    /// Returns the number of moves that are pending in the words of an arena, which must exist.
     pub fn moves(&self, k: usize) -> u32
         requires { k < length self.now }
         ensures { HoldsAt (λ state. result ≡ moves_made state) self.now k }
@@ -114,23 +115,23 @@ impl<W: WordSpace> ReadChain<W> {
         arena.opened.moves.len() as u32
     }
 
-    /// How many sectors all arenas have together.
+    /// Returns the number of sectors in all arenas together.
     pub fn sectors(&self) -> u64
         ensures { result ≡ sectors_of self.now }
     {
         sectors_in(self.arenas.as_slice())
     }
 
-    /// The arena in which a sector of the namespace lies, and which of the arena's sectors it is. `None` comes exactly
-    /// where the namespace has no such sector.
+    /// Returns the arena of a sector of the namespace, and the sector's number in this arena. It
+    /// returns `None` exactly if the namespace has no such sector.
     pub fn locate(&self, sector: u64) -> Option<(usize, u32)>
         ensures { MatchOption result (sectors_of self.now ≤ sector) (λ place. LiesIn self.now sector place.0 place.1) }
     {
         locate_in(self.arenas.as_slice(), sector)
     }
 
-    /// How many bytes a sector has: the size of its arena's sectors. `None` comes exactly where the namespace has no such
-    /// sector.
+    /// Returns the size of a sector in bytes, that of its arena's sectors. It returns `None`
+    /// exactly if the namespace has no such sector.
     pub fn sector_size(&self, sector: u64) -> Option<u32>
         ensures { result ≡ slice_get (sizes_of self.now) sector }
     {
@@ -140,10 +141,10 @@ impl<W: WordSpace> ReadChain<W> {
         }
     }
 
-    /// Reads a sector's cell from the words of the namespace: its words go into `into`, which is left as it was where the
-    /// cell is bad.
+    /// Reads a sector's cell from the namespace's words into `into`, which is unchanged if the cell
+    /// is bad.
     ///
-    /// Conditions: the namespace has the sector, and `into` has as many words as it.
+    /// The namespace must have the sector, and `into` must have as many words as the sector.
     pub fn read(&self, sector: u64, into: &mut [u64]) -> CellKind
         requires there { sector < sectors_of self.now }
         requires room { length into.old ≡ slice_index (sizes_of self.now) sector / 8 }
@@ -159,14 +160,15 @@ impl<W: WordSpace> ReadChain<W> {
     }
 }
 
-/// Reads the arenas of a namespace whose first arena begins at word `first`, in order, where they lie. What is pending is made
-/// good in the maps that are held in memory; nothing is stored, and no word is copied.
+/// Reads the arenas of a namespace, in order; the first one begins at word `first`. It completes
+/// pending moves only in the maps in memory: it stores no word of the space, and copies none.
 ///
-/// Conditions: `first` and the count of the words are multiples of 512, so that the info block of each arena that is named
-/// lies in the namespace; `first` is a word of the space, which has at most 2^52 words, and none of them is pending.
+/// `first` and the number of words must be multiples of 512, so that each arena's info block lies
+/// in the namespace. `first` must be a word of the space. The space may have at most 2^52 words,
+/// none of them pending.
 ///
-/// The answer is that of [`open_chain`](crate::open_chain) with power that stays on: the arenas, or the first that isn't
-/// opened, by its number in the chain. OutOfMemory may come in place of any answer.
+/// The result is that of [`open_chain`](crate::open_chain) without a power cut: the arenas, or the
+/// first one that is refused, by its number in the chain. `OutOfMemory` may replace any result.
 pub fn read_chain<W: WordSpace + Drop>(
     alloc: Global,
     space: W,

@@ -10,17 +10,19 @@ use nvd_words::Items;
 use std::alloc::Global;
 use uuid::Uuid;
 
-/// Opens the arenas of a namespace whose first arena begins at word `first`, in order, and makes the pending moves of
-/// each good before the next is read.
+/// Opens the arenas of a namespace, in order; the first one begins at word `first`. It completes
+/// the pending moves of each arena before it reads the next.
 ///
-/// Conditions: `first` and the count of the words are multiples of 512, so that the info block of each arena that is named
-/// lies in the namespace; `first` is a word of the space, which has at most 2^52 words, and none of them is pending.
+/// `first` and the number of words must be multiples of 512, so that each arena's info block lies
+/// in the namespace. `first` must be a word of the space. The space may have at most 2^52 words,
+/// none of them pending.
 ///
-/// Refusals name the first arena that isn't opened, by its number in the chain. Info, Flog and Block come exactly where its
-/// words break the format; PowerCut exactly where the fuse has fewer steps left than two for each of its pending moves.
-/// Then the pending moves of the arenas before it were made good, and of a cut arena's moves as many steps as there were.
-/// OutOfMemory may come in place of any answer, and then exactly the moves of the arenas before were made good. After Ok no
-/// word is pending, and the same arenas open again, with no move pending.
+/// A refusal names the first arena that isn't opened, by its number in the chain. `Info`, `Flog`
+/// and `Block` mean that its words violate the format. `PowerCut` means that fewer steps were left
+/// than two for each of its pending moves. Until a refusal, the pending moves of the arenas before
+/// it were completed; at a power cut, also as many steps of this arena's moves as there were.
+/// `OutOfMemory` may replace any result; then exactly the moves of the arenas before were
+/// completed. After Ok no word is pending, and the same arenas open again, without pending moves.
 pub fn open_chain<W: WordSpace>(
     alloc: Global,
     space: &mut W,

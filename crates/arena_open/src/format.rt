@@ -15,7 +15,7 @@ use arena_layout::{Info, Layout, write_info};
 use cut_words::{Fuse, PowerCut, WordSpace};
 use uuid::Uuid;
 
-/// What the info block of a new arena says: version 2.0, no flag, and no arena after it.
+/// Returns the info of a new arena: version 2.0, no flags, and no next arena.
 fn new_info(layout: &Layout, uuid: &Uuid, parent: &Uuid) -> Info
     requires { IsLayout layout.now }
     ensures info { result ≡ new_info layout.now uuid.now parent.now }
@@ -32,7 +32,7 @@ fn new_info(layout: &Layout, uuid: &Uuid, parent: &Uuid) -> Info
     }
 }
 
-/// What the type says of a block, as clauses. Nothing is done here: `prove!` costs nothing when it runs.
+/// States the bounds of the type as clauses. It does nothing at run time.
 fn know_bytes(block: &[u8; 4096])
     ensures count { length block.now ≡ 4096 }
     ensures fit { AreBytes block.now }
@@ -40,7 +40,7 @@ fn know_bytes(block: &[u8; 4096])
     prove!(block[0] <= u8::MAX);
 }
 
-/// The info block that says this.
+/// Returns the info block with this info.
 fn info_block(info: &Info) -> InfoBlock
     requires { IsInfo info.now }
     ensures spelling { result.bytes ≡ spelling_of info.now }
@@ -85,14 +85,14 @@ fn write_areas<W: WordSpace>(
     write_area(space, fuse, at, block)
 }
 
-/// Formats an arena of a layout whose first word is `at`: writes its map, its log, the backup of its info block and its
-/// info block, in this order, each word stored and then kept before the next one.
+/// Formats an arena whose first word is `at`: writes its map, its log, the backup of its info
+/// block, and its info block, in this order. It stores and flushes each word before the next one.
 ///
-/// Conditions: the layout relation holds, the arena's bytes (`size` of the layout) lie in the space from word `at` on, and
-/// no word of the space is pending. `PowerCut` comes exactly where the fuse has fewer steps left than two for each word
-/// of these areas, and then as many were made as there were. No other word is stored to. After `Ok` no word is pending,
-/// and the arena opens: every sector reads as zeros, the sectors' blocks have their own numbers, lane l's free block is
-/// the one of number `external + l`, and no move is pending.
+/// The layout relation must hold, the arena (`size` bytes) must lie in the space from word `at` on,
+/// and no word of the space may be pending. It returns `PowerCut` exactly if fewer steps are left
+/// than two for each word of these areas. Then it has made as many as there were. No other word is
+/// stored. After `Ok` no word is pending, and the arena opens: every sector reads as zeros and has
+/// the block of its own number, lane l's free block is `external + l`, and no move is pending.
 pub fn format_arena<W: WordSpace>(
     space: &mut W,
     fuse: &mut Fuse,

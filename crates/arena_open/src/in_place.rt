@@ -1,4 +1,4 @@
-//! A sector of an arena that is read where it lies: no word of the arena is copied, and none is stored to.
+//! Reads a sector of an arena without copying the arena's words.
 ghost use Rattle.std.specs.Prelude.{◌≡◌, ℕ, ◌+◌, ◌*◌, ◌/◌, ◌^◌, ◌<◌, ◌≤◌, length, drop, slice_index};
 ghost use Rattle.arena_layout.specs.Layout.{IsLayout};
 ghost use Rattle.arena_open.specs.Places.{block_words};
@@ -13,7 +13,7 @@ use arena_layout::Layout;
 use cut_words::WordSpace;
 use map_table::{Entry, Kind, entry};
 
-/// The words of a space from a place on.
+/// Loads words of a space from `first` on.
 fn load_words<W: WordSpace>(space: &W, first: u64, into: &mut [u64])
     requires inside { first + length into.old ≤ length (W.words space.now).kept }
     requires small { length (W.words space.now).kept < 2 ^ 60 }
@@ -27,7 +27,7 @@ fn load_words<W: WordSpace>(space: &W, first: u64, into: &mut [u64])
     }
 }
 
-/// The first words of a block.
+/// Loads the first words of a block.
 fn load_block<W: WordSpace>(space: &W, at: u64, layout: &Layout, block: u32, into: &mut [u64])
     requires layout { IsLayout layout.now }
     requires block { block < layout.now.internal }
@@ -41,7 +41,7 @@ fn load_block<W: WordSpace>(space: &W, at: u64, layout: &Layout, block: u32, int
     load_words(space, at + first, into);
 }
 
-/// What an entry gives.
+/// Loads the cell of an entry.
 fn load_cell<W: WordSpace>(
     space: &W,
     at: u64,
@@ -74,14 +74,16 @@ fn load_cell<W: WordSpace>(
     }
 }
 
-/// Reads a sector's cell in the words of the space in which [`read_arena`](crate::read_arena) read the arena: its words
-/// go into `into`, which is left as it was where the cell is bad.
+/// Reads a sector's cell from the words of a space, in which [`read_arena`](crate::read_arena) read
+/// the arena. The words go into `into`, which is unchanged if the cell is bad.
 ///
-/// It is the cell of the arena's state with all pending moves made good (`state_of`): the entries have these moves, and no
-/// move touches a block's words. So nothing need be stored, and no word of the arena is copied but the sector's.
+/// It is the cell of the arena's state with all pending moves completed (`state_of`): the entries
+/// in memory have these moves, and a move changes no block. So no word is stored, and only the
+/// sector's words are copied.
 ///
-/// Conditions: the arena whose first word is `at` was read as `opened` in this space, whose words are as they were then, of
-/// which there are fewer than 2^60 and none is pending; the sector is there, and `into` has as many words as a sector.
+/// `opened` must be what `read_arena` returned for the arena at word `at` of this space, whose
+/// words must not have changed since. The space must have fewer than 2^60 words, none of them
+/// pending. The sector must exist, and `into` must have as many words as a sector.
 pub fn cell_in_place<W: WordSpace>(
     space: &W,
     at: u64,

@@ -1,28 +1,30 @@
-//! Laws about the definitions of this crate. Each is a function that does nothing; what it ensures is the law.
+//! Laws about the definitions of this crate. Each is a function that does nothing; its `ensures`
+//! states the law.
 ghost use Rattle.arena_open.specs.Places.{PlacesApart, PlacesInside};
 ghost use Rattle.arena_open.specs.Writes.{WritesAreCut, WritesSettle};
 ghost use Rattle.arena_open.specs.Format.{FormatCounts};
 ghost use Rattle.arena_open.specs.Moves.{RecoveryAgain};
 
-/// A law: no two places of an arena share a word, by the layout relation alone.
+/// A law: no two places of an arena share a word. It follows from the layout relation.
 #[tactic(auto, using(crate::proofs::Apart::places_apart))]
 pub fn places_are_apart()
     ensures { PlacesApart }
 {}
 
-/// A law: every place of an arena lies in it, by the layout relation alone.
+/// A law: every place of an arena lies inside the arena. It follows from the layout relation.
 #[tactic(auto, using(crate::proofs::Apart::places_inside))]
 pub fn places_are_inside()
     ensures { PlacesInside }
 {}
 
-/// A law: after words were written one after another, each stored and kept before the next, none is pending.
+/// A law: after writes in sequence, each stored and flushed before the next, no word is pending.
 #[tactic(auto, using(crate::proofs::Written::writes_settle))]
 pub fn writes_settle()
     ensures { WritesSettle }
 {}
 
-/// A law: whatever a power cut leaves of such writes is what some number of them, in their order, leave.
+/// A law: after a crash during such writes, some number of them are done, in their order, and the
+/// others aren't.
 #[tactic(auto, using(crate::proofs::Cuts::writes_cut))]
 pub fn writes_are_cut()
     ensures { WritesAreCut }
@@ -34,9 +36,11 @@ pub fn format_takes_two_steps_a_word()
     ensures { FormatCounts }
 {}
 
-/// A law: recovery that is cut at any step, and run again, gives what one uncut recovery gives.
+/// A law: a recovery that is interrupted at any step and run again has the result of an
+/// uninterrupted one.
 ///
-/// What was left opens as the same arena, with just those moves pending that weren't made good.
+/// The words after a crash open as the same arena, with exactly the moves pending that weren't
+/// completed.
 #[tactic(auto, using(crate::proofs::Again::recovery_again))]
 pub fn recovery_runs_again()
     ensures { RecoveryAgain }

@@ -1,6 +1,6 @@
-//! Formatting, opening and reading an arena of a Block Translation Table, in any row of words.
+//! Formats, opens and reads arenas of a Block Translation Table, in any row of words.
 //!
-//! An arena is a run of a namespace's words. Which word is what is one relation, by places (`specs/Places.antt`):
+//! An arena is a range of a namespace's words. `specs/Places.antt` defines what each word is:
 //!
 //! ```text
 //!   word   0           data_off / 8                 map_off / 8         flog_off / 8      info_off / 8
@@ -10,21 +10,23 @@
 //!        +-----------+----------------------------+-------------------+-----------------+-----------+
 //! ```
 //!
-//! **Formatting** writes the map, the log, the backup and at last the info block, each word stored and kept before the
-//! next one ([`format_arena`], `specs/Format.antt`). Then each sector has the block of its own number and reads as zeros,
-//! and each lane owns one of the blocks behind these.
+//! **Formatting** writes the map, the log, the backup and finally the info block ([`format_arena`],
+//! `specs/Format.antt`). It stores and flushes each word before the next one. Afterwards each
+//! sector has the block of its own number and reads as zeros, and each lane owns one of the blocks
+//! after these.
 //!
-//! **Opening** reads the info block, the log and the map, and finds the moves that are pending in them ([`read_arena`],
-//! `specs/Reading.antt`). [`open_arena`] then makes these good in the space and takes the arena's words into memory
-//! ([`ArenaState`], `specs/Moves.antt`), of which [`cell_of`] reads a sector. Who only reads needs neither:
-//! [`cell_in_place`] reads the same cell by the map in memory, which has the moves, from the words where they lie.
+//! **Opening** reads the info block, the log and the map, and finds the pending moves, those that
+//! the log has and the map doesn't ([`read_arena`], `specs/Reading.antt`). [`open_arena`] also
+//! completes these moves in the space and reads the arena's words into memory ([`ArenaState`],
+//! `specs/Moves.antt`), from which [`cell_of`] reads a sector. A caller that only reads needs
+//! neither: [`cell_in_place`] reads the same cell from the words in the space, by the map in
+//! memory, which has the moves.
 //!
-//! # Arenas one behind another
+//! # Chains of arenas
 //!
-//! The arenas of a namespace, opened one after another, and its sectors read.
-//!
-//! A namespace of sectors holds a chain of arenas of a Block Translation Table (UEFI 2.10, section 6.2). The info block of
-//! each says where the next one begins: NextOff bytes behind its own start, or nowhere where NextOff is 0.
+//! A sector namespace holds a chain of arenas (UEFI 2.10, section 6.2). The NextOff field of each
+//! info block is the distance in bytes from the arena's start to the next arena's, or 0 in the last
+//! arena.
 //!
 //! ```text
 //!   word    first                 first + size / 8
@@ -35,12 +37,14 @@
 //! sectors   0 .. E0 - 1           E0 .. E0 + E1 - 1     ..
 //! ```
 //!
-//! `specs/Chain.antt` defines the chain over the namespace's words (`chain_of`): what each arena stands for, up to the
-//! first that breaks the format. [`open_chain`] opens all of them in order, makes their pending moves good, and answers
-//! their states or the first that is refused (`chain_answer`). Sectors run on from arena to arena: `specs/ChainCells.antt`
-//! defines the namespace's contents as the list of all cells (`contents_of`), of which [`Chain::read`] gives one.
+//! `specs/Chain.antt` defines the chain in the namespace's words (`chain_of`): the arenas up to the
+//! first that is refused. [`open_chain`] opens all of them in order, completes their pending moves,
+//! and returns their states or the first refusal (`chain_answer`). Sectors are numbered through all
+//! arenas: `specs/ChainCells.antt` defines the namespace's contents as the list of all cells
+//! (`contents_of`), and [`Chain::read`] returns one of them.
 //!
-//! Who only reads takes [`read_chain`] instead: the same states, with the words left where they lie.
+//! [`read_chain`] is for callers that only read: it returns the same states, but leaves the words
+//! in the space.
 #![tactic(auto)]
 
 mod area;

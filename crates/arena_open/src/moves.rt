@@ -1,4 +1,4 @@
-//! Pending moves: which there are, the map with them, and the blocks that are free.
+//! Pending moves: finding them, applying them to the map, and the free blocks.
 ghost use Rattle.std.specs.Prelude.{◌≡◌, ◌≢◌, ℕ, ◌+◌, ◌^◌, ◌<◌, ◌≤◌, length, All, IfOk, map};
 ghost use Rattle.nvd_words.specs.Checks.{Answers};
 ghost use Rattle.flog.specs.declared.half.Half.{Half};
@@ -15,7 +15,7 @@ use map_table::{BlockFault, check_blocks, entry, normal};
 use nvd_words::Items;
 use std::alloc::{AllocError, Global};
 
-/// Whether a half names a move that the map doesn't show.
+/// Returns whether a half makes a move that the map doesn't show yet.
 fn is_pending(entries: &[u32], half: &Half) -> bool
     requires { IsInRange (length entries.now) half.now }
     ensures { result ≡ is_pending entries.now half.now }
@@ -23,7 +23,7 @@ fn is_pending(entries: &[u32], half: &Half) -> bool
     half.old != half.new && entry(entries[half.lba as usize], half.lba).block == half.old
 }
 
-/// The pending moves, in order of lanes, all by one map.
+/// Returns the pending moves in the order of lanes, all by the same map.
 fn pending_moves(
     alloc: Global,
     entries: &[u32],
@@ -41,14 +41,14 @@ fn pending_moves(
     Ok(moves)
 }
 
-/// The lanes' free blocks.
+/// Returns the lanes' free blocks.
 fn free_blocks(alloc: Global, groups: &[Group]) -> Result<Vec<u32>, AllocError>
     ensures { IfOk result (λ free. free.items ≡ free_of groups.now) }
 {
     groups.iter().map(|group| group.half.old).collect(alloc)
 }
 
-/// Makes moves in a map, one after another.
+/// Applies moves to a map, one after another.
 fn make_moves(entries: &mut [u32], moves: &[Half])
     requires { AreMoves (length entries.old) moves.now }
     ensures { entries.new ≡ moved entries.old moves.now }
@@ -58,7 +58,7 @@ fn make_moves(entries: &mut [u32], moves: &[Half])
     }
 }
 
-/// Whether the blocks of a map and the free ones are each named once.
+/// Checks that the blocks of a map and the free ones are each named once.
 fn check_map(
     alloc: Global,
     entries: &[u32],
@@ -74,7 +74,7 @@ fn check_map(
     }
 }
 
-/// What an arena stands for by its map as read and its lanes' halves.
+/// Decodes an arena from its map as read and its lanes' halves.
 pub(crate) fn with_moves(
     alloc: Global,
     info: Info,

@@ -20,12 +20,12 @@ use nvd_words::Items;
 use std::alloc::{AllocError, Global};
 use uuid::Uuid;
 
-/// Reads an arena whose first word is `at`: its info block, its lanes and its map, with the pending moves made in it.
-/// Nothing is stored.
+/// Reads an arena whose first word is `at`: its info block, its lanes, and its map with the pending
+/// moves applied. Nothing is stored.
 ///
-/// Conditions: the 4,096 bytes from word `at` on lie in the space, which has fewer than 2^60 words, and none of them is
-/// pending. Refusals, the first that holds: Info, Flog with the least lane, Block; want of memory may come in place of
-/// any answer.
+/// The 4,096 bytes from word `at` on must lie in the space. The space must have fewer than 2^60
+/// words, none of them pending. It refuses with the first of Info, Flog (with the least lane) and
+/// Block that applies; `OutOfMemory` may replace any result.
 pub fn read_arena<W: WordSpace>(
     alloc: Global,
     space: &W,
@@ -48,8 +48,8 @@ pub fn read_arena<W: WordSpace>(
     with_moves(alloc, info, groups, entries)
 }
 
-/// Makes moves good: in the space and in a copy of the arena's words each map word gets the normal entry of the new
-/// block, one move after another, each word stored and then kept.
+/// Completes moves, one after another: in the space and in a copy of the arena's words, each map
+/// word gets the normal entry of the new block. Each word is stored and flushed.
 fn make_good<W: WordSpace>(
     space: &mut W,
     fuse: &mut Fuse,
@@ -77,7 +77,7 @@ fn make_good<W: WordSpace>(
     Ok(())
 }
 
-/// The lanes of an arena between two writes.
+/// Returns the lanes of an arena between two writes.
 fn lane_states(alloc: Global, groups: &[Group]) -> Result<Vec<LaneState>, AllocError>
     ensures { IfOk result (λ lanes. lanes.items ≡ map lane_of groups.now) }
 {
@@ -90,7 +90,7 @@ fn lane_states(alloc: Global, groups: &[Group]) -> Result<Vec<LaneState>, AllocE
         .collect(alloc)
 }
 
-/// Makes the pending moves of an arena good. All memory is found before the first word is stored.
+/// Completes the pending moves of an arena. All memory is allocated before the first store.
 fn recover<W: WordSpace>(
     alloc: Global,
     space: &mut W,
@@ -127,17 +127,19 @@ fn recover<W: WordSpace>(
     }
 }
 
-/// Opens an arena whose first word is `at`, and makes its pending moves good.
+/// Opens an arena whose first word is `at`, and completes its pending moves.
 ///
-/// A lane's move is pending where its current half names two blocks and the map, as it was read, has the old one for
-/// the move's sector, whatever the entry's kind. All moves are decided on that map, and the blocks are checked with all
-/// of them made; only then the map words are written, lane by lane, each stored and then kept.
+/// A lane's move is pending if its current half names two different blocks, and the map as read has
+/// the old one for the move's sector, whatever the entry's kind. The call finds all moves by that
+/// map and checks the blocks with all moves applied. Only then it writes the map words, lane by
+/// lane, and flushes each.
 ///
-/// Conditions: the 4,096 bytes from word `at` on lie in the space, which has fewer than 2^60 words, and no word of the
-/// space is pending. Refusals: Info, Flog with the least lane, Block, the first that holds, and then nothing was stored.
-/// PowerCut comes exactly where the fuse has fewer steps left than two for each pending move, and then as many were made
-/// as there were. OutOfMemory may come in place of any answer, and then nothing was stored. After Ok no word is pending,
-/// and the arena opens as it was found, with no move pending.
+/// The 4,096 bytes from word `at` on must lie in the space. The space must have fewer than 2^60
+/// words, none of them pending. It refuses with the first of `Info`, `Flog` (with the least lane)
+/// and `Block` that applies; then nothing was stored. It returns `PowerCut` exactly if fewer steps
+/// are left than two for each pending move; then it has made as many as there were. `OutOfMemory`
+/// may replace any result; then nothing was stored. After Ok no word is pending, and the arena
+/// opens as before, but without pending moves.
 pub fn open_arena<W: WordSpace>(
     alloc: Global,
     space: &mut W,

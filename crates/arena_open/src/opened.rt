@@ -2,15 +2,15 @@ use arena_layout::Info;
 use flog::{Group, Half};
 use nvd_words::Items;
 
-/// What an arena's words stand for.
+/// The decoded contents of an arena.
 #[derive(Debug, Drop)]
 pub struct Opened {
     pub info: Info,
     /// Each lane's current half.
     pub groups: Items<Group>,
-    /// The map's entries with the pending moves made.
+    /// The map's entries with the pending moves applied.
     pub entries: Items<u32>,
-    /// The moves that are pending in the map as it was read, in order of lanes.
+    /// The moves that are pending in the map as read, in the order of lanes.
     pub moves: Items<Half>,
 }
 
@@ -19,6 +19,6 @@ pub struct Opened {
 pub struct LaneState {
     /// The lane's free block.
     pub free: u32,
-    /// Its current half, and the side at which that stands.
+    /// Its current half, and the side it is on.
     pub group: Group,
 }

@@ -1,4 +1,4 @@
-//! The parts of an arena, read from a space of which no word is pending.
+//! Reads the parts of an arena from a space without pending words.
 ghost use Rattle.std.specs.Prelude.{◌≡◌, ◌-◌, ◌+◌, ◌*◌, ◌/◌, ◌^◌, ◌<◌, ◌≤◌, ◌++◌, length, take, drop, IfOk};
 ghost use Rattle.std.specs.Int.{w64, to_le_bytes};
 ghost use Rattle.nvd_words.specs.Checks.{Answers};
@@ -18,7 +18,7 @@ use nvd_words::Items;
 use std::alloc::{AllocError, Global};
 use uuid::Uuid;
 
-/// Puts word k in its place.
+/// Stores word k at its place.
 fn put_word(bytes: &mut [u8; 4096], k: usize, word: u64)
     requires { k < 512 }
     ensures { take (8 * k + 8) bytes.new ≡ take (8 * k) bytes.old ++ to_le_bytes w64 word }
@@ -26,7 +26,7 @@ fn put_word(bytes: &mut [u8; 4096], k: usize, word: u64)
     bytes[8 * k..8 * k + 8].copy_from_slice(&word.to_le_bytes());
 }
 
-/// The bytes of an arena's info block.
+/// Returns the bytes of an arena's info block.
 fn info_bytes<W: WordSpace>(space: &W, at: u64) -> [u8; 4096]
     requires inside { at + 512 ≤ length (W.words space.now).kept }
     requires small { length (W.words space.now).kept < 2 ^ 60 }
@@ -52,7 +52,7 @@ pub(crate) fn read_first<W: WordSpace>(space: &W, at: u64, parent: &Uuid) -> Res
     read_info(&info_bytes(space, at), parent, rest)
 }
 
-/// The eight words of a lane's group.
+/// Returns the eight words of a lane's group.
 fn group_words<W: WordSpace>(space: &W, at: u64, layout: &Layout, lane: u32) -> [u64; 8]
     requires layout { IsLayout layout.now }
     requires lane { lane < layout.now.lanes }
@@ -95,7 +95,8 @@ fn read_lane<W: WordSpace>(
     )
 }
 
-/// Reads the current halves of all lanes; the first group that breaks the format is refused.
+/// Reads the current halves of all lanes, or returns the fault of the first group that violates the
+/// format.
 pub(crate) fn read_lanes<W: WordSpace>(
     alloc: Global,
     space: &W,
@@ -122,7 +123,7 @@ pub(crate) fn read_lanes<W: WordSpace>(
     Ok(groups)
 }
 
-/// The entry of a sector.
+/// Returns the entry of a sector.
 fn read_entry<W: WordSpace>(space: &W, at: u64, layout: &Layout, sector: u32) -> u32
     requires layout { IsLayout layout.now }
     requires sector { sector < layout.now.external }
@@ -135,7 +136,7 @@ fn read_entry<W: WordSpace>(space: &W, at: u64, layout: &Layout, sector: u32) ->
     entry_in(word, sector)
 }
 
-/// The entries of all sectors.
+/// Returns the entries of all sectors.
 pub(crate) fn read_map<W: WordSpace>(
     alloc: Global,
     space: &W,
@@ -155,7 +156,7 @@ pub(crate) fn read_map<W: WordSpace>(
     Ok(entries)
 }
 
-/// The words of an arena.
+/// Returns the words of an arena.
 pub(crate) fn read_words<W: WordSpace>(
     alloc: Global,
     space: &W,

@@ -7,7 +7,7 @@ use crate::opened::LaneState;
 use arena_layout::Info;
 use nvd_words::Items;
 
-/// An arena that was opened: its words and its lanes, in memory, with no move pending.
+/// An opened arena: its words and its lanes, in memory, without pending moves.
 #[derive(Debug, Drop)]
 pub struct ArenaState {
     pub info: Info,
@@ -34,16 +34,16 @@ impl ArenaState {
         }
     }
 
-    /// How many pending moves were made good when the arena was opened.
+    /// Returns how many pending moves were completed when the arena was opened.
     pub fn moves(&self) -> u32
         ensures { result ≡ moves_made self.now }
     {
         self.made
     }
 
-    /// The word of a lane's group at which the half of a side begins. The side is 0 or 1.
+    /// Returns the first word of a side's half in a lane's group. The side must be 0 or 1.
     ///
-    /// Both halves, two words each, lie in the eight words of the group, and they don't meet.
+    /// Both halves, two words each, lie in the eight words of the group, and don't overlap.
     #[tactic(auto, unfolding(flog::specs::Group::place_of))]
     pub fn half_at(&self, side: u32) -> u64
         requires { side < 2 }

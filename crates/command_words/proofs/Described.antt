@@ -1,4 +1,4 @@
--- A command of clap that grows by one argument after another.
+-- A command of clap that grows argument by argument.
 use Rattle.std.proofs.Common.{◌≡◌, ℕ, ◌+◌, ◌<◌, List, [], ◌∷◌, ◌++◌, length, drop, map, sym, ap, ◌∙◌}
 use Rattle.std.proofs.lemmas.List.{append-nil, append_assoc, at_drop_more}
 use Rattle.std.specs.Prelude.{slice_index_or}
@@ -16,7 +16,7 @@ one_more app rule rules = ap (λ (rs : List Rule). record app { top = record app
 pub no_more : (app : App) → with_rules app [] ≡ app
 no_more app = ap (λ (rs : List Rule). record app { top = record app.top { rules = rs } }) (append-nil app.top.rules)
 
--- one argument more
+-- one more argument
 pub argument_more : (arguments : List Argument) (i : ℕ) (blank : Argument) (app after whole : App) (rule : Rule) → i < length arguments
     → rule ≡ rule_for (said (slice_index_or arguments i blank)) → after ≡ with_rule app rule
     → with_rules app (map rule_for (map said (drop i arguments))) ≡ whole → with_rules after (map rule_for (map said (drop (i + 1) arguments))) ≡ whole

@@ -1,4 +1,4 @@
--- Worked rows, computed on clap's definition.
+-- Worked examples, computed on clap's definition.
 use Rattle.std.proofs.Common.{◌≡◌, List, [], ◌∷◌, Option, Some, None, refl, codes}
 use Rattle.std.specs.Option.{option_map}
 use Rattle.clap.specs.Words.{Text, first_of}

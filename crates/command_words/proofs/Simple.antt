@@ -8,7 +8,7 @@ use Rattle.command_words.specs.declared.argument.Form.{Form}
 use Rattle.command_words.specs.declared.argument.Form.TheVariants.{Place, Optional, Required, Flag}
 use Rattle.command_words.specs.App.{Described, rule_of_form, rule_for, app_for}
 
--- what holds of each argument as it is built holds of all
+-- a property of each built argument holds of all
 all_built : (p : Rule → Bool) → ((argument : Described) (i : ℕ) → p (with_index i (filled (rule_for argument))) ≡ true)
     → (arguments : List Described) (i : ℕ) → list_all p (filled_from i (map rule_for arguments)) ≡ true
 all_built p holds [] i = refl

@@ -10,7 +10,7 @@ use Rattle.command_words.specs.declared.argument.Form.TheVariants.{Place, Option
 abbrev pub Described : Type 0
 Described = Text × Form
 
--- an argument without where its name lies in memory
+-- an argument, regardless of where its name lies in memory
 abbrev pub said : Argument → Described
 said argument = (argument.name.now, argument.form)
 
@@ -24,7 +24,7 @@ rule_of_form Flag name = record (new_rule name) { action = Some SetTrue; long = 
 abbrev pub rule_for : Described → Rule
 rule_for argument = rule_of_form argument.1 argument.0
 
--- the command with these arguments: its first word is no program's name, and it has no help and no version flag
+-- the command with these arguments: its first word isn't a program's name, and it has no help and no version flag
 abbrev pub app_with : List Rule → App
 app_with rules = record {
   top = record (new_app (codes "command")).top {

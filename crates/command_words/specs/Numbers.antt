@@ -7,7 +7,7 @@ abbrev pub digits_after : ℕ → List ℕ → Option ℕ
 digits_after n [] = Some n
 digits_after n (c ∷ cs) = if is_ascii_digit c then digits_after (n * 10 + (c - 48)) cs else None
 
--- the number that a word spells
+-- the number that a word denotes
 abbrev pub number_of : List ℕ → Option ℕ
 number_of [] = None
 number_of (c ∷ []) = digits_after 0 (c ∷ [])
@@ -23,6 +23,6 @@ abbrev pub at_least : ℕ → Option ℕ → Option ℕ
 at_least least None = None
 at_least least (Some n) = if nat_le least n then Some n else None
 
--- the number that a word spells, where it is in a range
+-- the number that a word denotes, if it is in a range
 abbrev pub number_within : ℕ → ℕ → List ℕ → Option ℕ
 number_within least most word = at_least least (limited most (number_of word))

@@ -1,4 +1,4 @@
-//! One argument of a command, and what clap is told of it.
+//! One argument of a command, and its description for clap.
 ghost use Rattle.std.specs.Prelude.{◌≡◌, false};
 ghost use Rattle.clap.specs.Words.{rule_of};
 ghost use Rattle.command_words.specs.App.{rule_for, said};
@@ -6,29 +6,29 @@ ghost use Rattle.command_words.specs.App.{rule_for, said};
 use clap::{Arg, ArgAction};
 use std::alloc::Global;
 
-/// How an argument stands among the words.
+/// How an argument is given.
 #[derive(Clone, Copy, Debug, PartialEq, Eq)]
 pub enum Form {
-    /// A value at its place among the words that belong to no option; it must be there.
+    /// A required value at its place among the words that belong to no option.
     Place,
-    /// A value behind `--NAME` or `--NAME=`; it may be left out.
+    /// An optional value after `--NAME` or `--NAME=`.
     Optional,
-    /// A value behind `--NAME` or `--NAME=`; it must be there.
+    /// A required value after `--NAME` or `--NAME=`.
     Required,
-    /// The word `--NAME`, without a value; it may be left out.
+    /// The word `--NAME`, without a value; it is optional.
     Flag,
 }
 
 /// One argument of a command.
 #[derive(Clone, Copy, Debug)]
 pub struct Argument {
-    /// Its name: that of the option, without hyphens, and the one by which its value is asked for.
+    /// Its name: that of the option, without hyphens, and the key of its value.
     pub name: &'static str,
-    /// How it stands among the words.
+    /// How it is given.
     pub form: Form,
 }
 
-/// The argument of clap: its id is the argument's name.
+/// Returns the argument for clap. Its id is the argument's name.
 pub fn clap_argument<'a>(alloc: Global, argument: Argument) -> Arg<'a>
     ensures rule { rule_of result ≡ rule_for (said argument) }
     ensures local { result.global ≡ false }

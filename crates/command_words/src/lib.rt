@@ -1,7 +1,7 @@
 //! The words after a command's name.
 //!
-//! A command is described once, as a list of [`Argument`]s, and that list is all that code and contract
-//! know of it:
+//! A command is described once, by a list of [`Argument`]s. Code and contracts know nothing else of
+//! it:
 //!
 //! ```text
 //! [MODULE: Place, cut: Optional, evict: Optional]        0 --cut 5      --evict=7 0
@@ -11,14 +11,14 @@
 //!                                               definition takes            name
 //! ```
 //!
-//! - **Grammar**: the words are in the grammar exactly where clap's own definition has no fault for
-//!   them (`parsed` in `specs/Parsed.antt`). So options stand in any order, at most once, as `--x v` or
-//!   as `--x=v`; a value that begins with `-` is one only behind `--x=`, or at its place after the word
-//!   `--`; `--help`, `-h`, `--version` and `-V` are words like others.
+//! - **Grammar**: words are accepted exactly if clap's own definition has no fault for them
+//!   (`parsed` in `specs/Parsed.antt`). So options come in any order, at most once, as `--x v` or
+//!   as `--x=v`. A value that begins with `-` must come after `--x=`, or at its place after the
+//!   word `--`. `--help`, `-h`, `--version` and `-V` are words like others.
 //! - **Numbers**: decimal digits without sign or leading zero (`specs/Numbers.antt`).
 //!
-//! That a command made of such a list is one of those that clap's contracts describe exactly holds for
-//! every list (`proofs/Simple.antt`), so a new command owes no proof here.
+//! Every list of arguments makes a command that clap's contracts describe exactly
+//! (`proofs/Simple.antt`), so a new command needs no proof here.
 #![tactic(auto)]
 
 mod argument;

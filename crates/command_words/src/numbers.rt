@@ -1,8 +1,9 @@
 ghost use Rattle.std.specs.Prelude.{◌≡◌, ◌≤◌, IfSome};
 ghost use Rattle.command_words.specs.Numbers.{number_within, number_of, digits_after, limited};
 
-/// The number from `least` to `most` that a word spells in decimal digits, without sign or leading zero;
-/// 0 is spelled `0`. `None` where the word spells no number, or one outside that range.
+/// Returns the number from `least` to `most` that a word denotes in decimal digits, without sign or
+/// leading zero; 0 is `0`. It returns `None` if the word isn't a number, or is one outside that
+/// range.
 pub fn number_from(word: &str, least: u64, most: u64) -> Option<u64>
     ensures number { result ≡ number_within least most word.now }
     ensures low { IfSome result (λ n. least ≤ n) }
@@ -15,7 +16,7 @@ pub fn number_from(word: &str, least: u64, most: u64) -> Option<u64>
     Some(number)
 }
 
-/// The number that a word spells, if it is at most a limit.
+/// Returns the number that a word denotes, if it is at most a limit.
 fn spelled(word: &[u8], limit: u64) -> Option<u64>
     ensures number { result ≡ limited limit (number_of word.now) }
     ensures within { IfSome result (λ n. n ≤ limit) }

@@ -3,8 +3,9 @@ ghost use Rattle.uuid.specs.Text.{parsed};
 
 use uuid::Uuid;
 
-/// The UUID that a word spells, in one of the four forms of RFC 9562's text that `uuid` reads: 32 hexadecimal digits,
-/// these with hyphens, these in braces, or behind `urn:uuid:`; in either case. `None` where it spells none.
+/// Returns the UUID that a word denotes, in one of the four text forms that `uuid` reads: 32
+/// hexadecimal digits, with hyphens, in braces, or after `urn:uuid:`; in either case. It returns
+/// `None` for other words.
 pub fn uuid_from(word: &str) -> Option<Uuid>
     ensures { result ≡ parsed word.now }
 {

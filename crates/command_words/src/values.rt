@@ -11,12 +11,12 @@ use clap::{ArgMatches, Command, Error};
 use std::alloc::{AllocError, Global};
 use uuid::Uuid;
 
-/// Why words give no values.
+/// Why words are refused.
 #[derive(Clone, Copy, Debug, PartialEq, Eq)]
 pub enum WordsFault {
     /// The words aren't in the command's grammar.
     Usage,
-    /// Memory was wanting.
+    /// Memory ran out.
     OutOfMemory,
 }
 
@@ -26,7 +26,7 @@ pub struct Parsed<'a> {
     matches: ArgMatches<'a>,
 }
 
-/// The command of clap that has these arguments.
+/// Returns the command of clap with these arguments.
 fn described<'a>(alloc: Global, arguments: &[Argument]) -> Result<Command<'a>, AllocError>
     ensures { IfOk result (λ command. app_of command ≡ app_for (map said arguments.now)) }
 {
@@ -40,7 +40,7 @@ fn described<'a>(alloc: Global, arguments: &[Argument]) -> Result<Command<'a>, A
     Ok(command)
 }
 
-/// What an error of clap says of the words.
+/// Converts an error of clap.
 fn fault_from(error: &Error) -> WordsFault
     ensures memory { kind_of error.now ≡ ErrorKind.OutOfMemory → result ≡ WordsFault.OutOfMemory }
     ensures usage { kind_of error.now ≢ ErrorKind.OutOfMemory → result ≡ WordsFault.Usage }
@@ -51,12 +51,12 @@ fn fault_from(error: &Error) -> WordsFault
     }
 }
 
-/// Reads the words after a command's name by its arguments.
+/// Parses the words after a command's name by its arguments.
 ///
-/// `Usage` comes exactly where clap's definition has a fault for the words (`parsed` in
-/// `specs/Parsed.antt`): an unknown option, an option twice or without its value, a word too many, a
-/// required argument that isn't there, or a word that asks for help. `OutOfMemory` comes only where
-/// memory was refused.
+/// It returns `Usage` only if clap's definition has a fault for the words (`parsed` in
+/// `specs/Parsed.antt`): an unknown option, an option twice or without its value, too many words, a
+/// missing required argument, or a word that asks for help. `Ok` means that there is none.
+/// Otherwise memory ran out.
 pub fn parse<'a>(
     alloc: Global,
     arguments: &[Argument],
@@ -79,24 +79,24 @@ impl<'a> Parsed<'a> {
     ghost use Rattle.clap.specs.Words.{first_of};
     ghost use Rattle.command_words.specs.Parsed.{rows, number_in, optional_number_in, uuid_in, flag_in};
 
-    /// The value of the argument of this name, `None` where it was left out. A flag has the value `true`
-    /// or `false`.
+    /// Returns the value of the argument with this name, `None` if it was left out. A flag has the
+    /// value `true` or `false`.
     pub fn value(&self, name: &str) -> Option<&'a str>
         ensures { option_map (λ text. text.now) result ≡ first_of name.now (rows self.now) }
     {
         self.matches.get_str(name)
     }
 
-    /// The number from `least` to `most` that the value of an argument spells, one that must be there.
-    /// `None` where the value is no such number, or there is none.
+    /// Returns the number from `least` to `most` in the value of a required argument. It returns
+    /// `None` if the value isn't such a number, or if there is none.
     pub fn number(&self, name: &str, least: u64, most: u64) -> Option<u64>
         ensures { result ≡ number_in least most name.now (rows self.now) }
     {
         number_from(self.value(name)?, least, most)
     }
 
-    /// The number from `least` to `most` that the value of an argument spells, one that may be left out:
-    /// `Some(None)` where it was, `None` where its value is no such number.
+    /// Returns the number from `least` to `most` in the value of an optional argument: `Some(None)`
+    /// if it was left out, `None` if its value isn't such a number.
     pub fn optional_number(&self, name: &str, least: u64, most: u64) -> Option<Option<u64>>
         ensures { result ≡ optional_number_in least most name.now (rows self.now) }
     {
@@ -106,15 +106,15 @@ impl<'a> Parsed<'a> {
         }
     }
 
-    /// The UUID that the value of an argument spells, one that must be there, in any form that [`uuid_from`] reads.
-    /// `None` where the value is none, or there is none.
+    /// Returns the UUID in the value of a required argument, in any form that [`uuid_from`] reads.
+    /// It returns `None` if the value isn't a UUID, or if there is none.
     pub fn uuid(&self, name: &str) -> Option<Uuid>
         ensures { result ≡ uuid_in name.now (rows self.now) }
     {
         uuid_from(self.value(name)?)
     }
 
-    /// Whether a flag was given.
+    /// Returns whether a flag was given.
     pub fn flag(&self, name: &str) -> bool
         ensures { result ≡ flag_in name.now (rows self.now) }
     {

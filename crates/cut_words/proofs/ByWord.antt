@@ -1,4 +1,4 @@
--- What a chooser leaves is, for each word by itself, its kept value or the one that a load gives.
+-- After a crash each word has, independently, its kept value or the one that a load returns.
 use Rattle.std.proofs.Common.{◌≡◌, ℕ, zero, suc, ◌+◌, Bool, true, false, cond, List, [], ◌∷◌, length, get_or, Option, Some, None, sym, ap, ◌∙◌, subst, arith, inl, inr}
 use Rattle.std.specs.Prelude.{◌⊎◌, unwrap_or}
 use Rattle.cut_words.specs.Words.{Words, IsLeft}

@@ -1,4 +1,4 @@
--- A change that one word guards is whole under every cut.
+-- A crash leaves a guarded change complete, or invisible.
 use Rattle.std.proofs.Common.{◌≡◌, ◌≢◌, ◌⊎◌, ℕ, ◌+◌, ◌-◌, ◌*◌, ◌<◌, ◌≤◌, List, ◌++◌, length, take, get_or, replicate, Option, None, unwrap_or, refl, sym, ap, ◌∙◌, subst, arith, inl, inr, append_assoc}
 use Rattle.std.specs.List.{All}
 use Rattle.std.proofs.Math.Seq.{take-append-add}
@@ -10,7 +10,7 @@ use Rattle.cut_words.specs.Groups.{stores, keeps, group, written, guarded, NotIn
 use Rattle.cut_words.specs.Guarded.{IsGuarded, IsClosed, IsOld, IsWhole}
 use Rattle.cut_words.proofs.Stays.{Fits, Holds, stays, after-append, length_kept, length_stored, IsSized, sized_after, group_misses, group_finishes, written_fits, group_reaches, written_reaches, Clear, group_clear, written_clear, here, away, among}
 
--- what holds of what a word shows and has kept holds of what a cut leaves
+-- a property of both the visible and the kept value of a word holds after a crash
 pub left_holds : (P : ℕ → Type 0) (i : ℕ) (words : Words) (left : List ℕ) → Holds P i words → IsLeft words left → P (get_or left i 0)
 left_holds P i words left h cut = elim (cut.each i) [ inl e ↦ subst P (sym e) h.kept | inr e ↦ subst P (sym e) h.seen ]
 
@@ -21,7 +21,7 @@ settled_none n i =
       | inr past ↦ get_or_past (replicate n None) i None (omega (arith, length-replicate {A = Option ℕ} n None))
     ]
 
--- what holds of a word holds of what a load gives of settled words
+-- of settled words a load returns the kept value
 pub seen_is : (old : List ℕ) (i : ℕ) → seen_at (settled old) i ≡ get_or old i 0
 seen_is old i = ap (λ (o : Option ℕ). unwrap_or o (get_or old i 0)) (settled_none (length old) i)
 
@@ -220,7 +220,7 @@ module _ (old final before : List ℕ) (guard closed : ℕ) (rest : List ℕ) (o
       (sized_after second mid (sized front)) (omega (arith, length_kept second mid, inside guard front ok.guard_in)) in
       all_final 2 left (left_holds (AtEnd guard) guard (after (settled old) (take n all)) left (subst (Holds (AtEnd guard) guard) (sym (late_seam 2)) reached) cut) cut
 
-  -- every cut of a guarded change
+  -- every crash during a guarded change
   pub whole : (n : ℕ) (left : List ℕ) → IsLeftAfter old all n left → IsWhole old final before guard closed rest n left
   whole n left cut =
       record {
@@ -233,7 +233,7 @@ module _ (old final before : List ℕ) (guard closed : ℕ) (rest : List ℕ) (o
             (take_all n all le ∙ sym (take_all (length first + 2 + (length second + 2)) all (omega (arith, length_all)))) cut);
       }
 
-  -- after all steps each word has kept its value of the end
+  -- after all steps each word has its final value, kept
   end_held : (i : ℕ) → Holds (AtEnd i) i (after (after mid second) open')
   end_held i =
       elim (cases_eq i guard) [

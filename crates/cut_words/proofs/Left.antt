@@ -1,4 +1,4 @@
--- What is left of words, one after another.
+-- The words after a crash, one after another.
 use Rattle.std.proofs.Common.{◌≡◌, ℕ, ◌+◌, ◌<◌, ◌≤◌, Bool, false, cond, List, [], ◌∷◌, ◌++◌, length, get_or, take, drop, Option, Some, None, refl, sym, ap, ◌∙◌, subst, arith, append-nil, append_assoc}
 use Rattle.std.proofs.Math.ListN.{set, drop_of_length-le}
 use Rattle.std.proofs.lemmas.List.{drop_more, drop-drop, get_or-drop, get_or_read, get_or-set_same, length-set, take_all, take_more, take-set, drop-set-lt}
@@ -7,7 +7,7 @@ use Rattle.cut_words.specs.Leaving.{LeavesOne, LeavesFrom}
 use Rattle.cut_words.proofs.Since.{option_at, length_options}
 use Rattle.cut_words.proofs.OneStep.{words_of}
 
--- the words from one on, by that one and the others
+-- the words from word i on are that word and the rest
 pub leaves_on : {C : Type 0} (picks : C → ℕ → Bool → C → Type 0) (kept : List ℕ) (stored : List (Option ℕ)) (i value : ℕ) (rest : List ℕ) (c c' c'' : C)
     → i < length kept → i < length stored → LeavesOne picks i (get_or kept i 0) (get_or stored i None) value c c'
     → LeavesFrom picks (i + 1) (drop (i + 1) kept) (drop (i + 1) stored) rest c' c'' → LeavesFrom picks i (drop i kept) (drop i stored) (value ∷ rest) c c''
@@ -20,7 +20,7 @@ pub leaves_end : {C : Type 0} (picks : C → ℕ → Bool → C → Type 0) (kep
     → LeavesFrom picks i (drop i kept) (drop i stored) [] c c
 leaves_end picks kept stored i c le = rw (drop_of_length-le kept le) (refl, refl)
 
--- ---- as the fields of a value and its view have it
+-- ---- in terms of the fields of a value and its view
 
 read_in_drop : (xs ys : List ℕ) (i : ℕ) → drop i xs ≡ drop i ys → get_or xs i 0 ≡ get_or ys i 0
 read_in_drop xs ys i same =
@@ -42,7 +42,7 @@ left_one picks kept now flags values view i x y got value c c' is sized flagged 
     subst (λ (o : Option ℕ). LeavesOne picks i (get_or view.kept i 0) o value c c') stored_is
     (subst (λ (k : ℕ). LeavesOne picks i k (cond got (Some y) None) value c c') kept_is one)
 
--- how the words lie in the loop that asks for them one after another
+-- the invariant of the loop that asks for one word after another
 pub record Asked {C : Type 0} (picks : C → ℕ → Bool → C → Type 0) (view : Words) (now : List ℕ) (i : ℕ) (first c : C) : Type 0 where
   pub sized : length now ≡ length view.kept
   pub untouched : drop i now ≡ drop i view.kept
@@ -82,7 +82,7 @@ asked_all picks view now i first c le before =
     subst (λ (all : List ℕ). LeavesFrom picks 0 view.kept view.stored all first c) (append-nil (take i now) ∙ take_all i now le)
     (before.so_far [] c (leaves_end picks view.kept view.stored i c (omega (arith, before.sized))))
 
--- a view has as many values stored since as words
+-- a view has a slot for a stored value for each word
 pub stored_sized : (kept : List ℕ) (flags : List Bool) (values : List ℕ) (view : Words) → words_of kept flags values ≡ view → length values ≡ length kept → length flags ≡ length kept
     → length view.stored ≡ length view.kept
 stored_sized kept flags values view is sized flagged =

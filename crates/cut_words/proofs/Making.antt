@@ -24,13 +24,13 @@ same_test a b c d up down =
       | inr le ↦ le-leb a b le ∙ sym (le-leb c d (up le))
     ]
 
--- none
+-- no steps
 pub makes_none : (w : Words) (f : Option ℕ) → Makes w w f f [] true
 unfolding after
 makes_none w None = record { words = refl; fuse_left = refl; all_made = refl }
 makes_none w (Some n) = record { words = after_none w n; fuse_left = ap Some (omega arith); all_made = sym (le-leb 0 n (omega arith)) }
 
--- some were made, and then others
+-- two lists of steps in sequence
 pub makes_both : (w w1 w2 : Words) (f f1 f2 : Option ℕ) (xs ys : List Step) (made : Bool) → Makes w w1 f f1 xs true → Makes w1 w2 f1 f2 ys made → Makes w w2 f f2 (xs ++ ys) made
 makes_both w w1 w2 None f1 f2 xs ys made a b =
     let b' : Makes w1 w2 None f2 ys made = subst (λ (o : Option ℕ). Makes w1 w2 o f2 ys made) a.fuse_left b in
@@ -50,7 +50,7 @@ makes_both w w1 w2 (Some n) f1 f2 xs ys made a b =
       all_made = b'.all_made ∙ same_test (length ys) (n - length xs) (length (xs ++ ys)) n (λ le. omega (arith, length-append xs ys)) (λ lt. omega (arith, length-append xs ys));
     }
 
--- not all of some were made, and so none of those after
+-- if the first list isn't completed, the second isn't begun
 pub makes_cut : (w w1 : Words) (f f1 : Option ℕ) (xs ys : List Step) → Makes w w1 f f1 xs false → Makes w w1 f f1 (xs ++ ys) false
 makes_cut w w1 None f1 xs ys a = absurd (let e = a.all_made in cc)
 makes_cut w w1 (Some n) f1 xs ys a =
@@ -61,7 +61,7 @@ makes_cut w w1 (Some n) f1 xs ys a =
       all_made = sym (lt-leb (length (xs ++ ys)) n (omega (arith, length-append xs ys)));
     }
 
--- the same for one step in front
+-- the same with one step in front
 pub makes_on : (w w1 w2 : Words) (f f1 f2 : Option ℕ) (x : Step) (ys : List Step) (made : Bool) → Makes w w1 f f1 (x ∷ []) true → Makes w1 w2 f1 f2 ys made → Makes w w2 f f2 (x ∷ ys) made
 makes_on w w1 w2 f f1 f2 x ys made a b = makes_both w w1 w2 f f1 f2 (x ∷ []) ys made a b
 
@@ -117,7 +117,7 @@ stores_end w f place i values le =
 
 -- ---- which words are pending
 
--- a list of steps that was made to its end
+-- a list of steps that was completed
 pub makes_all : (w w1 : Words) (f f1 : Option ℕ) (steps : List Step) → Makes w w1 f f1 steps true → w1 ≡ after w steps
 makes_all w w1 None f1 steps a = a.words
 makes_all w w1 (Some n) f1 steps a = a.words ∙ ap (after w) (take_all n steps (leb-true (length steps) n (sym a.all_made)))
@@ -132,14 +132,14 @@ range_out a n i out =
       ]
     ]
 
--- stores of a run pass by a word outside it
+-- the stores of a run don't touch a word outside it
 pub stores_pass_by : (values : List ℕ) (base i : ℕ) → (i < base) ⊎ (base + length values ≤ i) → All (Passes i) (stores_from base values)
 stores_pass_by [] base i out = All-nil (Passes i)
 stores_pass_by (v ∷ values) base i out =
     All-cons (Passes i) (store base v) (stores_from (base + 1) values) (λ e. elim out [ inl below ↦ absurd (omega arith) | inr above ↦ absurd (omega arith) ])
     (stores_pass_by values (base + 1) i (elim out [ inl below ↦ inl (omega arith) | inr above ↦ inr (omega arith) ]))
 
--- a run that is written leaves no word pending that wasn't before
+-- writing a run leaves no word pending that wasn't before
 pub run_clear : (base : ℕ) (values : List ℕ) (words : Words) (i : ℕ) → Clear i words → Clear i (after words (run_steps base values))
 run_clear base values words i was =
     let places : List ℕ = range_with_len base (length values) in
@@ -151,7 +151,7 @@ run_clear base values words i was =
           (clear_stays i (stores_from base values) words (stores_pass_by values base i (range_out base (length values) i out)) was)
     ])
 
--- the words after a place stay as they were by a store there
+-- a store changes no word after its place
 pub store_on : (w w1 : Words) (f f1 : Option ℕ) (place v i : ℕ) → Makes w w1 f f1 (store place v ∷ []) true → place + 1 ≤ i → Clear i w → Clear i w1
 store_on w w1 f f1 place v i a le was =
     subst (Clear i) (sym (makes_all w w1 f f1 (store place v ∷ []) a))

@@ -36,11 +36,11 @@ cut_one w (Some n) f1 s short left = record {
   all_made = short;
 }
 
--- the words that are kept, with the values stored since where they are pending
+-- the kept words, with the stored values of the pending ones
 abbrev pub words_of : List ℕ → List Bool → List ℕ → Words
 words_of kept flags values = record { kept = kept; stored = options_of flags values }
 
--- what a load gives
+-- a load of a pending word
 pub seen_pending : (kept : List ℕ) (flags : List Bool) (values : List ℕ) (i : ℕ) → i < length flags → i < length values → get_or flags i false ≡ true
     → seen_at (words_of kept flags values) i ≡ get_or values i 0
 seen_pending kept flags values i in_flags in_values is =
@@ -81,7 +81,7 @@ kept_still kept flags values i in_flags in_values is =
       stored = nothing_stored flags values i in_flags in_values is k;
     }
 
--- ---- as the fields of a value and its view have it
+-- ---- in terms of the fields of a value and its view
 
 module _ (kept : List ℕ) (flags : List Bool) (values : List ℕ) (view : Words) (i : ℕ) where
   in_flags : words_of kept flags values ≡ view → length values ≡ length kept → length flags ≡ length kept → i < length view.kept → i < length flags

@@ -57,7 +57,7 @@ put_outside words at others i fits out =
           ∙ get_or-drop (at + length others) words (i - at - length others) 0 ∙ ap (λ (k : ℕ). get_or words k 0) (omega arith)
     ]
 
--- the bytes that were put
+-- the bytes after the write
 pub put_bytes : (words : List ℕ) (at : ℕ) (bytes : List ℕ) (count : ℕ) → at + count ≤ length words → length bytes ≡ 8 * count → AreBytes bytes
     → take (8 * count) (drop (8 * at) (bytes_of (put_at words at (words_in bytes)))) ≡ bytes
 put_bytes words at bytes count fits len small =

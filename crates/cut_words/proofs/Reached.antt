@@ -9,7 +9,7 @@ zero_more xs ys zs n m so_far more is =
     more ∙ ap (λ (front : List ℕ). front ++ 0 ∷ []) so_far ∙ append_assoc xs (replicate n 0) (0 ∷ [])
     ∙ ap (λ (back : List ℕ). xs ++ back) (replicate-append-replicate n 1 0 ∙ ap (λ (k : ℕ). replicate k 0) (sym is))
 
--- the zeros up to a place belong to the zeros up to the end
+-- padding with zeros up to a place doesn't change the padded list
 pub set_reached : (xs ys : List ℕ) (i v count a b : ℕ) → b ≡ length ys → ys ≡ xs ++ replicate (b - a) 0 → a ≤ b → b ≤ count → i < b
     → set ys i v ++ replicate (count - b) 0 ≡ set (xs ++ replicate (count - a) 0) i v
 set_reached xs ys i v count a b len front from to inside =

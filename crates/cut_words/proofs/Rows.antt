@@ -17,7 +17,7 @@ steps_of_two_words = refl
 loads : (seen_at changed 0 ≡ 7) × (seen_at changed 1 ≡ 8)
 loads = (refl, refl)
 
--- a word that is stored with its kept value is pending all the same
+-- a word that is stored with its kept value is pending nevertheless
 stored_with_its_own : after (settled (5 ∷ [])) (store 0 5 ∷ []) ≡ record { kept = 5 ∷ []; stored = Some 5 ∷ [] }
 unfolding after
 stored_with_its_own = refl
@@ -27,18 +27,18 @@ two_of_three : after (settled (5 ∷ 6 ∷ [])) (allowed (Some 2) (store 0 7 ∷
 unfolding after
 two_of_three = refl
 
--- ---- a guarded change: of the words 5, 6, 7 and 8, the first becomes 1 and the last 2, and the third, the guard, 9
+-- ---- a guarded change of the words 5, 6, 7 and 8: the first becomes 1, the last 2, and the third, the guard, 9
 
 change_of_four : guarded (1 ∷ 6 ∷ 9 ∷ 2 ∷ []) (0 ∷ []) 2 0 (3 ∷ []) ≡ store 0 1 ∷ keep 0 ∷ store 2 0 ∷ keep 2 ∷ store 3 2 ∷ keep 3 ∷ store 2 9 ∷ keep 2 ∷ []
 change_of_four = refl
 
--- with the last step missing a cut leaves the whole of it, or the guard closed
+-- with the last step missing, a crash leaves the whole change, or the guard closed
 after_seven : after (settled (5 ∷ 6 ∷ 7 ∷ 8 ∷ [])) (allowed (Some 7) (guarded (1 ∷ 6 ∷ 9 ∷ 2 ∷ []) (0 ∷ []) 2 0 (3 ∷ [])))
     ≡ record { kept = 1 ∷ 6 ∷ 0 ∷ 2 ∷ []; stored = None ∷ None ∷ Some 9 ∷ None ∷ [] }
 unfolding after
 after_seven = refl
 
--- the conditions of the laws are met
+-- the premises of the laws hold
 is_guarded : IsGuarded (5 ∷ 6 ∷ 7 ∷ 8 ∷ []) (1 ∷ 6 ∷ 9 ∷ 2 ∷ []) (0 ∷ []) 2 (3 ∷ [])
 is_guarded = record {
   same_length = refl;

@@ -1,4 +1,4 @@
--- The values stored since, of words of which each is pending or isn't.
+-- The values stored since the last flush, of words that may be pending or not.
 use Rattle.std.proofs.Common.{◌≡◌, ℕ, zero, suc, ◌<◌, Bool, true, false, cond, List, [], ◌∷◌, length, get_or, replicate, Option, Some, None, refl, ap, ◌∙◌, arith}
 use Rattle.std.proofs.Math.ListN.{set}
 use Rattle.cut_words.specs.Words.{Words}

@@ -8,7 +8,7 @@ use Rattle.std.proofs.lemmas.List.Elements.{All-nil, All-cons, All-head, All-tai
 use Rattle.cut_words.specs.Words.{Words, Step, store, keep, seen_at, stepped, after}
 use Rattle.cut_words.specs.Groups.{stores, keeps, group, written, NotIn}
 
--- what holds of an element and of what is put there holds after
+-- a property of an element and of its replacement holds after the replacement
 pub put_elim : {A : Type 0} (P : A → Type 0) (d : A) (xs : List A) (j i : ℕ) (v : A) → P (get_or xs i d) → (j ≡ i → P v) → P (get_or (set xs j v) i d)
 put_elim {A} P d xs j i v was new =
     elim (cases_eq i j) [
@@ -19,24 +19,24 @@ put_elim {A} P d xs j i v was new =
       | inr other ↦ subst P (sym (get_or-set_other xs j i v d other)) was
     ]
 
--- a step stores nothing else into a word
+-- a step stores only values with the property into the word
 abbrev pub Fits : (ℕ → Type 0) → ℕ → Step → Type 0
 Fits P i (store j v) = j ≡ i → P v
 Fits P i (keep j) = Unit {0}
 
--- of what a load of a word gives, and of what it has kept
+-- a property of both the visible and the kept value of a word
 pub record Holds (P : ℕ → Type 0) (i : ℕ) (words : Words) : Type 0 where
   pub seen : P (seen_at words i)
   pub kept : P (get_or words.kept i 0)
 
--- what a load gives is the stored value, or the kept one
+-- a load returns the stored value, or the kept one
 abbrev shown : ℕ → Option ℕ → ℕ
 shown kept stored = unwrap_or stored kept
 
 seen_stored : (P : ℕ → Type 0) (words : Words) (i j v : ℕ) → P (seen_at words i) → (j ≡ i → P v) → P (seen_at (stepped words (store j v)) i)
 seen_stored P words i j v was new = put_elim (λ o. P (shown (get_or words.kept i 0) o)) None words.stored j i (Some v) was new
 
--- what holds of the kept value holds where nothing was stored
+-- a property of the new kept value holds if nothing was stored
 shown_elim : (P : ℕ → Type 0) (kept kept' : ℕ) (stored : Option ℕ) → P kept' → P (shown kept stored) → P (shown kept' stored)
 shown_elim P kept kept' None new was = new
 shown_elim P kept kept' (Some v) new was = was
@@ -86,37 +86,37 @@ keeps_fit P i places = All-map (Fits P i) (λ p. keep p) places (λ k d lt. tt)
 pub group_fits : (P : ℕ → Type 0) (i : ℕ) (final places : List ℕ) → All (λ p. p ≡ i → P (get_or final p 0)) places → All (Fits P i) (group final places)
 group_fits P i final places h = All-append (Fits P i) (stores final places) (keeps places) (stores_fit P i final places h) (keeps_fit P i places)
 
--- where a word isn't among the places
+-- if the word isn't among the places
 pub group_misses : (P : ℕ → Type 0) (i : ℕ) (final places : List ℕ) → NotIn places i → All (Fits P i) (group final places)
 group_misses P i final places out = group_fits P i final places (λ k d lt e. absurd (out k d lt e))
 
--- where what holds is that it has its value of the end
+-- if the property is having the final value
 pub group_finishes : (i : ℕ) (final places : List ℕ) → All (Fits (λ v. v ≡ get_or final i 0) i) (group final places)
 group_finishes i final places = group_fits (λ v. v ≡ get_or final i 0) i final places (λ k d lt e. ap (λ (p : ℕ). get_or final p 0) e)
 
 pub written_fits : (P : ℕ → Type 0) (i j v : ℕ) → (j ≡ i → P v) → All (Fits P i) (written j v)
 written_fits P i j v h = All-cons (Fits P i) (store j v) (keep j ∷ []) h (All-cons (Fits P i) (keep j) [] tt (All-nil (Fits P i)))
 
--- ---- what a group brings about
+-- ---- the effect of a group
 
--- as many kept values as places for stored ones
+-- as many kept values as slots for stored ones
 pub record IsSized (words : Words) : Type 0 where
   pub same : length words.stored ≡ length words.kept
 
 pub sized_after : (steps : List Step) (words : Words) → IsSized words → IsSized (after words steps)
 sized_after steps words sized = record { same = length_stored steps words ∙ sized.same ∙ sym (length_kept steps words) }
 
--- a stored value is what a load gives
+-- a load returns the stored value
 stored_shows : (words : Words) (i v : ℕ) → i < length words.stored → seen_at (stepped words (store i v)) i ≡ v
 stored_shows words i v inside = ap (shown (get_or words.kept i 0)) (get_or-set_same words.stored i (Some v) None inside)
 
--- a keep of a word makes what a load gives the kept value
+-- flushing a word makes the value that a load returns the kept one
 keep_makes : (P : ℕ → Type 0) (words : Words) (i : ℕ) → i < length words.kept → P (seen_at words i) → Holds P i (stepped words (keep i))
 keep_makes P words i inside was =
     let kept : P (get_or (set words.kept i (seen_at words i)) i 0) = subst P (sym (get_or-set_same words.kept i (seen_at words i) 0 inside)) was in
     record { seen = seen_kept P words i i kept was; kept = kept }
 
--- what a load gives is the same after any keep
+-- a flush of any word doesn't change what a load returns
 keep_shows : (P : ℕ → Type 0) (words : Words) (i j : ℕ) → i < length words.kept → P (seen_at words i) → P (seen_at (stepped words (keep j)) i)
 keep_shows P words i j inside was =
     elim (cases_eq i j) [
@@ -161,7 +161,7 @@ keeps_reach P (p ∷ places) (suc k) words lt inside h =
     keeps_reach P places k (stepped words (keep p)) (omega arith) (omega (arith, length-set words.kept p (seen_at words p)))
     (keep_shows P words (get_or places k 0) p inside h)
 
--- a word among the places of a group has its value of the end, seen and kept
+-- each word of a group has its final value, visible and kept
 pub group_reaches : (final places : List ℕ) (k : ℕ) (words : Words) → IsSized words → k < length places → get_or places k 0 < length words.kept
     → Holds (λ v. v ≡ get_or final (get_or places k 0) 0) (get_or places k 0) (after words (group final places))
 group_reaches final places k words sized lt inside =
@@ -170,7 +170,7 @@ group_reaches final places k words sized lt inside =
     (keeps_reach (λ v. v ≡ get_or final (get_or places k 0) 0) places k (after words (stores final places)) lt
     (omega (arith, length_kept (stores final places) words)) (stores_reach final places k words sized lt inside))
 
--- a word that is written has its value, seen and kept
+-- a written word has its value, visible and kept
 pub written_reaches : (i v : ℕ) (words : Words) → IsSized words → i < length words.kept → Holds (λ x. x ≡ v) i (after words (written i v))
 unfolding after
 written_reaches i v words sized inside =
@@ -199,7 +199,7 @@ clear_stays i (step ∷ steps) words passes was =
 pub keeps_pass : (i : ℕ) (places : List ℕ) → All (Passes i) (keeps places)
 keeps_pass i places = All-map (Passes i) (λ p. keep p) places (λ k d lt. tt)
 
--- a keep of a word, there or not
+-- flushing a word, whether it exists or not
 keep_clears : (i : ℕ) (words : Words) → Clear i (stepped words (keep i))
 keep_clears i words =
     elim (cases_lt i (length words.stored)) [
@@ -232,7 +232,7 @@ among (p ∷ places) i =
       ]
     ]
 
--- after a group no word is pending that wasn't before
+-- a group leaves no word pending that wasn't before
 pub group_clear : (final places : List ℕ) (words : Words) (i : ℕ) → Clear i words → Clear i (after words (group final places))
 group_clear final places words i was =
     subst (Clear i) (sym (after-append (stores final places) (keeps places) words)) (elim (among places i) [

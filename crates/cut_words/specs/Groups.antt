@@ -3,23 +3,23 @@ use Rattle.std.specs.Prelude.{◌≢◌, ℕ, List, [], ◌∷◌, ◌++◌, map
 use Rattle.std.specs.List.{All}
 use Rattle.cut_words.specs.Words.{Step, store, keep}
 
--- each of these words gets the value that it has at the end
+-- each of these words is stored with its final value
 abbrev pub stores : List ℕ → List ℕ → List Step
 stores final places = map (λ i. store i (slice_index final i)) places
 
 abbrev pub keeps : List ℕ → List Step
 keeps places = map (λ i. keep i) places
 
--- a group: all of its words are stored, then all are kept
+-- a group: all of its words are stored, then all are flushed
 abbrev pub group : List ℕ → List ℕ → List Step
 group final places = stores final places ++ keeps places
 
--- one word is stored and kept
+-- one word is stored and flushed
 abbrev pub written : ℕ → ℕ → List Step
 written i v = store i v ∷ keep i ∷ []
 
--- A guarded change. Words on which nothing stands yet are written; then a word, the guard, is closed, the words that it guards
--- are written, and it is opened by its value of the end.
+-- A guarded change. Words that nobody reads yet are written. Then the guard is closed, the words it guards are written, and the
+-- guard gets its final value.
 abbrev pub guarded : List ℕ → List ℕ → ℕ → ℕ → List ℕ → List Step
 guarded final before guard closed rest = group final before ++ (written guard closed ++ (group final rest ++ written guard (slice_index final guard)))
 

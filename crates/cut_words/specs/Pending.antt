@@ -1,4 +1,4 @@
--- The values stored since, of words of which each is pending or isn't.
+-- The values stored since the last flush, of words that may be pending or not.
 use Rattle.std.specs.Prelude.{ℕ, Bool, if◌then◌else◌, List, [], ◌∷◌, Option, Some, None}
 
 abbrev pub options_of : List Bool → List ℕ → List (Option ℕ)

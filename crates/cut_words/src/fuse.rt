@@ -3,7 +3,7 @@ ghost use Rattle.cut_words.specs.Fuses.{burnt, lasts};
 
 use std::marker::Model;
 
-/// How many steps are still made before power is cut: a number, or no limit. Contracts see it as an
+/// The number of steps that are still made before power is cut, or no limit. Contracts see it as an
 /// `Option` of that number.
 #[derive(Debug, Drop)]
 pub struct Fuse {
@@ -23,28 +23,28 @@ impl Model for Fuse {
 }
 
 impl Fuse {
-    /// Power stays on.
+    /// Returns a fuse without a limit: power stays on.
     pub fn none() -> Fuse
         ensures { result ≡ None }
     {
         Fuse { steps: None }
     }
 
-    /// Power is cut after so many steps.
+    /// Returns a fuse that cuts power after `steps` steps.
     pub fn after(steps: u64) -> Fuse
         ensures { result ≡ Some steps }
     {
         Fuse { steps: Some(steps) }
     }
 
-    /// How many steps are left, `None` where there is no limit.
+    /// Returns how many steps are left, `None` if there is no limit.
     pub fn left(&self) -> Option<u64>
         ensures { result ≡ self.now }
     {
         self.steps
     }
 
-    /// Takes a step, if one is left: `PowerCut` comes exactly where none is.
+    /// Takes a step. `PowerCut` means that no step was left.
     pub fn spend(&mut self) -> Result<(), PowerCut>
         ensures made { is_ok result ≡ lasts self.old 1 }
         ensures left { self.new ≡ burnt self.old 1 }

@@ -1,19 +1,20 @@
-//! Laws about the definitions of this crate. Each is a function that does nothing; what it ensures is the law.
+//! Laws about the definitions of this crate. Each is a function that does nothing; its `ensures`
+//! states the law.
 ghost use Rattle.cut_words.specs.Guarded.{GuardedIsWhole, GuardedSettles};
 
-/// A law: a guarded change is whole under every cut.
+/// A law: a crash leaves a guarded change complete, or invisible.
 ///
-/// Such a change first writes words on which nothing stands yet, all of them stored before the first is
-/// kept. Then it closes one word, the guard, writes in the same way the words that the guard stands for,
-/// and opens the guard. Whatever the order in which the stores of a group reach the medium, and whichever
-/// of them do: with more than one step missing a cut leaves all but the words of the first group as they
-/// were, or the guard closed; with one step missing this or the whole change; after the last step the
-/// whole change.
+/// Such a change first writes words that nobody reads yet: it stores all of them before it flushes
+/// the first. Then it closes one word, the guard, writes the guarded words in the same way, and
+/// opens the guard. The stores of a group may reach the medium in any order, and any of them may be
+/// lost. If more than one step is missing at the crash, either only words of the first group
+/// differ, or the guard is closed. If one step is missing, that holds, or the change is complete.
+/// After the last step it is complete.
 pub fn guarded_change_is_whole()
     ensures { GuardedIsWhole }
 {}
 
-/// A law: after a guarded change no word is pending and each has its value of the end, so that the next
+/// A law: after a guarded change no word is pending and each has its final value, so the next
 /// change may follow.
 pub fn guarded_change_settles()
     ensures { GuardedSettles }

@@ -6,9 +6,10 @@ ghost use Rattle.cut_words.specs.Runs.{NonePending, keeps_from, run_steps, store
 use crate::fuse::{Fuse, PowerCut};
 use crate::space::WordSpace;
 
-/// Stores these values into the words from a place on, of which none is pending: a step each.
+/// Stores these values into the words from `base` on, none of which is pending. Each store is a
+/// step.
 ///
-/// `PowerCut` comes exactly where fewer steps are left, and then as many were made as there were.
+/// It returns `PowerCut` exactly if fewer steps are left. Then it has made as many as there were.
 pub fn store_from<W: WordSpace>(
     words: &mut W,
     fuse: &mut Fuse,
@@ -32,9 +33,9 @@ pub fn store_from<W: WordSpace>(
     Ok(())
 }
 
-/// Keeps so many words from a place on: a step each.
+/// Flushes `count` words from `base` on. Each flush is a step.
 ///
-/// `PowerCut` comes exactly where fewer steps are left, and then as many were made as there were.
+/// It returns `PowerCut` exactly if fewer steps are left. Then it has made as many as there were.
 pub fn keep_from<W: WordSpace>(
     words: &mut W,
     fuse: &mut Fuse,
@@ -55,9 +56,9 @@ pub fn keep_from<W: WordSpace>(
     Ok(())
 }
 
-/// Stores a value into a word, which isn't pending, and keeps it: two steps.
+/// Stores a value into a word that isn't pending, and flushes it: two steps.
 ///
-/// `PowerCut` comes exactly where fewer steps are left, and then as many were made as there were.
+/// It returns `PowerCut` exactly if fewer steps are left. Then it has made as many as there were.
 pub fn write_word<W: WordSpace>(
     words: &mut W,
     fuse: &mut Fuse,
@@ -74,10 +75,10 @@ pub fn write_word<W: WordSpace>(
     words.keep(fuse, i)
 }
 
-/// Stores these values into the words from a place on, of which none is pending, and when all are stored
-/// keeps them: two steps each.
+/// Stores these values into the words from `base` on, none of which is pending, and then flushes
+/// them: two steps for each word.
 ///
-/// `PowerCut` comes exactly where fewer steps are left, and then as many were made as there were.
+/// It returns `PowerCut` exactly if fewer steps are left. Then it has made as many as there were.
 #[tactic(auto, using(crate::proofs::Making::making))]
 pub fn write_from<W: WordSpace>(
     words: &mut W,

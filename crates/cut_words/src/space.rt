@@ -4,33 +4,34 @@ ghost use Rattle.cut_words.specs.Fuses.{Makes};
 
 use crate::fuse::{Fuse, PowerCut};
 
-/// A row of words that are stored and kept one at a time.
+/// A row of words that are stored and flushed one at a time.
 pub trait WordSpace {
-    /// The kept value of each word, and the one stored since.
+    /// The kept value of each word, and the value stored since.
     ghost words: { Self → Words };
 
-    /// The words of the same medium that are no words of this row. No step touches them.
+    /// The other words of the same medium. No step touches them.
     ghost beside: { Self → List Words };
 
-    /// How many words there are.
+    /// Returns the number of words.
     fn count(&self) -> u64
         ensures { result ≡ length (words self.now).kept };
 
-    /// The stored value of a word, else its kept one. The word is there.
+    /// Returns the stored value of a word, or its kept value if it isn't pending. The word must
+    /// exist.
     fn load(&self, i: u64) -> u64
         requires { i < length (words self.now).kept }
         ensures { result ≡ seen_at (words self.now) i };
 
-    /// Stores a value into a word, which is there and isn't pending: one step. `PowerCut` comes exactly
-    /// where no step is left, and then nothing changed.
+    /// Stores a value into a word: one step. The word must exist and must not be pending.
+    /// `PowerCut` means that no step was left; then nothing changed.
     fn store(&mut self, fuse: &mut Fuse, i: u64, v: u64) -> Result<(), PowerCut>
         requires inside { i < length (words self.old).kept }
         requires settled { slice_index_or (words self.old).stored i None ≡ None }
         ensures made { Makes (words self.old) (words self.new) fuse.old fuse.new (store i v ∷ []) (is_ok result) }
         ensures beside { beside self.new ≡ beside self.old };
 
-    /// Makes what a load of a word gives its kept value, and the word isn't pending any more: one step.
-    /// `PowerCut` comes exactly where no step is left, and then nothing changed.
+    /// Flushes a word: one step. The value that a load returns becomes its kept value, and the word
+    /// is no longer pending. `PowerCut` means that no step was left; then nothing changed.
     fn keep(&mut self, fuse: &mut Fuse, i: u64) -> Result<(), PowerCut>
         requires { i < length (words self.old).kept }
         ensures made { Makes (words self.old) (words self.new) fuse.old fuse.new (keep i ∷ []) (is_ok result) }

@@ -4,10 +4,10 @@ ghost use Rattle.std.specs.Vec.{vec_capacity};
 use std::alloc::{AllocError, Global};
 use std::marker::Model;
 
-/// A row of numbers that are 0 until they are set. Contracts see it as the list of them.
+/// A row of numbers that are 0 until they are set. Contracts see it as a list.
 ///
-/// The room for all of them is there from the start, so setting one wants no memory. What lies past the
-/// last one that was set was never touched, and the system gives no page for it.
+/// It reserves the room for all of them at the start, so setting one needs no memory. The room past
+/// the last number that was set is never touched, and the system commits no page for it.
 #[derive(Debug, Drop)]
 pub struct Values {
     /// The numbers up to the last one that was set.
@@ -26,7 +26,7 @@ impl Model for Values {
     ghost invariant = { λ values. (vec_len values.front ≤ values.count) × (values.count ≤ vec_capacity values.front) };
 }
 
-/// Adds zeros up to a place for which there is room.
+/// Appends zeros up to place `i`, for which there is room.
 fn reach(front: &mut Vec<u64>, i: usize)
     requires { i < vec_capacity front.old }
     ensures items { front.new.items ≡ front.old.items ++ replicate (vec_len front.new - vec_len front.old) 0 }
@@ -39,7 +39,7 @@ fn reach(front: &mut Vec<u64>, i: usize)
 }
 
 impl Values {
-    /// So many zeros.
+    /// Makes `count` zeros. It fails only if memory runs out.
     pub fn new(alloc: Global, count: usize) -> Result<Values, AllocError>
         ensures { IfOk result (λ values. values ≡ replicate count 0) }
     {
@@ -47,7 +47,7 @@ impl Values {
         Ok(Values { front, count })
     }
 
-    /// The number at a place.
+    /// Returns the number at a place.
     pub fn get(&self, i: usize) -> u64
         requires { i < length self.now }
         ensures { result ≡ slice_index self.now i }

@@ -10,14 +10,14 @@ use nvd_words::Flags;
 use std::alloc::{AllocError, Global};
 use std::marker::Model;
 
-/// A row of words in memory. Contracts see the kept value of each word, and the one stored since.
+/// A row of words in memory. Contracts see the kept value of each word, and the value stored since.
 ///
-/// It takes two words and a bit for each of its words; of the second ones those past the last word that
-/// was stored to are never touched.
+/// For each word it takes two words and a bit. The second ones past the last stored word are never
+/// touched.
 #[derive(Debug, Drop)]
 pub struct CutWords {
     kept: Vec<u64>,
-    /// The value stored since, where the word is pending.
+    /// The value stored since the last flush, if the word is pending.
     stored: Values,
     pending: Flags,
 }
@@ -34,7 +34,7 @@ impl Model for CutWords {
     ghost invariant = { λ words. (length words.stored ≡ length words.kept.items) × (length words.pending ≡ length words.kept.items) };
 }
 
-/// What a power cut leaves of one word.
+/// Returns the value of one word after a crash.
 fn leave_one<C: Chooser>(choose: &mut C, word: u64, kept: u64, stored: u64, pending: bool) -> u64
     ensures { LeavesOne C.picks word kept (if pending then Some stored else None) result choose.old choose.new }
 {
@@ -46,7 +46,7 @@ fn leave_one<C: Chooser>(choose: &mut C, word: u64, kept: u64, stored: u64, pend
 }
 
 impl CutWords {
-    /// Words with these kept values, none of them pending.
+    /// Makes words with these kept values, none of them pending. It fails only if memory runs out.
     pub fn new(alloc: Global, words: Vec<u64>) -> Result<CutWords, AllocError>
         ensures { IfOk result (λ made. made ≡ settled words.items) }
     {
@@ -59,8 +59,8 @@ impl CutWords {
         })
     }
 
-    /// Whether a word has a value stored since its last keep, also where that equals the kept one. The
-    /// word is there.
+    /// Returns whether a word was stored since its last flush, even with an equal value. The word
+    /// must exist.
     pub fn pending(&self, i: u64) -> bool
         requires { i < length self.now.kept }
         ensures { result ≡ is_some (slice_index_or self.now.stored i None) }
@@ -68,8 +68,8 @@ impl CutWords {
         self.pending.get(i as usize)
     }
 
-    /// What a power cut leaves: the chooser is asked once for each pending word, in rising order, and
-    /// says whether its stored value stays or its kept one.
+    /// Returns the words after a crash. It asks the chooser once for each pending word, in
+    /// ascending order, whether the stored value survives or the kept one.
     pub fn leave<C: Chooser>(self, choose: &mut C) -> Vec<u64>
         ensures asked { LeavesFrom C.picks 0 self.kept self.stored result.items choose.old choose.new }
         ensures left { IsLeft self result.items }

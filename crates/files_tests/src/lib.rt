@@ -1,6 +1,7 @@
 //! Tests of image sets in directories.
 //!
-//! No clause says what a directory holds, so these tests write sets into the folder that they run in, and read them back.
+//! No clause states what a directory holds. These tests write sets into the current directory and
+//! read them back.
 #![tactic(auto)]
 
 #[cfg(test)]

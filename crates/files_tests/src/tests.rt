@@ -10,11 +10,11 @@ const TAIL: [u8; 4103] = [0; 4103];
 
 const CONTENTS: Object = Object::Contents(3);
 
-/// A set is written and read back, in pieces that go to and fro.
+/// A set is written and read back, in pieces that alternate between objects.
 #[test]
 fn a_set_is_read_as_it_was_written(rt: HostRuntime) {
     let mut sink = DirSink::new(&rt, "set", "none");
-    // the directory of the source has to be there
+    // the directory of the source must exist
     assert_eq!(rt; sink.write(Object::Nfit, 0, b"table"), Err(Failed));
     let mut sink = DirSink::new(&rt, "set", "/usr");
     assert_eq!(rt; sink.write(Object::Nfit, 0, b"table"), Ok(()));
@@ -52,7 +52,7 @@ fn a_set_is_read_as_it_was_written(rt: HostRuntime) {
     }
 }
 
-/// Files that are no objects, and reads past an end.
+/// Files that aren't objects, and reads past an end.
 #[test]
 fn what_is_no_object_is_refused(rt: HostRuntime) -> io::Result<()> {
     fs::create_dir(&rt, "odd")?;
@@ -81,7 +81,7 @@ fn what_is_no_object_is_refused(rt: HostRuntime) -> io::Result<()> {
     Ok(())
 }
 
-/// Directories in which no set is made.
+/// Directories that are refused.
 #[test]
 fn where_no_set_is_made(rt: HostRuntime) -> io::Result<()> {
     fs::create_dir_all(&rt, "around/below")?;

@@ -1,4 +1,4 @@
--- The next half, put in the place of the half that isn't current, becomes the current one.
+-- The next half, stored over the half that isn't current, becomes the current one.
 use Rattle.std.proofs.Common.{◌≡◌, ℕ, zero, suc, ◌+◌, ◌*◌, ◌/◌, ◌%◌, ◌^◌, ◌<◌, ◌≤◌, Bool, true, false, not, List, [], ◌∷◌, length, Option, Some, None, Result, Ok, Err, refl, sym, ap, ◌∙◌, subst, arith}
 use Rattle.std.specs.Prelude.{◌&&◌, ◌||◌, ◌==◌, nat_le, slice_index, IfOk}
 use Rattle.std.specs.Option.{option_map}
@@ -84,7 +84,7 @@ half_back half lba old new =
     let p3 = seq_back half.new half.seq new in
     λ i. record { lba = p0 i; old = p1 i; new = p2 i; seq = p3 i }
 
--- words whose flags are zero are those of their half
+-- words without flags are the encoding of their half
 pub words_back : (a b : ℕ) → HasNoFlags a b → words_of_half (half_of a b) ≡ a ∷ b ∷ []
 words_back a b none =
     let old : a / 2 ^ 32 < 2 ^ 30 = omega (arith, none.old) in
@@ -96,7 +96,7 @@ packs_at : (words : List ℕ) (g : Group) → group_in words ≡ g → PacksBack
 packs_at words g e =
     subst (λ (k : Group). PacksBack words k) e (words_back (slice_index words (place_of (current_side words))) (slice_index words (place_of (current_side words) + 1)))
 
--- the group that was read packs into the words that it was read from
+-- the half that was read encodes to the words it was read from
 pub packs : (words : List ℕ) (external internal : ℕ) (r : Result Group FlogFault) → r ≡ group_reading words external internal → IfOk r (PacksBack words)
 packs words external internal (Ok g) e = packs_at words g (passed words external internal g (sym e)).is
 packs words external internal (Err f) e = tt
@@ -118,14 +118,14 @@ newer_by false words external internal g ok e =
     let is : g ≡ record { side = 0; half = half_in words 0 } = sym ok.is ∙ λ i. record { side = side_zero words e i; half = half_in words (side_zero words e i) } in
     subst (λ (k : Group). IsNewerHalf words k) (sym is) (older (half_in words 0).seq (half_in words 1).seq ok.ordered e)
 
--- the group that was read is the newer half
+-- the half that was read is the newer one
 pub newer : (words : List ℕ) (external internal : ℕ) (r : Result Group FlogFault) → r ≡ group_reading words external internal → IfOk r (IsNewerHalf words)
 newer words external internal (Ok g) e = newer_by (is_newer (half_in words 0).seq (half_in words 1).seq) words external internal g (passed words external internal g (sym e)) refl
 newer words external internal (Err f) e = tt
 
 -- ---- the group afterwards
 
--- what a group stands for, from the parts
+-- the decoded group, from its parts
 reads : (words : List ℕ) (external internal side : ℕ) (half : Half) → is_padded words ≡ true → are_ordered (half_in words 0).seq (half_in words 1).seq ≡ true
     → current_side words ≡ side → half_in words side ≡ half → out_of_range external internal half ≡ None
     → StandsFor words external internal (record { side = side; half = half })
@@ -154,7 +154,7 @@ put_one : (a b c d : ℕ) (rest : List ℕ) (h : Half) → with_half (a ∷ b �
 unfolding place_of
 put_one a b c d rest h = refl
 
--- the current half is at side one, and the next one comes to side zero
+-- the current half is at side one, and the next one goes to side zero
 into_zero : (a b c d : ℕ) (rest : List ℕ) (external internal : ℕ) (g : Group) (h : Half) → is_padded (a ∷ b ∷ c ∷ d ∷ rest) ≡ true → IsNext external internal g h
     → g.half ≡ half_of c d → 1 ≤ g.half.seq → g.half.seq ≤ 3
     → StandsFor ((h.lba + 2 ^ 32 * h.old) ∷ (h.new + 2 ^ 32 * h.seq) ∷ c ∷ d ∷ rest) external internal (record { side = 0; half = h })
@@ -171,7 +171,7 @@ into_zero a b c d rest external internal g h padded next was low high =
     (side_zero words (ap (λ (k : ℕ). is_newer k (half_in words 1).seq) seq0 ∙ ap (is_newer (successor_of x)) seq1 ∙ ring.1))
     here next.in_range
 
--- the current half is at side zero, and the next one comes to side one
+-- the current half is at side zero, and the next one goes to side one
 into_one : (a b c d : ℕ) (rest : List ℕ) (external internal : ℕ) (g : Group) (h : Half) → is_padded (a ∷ b ∷ c ∷ d ∷ rest) ≡ true → IsNext external internal g h
     → g.half ≡ half_of a b → 1 ≤ g.half.seq → g.half.seq ≤ 3
     → StandsFor (a ∷ b ∷ (h.lba + 2 ^ 32 * h.old) ∷ (h.new + 2 ^ 32 * h.seq) ∷ rest) external internal (record { side = 1; half = h })

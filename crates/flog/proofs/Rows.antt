@@ -1,4 +1,4 @@
--- Worked rows, computed.
+-- Worked examples, computed on the definitions.
 use Rattle.std.proofs.Common.{◌≡◌, ℕ, ◌^◌, List, [], ◌∷◌, Result, Ok, Err, refl}
 use Rattle.nvd_words.specs.Checks.{first_fault}
 use Rattle.flog.specs.declared.group.Group.{Group}
@@ -30,17 +30,17 @@ flagged_lane = refl
 abbrev refused : FlogFault → Result Group FlogFault
 refused f = Err f
 
--- of two halves neither is newer
+-- neither of two halves is newer
 pub equal_numbers : group_reading (group 0 0x0000000200000000 0 0x0000000200000000) 3 6 ≡ refused (Sequences 2 2)
 unfolding first_fault place_of is_padded are_ordered out_of_range current_side
 equal_numbers = refl
 
--- a byte after the halves
+-- a nonzero byte after the halves
 pub padded_group : group_reading (0 ∷ 2 ^ 32 ∷ 0 ∷ 0 ∷ 0 ∷ 0 ∷ 0 ∷ 1 ∷ []) 3 6 ≡ refused Padding
 unfolding first_fault place_of is_padded are_ordered out_of_range current_side
 padded_group = refl
 
--- a move of a sector that isn't there
+-- a move of a sector that is out of range
 pub far_sector : group_reading (group 0x0000000500000003 0x0000000100000004 0 0) 3 6 ≡ refused (Range 3)
 unfolding first_fault place_of is_padded are_ordered out_of_range current_side
 far_sector = refl

@@ -11,7 +11,8 @@ use Rattle.flog.specs.declared.group.FlogFault.TheVariants.{Padding, Sequences, 
 
 -- ---- a half and its two words
 
--- the first word has Lba below and OldMap above, the second NewMap below and Seq above; bits 30 and 31 of OldMap and NewMap are flags and not read
+-- the first word has Lba in its low and OldMap in its high half, the second NewMap and Seq; bits 30 and 31 of OldMap and NewMap
+-- are flags and aren't read
 abbrev pub half_of : ℕ → ℕ → Half
 half_of a b = record { lba = a % 2 ^ 32; old = a / 2 ^ 32 % 2 ^ 30; new = b % 2 ^ 30; seq = b / 2 ^ 32 }
 
@@ -26,7 +27,7 @@ pub record HasNoFlags (a b : ℕ) : Type 0 where
 
 -- ---- a group of eight words
 
--- the word at which a side's half begins
+-- the first word of a side's half
 unfoldable pub place_of : ℕ → ℕ
 place_of side = if side == 0 then 0 else 2
 
@@ -40,7 +41,7 @@ half_in words side = half_of (slice_index words (place_of side)) (slice_index wo
 abbrev pub other_side : ℕ → ℕ
 other_side side = if side == 0 then 1 else 0
 
--- the group with the words of a half at a side
+-- the group with a half stored at a side
 abbrev pub with_half : List ℕ → ℕ → Half → List ℕ
 with_half words side half =
     slice_set (slice_set words (place_of side) (half.lba + 2 ^ 32 * half.old)) (place_of side + 1) (half.new + 2 ^ 32 * half.seq)
@@ -50,11 +51,11 @@ with_half words side half =
 unfoldable pub is_padded : List ℕ → Bool
 is_padded words = list_all (λ word. word == 0) (padding_of words)
 
--- both numbers are of the ring, and one is newer than the other
+-- both numbers are at most 3, and one is newer than the other
 unfoldable pub are_ordered : ℕ → ℕ → Bool
 are_ordered a b = nat_le a 3 && nat_le b 3 && (is_newer a b || is_newer b a)
 
--- the first of OldMap, NewMap and Lba that is out of its range; Lba counts where the half names a move
+-- the first of OldMap, NewMap and Lba that is out of range; Lba is checked only if the half makes a move
 unfoldable pub out_of_range : ℕ → ℕ → Half → Option ℕ
 out_of_range external internal half =
     if nat_le internal half.old then Some half.old
@@ -78,19 +79,19 @@ group_faults words external internal =
     ∷ option_map Range (out_of_range external internal (group_in words).half)
     ∷ []
 
--- what a group stands for, or the first check that fails
+-- the decoded group, or the first check that fails
 abbrev pub group_reading : List ℕ → ℕ → ℕ → Result Group FlogFault
 group_reading words external internal = value_unless (group_in words) (first_fault (group_faults words external internal))
 
--- eight words stand for a group
+-- the words encode the group
 abbrev pub StandsFor : List ℕ → ℕ → ℕ → Group → Type 0
 StandsFor words external internal group = group_reading words external internal ≡ Ok group
 
--- a group's half is newer than the words' other one
+-- the group's half is newer than the other one in the words
 abbrev pub IsNewerHalf : List ℕ → Group → Type 0
 IsNewerHalf words group = IsTrue (is_newer (half_in words (other_side group.side)).seq group.half.seq)
 
--- where the flags of its words are zero, a group's current half packs into the very words that it was read from
+-- if the flags in its words are zero, the group's current half encodes to those words
 abbrev pub PacksBack : List ℕ → Group → Type 0
 PacksBack words group =
     let a = slice_index words (place_of group.side) in
@@ -105,7 +106,7 @@ pub record IsNext (external internal : ℕ) (group : Group) (half : Half) : Type
   pub new : half.new < 2 ^ 30
   pub in_range : out_of_range external internal half ≡ None
 
--- written in the place of the other half, it becomes the current one
+-- stored over the other half, it becomes the current one
 abbrev pub BecomesCurrent : Group → Half → Type 0
 BecomesCurrent group half =
     (words : List ℕ) (external internal : ℕ) → 4 ≤ length words → StandsFor words external internal group → IsNext external internal group half

@@ -6,7 +6,7 @@ ghost use Rattle.flog.specs.Group.{half_in, place_of, is_padded, are_ordered, ou
 use crate::half::{Half, half_of};
 use nvd_words::{seq_newer, seq_next};
 
-/// What a lane's group says: its current half, and at which side that half stands.
+/// A lane's current half, and the side it is on.
 #[derive(Clone, Copy, Debug, PartialEq, Eq)]
 pub struct Group {
     /// 0 or 1.
@@ -14,24 +14,24 @@ pub struct Group {
     pub half: Half,
 }
 
-/// Why eight words are no valid group.
+/// Why eight words aren't a valid group.
 #[derive(Clone, Copy, Debug, PartialEq, Eq)]
 pub enum FlogFault {
     /// A byte after the two halves isn't zero.
     Padding,
-    /// A sequence number is above 3, or neither half is newer than the other: `a` is that of side 0, `b` of side 1.
+    /// A sequence number is above 3, or neither half is newer than the other: `a` is that of side
+    /// 0, `b` that of side 1.
     Sequences { a: u32, b: u32 },
-    /// In the current half a block or the sector of a move isn't there: the first of OldMap, NewMap and Lba that is
-    /// out of its range.
+    /// In the current half, the first of OldMap, NewMap and the Lba of a move that is out of range.
     Range { value: u32 },
 }
 
-/// The word at which the half of side 1 begins.
+/// The first word of side 1's half.
 const SECOND_HALF: usize = 2;
 /// The first word after the halves.
 const PADDING: usize = 4;
 
-/// Where a side's half begins, in words. This is the one place that says where the halves stand.
+/// Returns the first word of a side's half. No other code knows where the halves are.
 #[tactic(auto, unfolding(crate::specs::Group::place_of))]
 fn place_of(side: u32) -> usize
     requires { side < 2 }
@@ -117,10 +117,11 @@ fn read_current(words: &[u64; 8], external: u32, internal: u32) -> Result<Group,
     Ok(Group { side, half })
 }
 
-/// Reads a lane's group in an arena of `external` sectors and `internal` blocks: its current half.
+/// Reads a lane's group in an arena of `external` sectors and `internal` blocks, and returns its
+/// current half.
 ///
-/// Refusals, the first that holds: Padding, Sequences, Range. A half that names no move (OldMap and NewMap are equal)
-/// may have any Lba.
+/// It refuses with the first of Padding, Sequences and Range that applies. A half that makes no
+/// move (OldMap and NewMap are equal) may have any Lba.
 pub fn read_group(words: &[u64; 8], external: u32, internal: u32) -> Result<Group, FlogFault>
     ensures group { result ≡ group_reading words.now external internal }
     ensures newer { IfOk result (IsNewerHalf words.now) }
@@ -129,9 +130,10 @@ pub fn read_group(words: &[u64; 8], external: u32, internal: u32) -> Result<Grou
     read_current(words, external, internal)
 }
 
-/// The half that follows a group's current one: the given move, under the next number of the ring.
+/// Returns the half that follows a group's current one: this move, with the next sequence number.
 ///
-/// Condition: the group's half has a number of the ring, as each that [`read_group`] gives.
+/// The group's sequence number must be 1, 2 or 3, as it is in each group that [`read_group`]
+/// returns.
 pub fn next_half(group: &Group, lba: u32, old: u32, new: u32) -> Half
     requires low { 1 ≤ group.now.half.seq }
     requires high { group.now.half.seq ≤ 3 }

@@ -1,23 +1,26 @@
 ghost use Rattle.std.specs.Prelude.{◌≡◌, ◌^◌, ◌<◌, slice_index};
 ghost use Rattle.flog.specs.Group.{half_of, words_of_half};
 
-/// One half of a group, two words: the move of one write.
+/// One half of a group, two words: the move that one write makes.
 #[derive(Clone, Copy, Debug, PartialEq, Eq)]
 pub struct Half {
     /// Lba, u32 at byte 0: the sector whose block is moved.
     pub lba: u32,
-    /// OldMap, u32 at byte 4: the block that the sector had. Bits 30 and 31 are flags; they are not kept.
+    /// OldMap, u32 at byte 4: the block that the sector had. Bits 30 and 31 are flags and aren't
+    /// part of it.
     pub old: u32,
-    /// NewMap, u32 at byte 8: the block that the sector gets. Bits 30 and 31 are flags; they are not kept.
+    /// NewMap, u32 at byte 8: the block that the sector gets. Bits 30 and 31 are flags and aren't
+    /// part of it.
     pub new: u32,
-    /// Seq, u32 at byte 12: 1, 2 or 3 on the ring, 0 where the half was never written.
+    /// Seq, u32 at byte 12: 1, 2 or 3 on the ring, 0 if the half was never written.
     pub seq: u32,
 }
 
-/// The bits of OldMap and NewMap that number a block.
+/// The bits of OldMap and NewMap with the block's number.
 const BLOCK: u32 = (1 << 30) - 1;
 
-/// The half of two words. The flags of OldMap and NewMap are ignored (some writers set both).
+/// Decodes a half from its two words. The flags of OldMap and NewMap are ignored (some writers set
+/// both).
 #[inline]
 pub(crate) fn half_of(a: u64, b: u64) -> Half
     ensures { result ≡ half_of a b }
@@ -30,9 +33,9 @@ pub(crate) fn half_of(a: u64, b: u64) -> Half
     }
 }
 
-/// The two words of a half, each with its lower field in its low 32 bits; the flags are zero.
+/// Encodes a half in two words, each with its first field in the low 32 bits. The flags are zero.
 ///
-/// Condition: `old` and `new` number blocks, so they are below 2^30.
+/// `old` and `new` must be block numbers below 2^30.
 #[inline]
 pub fn half_words(half: &Half) -> [u64; 2]
     requires old { half.now.old < 2 ^ 30 }

@@ -5,7 +5,7 @@ use std::alloc::{AllocError, Global};
 use std::test::Fail;
 use uuid::Uuid;
 
-/// Two words of a half, from its four fields as they stand in memory.
+/// Encodes a half in two words, from its four fields as they are in memory.
 fn pair(lba: u32, old: u32, new: u32, seq: u32) -> [u64; 2] {
     [
         u64::from(lba) | u64::from(old) << 32,
@@ -147,7 +147,7 @@ const SECOND_SUM: u64 = 0xb631_52a4_bfce_4323;
 
 const PARENT: u128 = 0x2000_0000_0000_4000_8000_0000_0000_0002;
 
-/// An info block with a checksum.
+/// Returns an info block with a checksum.
 fn block_of(head: &[u8; 120], sum: u64) -> [u8; 4096] {
     let mut block = [0; 4096];
     block[..120].copy_from_slice(head);
@@ -173,7 +173,8 @@ fn info_blocks_of_linux(rt: HostRuntime) -> Result<(), Fail> {
     Ok(())
 }
 
-/// What Linux's alloc_arena makes of whole MiB: the bytes of a block, the blocks, the map's offset.
+/// What Linux's alloc_arena computes for whole MiB: the block size, the number of blocks, the map's
+/// offset.
 #[test]
 fn plans_of_linux(rt: HostRuntime) {
     for (mib, sector, want) in [

@@ -49,7 +49,7 @@ fn a_fresh_area_is_read(rt: HostRuntime) {
     }
 }
 
-/// The block of a freshly initialised area of so many bytes, all of whose slots are free.
+/// Returns the block of a freshly initialised area of this size, with all slots free.
 fn fresh_block(alloc: Global, area: u64, side: Side, seq: u32) -> Result<IndexBlock, AllocError>
     requires sized { IsAreaSize area }
     requires few { area ≤ 131072 }
@@ -69,8 +69,8 @@ fn fresh_block(alloc: Global, area: u64, side: Side, seq: u32) -> Result<IndexBl
     })
 }
 
-/// What `init` writes, over bytes that are all ones; and of 510 slots in 131,072 bytes MySize,
-/// LabelOff, NSlot and the last byte of Free.
+/// The blocks that `init` writes, over bytes that are all ones; and, of 510 slots in 131,072 bytes,
+/// MySize, LabelOff, NSlot and the last byte of Free.
 #[test]
 fn blocks_are_written(rt: HostRuntime) -> Result<(), Fail> {
     let mut area = [0; 1024];

@@ -1,8 +1,8 @@
 //! Tests of the formats: the flog, the map and the info block of an arena, index blocks and labels,
 //! and the firmware's table.
 //!
-//! The contracts say what each call answers, and each refusal. Here stand bytes that Linux and QEMU
-//! wrote, and one call of each public function.
+//! The contracts state every result and refusal. These tests use bytes that Linux and QEMU wrote,
+//! and call each public function once.
 #![tactic(auto)]
 
 #[cfg(test)]

@@ -30,7 +30,7 @@ const QEMU: &[u8; 408] = &[
     0x00, 0x00, 0x00, 0x00, 0x00, 0x00, 0x00, 0x00,
 ];
 
-/// Whether a region has this index and base, and its mappings are of these modules.
+/// Returns whether a region has this index and base, and mappings of these modules.
 fn shows(nfit: &Nfit, region: usize, index: u16, base: u64, modules: &[u32]) -> bool {
     let Some(found) = nfit.regions.as_slice().get(region) else {
         return false;

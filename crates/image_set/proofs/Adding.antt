@@ -1,4 +1,4 @@
--- Objects that are added to a set, one after another.
+-- Objects that are added to a set one by one.
 use Rattle.std.proofs.Common.{◌≡◌, ℕ, ◌+◌, ◌*◌, ◌≤◌, true, false, List, ◌++◌, length, take, drop, Option, Some, None, Result, Ok, Err, refl, sym, ap, ◌∙◌, arith, inl, inr, append_assoc}
 use Rattle.std.specs.Prelude.{OnOk, OnErr}
 use Rattle.std.specs.Option.{ForSome}
@@ -14,7 +14,7 @@ use Rattle.nvd_media.specs.Images.{Images, IsSameSet, Becomes, Keeps, IsUnfinish
 use Rattle.nvd_media.proofs.Told.{becomes_here, becomes_then, becomes_told}
 use Rattle.image_set.specs.Save.{Adds, with_some}
 
--- a change of sets gives the same from the same
+-- a change of sets has the same effect on equal sets
 abbrev pub IsAlike : (Images → Images) → Type 0
 IsAlike change = (a b : Images) → IsSameSet a b → IsSameSet (change a) (change b)
 
@@ -33,7 +33,7 @@ pub on_err : {T E P Q : Type 0} (r : Result T E) → (P → Q) → OnErr r P →
 on_err (Ok x) f p = p
 on_err (Err e) f p = f p
 
--- ---- changes one after another
+-- ---- changes in sequence
 
 pub keeps_then : (a b c : Option Images) (R S T : Images → Images → Type 0) → ((x y z : Images) → R x y → S y z → T x z) → Keeps a b R → Keeps b c S → Keeps a c T
 keeps_then a b c R S T h r s now told =
@@ -48,7 +48,7 @@ pub becomes_mono : {R S : Images → Images → Type 0} (a b : Option Images) �
 becomes_mono None b h r = r
 becomes_mono (Some x) b h r = (r.0, r.1, h x r.0 r.2)
 
--- a change after one that was made
+-- a change after another one
 pub adds_then : {T E U F : Type 0} (m m' m'' k k' k'' : Option Images) (n n' n'' : ℕ) (x : T) (second : Result U F) (f g : Images → Images) → IsAlike g
     → Adds {E = E} m m' k k' n n' (Ok x) f → Adds m' m'' k' k'' n' n'' second g → Adds m m'' k k'' n n'' second (λ set. g (f set))
 adds_then m m' m'' k k' k'' n n' n'' x second f g alike one two = record {
@@ -63,7 +63,7 @@ adds_then m m' m'' k k' k'' n n' n'' x second f g alike one two = record {
   };
 }
 
--- a change by another name
+-- an equal change
 pub adds_as : {T E : Type 0} (m m' k k' : Option Images) (n n' : ℕ) (result : Result T E) (f g : Images → Images) → ((set : Images) → IsSameSet (f set) (g set))
     → Adds m m' k k' n n' result f → Adds m m' k k' n n' result g
 adds_as m m' k k' n n' result f g same adds = record {
@@ -72,7 +72,7 @@ adds_as m m' k k' n n' result f g same adds = record {
   cause = adds.cause;
 }
 
--- after a fault nothing is said of what was added
+-- after a fault nothing is known of what was added
 pub adds_fault : {T E U F : Type 0} (m m' k k' : Option Images) (n n' : ℕ) (e : E) (e' : F) (f g : Images → Images) → Adds {T = T} m m' k k' n n' (Err e) f
     → Adds {T = U} m m' k k' n n' (Err e') g
 adds_fault m m' k k' n n' e e' f g adds = record {
@@ -108,7 +108,7 @@ more_twice o a b set other = elim (cases_Bool (is_object o other)) [
 pub bytes_added : (o : Object) (bytes : List ℕ) (set now : Images) → set o ≡ None → IsSameSet now (with_more set o bytes) → bytes_of now o ≡ bytes
 bytes_added o bytes set now absent same = rw (same o, object_is o, absent) refl
 
--- where the next piece begins
+-- the start of the next piece
 pub ends_at : {T E : Type 0} (m m' k k' : Option Images) (n n' : ℕ) (x : T) (o : Object) (ws : List ℕ) → ForSome m (λ set. set o ≡ None)
     → Adds {E = E} m m' k k' n n' (Ok x) (λ set. with_more set o (words.bytes_of ws)) → ForSome m' (λ set. 8 * length ws ≡ length (bytes_of set o))
 ends_at m m' k k' n n' x o ws absent adds now told =

@@ -1,4 +1,4 @@
--- A loaded set with another label area, and what a cut leaves of it.
+-- A loaded set with another label area, after a crash.
 use Rattle.std.proofs.Common.{◌≡◌, ℕ, zero, suc, ◌<◌, ◌≤◌, Bool, List, [], ◌∷◌, length, map, get_or, Option, Some, None, refl, sym, ap, ◌∙◌, subst, arith}
 use Rattle.std.proofs.Math.ListN.{set}
 use Rattle.std.specs.Prelude.{slice_get}
@@ -68,7 +68,7 @@ all_or P (x ∷ xs) (suc k) d none all = all_or P xs k d none (All-tail P x xs a
 pub taken_settled : (outline : Outline) (m : ℕ) → IsOutlined outline → IsArea (get_or outline.labels m None)
 taken_settled outline m sound = all_or IsArea outline.labels m None none_is_area sound.areas
 
--- ---- what is left
+-- ---- after a crash
 
 all_to : {A : Type 0} (P Q : A → Type 0) (xs : List A) → ((x : A) → P x → Q x) → All P xs → All Q xs
 all_to P Q [] h all = All-nil Q
@@ -82,14 +82,14 @@ bytes_option : (area : Option Words) → option_map bytes_of (option_map kept_in
 bytes_option None = refl
 bytes_option (Some words) = refl
 
--- the bytes of the words that were kept are those that were loaded
+-- the bytes of the words are those that were loaded
 same_labels : (labels : List (Option Words)) (m : ℕ) (row : List ℕ)
     → map (option_map bytes_of) (set (map (option_map kept_in) labels) m (Some row)) ≡ set (map (option_map bytes_kept) labels) m (Some (bytes_of row))
 same_labels labels m row =
     map-set (option_map bytes_of) (map (option_map kept_in) labels) m (Some row)
     ∙ ap (λ xs. set xs m (Some (bytes_of row))) (map-map (option_map bytes_of) (option_map kept_in) labels ∙ maps_same (λ a. option_map bytes_of (option_map kept_in a)) (option_map bytes_kept) labels bytes_option)
 
--- what is left, as it is saved
+-- the set after the crash, as it is saved
 abbrev pub left_in : Outline → List (Option (List ℕ)) → OutlineLeft
 left_in outline labels = record { nfit = outline.nfit_bytes; labels = labels; sizes = outline.sizes; bad = outline.bad }
 
@@ -104,7 +104,7 @@ same_objects outline m row labels are contents (object.Labels k) =
 same_objects outline m row labels are contents (object.Contents k) = refl
 same_objects outline m row labels are contents (object.BadRanges k) = refl
 
--- after the last label area no question is asked
+-- after the last label area the chooser isn't asked again
 pub none_asked : {C : Type 0} (picks : C → ℕ → Bool → C → Type 0) (left : List (List ℕ)) (between after : C) → InTurn (LeavesWords picks) [] left between after → after ≡ between
 none_asked picks left between after turn = turn.1
 

@@ -1,4 +1,4 @@
--- What the length of an object says of its fault.
+-- The fault of an object, from its length.
 use Rattle.std.proofs.Common.{◌≡◌, ◌≢◌, ℕ, Bool, true, false, List, [], ◌∷◌, length, Option, Some, None, Result, Ok, Err, refl, sym, ◌∙◌}
 use Rattle.std.specs.Prelude.{unwrap_or}
 use Rattle.std.specs.Option.{option_map}
@@ -49,9 +49,9 @@ needed_odd (Some bytes) found n test o told is odd =
     let len : length bytes ≡ n = let e = sym told ∙ is in cc in
     rw (len, odd) refl
 
--- ---- one answer after another
+-- ---- results in sequence
 
--- a call that stopped has told the fault
+-- a call that stopped has revealed the fault
 pub stopped : {A B : Type 0} (e : LoadFault) (x : A) (f : Option LoadFault) (r : Result A LoadFault) (r' : Result B LoadFault) → r ≡ Err e → r' ≡ Err e
     → AnswersRead r (value_unless x f) → r' ≢ Err fault.ReadFault → r' ≢ Err fault.OutOfMemory → f ≡ Some e
 stopped e x None r r' is is' told no_read no_memory =
@@ -74,7 +74,7 @@ pub goes_on : {A B : Type 0} (v : B) (a x : A) (f : Option LoadFault) (faults : 
     → AnswersRead r (value_unless x f) → r' ≡ value_unless v (first_fault faults) → r' ≡ value_unless v (first_fault (f ∷ faults))
 goes_on v a x f faults r r' is told on = fault_next v f faults r' (passed a x f r is told).0 on
 
--- the last check answers
+-- the last check decides
 pub last : {A : Type 0} (v : A) (f : Option LoadFault) (r : Result A LoadFault) → r ≡ value_unless v f → r ≡ value_unless v (first_fault (f ∷ []))
 unfolding first_fault
 last v None r is = is

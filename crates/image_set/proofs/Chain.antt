@@ -1,4 +1,4 @@
--- A set is loaded: from one answer to the next.
+-- Loading a set, from one result to the next.
 use Rattle.std.proofs.Common.{◌≡◌, ◌≢◌, ℕ, List, [], ◌∷◌, length, map, get_or, Option, Some, None, Result, Ok, Err, refl, sym, ap, ◌∙◌}
 use Rattle.std.proofs.Math.ListN.{get_or-map}
 use Rattle.std.specs.Option.{option_map}
@@ -21,9 +21,9 @@ use Rattle.image_set.specs.Outline.{contents_in, image_set_with}
 use Rattle.image_set.specs.Load.{table_fault, modules_fault, mappings_fault, with_table, unless_fault, loading, image_set_of, image_set_in, bytes_kept, fault_of, area_of, AnswersRead, ImageSet}
 use Rattle.image_set.proofs.Asked.{stopped, passed}
 
--- ---- what load answers
+-- ---- the result of load
 
--- what was loaded, seen as an image set, is what the set holds, or the fault is its first
+-- the loaded set, as an image set, is the source's, or the fault is its first
 abbrev pub LoadsBy : {A : Type 0} → (A → ImageSet) → Result A LoadFault → Images → Type 0
 LoadsBy f result set = AnswersRead (result_map_both f (λ fault. fault) result) (loading set)
 
@@ -40,20 +40,20 @@ pub loads_stop : {A : Type 0} (f : A → ImageSet) (set : Images) (result : Resu
 loads_stop f set result stop.ReadFault e is from = loads_err f set result e is (λ no_read no_memory. absurd (no_read from))
 loads_stop f set result stop.OutOfMemory e is from = loads_err f set result e is (λ no_read no_memory. absurd (no_memory from))
 
--- ---- what the set is
+-- ---- the set
 
--- a call that stopped has told the fault
+-- a call that stopped has revealed the fault
 told_fault : {A : Type 0} (e : LoadFault) (x : A) (f : Option LoadFault) (r : Result A LoadFault) → r ≡ Err e → AnswersRead r (value_unless x f) → e ≢ fault.ReadFault → e ≢ fault.OutOfMemory → f ≡ Some e
 told_fault e x f r is told no_read no_memory =
     stopped e x f r r is is told (λ h. no_read (let k : Err e ≡ Err fault.ReadFault = sym is ∙ h in cc)) (λ h. no_memory (let k : Err e ≡ Err fault.OutOfMemory = sym is ∙ h in cc))
 
--- the mark or the table's object shows a fault
+-- the mark or the table's object has a fault
 pub table_stops : {A : Type 0} (f : A → ImageSet) (set : Images) (result : Result A LoadFault) (e : LoadFault) (n : ℕ) (r : Result ℕ LoadFault) → result ≡ Err e → r ≡ Err e
     → AnswersRead r (value_unless n (table_fault set)) → LoadsBy f result set
 unfolding loading
 table_stops f set result e n r is is' told = loads_err f set result e is (λ no_read no_memory. ap (unless_fault set) (told_fault e n (table_fault set) r is' told no_read no_memory))
 
--- they show none
+-- they have none
 pub record IsOpen (set : Images) (bytes : List ℕ) : Type 0 where
   pub none : table_fault set ≡ None
   pub read : bytes ≡ bytes_of set object.Nfit
@@ -62,7 +62,7 @@ opened : (set : Images) (bytes : List ℕ) (read : Result Nfit NfitFault) → Is
 unfolding loading
 opened set bytes read ready is = ap (unless_fault set) ready.none ∙ ap (λ b. with_table set (nfit_reading b)) (sym ready.read) ∙ ap (with_table set) is
 
--- the table isn't read
+-- the table is refused
 pub table_refused : {A : Type 0} (f : A → ImageSet) (set : Images) (result : Result A LoadFault) (e : LoadFault) (bytes : List ℕ) (r : Result Nfit LoadFault) (read : Result Nfit NfitFault) → result ≡ Err e → r ≡ Err e
     → nfit_reading bytes ≡ read → Answers fault.OutOfMemory r (result_map_both (λ n. n) fault.Nfit (nfit_reading bytes)) → IsOpen set bytes → LoadsBy f result set
 table_refused f set result e bytes r (Ok nfit) is is' reading told ready =
@@ -86,7 +86,7 @@ table_is bytes nfit r (Err f) is reading told =
 abbrev pub faults_of : Images → Nfit → List (Option LoadFault)
 faults_of set nfit = modules_fault set (length nfit.modules) ∷ mappings_fault set nfit.regions ∷ []
 
--- a module or a mapping shows a fault
+-- a module or a mapping has a fault
 pub sizes_stop : {A : Type 0} (f : A → ImageSet) (set : Images) (result : Result A LoadFault) (e : LoadFault) (bytes : List ℕ) (nfit : Nfit) (xs : List Sizes) (r : Result (List Sizes) LoadFault) → result ≡ Err e → r ≡ Err e
     → nfit_reading bytes ≡ Ok nfit → AnswersRead r (value_unless xs (first_fault (faults_of set nfit))) → IsOpen set bytes → LoadsBy f result set
 sizes_stop f set result e bytes nfit xs r is is' reading told ready =
@@ -103,7 +103,7 @@ all_read f set result loaded bytes nfit v xs r is is' reading told ready same =
     ∙ ap (value_unless (image_set_of set nfit)) (passed v xs (first_fault (faults_of set nfit)) r is' told).0
     ∙ ap (λ x. Ok x) (sym same))
 
--- what was read of a set's objects is the set
+-- the objects that were read make up the set
 pub set_is : (set : Images) (nfit : Nfit) (n : ℕ) (bytes : List ℕ) (labels : List (Option Words)) (contents : List Words) (bad : List (Option (List ℕ))) → n ≡ length nfit.modules
     → bytes ≡ bytes_of set object.Nfit
     → map (option_map bytes_kept) labels ≡ map (λ m. set (object.Labels m)) (range_with_len 0 n)
@@ -113,7 +113,7 @@ pub set_is : (set : Images) (nfit : Nfit) (n : ℕ) (bytes : List ℕ) (labels :
 unfolding image_set_in image_set_of
 set_is set nfit n bytes labels contents bad count table areas words ranges = rw (← count) (rw (table, areas, words, ranges) refl)
 
--- so is what was read of them but for their contents
+-- and so do they without the contents
 pub outline_is : (set : Images) (nfit : Nfit) (n k : ℕ) (bytes : List ℕ) (labels : List (Option Words)) (sizes : List ℕ) (bad : List (Option (List ℕ))) → n ≡ length nfit.modules → k ≡ n
     → bytes ≡ bytes_of set object.Nfit
     → map (option_map bytes_kept) labels ≡ map (λ m. set (object.Labels m)) (range_with_len 0 n)

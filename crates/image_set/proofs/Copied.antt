@@ -1,4 +1,4 @@
--- Objects that are copied to a set, one after another.
+-- Objects that are copied to a set one by one.
 use Rattle.std.proofs.Common.{◌≡◌, ℕ, ◌+◌, ◌<◌, true, false, cond, List, [], ◌∷◌, ◌++◌, length, map, take, drop, get_or, Option, Some, None, Result, Ok, Err, refl, sym, ap, ◌∙◌, arith, inl, inr}
 use Rattle.std.specs.Prelude.{OnOk, nat_lt, slice_get, MatchResult}
 use Rattle.std.specs.Option.{ForSome, option_map}
@@ -22,9 +22,9 @@ use Rattle.image_set.proofs.Adding.{IsAlike, on_ok, keeps_then, becomes_mono, by
 use Rattle.image_set.proofs.Filled.{list_on}
 use Rattle.image_set.proofs.Fronts.{front_none, front_step, if_same, module_alike, none_past}
 
--- ---- what became of a sink
+-- ---- the effect on a sink
 
--- words that are written are copied, too
+-- words that are written count as copied
 pub copies_of : {T E U F : Type 0} (m m' k k' : Option Images) (n n' : ℕ) (x : T) (f : Images → Images) → (y : U) → Adds {E = E} m m' k k' n n' (Ok x) f → Copies {E = F} m m' k k' (Ok y) f
 copies_of m m' k k' n n' x f y adds = record { told = adds.told; holds = adds.holds }
 
@@ -48,24 +48,24 @@ copies_as m m' k k' result f g same copies = record {
   holds = on_ok result (λ keeps now told. let p = keeps now told in (p.0, p.1, λ object. p.2 object ∙ same p.0 object)) copies.holds;
 }
 
--- after a fault nothing is said of what was copied
+-- after a fault nothing is known of what was copied
 pub copies_fault : {T E U F : Type 0} (m m' k k' : Option Images) (e : E) (e' : F) (f g : Images → Images) → Copies {T = T} m m' k k' (Err e) f → Copies {T = U} m m' k k' (Err e') g
 copies_fault m m' k k' e e' f g copies = record { told = becomes_mono m m' (λ a b r. (r.0, tt)) copies.told; holds = tt }
 
--- nothing was asked of the sink
+-- no call was made on the sink
 pub copies_stay : {U F : Type 0} (m k : Option Images) (e : F) (g : Images → Images) → Copies {T = U} m m k k (Err e) g
 copies_stay m k e g = record { told = becomes_here m (λ set now. IsUnfinished set now × Unit {0}) (λ set _. (refl, tt)); holds = tt }
 
 -- ---- rows
 
--- a row that was read and then written
+-- bytes that were read and then written
 pub row_copied : {T E : Type 0} (held : Option Images) (o : Object) (at count : ℕ) (m m' k k' : Option Images) (x : T) (row : List ℕ) → length row ≡ count
     → ForSome held (λ source. row ≡ take count (drop at (bytes_in source o)))
     → Becomes m m' (λ set now. IsUnfinished set now × IsSameSet now (with_more set o row)) → Keeps k k' (λ set now. IsSameSet now (with_more set o row))
     → CopiesRow {E = E} held o at count m m' k k' (Ok x)
 row_copied held o at count m m' k k' x row long read told holds = record { row = row; long = long; read = read; copies = record { told = told; holds = holds } }
 
--- one that stopped
+-- bytes whose copying stopped
 pub row_stopped : {T E : Type 0} (held : Option Images) (o : Object) (at count : ℕ) (m m' k k' : Option Images) (e : E)
     → Becomes m m' (λ set now. IsUnfinished set now × Unit {0}) → CopiesRow {T = T} held o at count m m' k k' (Err e)
 row_stopped held o at count m m' k k' e told = record { row = []; long = tt; read = tt; copies = record { told = told; holds = tt } }
@@ -75,7 +75,7 @@ pub row_fault : {T U E F : Type 0} (held : Option Images) (o : Object) (at count
 row_fault held o at count at' count' m m' k k' e e' one =
     record { row = one.row; long = tt; read = tt; copies = copies_fault m m' k k' e e' (λ set. with_more set o one.row) (λ set. with_more set o one.row) one.copies }
 
--- the next row behind
+-- the next bytes
 pub row_more : {T E U F : Type 0} (held : Option Images) (o : Object) (at count : ℕ) (m m' m'' k k' k'' : Option Images) (x : T) (second : Result U F)
     → CopiesRow {E = E} held o 0 at m m' k k' (Ok x) → CopiesRow held o at count m' m'' k' k'' second → CopiesRow held o 0 (at + count) m m'' k k'' second
 row_more held o at count m m' m'' k k' k'' x second one two = record {
@@ -88,7 +88,7 @@ row_more held o at count m m' m'' k k' k'' x second one two = record {
       (copies_then m m' m'' k k' k'' x second (λ set. with_more set o one.row) (λ set. with_more set o two.row) (more_alike o two.row) one.copies two.copies);
 }
 
--- by another answer, and another count that is the same
+-- with another result, and an equal count
 pub row_as : {T E U F : Type 0} (held : Option Images) (o : Object) (count count' : ℕ) (m m' k k' : Option Images) (x : T) (y : U) → count ≡ count'
     → CopiesRow {E = E} held o 0 count m m' k k' (Ok x) → CopiesRow {E = F} held o 0 count' m m' k k' (Ok y)
 row_as held o count count' m m' k k' x y same one = record {
@@ -98,7 +98,7 @@ row_as held o count count' m m' k k' x y same one = record {
   copies = record { told = one.copies.told; holds = one.copies.holds };
 }
 
--- where the next row begins
+-- the start of the next bytes
 pub row_ends : {T E : Type 0} (held : Option Images) (o : Object) (count : ℕ) (m m' k k' : Option Images) (x : T) → ForSome m (λ set. set o ≡ None)
     → CopiesRow {E = E} held o 0 count m m' k k' (Ok x) → ForSome m' (λ set. count ≡ length (bytes_in set o))
 row_ends held o count m m' k k' x absent one now told =
@@ -139,7 +139,7 @@ pub module_stopped : {T E : Type 0} (held : Option Images) (which : ℕ) (area :
     → Becomes m m' (λ set now. IsUnfinished set now × Unit {0}) → CopiesModule {T = T} held which area count bad m m' k k' (Err e)
 module_stopped held which area count bad m m' k k' e told = record { row = []; long = tt; read = tt; copies = record { told = told; holds = tt } }
 
--- steps of which the last stopped
+-- steps of which the last one stopped
 pub stopped_then : (m m' m'' : Option Images) (R S : Images → Images → Type 0) → ((x y : Images) → R x y → IsUnfinished x y) → ((x y : Images) → S x y → IsUnfinished x y)
     → Becomes m m' R → Becomes m' m'' S → Becomes m m'' (λ set now. IsUnfinished set now × Unit {0})
 stopped_then m m' m'' R S f g one two = becomes_then m m' m'' R S (λ set now. IsUnfinished set now × Unit {0}) (λ a b c _ r s. (g b c s ∙ f a b r, tt)) one two
@@ -239,7 +239,7 @@ set_whole left contents n has is long (object.Contents k) =
     if_same (nat_lt k n) (slice_get contents k) (λ past. slice_get_past contents k (grind (arith, nat_tests, long, past)))
 set_whole left contents n has is long (object.BadRanges k) = if_same (nat_lt k n) (get_or left.bad k None) (none_past left.bad k n (has.bad ∙ sym is))
 
--- the mark is made
+-- the mark is written
 pub set_copied : {T E U F : Type 0} (held : Option Images) (left : OutlineLeft) (m0 m1 m2 k0 k1 k2 : Option Images) (x : T) (y : U) → IsCopyable left
     → CopiesFront {E = E} held left (length left.sizes) m0 m1 k0 k1 (Ok x)
     → Becomes m1 m2 (λ set now. IsSameSet now (with_more set object.Mark [])) → Keeps k1 k2 (λ set now. IsSameSet now (with_more set object.Mark []))
@@ -267,7 +267,7 @@ set_untouched held left m0 m1 k0 k1 e same = rw same (set_stopped held left m0 m
 
 -- ---- sizes
 
--- the contents of a module have the size that is stated
+-- the contents of a module have the given size
 pub size_at : (sizes : List ℕ) (source : Images) (m : ℕ) → HasContents sizes source → m < length sizes → length (bytes_in source (object.Contents m)) ≡ get_or sizes m 0
 size_at sizes source m has lt =
     let f : ℕ → ℕ = λ k. length (bytes_in source (object.Contents k)) in

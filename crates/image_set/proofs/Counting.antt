@@ -22,12 +22,12 @@ fault_at set m = module_fault set (size_before set m) m
 abbrev pub fault_from : Images → ℕ → ℕ → Option LoadFault
 fault_from set m count = first_fault (map (fault_at set) (drop m (range_with_len 0 count)))
 
--- so many modules of an image set have these sizes, and what is left decides
+-- these are the sizes of the first modules of an image set, and the rest decides
 pub record Told (set : Images) (all : List Sizes) (m count : ℕ) : Type 0 where
   pub sizes : all ≡ map (sizes_of set) (range_with_len 0 m)
   pub rest : fault_from set m count ≡ modules_fault set count
 
--- so many modules were asked for
+-- the sizes of the first modules were asked for
 pub record Counted (held : Option Images) (all : List Sizes) (before m count : ℕ) : Type 0 where
   pub counted : length all ≡ m
   pub within : m ≤ count
@@ -53,7 +53,7 @@ pub contents_by : (set : Images) (modules : List ℕ) → contents_of (map (size
 contents_by set [] = refl
 contents_by set (m ∷ modules) = ap (λ (rest : List ℕ). length (bytes_of set (object.Contents m)) ∷ rest) (contents_by set modules)
 
--- the contents of the modules so far are what comes before the next
+-- the sum of the contents so far is that before the next module
 before_is : (set : Images) (all : List Sizes) (before m count : ℕ) → Told set all m count → sum (contents_of all) ≡ before → size_before set m ≡ before
 before_is set all before m count told total =
     sym (ap sum (ap contents_of told.sizes ∙ contents_by set (range_with_len 0 m))) ∙ total
@@ -69,7 +69,7 @@ counted_none held count = record {
   told = λ set is. record { sizes = refl; rest = refl };
 }
 
--- the fault of the next module by what was told of it
+-- the fault of the next module, from what was revealed
 next_fault : (set : Images) (all : List Sizes) (before m count : ℕ) → Told set all m count → sum (contents_of all) ≡ before
     → module_fault set before m ≡ fault_at set m
 next_fault set all before m count told total = ap (λ b. module_fault set b m) (sym (before_is set all before m count told total))

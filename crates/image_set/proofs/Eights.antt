@@ -1,4 +1,4 @@
--- The bytes of words that are added eight at a time, and the pieces in which they come.
+-- Appending bytes as words, eight at a time, piece by piece.
 use Rattle.std.proofs.Common.{◌≡◌, ℕ, ◌+◌, ◌*◌, List, [], ◌∷◌, ◌++◌, length, take, drop, refl, sym, ap, ◌∙◌, arith, append_assoc}
 use Rattle.std.specs.Int.{w64, to_le_bytes, from_le_bytes}
 use Rattle.std.proofs.Math.Seq.{take-add}
@@ -9,7 +9,7 @@ use Rattle.cut_words.specs.WordBytes.{bytes_of}
 use Rattle.cut_words.proofs.Bytes.{length_bytes}
 use Rattle.cut_words.proofs.Put.{bytes_of-append}
 
--- another word, taken from what is left
+-- one more word, from the rest
 pub word_more : (words old piece eight more rest : List ℕ) → AreBytes eight → length eight ≡ 8 → rest ≡ eight ++ more → bytes_of words ++ rest ≡ bytes_of old ++ piece
     → bytes_of (words ++ from_le_bytes w64 eight ∷ []) ++ more ≡ bytes_of old ++ piece
 word_more words old piece eight more rest small long is so_far =

@@ -43,7 +43,7 @@ unfolding first_fault
 none_here None faults is = (refl, is)
 none_here (Some f) faults is = absurd (cc)
 
--- where no item has a fault, each has none
+-- if no fault is found, no item has one
 none_all : {A : Type 0} (f : A → Option LoadFault) (xs : List A) → first_fault (map f xs) ≡ None → All (λ x. f x ≡ None) xs
 none_all f [] is = All-nil (λ x. f x ≡ None)
 none_all f (x ∷ xs) is = let p = none_here (f x) (map f xs) is in All-cons (λ y. f y ≡ None) x xs p.0 (none_all f xs p.1)

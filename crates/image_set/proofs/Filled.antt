@@ -1,4 +1,4 @@
--- What was read of the objects of a set, one module after another.
+-- The objects of a set that were read, module by module.
 use Rattle.std.proofs.Common.{◌≡◌, ℕ, ◌+◌, ◌%◌, ◌<◌, List, [], ◌∷◌, ◌++◌, length, map, take, get_or, Option, Some, None, sym, ap, ◌∙◌, subst, arith}
 use Rattle.std.specs.Prelude.{unwrap_or}
 use Rattle.std.specs.Option.{option_map}
@@ -12,7 +12,7 @@ use Rattle.image_set.specs.declared.sizes.Sizes.{Sizes}
 use Rattle.image_set.specs.Sizes.{sizes_of, contents_of, AreSizesOf, IsSized}
 use Rattle.image_set.specs.Sound.{size_of, IsArea, AreWords, IsContents}
 
--- an object that is there was read
+-- an existing object was read
 pub there_told : (x : Option (List ℕ)) (found : Option ℕ) (n : ℕ) (bytes : List ℕ) → found ≡ option_map length x → found ≡ Some n → bytes ≡ unwrap_or x [] → Some bytes ≡ x
 there_told None found n bytes told is read = absurd (let e = sym told ∙ is in cc)
 there_told (Some all) found n bytes told is read = ap (λ (b : List ℕ). Some b) read

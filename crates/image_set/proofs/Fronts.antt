@@ -1,4 +1,4 @@
--- A set that is written module by module.
+-- Writing a set module by module.
 use Rattle.std.proofs.Common.{◌≡◌, ℕ, ◌+◌, ◌<◌, Bool, true, false, cond, List, [], length, get_or, Option, Some, None, Result, Ok, refl, sym, ap, ◌∙◌, arith, inl, inr}
 use Rattle.std.specs.Prelude.{OnOk, nat_lt, ◌==◌, slice_get}
 use Rattle.std.specs.Option.{ForSome, option_map}
@@ -15,7 +15,7 @@ use Rattle.power_cut.specs.declared.leaving.Images.{Images as Left}
 use Rattle.image_set.specs.Save.{Adds, HasModules, HasNone, front_of, set_of, with_module, with_some}
 use Rattle.image_set.proofs.Adding.{IsAlike, on_ok, on_err, keeps_then, rose_on, some_here, some_other, some_alike, more_alike}
 
--- what became of a sink that was empty
+-- the effect on an empty sink
 pub record Reaches {T E : Type 0} (made made' kept kept' : Option Images) (faults faults' : ℕ) (result : Result T E) (set : Images) : Type 0 where
   pub told : Becomes made made' (λ was now. IsUnfinished was now × OnOk result (IsSameSet now set))
   pub holds : OnOk result (Keeps kept kept' (λ was now. IsEmptySet was → IsSameSet now set))
@@ -88,9 +88,9 @@ module_alike m area contents bad x y same =
     some_alike (object.BadRanges m) bad (with_more (with_some x (object.Labels m) area) (object.Contents m) contents) (with_more (with_some y (object.Labels m) area) (object.Contents m) contents)
     (more_alike (object.Contents m) contents (with_some x (object.Labels m) area) (with_some y (object.Labels m) area) (some_alike (object.Labels m) area x y same))
 
--- ---- what became of a sink
+-- ---- the effect on a sink
 
--- one change more
+-- one more change
 pub reaches_on : {T E U F : Type 0} (m m' m'' k k' k'' : Option Images) (n n' n'' : ℕ) (x : T) (second : Result U F) (set set' : Images) (change : Images → Images)
     → IsAlike change → IsSameSet (change set) set' → Reaches {E = E} m m' k k' n n' (Ok x) set → Adds m' m'' k' k'' n' n'' second change → Reaches m m'' k k'' n n'' second set'
 reaches_on m m' m'' k k' k'' n n' n'' x second set set' change alike same one two = record {
@@ -128,7 +128,7 @@ pub if_same : (b : Bool) (o : Option (List ℕ)) → (b ≡ false → o ≡ None
 if_same true o h = refl
 if_same false o h = sym (h refl)
 
--- when the objects of all modules are there, the mark makes the set whole
+-- once the objects of all modules are there, the mark completes the set
 pub set_whole : (nfit : List ℕ) (left : Left) (bad : List (Option (List ℕ))) → HasModules left bad
     → IsSameSet (with_more (front_of (set_of nfit left bad) (length left.contents)) object.Mark []) (set_of nfit left bad)
 unfolding set_of
@@ -142,7 +142,7 @@ set_whole nfit left bad has (object.Contents k) =
     (λ past. ap (option_map words.bytes_of) (slice_get_past left.contents k (grind (arith, nat_tests))))
 set_whole nfit left bad has (object.BadRanges k) = if_same (nat_lt k (length left.contents)) (get_or bad k None) (none_past bad k (length left.contents) has.ranges)
 
--- the mark is made
+-- the mark is written
 pub whole_told : (m m' m'' : Option Images) (nfit : List ℕ) (left : Left) (bad : List (Option (List ℕ))) → HasModules left bad
     → Becomes m m' (λ was now. IsUnfinished was now × IsSameSet now (front_of (set_of nfit left bad) (length left.contents)))
     → Becomes m' m'' (λ was now. IsSameSet now (with_more was object.Mark [])) → Becomes m m'' (λ _ now. IsSameSet now (set_of nfit left bad))

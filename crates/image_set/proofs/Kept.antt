@@ -1,4 +1,4 @@
--- What is left of words of which none is pending, and of a set with one other label area.
+-- Words without pending ones after a crash, and a set with one changed label area.
 use Rattle.std.proofs.Common.{◌≡◌, ℕ, zero, suc, ◌+◌, ◌<◌, Bool, List, [], ◌∷◌, length, map, get_or, replicate, Option, Some, None, refl, sym, ap, ◌∙◌, subst, arith}
 use Rattle.std.proofs.Math.ListN.{set}
 use Rattle.std.specs.Option.{option_map}
@@ -9,7 +9,7 @@ use Rattle.cut_words.specs.Words.{Words, IsLeft, settled}
 use Rattle.cut_words.specs.Leaving.{LeavesFrom}
 use Rattle.power_cut.specs.Left.{Each, InTurn, IsLeftOf, LeavesOption, LeavesWords}
 
--- words of which none is pending are left as they are, and no question is asked
+-- words without pending ones are unchanged, and the chooser isn't asked
 kept_from : {C : Type 0} (picks : C → ℕ → Bool → C → Type 0) (kept : List ℕ) (i : ℕ) (left : List ℕ) (before after : C)
     → LeavesFrom picks i kept (replicate (length kept) None) left before after → (left ≡ kept) × (after ≡ before)
 kept_from picks [] i left before after leaves = leaves
@@ -36,7 +36,7 @@ kept_rows picks (row ∷ rows) left before after all turn =
     let rest = kept_rows picks rows turn.1 turn.2 after (All-tail IsSettled row rows all) turn.5 in
     (turn.3 ∙ ap (λ v. v ∷ turn.1) here.0 ∙ ap (λ r. row.kept ∷ r) rest.0, rest.1 ∙ here.1)
 
--- so of a label area that may not be there
+-- the same for a label area that may be missing
 abbrev pub AreaSettled : Option Words → Type 0
 AreaSettled area = (words : Words) → area ≡ Some words → IsSettled words
 
@@ -57,7 +57,7 @@ kept_areas picks (area ∷ areas) left before after all turn =
 
 -- ---- one label area that is changed
 
--- the chooser is asked for that area alone
+-- the chooser is asked only for that area
 pub record OneLeft {C : Type 0} (picks : C → ℕ → Bool → C → Type 0) (areas : List (Option Words)) (m : ℕ) (words : Words) (left : List (Option (List ℕ))) (before after : C) : Type 0 where
   pub row : List ℕ
   pub asked : LeavesWords picks words row before after
@@ -82,7 +82,7 @@ one_left picks (area ∷ areas) (suc m) words left before after lt all turn =
       is = turn.3 ∙ ap (λ v. v ∷ turn.1) here.0 ∙ ap (λ r. option_map kept_in area ∷ r) rest.is;
     }
 
--- what is left of the area is, for each word by itself, its kept value or the one that a load gives
+-- each word of the area has, independently, its kept value or the one that a load returns
 each_at : {X Y : Type 0} (leaves : X → Y → Type 0) (parts : List X) (left : List Y) (i : ℕ) (d : X) (e : Y) → i < length parts → Each leaves parts left → leaves (get_or parts i d) (get_or left i e)
 each_at leaves [] left i d e lt each = absurd (omega arith)
 each_at leaves (x ∷ parts) left zero d e lt each = rw each.2 each.3

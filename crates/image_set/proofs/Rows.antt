@@ -1,4 +1,4 @@
--- Worked rows, computed.
+-- Worked examples, computed on the definitions.
 use Rattle.std.proofs.Common.{◌≡◌, ℕ, ◌-◌, ◌%◌, ◌++◌, List, [], ◌∷◌, Option, Some, None, Ok, Err, replicate, sum, codes, refl}
 use Rattle.std.specs.Int.{w16, w32, w64, to_le_bytes}
 use Rattle.nvd_words.specs.Bytes.{number_at}
@@ -13,7 +13,7 @@ use Rattle.image_set.specs.Load.{table_fault, module_fault, modules_fault, mappi
 
 -- ---- tables
 
--- a mapping of so many bytes of the module with handle 9 into a range
+-- a mapping of a size, of the module with handle 9, into a range
 abbrev mapping : ℕ → ℕ → List ℕ
 mapping into size = to_le_bytes w16 1 ++ to_le_bytes w16 48 ++ to_le_bytes w32 9 ++ replicate 4 0 ++ to_le_bytes w16 into ++ to_le_bytes w16 1
     ++ to_le_bytes w64 size ++ replicate 18 0 ++ to_le_bytes w16 1 ++ replicate 4 0
@@ -46,13 +46,13 @@ pub no_table : loading (set_of (codes "NFIS") None None None) ≡ Err (fault.Nfi
 unfolding first_fault table_fault loading number_at said_of header_fault
 no_table = refl
 
--- a table that names no module, and objects that it doesn't name
+-- a table that names no module, and objects of a module it doesn't name
 pub no_module : loading (set_of (table_of 40 []) (Some (1 ∷ [])) None None)
     ≡ Ok (record { nfit = record { modules = []; regions = [] }; nfit_bytes = table_of 40 []; labels = []; contents = []; bad = [] })
 unfolding first_fault table_fault loading modules_fault mappings_fault image_set_of number_at said_of header_fault spans_from distinct_after twice_in alias_in regions_of table_reading
 no_module = refl
 
--- a label area's size comes before the contents that aren't there
+-- a label area's size is checked before the missing contents
 pub labels_first : loading (set_of (table_of 88 (mapping 0 0)) (Some (1 ∷ 2 ∷ 3 ∷ [])) None None) ≡ Err (fault.Size (Labels 0) 3)
 unfolding first_fault table_fault loading modules_fault module_fault mappings_fault image_set_of number_at said_of header_fault spans_from structure_of least_length is_structure has_lines link_of distinct_after twice_in alias_in regions_of table_reading missing_of lacks_range lacks_identity lacks_lines extent_of
 labels_first = refl

@@ -1,4 +1,4 @@
--- A set as it is saved, and one with another label area: this project's rules.
+-- A set as it is saved, and a set with another label area: this project's rules.
 use Rattle.std.specs.Prelude.{ℕ, ◌^◌, ◌<◌, List, [], length, slice_get, slice_index_or, slice_set, Some, None}
 use Rattle.nvd_media.specs.declared.object.Object.TheVariants as object
 use Rattle.nvd_media.specs.Images.{Images}
@@ -6,7 +6,7 @@ use Rattle.image_set.specs.declared.changing.SetLeft.{SetLeft}
 use Rattle.image_set.specs.Load.{ImageSet}
 use Rattle.image_set.specs.Save.{HasModules, set_of}
 
--- the objects of an image set, under its mark
+-- the objects of an image set, including its mark
 unfoldable pub objects_of : ImageSet → Images
 objects_of set object.Mark = Some []
 objects_of set object.Nfit = Some set.nfit_bytes
@@ -28,7 +28,7 @@ with_area set m bytes = record {
 abbrev pub objects_in : SetLeft → Images
 objects_in left = set_of left.nfit left.images left.bad
 
--- what is left can be saved
+-- the set can be saved
 pub record IsSavable (left : SetLeft) : Type 0 where
   pub modules : HasModules left.images left.bad
   pub few : length left.images.contents < 2 ^ 32

@@ -1,4 +1,4 @@
--- What an image set holds, or the first fault of one: this project's rules.
+-- The content of an image set, or its first fault: this project's rules.
 use Rattle.std.specs.Prelude.{◌≡◌, ◌≢◌, ℕ, ◌+◌, nat_lt, Bool, true, not, List, [], ◌∷◌, length, map, sum, slice_index_or, Option, Some, None, Result, Ok, Err}
 use Rattle.std.specs.Option.{option_map}
 use Rattle.std.specs.Result.{result_map_both}
@@ -27,26 +27,26 @@ use Rattle.image_set.specs.Limits.{is_nfit_size, is_contents_size, is_bad_size}
 abbrev pub size_fault : (ℕ → Bool) → Object → List ℕ → Option LoadFault
 size_fault is_size o bytes = fault_if (not (is_size (length bytes))) (fault.Size o (length bytes))
 
--- of an object that must be there
+-- the fault of an object that must be there
 abbrev pub needed_fault : (ℕ → Bool) → Object → Option (List ℕ) → Option LoadFault
 needed_fault is_size o None = Some (fault.Missing o)
 needed_fault is_size o (Some bytes) = size_fault is_size o bytes
 
--- of an object that may be absent
+-- the fault of an object that may be absent
 abbrev pub optional_fault : (ℕ → Bool) → Object → Option (List ℕ) → Option LoadFault
 optional_fault is_size o None = None
 optional_fault is_size o (Some bytes) = size_fault is_size o bytes
 
--- ---- the first fault, in the order of objects
+-- ---- the first fault, in the order of the objects
 
--- of the mark, whose length isn't looked at, and the firmware's table
+-- of the mark, whose length is ignored, and the firmware's table
 unfoldable pub table_fault : Images → Option LoadFault
 table_fault set = first_fault (
     needed_fault (λ _. true) object.Mark (set object.Mark)
     ∷ needed_fault is_nfit_size object.Nfit (set object.Nfit)
     ∷ [])
 
--- of one module, after so many bytes of the contents of those before it
+-- of one module, after `before` bytes of the contents before it
 unfoldable pub module_fault : Images → ℕ → ℕ → Option LoadFault
 module_fault set before m = first_fault (
     optional_fault is_area_size (object.Labels m) (set (object.Labels m))
@@ -54,11 +54,11 @@ module_fault set before m = first_fault (
     ∷ optional_fault is_bad_size (object.BadRanges m) (set (object.BadRanges m))
     ∷ [])
 
--- the contents of all modules before one, in bytes
+-- the size of the contents of all modules before one, in bytes
 abbrev pub size_before : Images → ℕ → ℕ
 size_before set m = sum (map (λ k. length (bytes_of set (object.Contents k))) (range_with_len 0 m))
 
--- of so many modules
+-- of `count` modules
 unfoldable pub modules_fault : Images → ℕ → Option LoadFault
 modules_fault set count = first_fault (map (λ m. module_fault set (size_before set m) m) (range_with_len 0 count))
 
@@ -74,7 +74,7 @@ mappings_fault set regions = first_fault (map (λ region. first_fault (map (mapp
 
 -- ---- the whole
 
--- an image set as the bytes of its objects, the modules by number
+-- an image set as the bytes of its objects, indexed by module
 pub record ImageSet : Type 0 where
   pub nfit : Nfit
   pub nfit_bytes : List ℕ
@@ -82,7 +82,7 @@ pub record ImageSet : Type 0 where
   pub contents : List (List ℕ)
   pub bad : List (Option (List ℕ))
 
--- the objects of so many modules, under the table that was read
+-- the objects of a table's modules
 unfoldable pub image_set_of : Images → Nfit → ImageSet
 image_set_of set nfit = record {
   nfit = nfit;
@@ -104,17 +104,17 @@ abbrev pub unless_fault : Images → Option LoadFault → Result ImageSet LoadFa
 unless_fault set (Some f) = Err f
 unless_fault set None = with_table set (nfit_reading (bytes_of set object.Nfit))
 
--- what an image set holds, or its first fault
+-- the content of an image set, or its first fault
 unfoldable pub loading : Images → Result ImageSet LoadFault
 loading set = unless_fault set (table_fault set)
 
--- ---- what was loaded
+-- ---- the loaded set
 
--- the bytes that words have kept
+-- the bytes of the kept values
 abbrev pub bytes_kept : Words → List ℕ
 bytes_kept w = words.bytes_of w.kept
 
--- what was loaded, as bytes
+-- the loaded set, as bytes
 unfoldable pub image_set_in : Loaded → ImageSet
 image_set_in loaded = record {
   nfit = loaded.nfit;
@@ -129,16 +129,16 @@ abbrev pub fault_of : Stop → LoadFault
 fault_of stop.ReadFault = fault.ReadFault
 fault_of stop.OutOfMemory = fault.OutOfMemory
 
--- a call answered this, unless reading failed or memory ran out
+-- a call returned this, unless reading failed or memory ran out
 abbrev pub AnswersRead : {A : Type 0} → Result A LoadFault → Result A LoadFault → Type 0
 AnswersRead result answer = result ≢ Err fault.ReadFault → result ≢ Err fault.OutOfMemory → result ≡ answer
 
--- what was loaded is what the set holds, or the fault is its first
+-- the loaded set is the source's, or the fault is its first
 abbrev pub Loads : Result Loaded LoadFault → Images → Type 0
 Loads result set = AnswersRead (result_map_both image_set_in (λ fault. fault) result) (loading set)
 
 -- ---- one label area
 
--- the bytes of a module's label area; none where the table doesn't name the module, or it has no area
+-- the bytes of a module's label area; none if the table doesn't name the module, or it has no area
 abbrev pub area_of : ImageSet → ℕ → Option (List ℕ)
 area_of set m = slice_index_or set.labels m None

@@ -1,4 +1,4 @@
--- An image set whose contents stay where they are, and what is saved of it once they are copied: this project's rules.
+-- An image set whose contents stay in the source, and how it is saved by copying them: this project's rules.
 use Rattle.std.specs.Prelude.{◌≡◌, ℕ, ◌^◌, ◌<◌, ◌≤◌, Bool, List, [], length, map, take, drop, slice_get, slice_index_or, Option, Some, None, Result, Ok, OnOk, MatchResult}
 use Rattle.std.specs.Option.{ForSome, option_map}
 use Rattle.std.specs.Result.{result_map_both}
@@ -22,7 +22,7 @@ use Rattle.image_set.specs.Sound.{IsArea}
 
 -- ---- an outline
 
--- the contents of so many modules
+-- the contents of `count` modules
 abbrev pub contents_in : Images → ℕ → List (List ℕ)
 contents_in set count = map (λ m. bytes_in set (object.Contents m)) (range_with_len 0 count)
 
@@ -40,13 +40,13 @@ image_set_with outline contents = record {
 abbrev pub HasContents : List ℕ → Images → Type 0
 HasContents sizes set = sizes ≡ map (λ row. length row) (contents_in set (length sizes))
 
--- with the contents of the set an outline is what the set holds, or the fault is its first
+-- with the set's contents an outline is the set, or the fault is its first
 abbrev pub Outlines : Result Outline LoadFault → Images → Type 0
 Outlines result set = AnswersRead (result_map_both (λ outline. image_set_with outline (contents_in set (length outline.sizes))) (λ fault. fault) result) (loading set)
 
--- What holds of an outline, whatever its source tells.
+-- What holds of an outline, whatever its source reveals.
 pub record IsOutlined (outline : Outline) : Type 0 where
-  -- the table is the one that the bytes spell
+  -- the table is the decoding of the bytes
   pub table : nfit_reading outline.nfit_bytes ≡ Ok outline.nfit
   pub counted : AreCounted outline.nfit
   pub regions : length outline.nfit.regions < 2 ^ 32
@@ -54,10 +54,10 @@ pub record IsOutlined (outline : Outline) : Type 0 where
   pub labels : length outline.labels ≡ length outline.sizes
   pub bad : length outline.bad ≡ length outline.sizes
   pub few : length outline.sizes ≤ 64
-  -- label areas are inside their limits
+  -- label areas are within their limits
   pub areas : All IsArea outline.labels
 
--- ---- what is left of one
+-- ---- an outline after a crash
 
 -- the objects that are saved, with these contents
 abbrev pub objects_with : OutlineLeft → List (List ℕ) → Images
@@ -67,22 +67,22 @@ objects_with left contents (object.Labels m) = option_map bytes_of (slice_index_
 objects_with left contents (object.Contents m) = slice_get contents m
 objects_with left contents (object.BadRanges m) = slice_index_or left.bad m None
 
--- what is left can be saved
+-- the outline can be saved
 pub record IsCopyable (left : OutlineLeft) : Type 0 where
   pub labels : length left.labels ≡ length left.sizes
   pub bad : length left.bad ≡ length left.sizes
   pub few : length left.sizes ≤ 64
 
--- What is left of an outline in which these words stand for the label area of a module, and no other word is pending: the chooser is
--- asked for these words alone, and all other objects are left as they were, whatever the contents are.
+-- An outline after a crash, with these words as the label area of a module and no other word pending: the chooser is asked only
+-- for these words, and all other objects are unchanged, whatever the contents are.
 pub record LeavesOutline {C : Type 0} (picks : C → ℕ → Bool → C → Type 0) (outline : Outline) (m : ℕ) (area : Words) (before after : C) (left : OutlineLeft) : Type 0 where
   pub row : List ℕ
   pub asked : LeavesWords picks area row before after
   pub left_of : IsLeft area row
   pub objects : (contents : List (List ℕ)) → IsSameSet (objects_with left contents) (objects_of (with_area (image_set_with outline contents) m (bytes_of row)))
 
--- What is left of an outline's rest with these label areas: the chooser is asked for one area after another, rising by module, and
--- all other objects are left as they were.
+-- An outline's rest after a crash, with these label areas: the chooser is asked for one area after another, by ascending module
+-- number, and all other objects are unchanged.
 pub record LeavesAreas {C : Type 0} (picks : C → ℕ → Bool → C → Type 0) (rest : OutlineRest) (labels : List (Option Words)) (before after : C) (left : OutlineLeft) : Type 0 where
   pub asked : InTurn (LeavesOption picks) labels left.labels before after
   pub left_of : Each IsLeftOf labels left.labels
@@ -97,27 +97,27 @@ pub record IsOutlineRest (rest : OutlineRest) : Type 0 where
 
 -- ---- copying
 
--- What became of a sink to which bytes were copied: where nothing failed it has what a change makes of what it had, and the set isn't
--- finished by it.
+-- The effect of copying bytes to a sink: if nothing failed, it has its old set with the change made, and the set isn't finished
+-- by it.
 pub record Copies {T E : Type 0} (made made' kept kept' : Option Images) (result : Result T E) (change : Images → Images) : Type 0 where
   pub told : Becomes made made' (λ set now. IsUnfinished set now × OnOk result (IsSameSet now (change set)))
   pub holds : OnOk result (Keeps kept kept' (λ set now. IsSameSet now (change set)))
 
--- a row of so many bytes of an object, from a place on, was copied from what the source holds
+-- `count` bytes of an object, from `at` on, were copied from the source
 pub record CopiesRow {T E : Type 0} (held : Option Images) (o : Object) (at count : ℕ) (made made' kept kept' : Option Images) (result : Result T E) : Type 0 where
   pub row : List ℕ
   pub long : OnOk result (length row ≡ count)
   pub read : OnOk result (ForSome held (λ source. row ≡ take count (drop at (bytes_in source o))))
   pub copies : Copies made made' kept kept' result (λ set. with_more set o row)
 
--- the objects of a module were copied: what is left of its label area, its contents, and its list of bad ranges
+-- the objects of a module were copied: its label area, its contents, and its list of bad ranges
 pub record CopiesModule {T E : Type 0} (held : Option Images) (m : ℕ) (area : Option (List ℕ)) (count : ℕ) (bad : Option (List ℕ)) (made made' kept kept' : Option Images) (result : Result T E) : Type 0 where
   pub row : List ℕ
   pub long : OnOk result (length row ≡ count)
   pub read : OnOk result (ForSome held (λ source. row ≡ bytes_in source (object.Contents m)))
   pub copies : Copies made made' kept kept' result (with_module m area row bad)
 
--- What became of a sink that was empty when the objects of so many modules were copied.
+-- The effect of copying the objects of m modules to an empty sink.
 pub record CopiesFront {T E : Type 0} (held : Option Images) (left : OutlineLeft) (m : ℕ) (made made' kept kept' : Option Images) (result : Result T E) : Type 0 where
   pub contents : List (List ℕ)
   pub count : OnOk result (length contents ≡ m)
@@ -126,8 +126,8 @@ pub record CopiesFront {T E : Type 0} (held : Option Images) (left : OutlineLeft
   pub told : Becomes made made' (λ set now. IsUnfinished set now × OnOk result (IsSameSet now (front_of (objects_with left contents) m)))
   pub holds : OnOk result (Keeps kept kept' (λ set now. IsEmptySet set → IsSameSet now (front_of (objects_with left contents) m)))
 
--- What became of a sink that was empty: where nothing failed it has all objects of what is left, with contents of the stated sizes, which are
--- those that the source holds, and the mark; else the set isn't finished.
+-- The effect of copying a set to an empty sink: if nothing failed, it has all objects, with contents of the given sizes, which
+-- are the source's, and the mark; otherwise the set isn't finished.
 pub record CopiesSet {T E : Type 0} (held : Option Images) (left : OutlineLeft) (made made' kept kept' : Option Images) (result : Result T E) : Type 0 where
   pub contents : List (List ℕ)
   pub sized : OnOk result (map (λ row. length row) contents ≡ left.sizes)

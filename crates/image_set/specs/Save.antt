@@ -8,8 +8,8 @@ use Rattle.nvd_media.specs.Images.{Images, IsSameSet, Becomes, Keeps, IsUnfinish
 use Rattle.cut_words.specs.WordBytes.{bytes_of}
 use Rattle.power_cut.specs.declared.leaving.Images.{Images as Left}
 
--- The objects of a finished set: the bytes of the firmware's table, the words of label areas and contents with the low byte first,
--- and the bytes of the lists of bad ranges; each is there where the list has it for the module.
+-- The objects of a finished set: the bytes of the firmware's table, the words of label areas and contents with the low byte
+-- first, and the bytes of the lists of bad ranges. An object is there if the list has it for the module.
 unfoldable pub set_of : List ℕ → Left → List (Option (List ℕ)) → Images
 set_of nfit left bad object.Mark = Some []
 set_of nfit left bad object.Nfit = Some nfit
@@ -22,9 +22,9 @@ pub record HasModules (left : Left) (bad : List (Option (List ℕ))) : Type 0 wh
   pub labels : length left.labels ≡ length left.contents
   pub ranges : length bad ≡ length left.contents
 
--- ---- on the way
+-- ---- while it is written
 
--- what is there when the objects of so many modules were written
+-- the objects after those of m modules were written
 abbrev pub front_of : Images → ℕ → Images
 front_of set m object.Mark = None
 front_of set m object.Nfit = set object.Nfit
@@ -32,7 +32,7 @@ front_of set m (object.Labels k) = if nat_lt k m then set (object.Labels k) else
 front_of set m (object.Contents k) = if nat_lt k m then set (object.Contents k) else None
 front_of set m (object.BadRanges k) = if nat_lt k m then set (object.BadRanges k) else None
 
--- a set with more bytes at an object's end, where there are any to write
+-- a set with bytes appended to an object, if there are any
 abbrev pub with_some : Images → Object → Option (List ℕ) → Images
 with_some set object None = set
 with_some set object (Some bytes) = with_more set object bytes
@@ -47,7 +47,7 @@ pub record HasNone (m : ℕ) (set : Images) : Type 0 where
   pub contents : set (object.Contents m) ≡ None
   pub ranges : set (object.BadRanges m) ≡ None
 
--- What became of a sink: where nothing failed it has what a change makes of what it had, and the set isn't finished by it.
+-- The effect on a sink: if nothing failed, it has its old set with the change made, and the set isn't finished by it.
 pub record Adds {T E : Type 0} (made made' kept kept' : Option Images) (faults faults' : ℕ) (result : Result T E) (change : Images → Images) : Type 0 where
   pub told : Becomes made made' (λ set now. IsUnfinished set now × OnOk result (IsSameSet now (change set)))
   pub holds : OnOk result (Keeps kept kept' (λ set now. IsSameSet now (change set)))

@@ -1,4 +1,4 @@
--- The sizes of a set's objects, in bytes, and what they say of the mappings.
+-- The sizes of a set's objects, in bytes, and the fault of a mapping by them.
 use Rattle.std.specs.Prelude.{◌≡◌, ℕ, ◌+◌, ◌%◌, ◌<◌, ◌≤◌, nat_lt, List, length, map, sum, slice_index, Option, Some}
 use Rattle.std.specs.Option.{option_map}
 use Rattle.std.specs.List.{All, range_with_len}
@@ -13,7 +13,7 @@ use Rattle.image_set.specs.declared.fault.LoadFault.{LoadFault}
 use Rattle.image_set.specs.declared.fault.LoadFault.TheVariants as fault
 use Rattle.image_set.specs.declared.sizes.Sizes.{Sizes}
 
--- what a set says of a module's objects
+-- the sizes of a module's objects in a set
 abbrev pub sizes_of : Images → ℕ → Sizes
 sizes_of set m = record {
   labels = option_map length (set (object.Labels m));
@@ -25,7 +25,7 @@ sizes_of set m = record {
 abbrev pub AreSizesOf : Images → List Sizes → Type 0
 AreSizesOf set sizes = sizes ≡ map (sizes_of set) (range_with_len 0 (length sizes))
 
--- the sizes of a module's objects are inside their limits
+-- the sizes of a module's objects are within their limits
 pub record IsSized (s : Sizes) : Type 0 where
   pub labels : (bytes : ℕ) → s.labels ≡ Some bytes → IsAreaSize bytes
   pub some : 0 < s.contents
@@ -36,7 +36,7 @@ pub record IsSized (s : Sizes) : Type 0 where
 abbrev pub contents_of : List Sizes → List ℕ
 contents_of sizes = map (λ s. s.contents) sizes
 
--- all of them are, and so are all contents together
+-- all of them are, and so is their sum
 pub record AreSized (sizes : List Sizes) : Type 0 where
   pub each : All IsSized sizes
   pub total : sum (contents_of sizes) ≤ 536870912

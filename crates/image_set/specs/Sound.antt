@@ -1,4 +1,4 @@
--- What holds of an image set that was loaded, whatever its source tells.
+-- What holds of a loaded image set, whatever its source reveals.
 use Rattle.std.specs.Prelude.{◌≡◌, ℕ, ◌+◌, ◌*◌, ◌%◌, ◌^◌, ◌<◌, ◌≤◌, List, length, map, sum, slice_index, slice_index_or, Option, Some, Ok}
 use Rattle.std.specs.List.{All}
 use Rattle.cut_words.specs.Words.{Words, settled}
@@ -9,7 +9,7 @@ use Rattle.nfit_reader.specs.Counted.{AreCounted, NamesItsModules}
 use Rattle.label_index.specs.Area.{IsAreaSize}
 use Rattle.image_set.specs.declared.loading.Loaded.{Loaded}
 
--- how many bytes words are
+-- the size of words, in bytes
 abbrev pub size_of : Words → ℕ
 size_of words = 8 * length words.kept
 
@@ -29,12 +29,12 @@ pub record IsContents (words : Words) : Type 0 where
   pub kept : words ≡ settled words.kept
   pub fit : AreWords words.kept
 
--- a list of bad ranges, where there is one, has a multiple of 16 bytes and at most 64 KiB
+-- a list of bad ranges, if there is one, has a multiple of 16 bytes and at most 64 KiB
 pub record IsBadRanges (ranges : Option (List ℕ)) : Type 0 where
   pub multiple : (bytes : List ℕ) → ranges ≡ Some bytes → length bytes % 16 ≡ 0
   pub few : (bytes : List ℕ) → ranges ≡ Some bytes → length bytes ≤ 65536
 
--- a mapping is of a module that is there, and inside its contents
+-- a mapping is of an existing module, and inside its contents
 pub record IsMapped (sizes : List ℕ) (m : Mapping) : Type 0 where
   pub there : m.«module» < length sizes
   pub inside : m.start + m.size ≤ slice_index_or sizes m.«module» 0
@@ -43,7 +43,7 @@ abbrev pub AreMapped : List ℕ → Region → Type 0
 AreMapped sizes region = All (IsMapped sizes) region.mappings
 
 pub record IsSound (loaded : Loaded) : Type 0 where
-  -- the table is the one that the bytes spell
+  -- the table is the decoding of the bytes
   pub table : nfit_reading loaded.nfit_bytes ≡ Ok loaded.nfit
   pub counted : AreCounted loaded.nfit
   pub few : length loaded.nfit.regions < 2 ^ 32
@@ -52,7 +52,7 @@ pub record IsSound (loaded : Loaded) : Type 0 where
   pub labels : length loaded.labels ≡ length loaded.nfit.modules
   pub contents : length loaded.contents ≡ length loaded.nfit.modules
   pub bad : length loaded.bad ≡ length loaded.nfit.modules
-  -- inside their limits
+  -- within their limits
   pub areas : All IsArea loaded.labels
   pub words : All IsContents loaded.contents
   pub ranges : All IsBadRanges loaded.bad

@@ -11,7 +11,7 @@ use crate::outline::Outline;
 use cut_words::{CutWords, WordSpace};
 use std::alloc::{AllocError, Global};
 
-/// The bytes of words of which none is pending, the low byte of each first.
+/// Returns the bytes of words, the low byte of each first. None of them may be pending.
 fn bytes_in(alloc: Global, words: &CutWords) -> Result<Vec<u8>, AllocError>
     requires { words.now ≡ settled words.now.kept }
     ensures bytes { IfOk result (λ bytes. bytes.items ≡ bytes_kept words.now) }
@@ -23,7 +23,7 @@ fn bytes_in(alloc: Global, words: &CutWords) -> Result<Vec<u8>, AllocError>
     Ok(bytes)
 }
 
-/// The bytes of a label area, where there is one.
+/// Returns the bytes of a label area, if there is one.
 fn area_bytes(alloc: Global, area: &Option<CutWords>) -> Result<Option<Vec<u8>>, AllocError>
     requires { IsArea area.now }
     ensures area { IfOk result (λ found. option_map (λ bytes. bytes.items) found
@@ -37,9 +37,9 @@ fn area_bytes(alloc: Global, area: &Option<CutWords>) -> Result<Option<Vec<u8>>,
 }
 
 impl Outline {
-    /// The bytes of a module's label area (UEFI 2.10, section 13.19), `None` where the table doesn't
-    /// name the module, or it has no label area. Their length is a label area's size. The one error is
-    /// want of memory.
+    /// Returns the bytes of a module's label area (UEFI 2.10, section 13.19), `None` if the table
+    /// doesn't name the module or the module has no label area. The length is a size that a label
+    /// area may have. The call fails only if memory runs out.
     pub fn area(&self, alloc: Global, module: u32) -> Result<Option<Vec<u8>>, AllocError>
         requires { IsOutlined self.now }
         ensures area { IfOk result

@@ -1,4 +1,4 @@
-//! One label area of a loaded set is changed, and what a cut then leaves of the set is saved.
+//! Changing label areas of a loaded set, and saving the set after a crash.
 ghost use Rattle.std.specs.Prelude.{◌≡◌, ◌<◌, ◌≤◌, ℕ, List, Some, None, IfOk, MatchResult, OnOk, Err, length, slice_index_or, slice_set};
 ghost use Rattle.std.specs.Option.{ForSome, option_map};
 ghost use Rattle.nvd_media.specs.Causes.{Rose};
@@ -28,31 +28,31 @@ pub struct SetLeft {
     pub bad: Items<Option<Items<u8>>>,
 }
 
-/// What an outline has beside its table's meaning and its label areas.
+/// The parts of an outline besides its decoded table and its label areas.
 #[derive(Debug, Drop)]
 pub struct OutlineRest {
     /// The bytes of the firmware's table.
     pub nfit_bytes: Items<u8>,
-    /// How many bytes the contents of each module have.
+    /// The size of each module's contents, in bytes.
     pub sizes: Items<u64>,
     /// The bytes of the modules' lists of bad ranges.
     pub bad: Items<Option<Items<u8>>>,
 }
 
-/// An image set as it is saved, but for its contents, which are copied from where they are.
+/// An image set as it is saved, except its contents, which are copied from the source.
 #[derive(Debug, Drop)]
 pub struct OutlineLeft {
     /// The bytes of the firmware's table.
     pub nfit: Items<u8>,
     /// The words of the label area of each module that has one.
     pub labels: Items<Option<Items<u64>>>,
-    /// How many bytes the contents of each module have.
+    /// The size of each module's contents, in bytes.
     pub sizes: Items<u64>,
     /// The bytes of the modules' lists of bad ranges.
     pub bad: Items<Option<Items<u8>>>,
 }
 
-/// The label areas without that of a module, which comes beside them.
+/// Takes a module's label area out, and returns it besides the others.
 fn without_area(
     labels: Items<Option<CutWords>>,
     module: u32,
@@ -68,7 +68,7 @@ fn without_area(
     (Items::from_vec(labels), area)
 }
 
-/// The label areas with these words as that of a module.
+/// Puts these words back as a module's label area.
 fn with_area(
     labels: Items<Option<CutWords>>,
     module: u32,
@@ -111,11 +111,11 @@ impl Outline {
         (outline, area)
     }
 
-    /// What a power cut leaves of the set in which these words stand for the label area of a module,
-    /// which the table names. Where none of the words is pending, they stay as they are.
+    /// Returns the set after a crash, with these words as the label area of a module that the table
+    /// names. If none of the words is pending, they are unchanged.
     ///
-    /// `left`: the chooser is asked for the words of this area alone, since no other word is pending; all
-    /// other objects are left as they were. The one error is want of memory.
+    /// `left`: the chooser is asked only for the words of this area, since no other word is
+    /// pending; all other objects are unchanged. The call fails only if memory runs out.
     pub fn leave_area<C: Chooser>(
         self,
         alloc: Global,
@@ -141,11 +141,11 @@ impl Outline {
 }
 
 impl OutlineRest {
-    /// What a power cut leaves of the set in which these are the label areas, by the numbers of the modules. Words of
-    /// which none is pending stay as they are.
+    /// Returns the set after a crash, with these label areas, by module number. Words that aren't
+    /// pending are unchanged.
     ///
-    /// `left`: the chooser is asked for one area after another, rising by module; all other objects are left as they
-    /// were. The one error is want of memory.
+    /// `left`: the chooser is asked for one area after another, by ascending module number; all
+    /// other objects are unchanged. The call fails only if memory runs out.
     pub fn leave_areas<C: Chooser>(
         self,
         alloc: Global,

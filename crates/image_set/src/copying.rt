@@ -1,4 +1,4 @@
-//! An image set is saved whose contents are copied from where they are, piece by piece.
+//! Saving an image set whose contents are copied from the source piece by piece.
 ghost use Rattle.std.specs.Prelude.{◌≡◌, ◌≢◌, ◌+◌, ◌-◌, ◌<◌, ◌≤◌, min, length, vec_len, Some, None, IfOk, OnOk, Err};
 ghost use Rattle.std.specs.Option.{ForSome, option_map};
 ghost use Rattle.std.specs.Vec.{vec_capacity};
@@ -16,11 +16,11 @@ use nvd_media::{ImageSink, ImageSource, Object};
 use nvd_words::Items;
 use std::alloc::Global;
 
-/// How many bytes are copied at a time: few calls, and a buffer that stays in the caches.
+/// How many bytes are copied at a time: few calls, and a buffer that fits the caches.
 const PIECE: u64 = 256 << 10;
 
-/// Copies the bytes of an object of so many from a place on, as many as a piece has or as there are, and answers the
-/// place after them.
+/// Copies one piece of an object of `bytes` bytes, from `at` on, and returns the offset after it.
+/// The last piece may be shorter.
 fn copy_piece<S: ImageSource, K: ImageSink>(
     images: &mut S,
     out: &mut K,
@@ -52,7 +52,7 @@ fn copy_piece<S: ImageSource, K: ImageSink>(
     Ok(at + count)
 }
 
-/// Copies an object of so many bytes, which the sink doesn't have.
+/// Copies an object of `bytes` bytes, which the sink doesn't have yet.
 fn copy_object<S: ImageSource, K: ImageSink>(
     images: &mut S,
     out: &mut K,
@@ -79,8 +79,8 @@ fn copy_object<S: ImageSource, K: ImageSink>(
     Ok(())
 }
 
-/// Copies the objects of a module of which the sink has none: what is left of its label area, its contents and its
-/// list of bad ranges, in this order.
+/// Writes the objects of a module of which the sink has none: the label area, the contents, which
+/// it copies, and the list of bad ranges, in this order.
 fn copy_module<S: ImageSource, K: ImageSink>(
     images: &mut S,
     out: &mut K,
@@ -110,7 +110,7 @@ fn copy_module<S: ImageSource, K: ImageSink>(
     Ok(())
 }
 
-/// Copies all objects but the mark.
+/// Writes all objects except the mark.
 fn copy_objects<S: ImageSource, K: ImageSink>(
     left: &OutlineLeft,
     images: &mut S,
@@ -151,20 +151,22 @@ fn copy_objects<S: ImageSource, K: ImageSink>(
 }
 
 impl OutlineLeft {
-    /// Saves the set, with contents that are copied from the source: writes the firmware's table, then for each module
-    /// by number what is left of its label area where it has one, its contents and its list of bad ranges where it has
-    /// one, and then finishes the set.
+    /// Saves the set, with contents that are copied from the source: writes the firmware's table,
+    /// then for each module by number its label area, if it has one, its contents, and its list of
+    /// bad ranges, if it has one, and then finishes the set.
     ///
-    /// Where the source tells, its contents have the sizes that are stated here. Where `out` tells, nothing was written
-    /// to it.
+    /// If the source reveals its contents, they must have the sizes given here. If `out` reveals
+    /// what was written, it must be empty.
     ///
-    /// - `copied`: after `Ok` the sink has exactly these objects and the mark, with contents of the stated sizes which,
-    ///   where the source tells, are those that it holds; after a fault the set isn't finished.
-    /// - `read`, `written`: `ReadFault` comes only where the source's count of faults rose in this call, `WriteFault`
-    ///   only where the sink's did; no count ever falls (`later_read`, `later_written`).
+    /// - `copied`: after `Ok` the sink has exactly these objects and the mark. The contents have
+    ///   the given sizes; if the source reveals its contents, they are the same. After a fault the
+    ///   set isn't finished.
+    /// - `read`, `written`: `ReadFault` means that the source's count of failures rose in this
+    ///   call, `WriteFault` that the sink's did; no count ever falls (`later_read`,
+    ///   `later_written`).
     /// - `same`: the source holds what it held.
-    /// - `untouched`: `OutOfMemory` comes before source and sink are asked anything. It is want of memory for two
-    ///   pieces of 256 KiB.
+    /// - `untouched`: `OutOfMemory` comes before the first call on source and sink. The call
+    ///   allocates two pieces of 256 KiB.
     pub fn save<S: ImageSource, K: ImageSink>(
         &self,
         alloc: Global,

@@ -7,19 +7,20 @@ use std::alloc::AllocError;
 pub enum LoadFault {
     /// The source failed.
     ReadFault,
-    /// The mark, the firmware's table or a module's contents aren't there.
+    /// The mark, the firmware's table or a module's contents are missing.
     Missing {
-        /// The object that isn't there.
+        /// The missing object.
         object: Object,
     },
-    /// An object has a size outside its limits, or contents end before one of their mappings does.
+    /// The size of an object is outside its limits, or contents end before one of their mappings
+    /// does.
     Size {
         /// The object.
         object: Object,
         /// Its length in bytes.
         bytes: u64,
     },
-    /// The firmware's table isn't read. It is never want of memory that stands here.
+    /// The firmware's table is refused. The fault is never `NfitFault::OutOfMemory`.
     Nfit(NfitFault),
     /// Memory ran out.
     OutOfMemory,
@@ -47,7 +48,7 @@ impl From<AllocError> for LoadFault {
     }
 }
 
-/// Why reading stops before all bytes are there.
+/// Why reading stopped before all bytes were read.
 #[derive(Clone, Copy, Debug, PartialEq, Eq)]
 pub(crate) enum Stop {
     /// The source failed.
@@ -97,7 +98,7 @@ impl From<Stop> for LoadFault {
 pub enum SaveFault {
     /// The sink failed: the set isn't finished.
     WriteFault,
-    /// Memory ran out: the sink is as it was.
+    /// Memory ran out. The sink is unchanged.
     OutOfMemory,
 }
 
@@ -130,11 +131,11 @@ pub enum CopyFault {
     ReadFault,
     /// The sink failed: the set isn't finished.
     WriteFault,
-    /// Memory ran out: the sink is as it was.
+    /// Memory ran out. The sink is unchanged.
     OutOfMemory,
 }
 
-/// Why copying stops. Only a sink's failure is turned into one by `?`.
+/// Why copying stopped. `?` converts only a sink's failure to it.
 #[derive(Clone, Copy, Debug, PartialEq, Eq)]
 pub(crate) enum CopyStop {
     /// The source failed.

@@ -1,9 +1,8 @@
-//! Image sets: all that is known of some NVDIMMs, read from a source into memory.
+//! Image sets: the data of some NVDIMMs, read from a source into memory.
 //!
 //! An **image set** has a firmware table and, for each module that the table names, a label area,
-//! contents and a list of bad ranges. The module with the number m is the one whose device handle is
-//! the m-th in the table. [`load`] gives the set, or names the first object that is wrong, in this
-//! order:
+//! contents and a list of bad ranges. Module m is the one whose device handle is the m-th in the
+//! table. [`load`] returns the set, or the first fault, in this order:
 //!
 //! ```text
 //! mark ── table ── module 0: labels, contents, bad ranges ── module 1: .. ── mappings
@@ -13,35 +12,35 @@
 //!         read?    bad       a multiple of 16, at most 64 KiB, or absent
 //! ```
 //!
-//! Last come the mappings, region by region: one that passes the end of its module's contents is a
-//! fault of the size of those contents. Sums are whole numbers, so no sum is small by wrapping.
+//! The mappings come last, region by region: a mapping that passes the end of its module's contents
+//! is a fault of the contents' size. Sums don't wrap.
 //!
-//! All lengths are asked for first, and then all bytes are read in large pieces, straight into the
-//! words that are kept ([`cut_words::CutWords`], with no word pending). So a set that is refused costs
-//! no memory, and once the reading begins nothing but the source and memory can fail.
+//! The call asks for all lengths first, and then reads all bytes in large pieces, directly into the
+//! words it returns ([`cut_words::CutWords`], none pending). So a set that is refused costs no
+//! memory, and after that only the source and memory can fail.
 //!
-//! [`save`] writes a set that was made of a loaded one: the table, each module's objects in the same order,
-//! and the mark last, so that a set that isn't whole is never taken for one. Words are turned into bytes
-//! piece by piece, so saving takes no second copy.
+//! [`save`] writes a set: the table, each module's objects in the same order, and the mark last, so
+//! an incomplete set is never taken for a complete one. It converts words to bytes piece by piece,
+//! without a second copy.
 //!
-//! A command that changes label areas alone needs no contents in memory. [`load_outline`] gives the set but for them, after
-//! the same checks, with the sizes that they have. The command takes one area out ([`Outline::take_area`]) and leaves the
-//! set with what became of it ([`Outline::leave_area`]), or it takes all of them and leaves them ([`OutlineRest::leave_areas`]).
-//! Then [`OutlineLeft::save`] copies the contents from the source to the sink as it writes the other objects, 256 KiB at a
-//! time:
+//! A command that only changes label areas needs no contents in memory. [`load_outline`] makes the
+//! same checks and returns the set without its contents, but with their sizes. The command takes
+//! one area out ([`Outline::take_area`]) and puts the changed one back ([`Outline::leave_area`]),
+//! or does both with all areas ([`OutlineRest::leave_areas`]). [`OutlineLeft::save`] then writes
+//! the objects, and copies the contents from the source to the sink, 256 KiB at a time:
 //!
 //! ```text
-//! source ── mark, table, sizes, labels, bad ranges ──► outline ──► what is left of it ──┐
-//!    └───────────────────────────── contents ───────────────────────────────────────────┴──► sink, and its mark
+//! source ── mark, table, sizes, labels, bad ranges ──► outline ──► after the command ──► sink
+//!    └──────────────────────────── contents ─────────────────────────────────────────────►
 //! ```
 //!
-//! So a source that fails after that leaves a set that isn't finished, as a sink that fails does.
+//! If the source fails during the copy, the set isn't finished, as if the sink had failed.
 //!
-//! `specs/Limits.antt` has the limits, `specs/Load.antt` what an image set holds or which fault is its
-//! first (`loading`) and what was loaded as bytes (`image_set_in`), `specs/Sound.antt` what holds of a
-//! set that was loaded even where the source tells nothing (`IsSound`), `specs/Sizes.antt` the sizes
-//! between, `specs/Save.antt` the objects that are saved, `specs/Changed.antt` a set with another label area, and
-//! `specs/Outline.antt` an outline, what is left of one and what copying makes. All limits and the order are this project's rules.
+//! The definitions are in `specs/`: `Limits.antt` the limits; `Load.antt` the contents of an image
+//! set, or its first fault (`loading`); `Sound.antt` what holds of a loaded set even if the source
+//! reveals nothing (`IsSound`); `Sizes.antt` the sizes of the objects; `Save.antt` the objects that
+//! are saved; `Changed.antt` a set with another label area; `Outline.antt` an outline, and copying
+//! it. All limits and the order are this project's rules.
 #![tactic(auto)]
 
 mod area;

@@ -1,11 +1,11 @@
-//! How many bytes an object may have (this project's limits).
+//! The sizes that objects may have (this project's limits).
 ghost use Rattle.std.specs.Prelude.{◌≡◌, ◌≤◌};
 ghost use Rattle.image_set.specs.Limits.{is_nfit_size, is_contents_size, is_bad_size};
 
 /// The most bytes of the firmware's table.
 const NFIT_BYTES: u64 = 1 << 20;
 
-/// What the size of contents is a multiple of.
+/// The size of contents is a multiple of this, in bytes.
 const PAGE_BYTES: u64 = 4096;
 
 /// The most bytes of all contents together.
@@ -17,14 +17,15 @@ const RANGE_BYTES: u64 = 16;
 /// The most bytes of a list of bad ranges.
 const BAD_BYTES: u64 = 64 << 10;
 
-/// Whether the firmware's table may have so many bytes.
+/// Returns whether the firmware's table may have this size, in bytes.
 pub(crate) fn is_nfit_size(bytes: u64) -> bool
     ensures { result ≡ is_nfit_size bytes }
 {
     bytes <= NFIT_BYTES
 }
 
-/// Whether the contents of a module may have so many bytes, after those of the modules before it.
+/// Returns whether the contents of a module may have this size, after `before` bytes of the modules
+/// before it.
 pub(crate) fn is_contents_size(before: u64, bytes: u64) -> bool
     requires { before ≤ 536870912 }
     ensures { result ≡ is_contents_size before bytes }
@@ -32,7 +33,7 @@ pub(crate) fn is_contents_size(before: u64, bytes: u64) -> bool
     1 <= bytes && bytes % PAGE_BYTES == 0 && bytes <= CONTENTS_BYTES - before
 }
 
-/// Whether a list of bad ranges may have so many bytes.
+/// Returns whether a list of bad ranges may have this size, in bytes.
 pub(crate) fn is_bad_size(bytes: u64) -> bool
     ensures { result ≡ is_bad_size bytes }
 {

@@ -1,4 +1,4 @@
-//! An image set is loaded: first all its sizes are asked for, and then its bytes are read.
+//! Loading an image set: first all sizes, then the bytes.
 ghost use Rattle.std.specs.Prelude.{◌≡◌, ◌≢◌, ◌≤◌, ◌<◌, ◌^◌, [], ◌∷◌, length, map, IfOk, Ok, Err};
 ghost use Rattle.std.specs.Option.{ForSome};
 ghost use Rattle.std.specs.Result.{result_map_both};
@@ -23,19 +23,19 @@ use nvd_media::{ImageSource, Object};
 use nvd_words::Items;
 use std::alloc::Global;
 
-/// An image set in memory. Lists go by the numbers of the modules in the firmware's table; contracts
-/// see the words of an object as lists of kept values (`Words` of cut_words).
+/// An image set in memory. Lists are indexed by the number of the module in the firmware's table;
+/// contracts see the words of an object as `Words` of cut_words.
 #[derive(Debug, Drop)]
 pub struct Loaded {
-    /// What the firmware's table says.
+    /// The decoded firmware table.
     pub nfit: Nfit,
-    /// The bytes of the table's object, also those past its Length.
+    /// The bytes of the table's object, including those past its Length.
     pub nfit_bytes: Items<u8>,
     /// The label area of each module that has one, from its byte 0, the low byte of each word first.
     pub labels: Items<Option<CutWords>>,
     /// The contents of each module, from its device address 0, the low byte of each word first.
     pub contents: Items<CutWords>,
-    /// The bytes of the list of bad ranges of each module that has one. They aren't looked into.
+    /// The bytes of each module's list of bad ranges, if it has one. They aren't decoded.
     pub bad: Items<Option<Items<u8>>>,
 }
 
@@ -56,7 +56,7 @@ pub(crate) fn table_of(alloc: Global, bytes: &[u8]) -> Result<Nfit, LoadFault>
     }
 }
 
-/// The sizes of all modules' objects, into which all mappings fit.
+/// Returns the sizes of all modules' objects, after checking that all mappings fit.
 pub(crate) fn checked_sizes<S: ImageSource>(
     alloc: Global,
     images: &mut S,
@@ -83,7 +83,7 @@ pub(crate) fn checked_sizes<S: ImageSource>(
     }
 }
 
-/// The bytes of all modules, under the table that was read.
+/// Reads the bytes of all modules of a table.
 fn read_set<S: ImageSource>(
     alloc: Global,
     images: &mut S,
@@ -124,16 +124,14 @@ fn read_set<S: ImageSource>(
 
 /// Loads an image set: its table, and the objects of the modules that the table names.
 ///
-/// - `told`: where the source tells what it holds, the answer is that of the set (`loading`). The set
-///   is loaded, and has the bytes of the source's objects, exactly where no fault holds; else the first
-///   fault is named: `Missing` where the mark, the table or a module's contents aren't there, `Size`
-///   where an object has a length outside its limits or contents end before one of their mappings does,
-///   `Nfit` where the table isn't read.
-/// - `failed`: `ReadFault` comes only where the source's count of faults rose in this call.
-/// - `OutOfMemory` may come in place of any other answer. No fault wraps it (`apart`).
-/// - `sound`: what was loaded is inside its limits and belongs together, whatever the source tells.
-/// - `same`, `later`: the source holds what it held, and its count of faults never falls. After a
-///   fault nothing is kept.
+/// - `told`: if the source reveals what it holds, the result is that of `loading`: the set with the
+///   bytes of the source's objects, or the first fault. `Missing` means that the mark, the table or
+///   a module's contents are missing; `Size` that an object's length is outside its limits, or that
+///   contents end before one of their mappings does; `Nfit` that the table is refused.
+/// - `failed`: `ReadFault` means that the source's count of failures rose in this call.
+/// - `OutOfMemory` may replace any other result. No other fault contains it (`apart`).
+/// - `sound`: the loaded set is within its limits and consistent, whatever the source reveals.
+/// - `same`, `later`: the source holds what it held, and its count of failures never falls.
 pub fn load<S: ImageSource>(alloc: Global, images: &mut S) -> Result<Loaded, LoadFault>
     ensures told { ForSome (S.held images.old) (Loads result) }
     ensures sound { IfOk result IsSound }

@@ -8,7 +8,7 @@ use crate::sizes::Sizes;
 use nfit_reader::{Mapping, Region};
 use nvd_media::Object;
 
-/// The fault of a mapping that passes the end of its module's contents.
+/// Returns the fault of a mapping that passes the end of its module's contents.
 fn mapping_fault(mapping: &Mapping, sizes: &[Sizes]) -> Option<LoadFault>
     requires { mapping.now.«module» < length sizes.now }
     ensures fault { result ≡ mapping_fault_by (contents_of sizes.now) mapping.now }
@@ -23,7 +23,7 @@ fn mapping_fault(mapping: &Mapping, sizes: &[Sizes]) -> Option<LoadFault>
     }
 }
 
-/// The first fault of a region's mappings.
+/// Returns the first fault of a region's mappings.
 fn region_fault(mappings: &[Mapping], sizes: &[Sizes]) -> Option<LoadFault>
     requires { All (λ m. m.«module» < length sizes.now) mappings.now }
     ensures fault { result ≡ region_fault_by (contents_of sizes.now) mappings.now }
@@ -37,7 +37,7 @@ fn region_fault(mappings: &[Mapping], sizes: &[Sizes]) -> Option<LoadFault>
     None
 }
 
-/// The first fault of all mappings, region by region.
+/// Returns the first fault of all mappings, region by region.
 pub(crate) fn mappings_fault(regions: &[Region], sizes: &[Sizes]) -> Option<LoadFault>
     requires { All (λ region. All (λ m. m.«module» < length sizes.now) region.mappings) regions.now }
     ensures fault { result ≡ mappings_fault_by (contents_of sizes.now) regions.now }

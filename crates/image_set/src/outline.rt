@@ -1,4 +1,4 @@
-//! An image set of which all but the contents is loaded: its contents stay where they are until they are copied.
+//! An image set loaded without its contents, which stay in the source until they are copied.
 ghost use Rattle.std.specs.Prelude.{◌≡◌, ◌≢◌, ◌^◌, ◌<◌, ◌≤◌, length, map, IfOk, Ok, Err};
 ghost use Rattle.std.specs.Option.{ForSome};
 ghost use Rattle.std.specs.List.{All};
@@ -21,23 +21,23 @@ use nvd_media::{ImageSource, Object};
 use nvd_words::Items;
 use std::alloc::{AllocError, Global};
 
-/// An image set in memory but for its contents, of which it has the sizes. Lists go by the numbers of the modules in
-/// the firmware's table.
+/// An image set in memory without its contents, but with their sizes. Lists are indexed by the
+/// number of the module in the firmware's table.
 #[derive(Debug, Drop)]
 pub struct Outline {
-    /// What the firmware's table says.
+    /// The decoded firmware table.
     pub nfit: Nfit,
-    /// The bytes of the table's object, also those past its Length.
+    /// The bytes of the table's object, including those past its Length.
     pub nfit_bytes: Items<u8>,
     /// The label area of each module that has one, from its byte 0, the low byte of each word first.
     pub labels: Items<Option<CutWords>>,
-    /// How many bytes the contents of each module have.
+    /// The size of each module's contents, in bytes.
     pub sizes: Items<u64>,
-    /// The bytes of the list of bad ranges of each module that has one. They aren't looked into.
+    /// The bytes of each module's list of bad ranges, if it has one. They aren't decoded.
     pub bad: Items<Option<Items<u8>>>,
 }
 
-/// How many bytes the contents of the modules have.
+/// Returns the size of each module's contents, in bytes.
 fn contents_sizes(alloc: Global, sizes: &[Sizes]) -> Result<Items<u64>, AllocError>
     ensures { IfOk result (λ bytes. bytes ≡ contents_of sizes.now) }
 {
@@ -48,7 +48,7 @@ fn contents_sizes(alloc: Global, sizes: &[Sizes]) -> Result<Items<u64>, AllocErr
     Ok(bytes)
 }
 
-/// The bytes of all modules but their contents, under the table that was read.
+/// Reads the bytes of all modules of a table, except their contents.
 fn read_outline<S: ImageSource>(
     alloc: Global,
     images: &mut S,
@@ -87,17 +87,16 @@ fn read_outline<S: ImageSource>(
     })
 }
 
-/// Loads an image set but for its contents, which stay in the source: their sizes are checked, and their bytes are
-/// read once they are copied ([`crate::OutlineLeft::save`]).
+/// Loads an image set without its contents. It checks their sizes; [`crate::OutlineLeft::save`]
+/// reads their bytes later, when it copies them.
 ///
-/// - `told`: where the source tells what it holds, the answer is that of the set (`loading`): with the contents that
-///   the source holds it is the set that `load` gives, and its faults are the same.
-/// - `sizes`: the contents have the sizes that the outline names.
-/// - `failed`: `ReadFault` comes only where the source's count of faults rose in this call.
-/// - `OutOfMemory` may come in place of any other answer. No fault wraps it (`apart`).
-/// - `sound`: what was loaded is inside its limits and belongs together, whatever the source tells.
-/// - `same`, `later`: the source holds what it held, and its count of faults never falls. After a
-///   fault nothing is kept.
+/// - `told`: if the source reveals what it holds, the result is that of `loading`: with the
+///   source's contents the outline is the set that `load` returns, and its faults are the same.
+/// - `sizes`: the contents have the sizes in the outline.
+/// - `failed`: `ReadFault` means that the source's count of failures rose in this call.
+/// - `OutOfMemory` may replace any other result. No other fault contains it (`apart`).
+/// - `sound`: the outline is within its limits and consistent, whatever the source reveals.
+/// - `same`, `later`: the source holds what it held, and its count of failures never falls.
 pub fn load_outline<S: ImageSource>(alloc: Global, images: &mut S) -> Result<Outline, LoadFault>
     ensures told { ForSome (S.held images.old) (Outlines result) }
     ensures sizes { ForSome (S.held images.old) (λ set. IfOk result (λ outline. HasContents outline.sizes set)) }

@@ -1,4 +1,4 @@
-//! The bytes of objects, read in large pieces.
+//! Reading the bytes of objects in large pieces.
 ghost use Rattle.std.specs.Prelude.{◌≡◌, ◌++◌, ◌+◌, ◌*◌, ◌%◌, ◌<◌, ◌≤◌, length, vec_len, IfOk, OnOk, Err};
 ghost use Rattle.std.specs.Option.{ForSome};
 ghost use Rattle.nvd_media.specs.Causes.{Rose};
@@ -9,20 +9,20 @@ use crate::fault::Stop;
 use nvd_media::{ImageSource, Object};
 use std::alloc::{AllocError, Global};
 
-/// How many bytes are read at a time: few calls on the source, and a buffer that stays in the caches.
+/// How many bytes are read at a time: few calls on the source, and a buffer that fits the caches.
 const PIECE: usize = 256 << 10;
 
-/// How many bytes a word has.
+/// The size of a word, in bytes.
 const WORD: usize = 8;
 
-/// The room for a piece.
+/// Allocates the buffer for a piece.
 pub(crate) fn piece_room(alloc: Global) -> Result<Vec<u8>, AllocError>
     ensures { IfOk result (λ room. vec_len room ≡ 262144) }
 {
     vec![in alloc; 0; PIECE]
 }
 
-/// Adds the words of some bytes, the low byte first.
+/// Appends the words of some bytes, the low byte first.
 fn push_words(words: &mut Vec<u64>, piece: &[u8]) -> Result<(), AllocError>
     requires { length piece.now % 8 ≡ 0 }
     ensures bytes { OnOk result (bytes_of words.new.items ≡ bytes_of words.old.items ++ piece.now) }
@@ -36,7 +36,7 @@ fn push_words(words: &mut Vec<u64>, piece: &[u8]) -> Result<(), AllocError>
     Ok(())
 }
 
-/// The words of an object that has so many bytes.
+/// Reads an object of `bytes` bytes as words.
 pub(crate) fn read_words<S: ImageSource>(
     alloc: Global,
     images: &mut S,
@@ -68,7 +68,7 @@ pub(crate) fn read_words<S: ImageSource>(
     Ok(words)
 }
 
-/// The bytes of an object that has so many, at one go.
+/// Reads an object of `bytes` bytes at once.
 pub(crate) fn read_bytes<S: ImageSource>(
     alloc: Global,
     images: &mut S,

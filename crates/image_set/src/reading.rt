@@ -1,4 +1,4 @@
-//! The bytes of a set whose sizes are known.
+//! Reading the bytes of a set whose sizes are known.
 ghost use Rattle.std.specs.Prelude.{◌≡◌, ◌*◌, ◌≤◌, ◌<◌, ◌%◌, ℕ, length, map, vec_len, IfOk, Err, Option, Some};
 ghost use Rattle.std.specs.Option.{ForSome, option_map};
 ghost use Rattle.std.specs.List.{All, range_with_len};
@@ -18,7 +18,7 @@ use nvd_media::{ImageSource, Object};
 use nvd_words::Items;
 use std::alloc::Global;
 
-/// What the type says of words, as a clause. Nothing is done here: `prove!` costs nothing when it runs.
+/// States the bound of the words' type as a clause. It does nothing at run time.
 fn know_words(words: &[u64])
     ensures { AreWords words.now }
 {
@@ -27,7 +27,7 @@ fn know_words(words: &[u64])
     }
 }
 
-/// An object of so many bytes, as words of which none is pending.
+/// Reads an object of `bytes` bytes as words, none of them pending.
 fn read_object<S: ImageSource>(
     alloc: Global,
     images: &mut S,
@@ -54,7 +54,7 @@ fn read_object<S: ImageSource>(
     Ok(CutWords::new(alloc, words)?)
 }
 
-/// A module's label area, where it has one.
+/// Reads a module's label area, if it has one.
 fn read_area<S: ImageSource>(
     alloc: Global,
     images: &mut S,
@@ -81,7 +81,7 @@ fn read_area<S: ImageSource>(
     }
 }
 
-/// A module's list of bad ranges, where it has one.
+/// Reads a module's list of bad ranges, if it has one.
 fn read_ranges<S: ImageSource>(
     alloc: Global,
     images: &mut S,
@@ -111,7 +111,7 @@ fn read_ranges<S: ImageSource>(
     }
 }
 
-/// The label areas of all modules.
+/// Reads the label areas of all modules.
 pub(crate) fn read_areas<S: ImageSource>(
     alloc: Global,
     images: &mut S,
@@ -142,7 +142,7 @@ pub(crate) fn read_areas<S: ImageSource>(
     Ok(areas)
 }
 
-/// The contents of all modules.
+/// Reads the contents of all modules.
 pub(crate) fn read_contents<S: ImageSource>(
     alloc: Global,
     images: &mut S,
@@ -173,7 +173,7 @@ pub(crate) fn read_contents<S: ImageSource>(
     Ok(contents)
 }
 
-/// The lists of bad ranges of all modules.
+/// Reads the lists of bad ranges of all modules.
 pub(crate) fn read_bad<S: ImageSource>(
     alloc: Global,
     images: &mut S,

@@ -1,4 +1,4 @@
-//! An image set is saved: the firmware's table, the objects of the modules, and the mark last.
+//! Saving an image set: the firmware's table, the objects of the modules, and the mark last.
 ghost use Rattle.std.specs.Prelude.{◌≡◌, ◌^◌, ◌<◌, ◌≤◌, length, vec_len, MatchResult, OnOk, Err};
 ghost use Rattle.std.specs.Option.{ForSome};
 ghost use Rattle.std.specs.Vec.{vec_capacity};
@@ -13,7 +13,7 @@ use nvd_words::Items;
 use power_cut::Images;
 use std::alloc::Global;
 
-/// Writes all objects but the mark.
+/// Writes all objects except the mark.
 fn write_objects<K: ImageSink>(
     nfit: &[u8],
     images: &Images,
@@ -48,19 +48,20 @@ fn write_objects<K: ImageSink>(
     Ok(())
 }
 
-/// Saves an image set: writes the firmware's table, then for each module by number its label area where
-/// it has one, its contents and its list of bad ranges where it has one, and then finishes the set.
+/// Saves an image set: writes the firmware's table, then for each module by number its label area,
+/// if it has one, its contents, and its list of bad ranges, if it has one, and then finishes the
+/// set.
 ///
-/// The lists of `images` and `bad` have one entry for each module. Where `out` tells, nothing was written
-/// to it.
+/// The lists of `images` and `bad` must have one entry for each module. If `out` reveals what was
+/// written, it must be empty.
 ///
-/// - `told`: where the sink tells, after `Ok` it has exactly these objects and the mark, and after a fault
-///   the set isn't finished.
-/// - `kept`: after `Ok` a sink that tells that all was kept holds exactly these objects.
-/// - `failed`, `later`: `WriteFault` comes only where the sink's count of faults rose in this call; the
+/// - `told`: if the sink reveals what was written, after `Ok` it has exactly these objects and the
+///   mark, and after a fault the set isn't finished.
+/// - `kept`: after `Ok`, a sink that reveals that all was stored holds exactly these objects.
+/// - `failed`, `later`: `WriteFault` means that the sink's count of failures rose in this call; the
 ///   count never falls.
-/// - `untouched`: `OutOfMemory` comes before the sink is asked anything. Words are turned into bytes in
-///   pieces of 256 KiB, so it is want of memory for one piece.
+/// - `untouched`: `OutOfMemory` comes before the first call on the sink. The call allocates one
+///   piece of 256 KiB, in which it converts words to bytes.
 pub fn save<K: ImageSink>(
     alloc: Global,
     nfit: &[u8],

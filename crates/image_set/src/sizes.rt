@@ -1,4 +1,4 @@
-//! What the objects of an image set measure, before any of their bytes are read.
+//! The sizes of the objects of an image set, before any of their bytes are read.
 ghost use Rattle.std.specs.Prelude.{◌≡◌, ◌≢◌, ◌+◌, ◌≤◌, ◌<◌, true, ℕ, length, map, sum, IfOk, Err, Some, None, is_none, [], ◌∷◌};
 ghost use Rattle.std.specs.Option.{ForSome, option_map};
 ghost use Rattle.std.specs.List.{All, range_with_len};
@@ -18,7 +18,7 @@ use nvd_media::{ImageSource, Object};
 use nvd_words::Items;
 use std::alloc::Global;
 
-/// The sizes of a module's objects in bytes, where they are there.
+/// The sizes of a module's objects in bytes; `None` if the object is absent.
 #[derive(Clone, Copy, Debug, PartialEq, Eq)]
 pub(crate) struct Sizes {
     pub labels: Option<u64>,
@@ -26,7 +26,7 @@ pub(crate) struct Sizes {
     pub bad: Option<u64>,
 }
 
-/// Asks for the mark.
+/// Checks that the mark is there.
 fn find_mark<S: ImageSource>(images: &mut S) -> Result<(), LoadFault>
     ensures told { ForSome (S.held images.old) (λ set. AnswersRead result
         (value_unless tt (needed_fault (λ _. true) Object.Mark (set Object.Mark)))) }
@@ -43,7 +43,7 @@ fn find_mark<S: ImageSource>(images: &mut S) -> Result<(), LoadFault>
     }
 }
 
-/// The size of the firmware's table.
+/// Returns the size of the firmware's table.
 fn find_table<S: ImageSource>(images: &mut S) -> Result<u64, LoadFault>
     ensures told { ForSome (S.held images.old) (λ set. AnswersRead result
         (value_unless (length (bytes_of set Object.Nfit))
@@ -63,7 +63,7 @@ fn find_table<S: ImageSource>(images: &mut S) -> Result<u64, LoadFault>
     }
 }
 
-/// The size of the firmware's table of an image set that has its mark.
+/// Returns the size of the firmware's table, after checking the mark.
 pub(crate) fn table_size<S: ImageSource>(images: &mut S) -> Result<u64, LoadFault>
     ensures told { ForSome (S.held images.old) (λ set. AnswersRead result
         (value_unless (length (bytes_of set Object.Nfit)) (table_fault set))) }
@@ -78,7 +78,7 @@ pub(crate) fn table_size<S: ImageSource>(images: &mut S) -> Result<u64, LoadFaul
     find_table(images)
 }
 
-/// The size of a module's label area, where it has one.
+/// Returns the size of a module's label area, if it has one.
 fn labels_size<S: ImageSource>(images: &mut S, module: u32) -> Result<Option<u64>, LoadFault>
     ensures told { ForSome (S.held images.old) (λ set. AnswersRead result
         (value_unless (option_map length (set (Object.Labels «module»)))
@@ -98,7 +98,7 @@ fn labels_size<S: ImageSource>(images: &mut S, module: u32) -> Result<Option<u64
     }
 }
 
-/// The size of a module's contents, after so many bytes of those before it.
+/// Returns the size of a module's contents, after `before` bytes of those before it.
 fn contents_size<S: ImageSource>(images: &mut S, module: u32, before: u64) -> Result<u64, LoadFault>
     requires { before ≤ 536870912 }
     ensures told { ForSome (S.held images.old) (λ set. AnswersRead result
@@ -120,7 +120,7 @@ fn contents_size<S: ImageSource>(images: &mut S, module: u32, before: u64) -> Re
     }
 }
 
-/// The size of a module's list of bad ranges, where it has one.
+/// Returns the size of a module's list of bad ranges, if it has one.
 fn bad_size<S: ImageSource>(images: &mut S, module: u32) -> Result<Option<u64>, LoadFault>
     ensures told { ForSome (S.held images.old) (λ set. AnswersRead result
         (value_unless (option_map length (set (Object.BadRanges «module»)))
@@ -142,7 +142,7 @@ fn bad_size<S: ImageSource>(images: &mut S, module: u32) -> Result<Option<u64>, 
     }
 }
 
-/// The sizes of a module's objects, after so many bytes of the contents before it.
+/// Returns the sizes of a module's objects, after `before` bytes of the contents before it.
 fn module_sizes<S: ImageSource>(
     images: &mut S,
     module: u32,
@@ -169,7 +169,7 @@ fn module_sizes<S: ImageSource>(
     })
 }
 
-/// The sizes of the objects of so many modules.
+/// Returns the sizes of the objects of `count` modules.
 pub(crate) fn modules_sizes<S: ImageSource>(
     alloc: Global,
     images: &mut S,

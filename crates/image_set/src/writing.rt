@@ -1,4 +1,4 @@
-//! Words written as the bytes of an object, in large pieces.
+//! Writing words as the bytes of an object, in large pieces.
 ghost use Rattle.std.specs.Prelude.{◌≡◌, ◌≢◌, ◌+◌, ◌-◌, ◌*◌, ◌<◌, ◌≤◌, ◌++◌, Some, None, min, take, drop, length, map, vec_len, IfOk};
 ghost use Rattle.std.specs.Option.{ForSome, option_map};
 ghost use Rattle.std.specs.Int.{w64, to_le_bytes};
@@ -11,21 +11,21 @@ use nvd_media::{Failed, ImageSink, Object};
 use nvd_words::Items;
 use std::alloc::{AllocError, Global};
 
-/// How many words are written at a time: 256 KiB, which stay in a processor's caches while they are spelled
-/// and written.
+/// How many words are written at a time: 256 KiB, which fit a processor's caches while they are
+/// converted and written.
 const PIECE_WORDS: usize = 32 << 10;
 
-/// How many bytes a word has.
+/// The size of a word, in bytes.
 const WORD: usize = 8;
 
-/// The room for the bytes of a piece.
+/// Allocates the buffer for the bytes of a piece.
 pub(crate) fn spelling_room(alloc: Global) -> Result<Vec<[u8; WORD]>, AllocError>
     ensures { IfOk result (λ room. 32768 ≤ vec_capacity room) }
 {
     Vec::with_capacity(alloc, PIECE_WORDS)
 }
 
-/// Makes the room as long as so many words, for which it has the capacity.
+/// Resizes the buffer to `count` words, for which it has the capacity.
 fn resize(room: &mut Vec<[u8; WORD]>, count: usize)
     requires { count ≤ vec_capacity room.old }
     ensures len { vec_len room.new ≡ count }
@@ -35,7 +35,7 @@ fn resize(room: &mut Vec<[u8; WORD]>, count: usize)
     prove!(resized.is_ok());
 }
 
-/// The bytes of words, the low byte first, in a room for as many words.
+/// Converts words to bytes, the low byte first, in a buffer for as many words.
 fn spell<'a>(room: &'a mut [[u8; WORD]], words: &[u64]) -> &'a [u8]
     requires { length room.old ≡ length words.now }
     ensures { result.now ≡ bytes_of words.now }
@@ -46,8 +46,8 @@ fn spell<'a>(room: &'a mut [[u8; WORD]], words: &[u64]) -> &'a [u8]
     room.as_flattened()
 }
 
-/// Writes the words of an object from a place on, as many as a piece has or as there are, and answers the
-/// place after them.
+/// Writes one piece of an object's words, from `at` on, and returns the index after it. The last
+/// piece may be shorter.
 fn write_piece<K: ImageSink>(
     out: &mut K,
     object: Object,
@@ -71,7 +71,7 @@ fn write_piece<K: ImageSink>(
     Ok(at + count)
 }
 
-/// Writes words as an object that isn't there: its bytes are those of the words, the low byte first.
+/// Writes words as an object that doesn't exist yet, the low byte of each word first.
 pub(crate) fn write_words<K: ImageSink>(
     out: &mut K,
     object: Object,
@@ -92,7 +92,7 @@ pub(crate) fn write_words<K: ImageSink>(
     Ok(())
 }
 
-/// Writes a label area, where there is one.
+/// Writes a label area, if there is one.
 pub(crate) fn write_area<K: ImageSink>(
     out: &mut K,
     module: u32,
@@ -111,7 +111,7 @@ pub(crate) fn write_area<K: ImageSink>(
     }
 }
 
-/// Writes a list of bad ranges, where there is one, also an empty one.
+/// Writes a list of bad ranges, if there is one; it may be empty.
 pub(crate) fn write_ranges<K: ImageSink>(
     out: &mut K,
     module: u32,
@@ -127,7 +127,7 @@ pub(crate) fn write_ranges<K: ImageSink>(
     }
 }
 
-/// Writes the objects of a module of which none is there: its label area, its contents and its list of
+/// Writes the objects of a module that has none yet: its label area, its contents and its list of
 /// bad ranges, in this order.
 pub(crate) fn write_module<K: ImageSink>(
     out: &mut K,

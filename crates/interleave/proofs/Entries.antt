@@ -5,7 +5,7 @@ use Rattle.std.proofs.lemmas.List.{append_assoc}
 use Rattle.nfit_reader.specs.declared.table.Mapping.{Mapping}
 use Rattle.interleave.specs.Places.{cookie_entry}
 
--- one piece more in front of what is added
+-- one more piece before the rest
 pub more : (a b x s s' t : List ℕ) → b ≡ a ++ s → s ≡ s' → x ≡ b ++ t → x ≡ a ++ (s' ++ t)
 more a b x s s' t e same is = is ∙ ap (λ (l : List ℕ). l ++ t) (e ∙ ap (λ (l : List ℕ). a ++ l) same) ∙ append_assoc a s' t
 

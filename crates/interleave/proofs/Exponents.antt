@@ -25,7 +25,7 @@ partner_even a b h h' n odd odd' e =
     let e'' : (h * 2 + 1) * b ≡ (h * 2 + 1) * (h' * 2 + 1) = ap (λ (x : ℕ). (h * 2 + 1) * x) odd' in
     absurd (omega (arith, e, e', e''))
 
--- each factor of a power of two is one
+-- each factor of a power of two is a power of two
 pub factor_power : (k a b : ℕ) → a * b ≡ 2 ^ k → IsPowerOfTwo a
 factor_power zero a b e = (0, factor_of_one a b e)
 factor_power (suc k) a b e =
@@ -44,7 +44,7 @@ factor_power (suc k) a b e =
           ]
     ]
 
--- the zeros after a power of two's one are its exponent
+-- the number of trailing zeros of a power of two is its exponent
 pub exponent_of : (n : ℕ) → IsPowerOfTwo n → n < 2 ^ 64 → (2 ^ trailing_zeros w64 n ≡ n) × (trailing_zeros w64 n < 64)
 exponent_of n power fits =
     let zeros : ℕ = trailing_zeros w64 n in

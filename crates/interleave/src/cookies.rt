@@ -5,8 +5,8 @@ use nfit_reader::Mapping;
 use nvd_words::fletcher64;
 use std::alloc::{AllocError, Global};
 
-/// Adds the entry of a mapping: Region Offset u64, Serial Number u32, Vendor ID u16, Manufacturing
-/// Date u16, Manufacturing Location u8, and 31 zero bytes.
+/// Appends the cookie's entry of a mapping: Region Offset u64, Serial Number u32, Vendor ID u16,
+/// Manufacturing Date u16, Manufacturing Location u8, and 31 zero bytes.
 fn add_entry(bytes: &mut Vec<u8>, mapping: &Mapping) -> Result<(), AllocError>
     ensures { OnOk result (bytes.new.items ≡ bytes.old.items ++ cookie_entry mapping.now) }
 {
@@ -19,7 +19,7 @@ fn add_entry(bytes: &mut Vec<u8>, mapping: &Mapping) -> Result<(), AllocError>
     Ok(())
 }
 
-/// The cookie of mappings that stand by position.
+/// Returns the cookie of mappings in order of position.
 pub fn cookie(alloc: Global, mappings: &[Mapping]) -> Result<u64, AllocError>
     ensures { IfOk result (λ cookie. cookie ≡ cookie_of mappings.now) }
 {

@@ -26,7 +26,7 @@ fn copy_of(mapping: &Mapping) -> Result<Mapping, AllocError>
     })
 }
 
-/// Copies of mappings, which share their lines.
+/// Copies mappings; the copies share their lists of lines.
 pub fn copies(alloc: Global, mappings: &[Mapping]) -> Result<Vec<Mapping>, AllocError>
     ensures { IfOk result (λ list. list.items ≡ mappings.now) }
 {

@@ -5,7 +5,7 @@ ghost use Rattle.interleave.specs.Sound.{HavePositions};
 use nfit_reader::Mapping;
 use std::alloc::{AllocError, Global};
 
-/// More than the number of each module.
+/// Returns a number above each module's.
 fn numbers_in(mappings: &[Mapping]) -> usize
     ensures { (p : ℕ) (d : Mapping) → p < length mappings.now →
         (slice_index_or mappings.now p d).«module» < result }
@@ -28,7 +28,8 @@ fn write_positions(positions: &mut [usize], mappings: &[Mapping])
     }
 }
 
-/// The position of each module, by its number; 0 at a number that none has.
+/// Returns the position of each module, by its number. It is 0 for a number that no module of the
+/// set has.
 pub fn positions_of(alloc: Global, mappings: &[Mapping]) -> Result<Vec<usize>, AllocError>
     ensures { IfOk result (λ positions.
         HavePositions mappings.now positions.items (length mappings.now)) }

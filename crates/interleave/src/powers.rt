@@ -1,7 +1,7 @@
 ghost use Rattle.std.specs.Prelude.{◌≡◌, ◌<◌, ◌^◌};
 ghost use Rattle.std.specs.Int.{IsPowerOfTwo};
 
-/// The exponent of a power of two.
+/// Returns the exponent of a power of two.
 pub fn exponent(power: u64) -> u32
     requires { IsPowerOfTwo power }
     ensures exact { 2 ^ result ≡ power }
@@ -10,7 +10,7 @@ pub fn exponent(power: u64) -> u32
     power.trailing_zeros()
 }
 
-/// A power of two. The compiler sees that it is one, so dividing by it takes a shift.
+/// Returns a power of two. The compiler sees that it is one, so a division by it becomes a shift.
 #[inline]
 pub fn power(exponent: u32) -> u64
     requires { exponent < 64 }

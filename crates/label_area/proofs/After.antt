@@ -1,4 +1,4 @@
--- A finished change shows the slots with two of them changed, and a change is whole under every cut.
+-- A completed change shows the slots with two of them changed, and a crash never splits a change.
 use Rattle.std.proofs.Common.{◌≡◌, ◌⊎◌, ℕ, zero, suc, ◌+◌, ◌*◌, ◌/◌, ◌<◌, ◌≤◌, List, length, take, drop, get_or, Result, Ok, Option, Some, None, Bool, true, false, eqb, refl, sym, ap, ◌∙◌, subst, arith, inl, inr}
 use Rattle.std.specs.Prelude.{◌||◌}
 use Rattle.std.specs.List.{enumerate_from}
@@ -99,7 +99,7 @@ length_without : (out : Option ℕ) (slots : List SlotState) → length (without
 length_without None slots = refl
 length_without (Some k) slots = length-set slots k None
 
--- slots that change as their bits do
+-- slots change as their bits do
 slot_free : (area : List ℕ) (size n : ℕ) (b : Bool) → b ≡ true → slot_at area size (n, b) ≡ None
 slot_free area size n b e = rw e refl
 
@@ -148,7 +148,7 @@ after_given final size free slots (Some k) n lt len is =
 
 -- ---- one change
 
--- the block of the other side is one of the area
+-- the block of the other side fits the area
 pub valid_next : (words : List ℕ) (now : IndexBlock) (out : Option ℕ) (put : Option Label) (size : ℕ) → IsCurrent words size now → IsValid (8 * length words) (next_block now out put)
 valid_next words now out put size cur =
     let v : IsValid (8 * length words) now = cur.valid in
@@ -198,7 +198,7 @@ module _ (words : List ℕ) (now : IndexBlock) (out : Option ℕ) (put : Option 
   spelled : IsSpelled (8 * length words) next
   spelled = spelled_next words next put next_valid fits
 
-  -- where things lie
+  -- the places of the writes
   block_inside : place_of now.size other / 8 + now.size / 8 ≤ length words
   block_inside = next_inside words next put next_valid fits
 
@@ -228,7 +228,7 @@ module _ (words : List ℕ) (now : IndexBlock) (out : Option ℕ) (put : Option 
     outside = λ i out_slot out_block apart. past_all i out_slot (block_out now.size other i sized.enough out_block apart);
   }
 
-  -- what the finished area reads as
+  -- the completed area is read as the next block
   next_reads : index_reading (bytes_of final) other ≡ Ok next
   next_reads =
       reading_is final now.size other (sized_as final words now.size length_after sized)

@@ -1,4 +1,4 @@
--- What a cut leaves before a change is done reads as before.
+-- Until a change is complete, an area reads as before after a crash.
 use Rattle.std.proofs.Common.{◌≡◌, ◌≢◌, ◌⊎◌, ℕ, zero, suc, ◌+◌, ◌-◌, ◌*◌, ◌/◌, ◌%◌, ◌^◌, ◌<◌, ◌≤◌, List, [], ◌∷◌, length, take, drop, map, get_or, Ok, Err, Option, Some, None, Bool, true, false, refl, sym, ap, ◌∙◌, subst, arith, inl, inr}
 use Rattle.std.specs.List.{enumerate_from, range_with_len}
 use Rattle.std.proofs.lemmas.List.FromFn.{get_or-range_with_len, length-range_with_len}
@@ -30,7 +30,7 @@ use Rattle.label_index.specs.Valid.{IsValid}
 
 -- ---- sizes
 
--- the size of a block of so many words, in an area of words
+-- the size of a block in an area of words
 pub record IsSized (words : List ℕ) (size : ℕ) : Type 0 where
   pub area : IsAreaSize (length (bytes_of words))
   pub is : block_size_of (length (bytes_of words)) ≡ size
@@ -70,7 +70,7 @@ reading_is words size s ok =
     ∙ ap (λ (n : ℕ). block_reading (8 * length words) size s (take n (drop (place_of size s) (bytes_of words)))) (omega (arith, ok.whole))
     ∙ ap (λ (n : ℕ). block_reading (8 * length words) size s (take (8 * (size / 8)) (drop n (bytes_of words)))) (place_whole size s ok.whole)
 
--- a side whose words are the same reads the same
+-- a side with the same words reads the same
 pub same_reading : (left old : List ℕ) (size : ℕ) (s : Side) → length left ≡ length old → IsSized old size
     → ((i : ℕ) → place_of size s / 8 ≤ i → i < place_of size s / 8 + size / 8 → get_or left i 0 ≡ get_or old i 0)
     → index_reading (bytes_of left) s ≡ index_reading (bytes_of old) s
@@ -104,7 +104,7 @@ same_slots xs ys size k (false ∷ free) same =
     ∙ ap (λ (slots : List SlotState). Some (result_ok (label_reading (take 256 (drop (2 * size + 256 * k) ys)) k)) ∷ slots) (same_slots xs ys size (k + 1) free
     (λ i lt used. subst (λ (n : ℕ). take 256 (drop (2 * size + 256 * n) xs) ≡ take 256 (drop (2 * size + 256 * n) ys)) (omega arith) (same (suc i) (omega arith) used)))
 
--- ---- where the words of a change lie
+-- ---- the words of a change
 
 not_in_range : (a n i : ℕ) → (i < a) ⊎ (a + n ≤ i) → NotIn (range_with_len a n) i
 not_in_range a n i out k d lt e =
@@ -112,7 +112,7 @@ not_in_range a n i out k d lt e =
     let at : get_or (range_with_len a n) k d ≡ a + k = get_or-range_with_len a n k d low in
     elim out [ inl below ↦ absurd (omega arith) | inr above ↦ absurd (omega arith) ]
 
--- a word outside a block is none of its words
+-- a word outside a block isn't one of its words
 pub outside_block : (size : ℕ) (s : Side) (i : ℕ) → 256 ≤ size → (i < place_of size s / 8) ⊎ (place_of size s / 8 + size / 8 ≤ i)
     → NotIn (guarded_by size s) i × (i ≢ guard_of size s)
 outside_block size s i enough out =
@@ -151,7 +151,7 @@ other_slot size free (Some slot) n i ok lt used low high =
     not_in_range (2 * size / 8 + 32 * slot) 32 i
     (elim (cases_order n slot) [ inl e ↦ absurd (apart e) | inr more ↦ elim more [ inl below ↦ inl (omega arith) | inr above ↦ inr (omega arith) ] ])
 
--- ---- what is left reads as before
+-- ---- the words after a crash read as before
 
 pub block_as : (left old : List ℕ) → index_reading left side.Zero ≡ index_reading old side.Zero → index_reading left side.One ≡ index_reading old side.One → block_in left ≡ block_in old
 block_as left old lower upper = rw (lower, upper) refl
@@ -160,12 +160,12 @@ pub block_by : (area : List ℕ) (now : IndexBlock) (s : Side) (fault : IndexFau
 block_by area now side.Zero fault here there = rw (here, there) refl
 block_by area now side.One fault here there = rw (here, there) refl
 
--- Seq of a block that is read is 1, 2 or 3
+-- Seq of a valid block is 1, 2 or 3
 pub record IsSeq (seq : ℕ) : Type 0 where
   pub low : 1 ≤ seq
   pub high : seq ≤ 3
 
--- the current block, and what it has
+-- the current block and its fields
 pub record IsCurrent (words : List ℕ) (size : ℕ) (now : IndexBlock) : Type 0 where
   pub here : index_reading (bytes_of words) now.side ≡ Ok now
   pub sized : now.size ≡ size
@@ -232,7 +232,7 @@ closed_reads left old size now slot closed ok is free low shut =
           (λ n i lt used from to. same i (other_slot size now.free slot n i free lt used from to) (past_blocks size (opposite now.side) i ok.whole (omega arith))));
     }
 
--- and so in both ways
+-- the same in both cases
 pub old_reads : (left old : List ℕ) (size : ℕ) (now : IndexBlock) (slot : Option ℕ) (closed : ℕ) → IsSized old size → block_in (bytes_of old) ≡ Ok now → IsFreeSlot now.free slot → closed < 2 ^ 32
     → IsOld old (words_of_slot size slot) (guard_of size (opposite now.side)) closed (guarded_by size (opposite now.side)) left → Shows left now (slots_by (bytes_of old) now)
 old_reads left old size now slot closed ok is free low (inl but) = but_reads left old size now slot ok is free but

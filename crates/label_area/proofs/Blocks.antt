@@ -85,7 +85,7 @@ module _ (words : List ℕ) (size slots : ℕ) (ok : IsInit words size slots) wh
   pub both_burnt : (w w2 : Words) (f f2 : Option ℕ) (made : Bool) → Makes w w2 f f2 steps made → f2 ≡ burnt f (2 * count_of_steps size None)
   both_burnt w w2 f f2 made h = h.fuse_left ∙ ap (burnt f) count_both
 
-  -- what a cut leaves
+  -- after a crash
   pub both_whole : (w w2 : Words) (f f2 : Option ℕ) (made : Bool) → w ≡ settled words → Makes w w2 f f2 steps made → (left : List ℕ) → IsLeft w2 left
       → IsInitCut size slots (steps_under f (2 * count_of_steps size None)) left
   both_whole w w2 None f2 made is h left cut =
@@ -105,7 +105,7 @@ module _ (words : List ℕ) (size slots : ℕ) (ok : IsInit words size slots) wh
   pub full_length : length full ≡ length words
   full_length = length_after half one None None again ∙ half_length words size slots ok
 
--- the steps of both blocks, the second under the words after the first
+-- the steps of both blocks; those of the second are for the words after the first
 pub both_made : (words : List ℕ) (size slots : ℕ) (w w1 w2 : Words) (f f1 f2 : Option ℕ) (made : Bool) → w1 ≡ settled (half_words words size slots)
     → Makes w w1 f f1 (writing_steps words (empty_block size slots side.One 2) None) true → Makes w1 w2 f1 f2 (writing_steps w1.kept (empty_block size slots side.Zero 3) None) made
     → Makes w w2 f f2 (init_steps words size slots) made
@@ -133,7 +133,7 @@ is_init values size bare = record {
   refused = bare;
 }
 
--- ---- what is answered
+-- ---- the result
 
 pub initial_is : (w w2 : Words) (f f2 : Option ℕ) (block : IndexBlock) (labels : List (Option Label)) → w ≡ settled w.kept → IsAreaSize (8 * length w.kept) → block_in (bytes_of w.kept) ≡ Err NoIndex
     → Makes w w2 f f2 (init_steps w.kept (size_for (length w.kept)) (slots_for (length w.kept))) true → block ≡ empty_block (size_for (length w.kept)) (slots_for (length w.kept)) side.Zero 3
@@ -169,7 +169,7 @@ no_cut (Ok a) (Ok b) is =
       | inr f ↦ absurd (let got = rw f at is in cc)
     ]
 
--- no area that is only read is refused for a cut
+-- a fault of reading an area is never a power cut
 pub read_fault : (area : List ℕ) (fault : AreaFault) → block_in area ≡ Err fault → fault ≡ PowerCut → ⊥
 read_fault area fault is cut = no_cut (index_reading area side.Zero) (index_reading area side.One) (is ∙ ap (λ (f : AreaFault). Err f) cut)
 

@@ -7,7 +7,7 @@ use Rattle.cut_words.specs.WordBytes.{bytes_of}
 use Rattle.cut_words.proofs.Bytes.{byte_at}
 use Rattle.label_index.specs.Index.{sequence_of}
 
--- the bytes of a part
+-- a byte of a part
 pub part_at : (xs : List ℕ) (at count j : ℕ) → j < count → get_or (take count (drop at xs)) j 0 ≡ get_or xs (at + j) 0
 part_at xs at count j lt = get_or-take count (drop at xs) j 0 lt ∙ get_or-drop at xs j 0
 

@@ -27,7 +27,7 @@ one_of_two (Ok a) (Ok b) now is =
       | inr f ↦ inl (let got = rw f at is in cc)
     ]
 
--- the slots of a block that was read
+-- the slots of a valid block
 side_fits : (area : List ℕ) (s : Side) (read : Reading) (block : IndexBlock) → (read ≢ Err OutOfMemory → read ≡ index_reading area s) → read ≡ Ok block
     → 2 * block.size + 256 * length block.free ≤ length area
 side_fits area s read block told is =

@@ -8,7 +8,7 @@ use Rattle.cut_words.specs.WordBytes.{words_in}
 eight_more : (k : ℕ) → 8 * suc k ≡ suc (suc (suc (suc (suc (suc (suc (suc (8 * k))))))))
 eight_more k = omega arith
 
--- what is read eight bytes further on
+-- the number eight bytes further on
 further : (a b c d e f g h : ℕ) (bytes : List ℕ) (k : ℕ) → number_at w64 (a ∷ b ∷ c ∷ d ∷ e ∷ f ∷ g ∷ h ∷ bytes) (8 * suc k) ≡ number_at w64 bytes (8 * k)
 unfolding number_at
 further a b c d e f g h bytes k = ap (λ (at : ℕ). from_le_bytes w64 (take 8 (drop at (a ∷ b ∷ c ∷ d ∷ e ∷ f ∷ g ∷ h ∷ bytes)))) (eight_more k)
@@ -39,7 +39,7 @@ count_is (a ∷ b ∷ c ∷ d ∷ e ∷ f ∷ g ∷ []) n len = absurd (omega ar
 count_is (a ∷ b ∷ c ∷ d ∷ e ∷ f ∷ g ∷ h ∷ bytes) zero len = absurd (omega arith)
 count_is (a ∷ b ∷ c ∷ d ∷ e ∷ f ∷ g ∷ h ∷ bytes) (suc n) len = ap suc (count_is bytes n (omega arith))
 
--- a list of which each word is that of the bytes
+-- words each of which is that of the bytes
 pub filled : (words bytes : List ℕ) → length bytes ≡ 8 * length words → ((k : ℕ) → k < length words → get_or words k 0 ≡ number_at w64 bytes (8 * k)) → words ≡ words_in bytes
 filled words bytes len each =
     let count : ℕ = length words in

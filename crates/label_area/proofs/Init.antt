@@ -1,4 +1,4 @@
--- The first two blocks are written whole under every cut.
+-- A crash never splits the writing of the first two blocks.
 use Rattle.std.proofs.Common.{◌≡◌, ◌≢◌, ◌⊎◌, ℕ, zero, suc, ◌+◌, ◌-◌, ◌*◌, ◌/◌, ◌<◌, ◌≤◌, List, [], ◌∷◌, ◌++◌, length, take, drop, map, get_or, replicate, Result, Ok, Err, Option, Some, None, true, not, eqb, refl, sym, ap, ◌∙◌, subst, arith, inl, inr}
 use Rattle.std.specs.Prelude.{◌||◌}
 use Rattle.std.specs.List.{enumerate_from}
@@ -40,7 +40,7 @@ use Rattle.label_index.proofs.Greatest.{slots_some, slots_fit}
 abbrev Reading : Type 0
 Reading = Result IndexBlock IndexFault
 
--- a side that is refused, and not for its version
+-- a side that is refused, but not for its version
 pub record IsRefused (reading : Reading) : Type 0 where
   pub fault : IndexFault
   pub is : reading ≡ Err fault
@@ -81,7 +81,7 @@ no_index_from (Err e) (Err f) ra rb = rw (ra.other, rb.other) refl
 no_index_from (Ok a) b ra rb = absurd (let e = ra.is in cc)
 no_index_from (Err e) (Ok b) ra rb = absurd (let e' = rb.is in cc)
 
--- a closed block is refused, and not for its version
+-- a closed block is refused, but not for its version
 closed_refused : (area size : ℕ) (s : Side) (block : List ℕ) → sequence_of block ≡ 0 → IsRefused (block_reading area size s block)
 unfolding checked
 closed_refused area size s block closed =
@@ -152,7 +152,7 @@ module _ (words : List ℕ) (size slots : ℕ) (ok : IsInit words size slots) wh
   parts : IsRefused (index_reading (bytes_of words) side.Zero) × IsRefused (index_reading (bytes_of words) side.One)
   parts = no_index_parts (index_reading (bytes_of words) side.Zero) (index_reading (bytes_of words) side.One) ok.refused
 
-  -- the lower side stays as it was
+  -- the lower side is unchanged
   lower_as : (left : List ℕ) → length left ≡ length words → ((i : ℕ) → i < size / 8 → get_or left i 0 ≡ get_or words i 0) → index_reading (bytes_of left) side.Zero ≡ index_reading (bytes_of words) side.Zero
   lower_as left len same = same_reading left words size side.Zero len sized (λ i from to. same i (omega arith))
 
@@ -191,7 +191,7 @@ module _ (words : List ℕ) (size slots : ℕ) (ok : IsInit words size slots) wh
   half_empty : IsEmpty half size slots side.One 2
   half_empty = record { current = half_block; listed = ap (slots_with (bytes_of half)) half_block ∙ ap Ok (all_free (bytes_of half) size 0 slots) }
 
-  -- the second block is written as a change of nothing
+  -- the second block is written as a change without slots
   pub change : IsChange half one None None
   change = record {
     area = subst IsAreaSize (length_bytes words ∙ ap (λ (n : ℕ). 8 * n) (sym half_length) ∙ sym (length_bytes half)) ok.area;

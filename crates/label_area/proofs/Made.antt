@@ -1,4 +1,4 @@
--- What a cut leaves of the steps that the code makes.
+-- The words after a crash during the steps that the code makes.
 use Rattle.std.proofs.Common.{◌≡◌, ◌⊎◌, ℕ, ◌+◌, ◌/◌, List, ◌++◌, length, take, Option, Some, None, Bool, sym, ap, ◌∙◌, subst, arith, inl, inr}
 use Rattle.std.proofs.lemmas.Bool.{cases_lt, cases_eq, leb-true}
 use Rattle.std.proofs.lemmas.List.{take_all}

@@ -15,23 +15,23 @@ use Rattle.label_area.specs.Writing.{others_stores, others_keeps, others_steps}
 pub fewer : (words : Words) (base count from many : ℕ) → NonePending words base count → base ≤ from → from + many ≤ base + count → NonePending words from many
 fewer words base count from many ok low high i first last = ok i (omega arith) (omega arith)
 
--- after a run was written
+-- after writing a run
 pub run_leaves : (w w1 : Words) (f f1 : Option ℕ) (at : ℕ) (values : List ℕ) (base count : ℕ) → Makes w w1 f f1 (run_steps at values) true → NonePending w base count → NonePending w1 base count
 run_leaves w w1 f f1 at values base count a ok i first last =
     subst (Clear i) (sym (makes_all w w1 f f1 (run_steps at values) a)) (run_clear at values w i (ok i first last))
 
--- after a word was written
+-- after writing a word
 pub word_leaves : (w w1 : Words) (f f1 : Option ℕ) (at v base count : ℕ) → Makes w w1 f f1 (written at v) true → NonePending w base count → NonePending w1 base count
 word_leaves w w1 f f1 at v base count a ok i first last =
     subst (Clear i) (sym (makes_all w w1 f f1 (written at v) a)) (written_clear at v w i (ok i first last))
 
--- after the first two words of a block were stored, of the words behind the third
+-- after storing the first two words of a block: the words after the third
 pub two_leave : (w w1 : Words) (f f1 : Option ℕ) (base : ℕ) (block : List ℕ) (count : ℕ) → Makes w w1 f f1 (stores_from base (take 2 block)) true → NonePending w (base + 3) count → NonePending w1 (base + 3) count
 two_leave w w1 f f1 base block count a ok i first last =
     subst (Clear i) (sym (makes_all w w1 f f1 (stores_from base (take 2 block)) a))
     (clear_stays i (stores_from base (take 2 block)) w (stores_pass_by (take 2 block) base i (inr (omega (arith, length-take 2 block)))) (ok i first last))
 
--- after all but the third were written, of the third
+-- after writing all but the third word: the third
 pub others_leave : (w w1 : Words) (f f1 : Option ℕ) (base : ℕ) (block : List ℕ) → Makes w w1 f f1 (others_steps base block) true → Clear (base + 2) w → Clear (base + 2) w1
 others_leave w w1 f f1 base block a was =
     let i : ℕ = base + 2 in

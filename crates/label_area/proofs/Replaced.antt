@@ -1,4 +1,4 @@
--- A change of an area that is held open.
+-- A change of an open area.
 use Rattle.std.proofs.Common.{◌≡◌, ℕ, ◌*◌, ◌<◌, List, length, get_or, take, Bool, true, false, Option, Some, None, Ok, Err, refl, sym, ap, ◌∙◌, subst, arith, inl, inr, take_all}
 use Rattle.std.specs.Prelude.{not}
 use Rattle.std.proofs.lemmas.Bool.{cases_lt}
@@ -35,7 +35,7 @@ listed_without : (out : Option ℕ) (slots : List SlotState) → labels_in (with
 listed_without None slots = refl
 listed_without (Some k) slots = map-set label_in slots k None
 
--- ---- how words are opened
+-- ---- opening words
 
 shows_opens : (left : List ℕ) (block : IndexBlock) (slots : List SlotState) (labels : List (Option Label)) → IsAreaSize (8 * length left) → labels_in slots ≡ labels → Shows left block slots → OpensAs left block labels
 shows_opens left block slots labels size is shows =
@@ -91,7 +91,7 @@ module _ (area : AreaState) (ready : IsReady area) (out : Option ℕ) (put : Opt
     pub steps_count : length steps ≡ count
     steps_count = length_change final area.block.size (opposite area.block.side) put (sized values area.block out put change).enough
 
-    -- what a cut leaves
+    -- after a crash
     pub change_whole : (new : Words) (fuse left : Option ℕ) (made : Bool) → Makes area.words new fuse left steps made
         → (shown : List ℕ) → IsLeft new shown → IsCut values area.block out put (steps_under fuse count) shown
     change_whole new None left made h shown cut =
@@ -102,7 +102,7 @@ module _ (area : AreaState) (ready : IsReady area) (out : Option ℕ) (put : Opt
         replace_cut values area.block out put change n shown
         (subst (λ (w : Words). IsLeft w shown) (h.words ∙ ap (λ (w : Words). after w (take n steps)) words_settled) cut)
 
-    -- and how that is opened
+    -- and how the area opens
     labels_before : labels_in (slots_before values area.block) ≡ area.labels
     labels_before = ap (λ (a : AreaState). a.labels) (sym ready.shown)
 
@@ -148,7 +148,7 @@ module _ (area : AreaState) (ready : IsReady area) (out : Option ℕ) (put : Opt
       shown = ap (λ (ls : List (Option Label)). record { words = settled final; block = next; labels = ls; stopped = false }) (sym labels_changed);
     }
 
-    -- what becomes of it
+    -- the effect on the area
     pub cut_changed : (new : AreaState) (fuse left : Option ℕ) → new.stopped ≡ true → Makes area.words new.words fuse left steps false → IsChanged area new fuse left out put
     cut_changed new fuse left stopped h = record {
       made = subst (λ (b : Bool). Makes area.words new.words fuse left steps (not b)) (sym stopped) h;
@@ -192,7 +192,7 @@ pub labels_count : (area : AreaState) → IsReady area → length area.labels �
 labels_count area ready =
     ap (λ (a : AreaState). length a.labels) ready.shown ∙ length-map (slots_by (bytes_of area.words.kept) area.block) label_in ∙ length_slots (bytes_of area.words.kept) area.block
 
--- the steps by which the next block is written are those of the change
+-- the steps that write the next block are those of the change
 pub steps_next : (words new : Words) (fuse left : Option ℕ) (now : IndexBlock) (out : Option ℕ) (put : Option Label) (block : IndexBlock) (made : Bool) → block ≡ next_block now out put
     → Makes words new fuse left (writing_steps words.kept block put) made → Makes words new fuse left (replace_steps words.kept now out put) made
 steps_next words new fuse left now out put block made is h = subst (λ (b : IndexBlock). Makes words new fuse left (writing_steps words.kept b put) made) is h

@@ -1,4 +1,5 @@
--- Worked examples: the laws' conditions are met by an area of 1,024 zero bytes, and by that area after its two blocks are written.
+-- Worked examples: the premises of the laws hold for an area of 1,024 zero bytes, and for that area after its two blocks are
+-- written.
 use Rattle.std.proofs.Common.{◌≡◌, ℕ, List, [], ◌∷◌, length, get_or, replicate, Some, None, Ok, Err, true, false, refl, ap, subst, arith}
 use Rattle.label_codec.specs.declared.label.Label.{Label}
 use Rattle.label_codec.specs.Writable.{IsWritable}
@@ -46,7 +47,7 @@ can_change = record { area = record { multiple = refl; low = omega arith; high =
 pub put_count : (l : Label) → count_of_steps 256 (Some l) ≡ 130
 put_count l = refl
 
--- any label that can be written and names the first slot can be put there
+-- any writable label that names the first slot can be put there
 pub can_put : (l : Label) → IsWritable l → l.slot ≡ 0 → IsChange (full_words zeros 256 2) (empty_block 256 2 side.Zero 3) None (Some l)
 can_put l ok first = record {
   area = can_change.area;
@@ -57,7 +58,7 @@ can_put l ok first = record {
 
 -- ---- an open area
 
--- the area of zeros is initialised in 132 steps, and is then one that may be changed
+-- the area of zeros is initialised in 132 steps and can then be changed
 pub init_steps_count : count_of_both 128 ≡ 132
 unfolding greatest
 init_steps_count = refl
@@ -72,14 +73,14 @@ least_of_three = refl
 pub none_is_free : least_free (false ∷ false ∷ []) ≡ None
 none_is_free = refl
 
--- a label goes there under that number, and no slot is refused
+-- a label is put there with that number, and the call succeeds
 pub put_there : (l : Label) → placed (false ∷ true ∷ []) (Some l) ≡ Ok (Some (record l { slot = 1 }))
 put_there l = refl
 
 pub no_slot : (l : Label) → placed (false ∷ false ∷ []) (Some l) ≡ Err NoSlot
 no_slot l = refl
 
--- 130 steps are enough for a put, and 129 aren't; 66 are for a removal
+-- 130 steps suffice for a put, and 129 don't; 66 suffice for a removal
 pub put_made : (l : Label) → replace_answer (empty_block 256 2 side.Zero 3) (Some 130) (Some l) ≡ Ok (Some 0)
 put_made l = refl
 
@@ -92,6 +93,6 @@ removal_made = refl
 pub removal_cut : replace_answer (empty_block 256 2 side.Zero 3) (Some 65) None ≡ Err PowerCut
 removal_cut = refl
 
--- a label comes and another goes; the rest stays
+-- one label is put, another is removed, the rest is unchanged
 pub labels_of_three : (a b l : Label) → labels_after (Some 0) (Some (record l { slot = 1 })) (Some a ∷ None ∷ Some b ∷ []) ≡ None ∷ Some (record l { slot = 1 }) ∷ Some b ∷ []
 labels_of_three a b l = refl

@@ -1,4 +1,4 @@
--- The spellings of what is written stand for it.
+-- The encodings that are written read back.
 use Rattle.std.proofs.Common.{◌≡◌, ℕ, length, Ok}
 use Rattle.nvd_words.specs.Bytes.{AreBytes}
 use Rattle.label_codec.specs.declared.label.Label.{Label}
@@ -11,13 +11,13 @@ use Rattle.label_index.specs.Spelling.{spelling_of as block_spelling}
 use Rattle.label_index.specs.Valid.{IsValid}
 use Rattle.label_index.proofs.Spelled.{enough, length_spelling, bytes_spelling, spelled as reads_back}
 
--- a block's spelling stands for it in an area of a size
+-- a block's encoding encodes it in an area of this size
 pub record IsSpelled (area : ℕ) (block : IndexBlock) : Type 0 where
   pub len : length (block_spelling block) ≡ block.size
   pub bytes : AreBytes (block_spelling block)
   pub reads : block_reading area block.size block.side (block_spelling block) ≡ Ok block
 
--- a label's spelling stands for it
+-- a label's encoding encodes it
 pub record IsSpelledLabel (label : Label) : Type 0 where
   pub len : length (label_spelling label) ≡ 256
   pub bytes : AreBytes (label_spelling label)

@@ -1,4 +1,4 @@
--- The steps that the code makes are those that write a block, and a label, if one is put.
+-- The steps that the code makes are those that write a block, and a label if there is one.
 use Rattle.std.proofs.Common.{◌≡◌, ◌⊎◌, ℕ, zero, suc, ◌+◌, ◌-◌, ◌*◌, ◌/◌, ◌%◌, ◌^◌, ◌<◌, ◌≤◌, List, [], ◌∷◌, ◌++◌, length, take, drop, get_or, Option, Some, None, refl, sym, ap, ◌∙◌, subst, arith, inl, inr}
 use Rattle.std.specs.List.{range_with_len}
 use Rattle.std.proofs.lemmas.List.{get_or_append_left, get_or-append_right, length-take-le, length-drop, get_or-take, get_or-drop}
@@ -41,7 +41,7 @@ pub block_below : (size : ℕ) (s : Side) → size % 256 ≡ 0 → place_of size
 block_below size side.Zero whole = omega arith
 block_below size side.One whole = omega arith
 
--- what a valid block's size is
+-- the size of a valid block
 pub record HasSize (size count : ℕ) : Type 0 where
   pub whole : size % 256 ≡ 0
   pub enough : 256 ≤ size
@@ -76,7 +76,7 @@ module _ (words : List ℕ) (next : IndexBlock) (put : Option Label) (valid : Is
   pub spelled : IsSpelled (8 * length words) next
   spelled = valid_spelled (8 * length words) next valid
 
-  -- where things lie
+  -- the places of the writes
   pub block_words : length block ≡ next.size / 8
   block_words = omega (arith, length_words (block_spelling next) (omega (arith, spelled.len, sizes.whole)) spelled.bytes, spelled.len, sizes.whole)
 

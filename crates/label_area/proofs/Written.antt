@@ -1,4 +1,4 @@
--- Where the words of a change lie.
+-- The places of a change's words.
 use Rattle.std.proofs.Common.{◌≡◌, ◌≢◌, ◌⊎◌, ℕ, zero, suc, ◌+◌, ◌-◌, ◌*◌, ◌/◌, ◌<◌, ◌≤◌, List, ◌∷◌, ◌++◌, length, take, drop, get_or, Option, Some, None, Bool, true, false, refl, ap, ◌∙◌, arith, inl, inr}
 use Rattle.std.specs.List.{range_with_len, All}
 use Rattle.std.proofs.lemmas.Bool.{cases_lt}
@@ -83,7 +83,7 @@ length_change final size s put enough =
 
 -- ---- a label
 
--- the label that is put has room, and its spelling stands for it
+-- the label to put has room, and its encoding encodes it
 abbrev pub PutFits : ℕ → Option Label → ℕ → Type 0
 PutFits size put count = (l : Label) → put ≡ Some l → (2 * size / 8 + 32 * l.slot + 32 ≤ count) × IsSpelledLabel l
 

@@ -18,11 +18,11 @@ abbrev pub refused_version : Result IndexBlock IndexFault → Option AreaFault
 refused_version (Err (Version major minor)) = Some (Unsupported major minor)
 refused_version other = None
 
--- why an area is refused of which no side is valid: by the first side that was refused for its version, where there is one
+-- why an area without a valid side is refused: the first version fault, if there is one
 abbrev pub no_side : Result IndexBlock IndexFault → Result IndexBlock IndexFault → AreaFault
 no_side a b = unwrap_or (refused_version a) (unwrap_or (refused_version b) NoIndex)
 
--- the block of the side that counts
+-- the block of the current side
 abbrev pub current_block : Option Side → Result IndexBlock IndexFault → Result IndexBlock IndexFault → Result IndexBlock AreaFault
 current_block (Some side.Zero) (Ok block) b = Ok block
 current_block (Some side.One) a (Ok block) = Ok block
@@ -32,17 +32,17 @@ current_block s a b = Err (no_side a b)
 abbrev pub block_in : List ℕ → Result IndexBlock AreaFault
 block_in area = let a = index_reading area side.Zero in let b = index_reading area side.One in current_block (current_of a b) a b
 
--- the bytes of a slot, for index blocks of a size: the slots follow both blocks, 256 bytes each
+-- the bytes of a slot; the slots follow both index blocks, of `size` bytes each, and have 256 bytes each
 abbrev pub slot_bytes : List ℕ → ℕ → ℕ → List ℕ
 slot_bytes area size slot = take 256 (drop (2 * size + 256 * slot) area)
 
 -- ---- slots
 
--- a slot: free, or used, and then with its label, or with bytes that aren't a valid one
+-- a slot: free, or used, then with its label, or without a valid one
 abbrev pub SlotState : Type 0
 SlotState = Option (Option Label)
 
--- the slot of a number, by its bit of Free; the label in it has to name that number
+-- a slot, from its number and its bit of Free; the label in it must have that number
 abbrev pub slot_at : List ℕ → ℕ → ℕ × Bool → SlotState
 slot_at area size slot = if slot.1 then None else Some (result_ok (label_reading (slot_bytes area size slot.0) slot.0))
 

@@ -1,5 +1,5 @@
--- One change of a label area: what is written, and in which order. UEFI 2.10, section 13.19, asks that the block that is not
--- current is written, under the next Seq; the order of the words within it is this project's rule.
+-- One change of a label area: what is written, in which order. UEFI 2.10, section 13.19, requires that the block that isn't
+-- current is written, with the next Seq; the order of the words within it is this project's rule.
 use Rattle.std.specs.Prelude.{◌≡◌, ℕ, ◌+◌, ◌-◌, ◌*◌, ◌/◌, ◌%◌, ◌^◌, Bool, true, false, if◌then◌else◌, List, [], ◌∷◌, slice_index, slice_index_or, slice_set, Option, Some, None, is_some}
 use Rattle.std.specs.Option.{option_map}
 use Rattle.std.specs.List.{range_with_len}
@@ -23,7 +23,7 @@ opposite side.One = side.Zero
 
 -- ---- steps
 
--- the word of a block that has Seq, at offset 16
+-- the word of a block with Seq, at offset 16
 abbrev pub guard_of : ℕ → Side → ℕ
 guard_of size s = place_of size s / 8 + 2
 
@@ -31,16 +31,16 @@ guard_of size s = place_of size s / 8 + 2
 abbrev pub guarded_by : ℕ → Side → List ℕ
 guarded_by size s = place_of size s / 8 ∷ (place_of size s / 8 + 1) ∷ range_with_len (place_of size s / 8 + 3) (size / 8 - 3)
 
--- the words of a slot that a label is put into
+-- the words of a label's slot
 abbrev pub words_of_slot : ℕ → Option ℕ → List ℕ
 words_of_slot size None = []
 words_of_slot size (Some slot) = range_with_len (2 * size / 8 + 32 * slot) 32
 
--- the word at offset 16 of a final block, but with Seq 0: Seq is its high half
+-- the word at offset 16 of a final block, but with Seq 0; Seq is its high half
 abbrev pub closed_word : ℕ → ℕ
 closed_word word = word % 2 ^ 32
 
--- one change whose words at the end are given: the label in its slot, if one is put, and then the block of a side
+-- the steps of a change, from the final words: the label in its slot, if there is one, and then the block of a side
 abbrev pub change_steps : List ℕ → ℕ → Side → Option ℕ → List Step
 change_steps final size s slot = guarded final (words_of_slot size slot) (guard_of size s) (closed_word (slice_index final (guard_of size s))) (guarded_by size s)
 
@@ -50,11 +50,11 @@ block_steps final size s = change_steps final size s None
 
 -- ---- what is written
 
--- the slot of the label that is put, under the number that it has
+-- the slot of the label to put, which the label names
 abbrev pub slot_of_put : Option Label → Option ℕ
 slot_of_put put = option_map (λ l. l.slot) put
 
--- Free with a slot taken, and with one given back
+-- Free with a slot taken, and with one freed
 abbrev pub taken : Option ℕ → List Bool → List Bool
 taken None free = free
 taken (Some slot) free = slice_set free slot false
@@ -75,7 +75,7 @@ with_label size (Some label) words = put_at words (2 * size / 8 + 32 * label.slo
 abbrev pub with_block : IndexBlock → List ℕ → List ℕ
 with_block block words = put_at words (place_of block.size block.side / 8) (words_in (block_spelling block))
 
--- the words after a change: one slot is freed, and a label is put, under the number of its slot
+-- the words after a change that frees a slot and puts a label into its slot
 abbrev pub words_after : List ℕ → IndexBlock → Option ℕ → Option Label → List ℕ
 words_after words now out put = with_block (next_block now out put) (with_label now.size put words)
 
@@ -83,13 +83,13 @@ words_after words now out put = with_block (next_block now out put) (with_label 
 abbrev pub replace_steps : List ℕ → IndexBlock → Option ℕ → Option Label → List Step
 replace_steps words now out put = change_steps (words_after words now out put) now.size (opposite now.side) (slot_of_put put)
 
--- so many: 64 for a label, and 66 for a block of 256 bytes
+-- the number of steps: 64 for a label, and 66 for a block of 256 bytes
 abbrev pub count_of_steps : ℕ → Option Label → ℕ
 count_of_steps size put = (if is_some put then 64 else 0) + (2 * (size / 8) + 2)
 
 -- ---- the slots after
 
--- slots with a label in its own, and with one freed
+-- slots with a label in its slot, and with one freed
 abbrev pub with_put : Option Label → List SlotState → List SlotState
 with_put None slots = slots
 with_put (Some label) slots = slice_set slots label.slot (Some (Some label))
@@ -100,6 +100,6 @@ without (Some out) slots = slice_set slots out None
 
 -- ---- conditions
 
--- the slot that a label is put into is free
+-- the slot of the label to put is free
 abbrev pub IsFreeSlot : List Bool → Option ℕ → Type 0
 IsFreeSlot free slot = (k : ℕ) → slot ≡ Some k → slice_index_or free k false ≡ true

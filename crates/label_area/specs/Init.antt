@@ -11,7 +11,7 @@ use Rattle.label_area.specs.Area.{block_in, slots_in}
 use Rattle.label_area.specs.Change.{with_block, block_steps, count_of_steps}
 use Rattle.label_area.specs.Whole.{Shows}
 
--- a block of which all slots are free
+-- a block with all slots free
 abbrev pub empty_block : ℕ → ℕ → Side → ℕ → IndexBlock
 empty_block size slots s seq = record { side = s; seq = seq; size = size; slots = slots; free = replicate slots true }
 
@@ -39,7 +39,7 @@ IsEmpty left size slots s seq = Shows left (empty_block size slots s seq) (repli
 abbrev pub IsNoIndex : List ℕ → Type 0
 IsNoIndex left = slots_in (bytes_of left) ≡ Err NoIndex
 
--- what a cut after n steps leaves
+-- the area after a crash that follows n steps
 pub record IsInitCut (size slots n : ℕ) (left : List ℕ) : Type 0 where
   pub before : n + 1 < count_of_steps size None → IsNoIndex left
   pub either : n + 1 ≡ count_of_steps size None → IsNoIndex left ⊎ IsEmpty left size slots side.One 2
@@ -47,6 +47,6 @@ pub record IsInitCut (size slots n : ℕ) (left : List ℕ) : Type 0 where
   pub either_again : n + 1 ≡ 2 * count_of_steps size None → IsEmpty left size slots side.One 2 ⊎ IsEmpty left size slots side.Zero 3
   pub after : 2 * count_of_steps size None ≤ n → IsEmpty left size slots side.Zero 3
 
--- a law: a cut within that leaves an area without a valid block, or an empty one
+-- a law: a crash during these steps leaves an area without a valid block, or an empty one
 abbrev pub InitIsWhole : Type 0
 InitIsWhole = (words : List ℕ) (size slots n : ℕ) (left : List ℕ) → IsInit words size slots → IsLeftAfter words (init_steps words size slots) n left → IsInitCut size slots n left

@@ -17,7 +17,7 @@ use Rattle.label_area.specs.Init.{empty_block, full_words, init_steps, IsInitCut
 use Rattle.label_area.specs.State.{AreaState}
 use Rattle.label_area.specs.Opened.{refused}
 
--- the bytes of an index block, and the number of slots, of an area of so many words
+-- the size of an index block, and the number of slots, of an area of `count` words
 abbrev pub size_for : ℕ → ℕ
 size_for count = block_size_of (8 * count)
 
@@ -28,17 +28,17 @@ slots_for count = slots_of (8 * count)
 abbrev pub init_count : ℕ → ℕ
 init_count count = 2 * count_of_steps (size_for count) None
 
--- what an area shows of which all slots are free
+-- the contents of an area with all slots free
 abbrev pub blank : ℕ → Shown
 blank count = record { block = empty_block (size_for count) (slots_for count) side.One 2; labels = replicate (slots_for count) None }
 
--- the first block of an area that has none, or why it isn't initialised
+-- the contents under the first block of an area that has none, or why the area isn't initialised
 abbrev pub blank_by : ℕ → Result IndexBlock AreaFault → Result Shown AreaFault
 blank_by count (Ok block) = Err (AlreadyInitialised block.seq)
 blank_by count (Err NoIndex) = Ok (blank count)
 blank_by count (Err fault) = Err fault
 
--- an area with both blocks: no word is pending, side Zero is current under Seq 3, and all slots are free
+-- an area with both blocks: no word is pending, side Zero is current with Seq 3, and all slots are free
 abbrev pub initial : List ℕ → AreaState
 initial values = record {
   words = settled (full_words values (size_for (length values)) (slots_for (length values)));
@@ -56,13 +56,13 @@ initialised_by values fuse (Ok block) = Err (refused values (AlreadyInitialised 
 initialised_by values fuse (Err NoIndex) = if lasts fuse (init_count (length values)) then Ok (initial values) else Err (cut_short values fuse)
 initialised_by values fuse (Err fault) = Err (refused values fault)
 
--- an area that is initialised under a fuse, or why it isn't
+-- the initialised area under a fuse, or the refusal
 abbrev pub initialised : List ℕ → Option ℕ → Result AreaState AreaRefused
 initialised values fuse = initialised_by values fuse (block_in (bytes_of values))
 
--- ---- what becomes of the fuse, and what a cut leaves
+-- ---- the fuse, and the area after a crash
 
--- the fuse: the steps are taken from it unless the area was refused before any
+-- the fuse: the steps are taken from it, unless the area was refused before the first
 abbrev pub fuse_after : AreaFault → Option ℕ → ℕ → Option ℕ
 fuse_after PowerCut fuse count = burnt fuse count
 fuse_after fault fuse count = fuse
@@ -71,7 +71,7 @@ abbrev pub fuse_left : Result AreaState AreaRefused → Option ℕ → ℕ → O
 fuse_left (Ok area) fuse count = burnt fuse count
 fuse_left (Err refused) fuse count = fuse_after refused.fault fuse count
 
--- what a cut leaves of words that came back, where steps were made: `init` is for so many words under a fuse
+-- the words after a crash, if steps were made: initialising `count` words under a fuse
 abbrev pub LeavesWhole : ℕ → Option ℕ → Words → Type 0
 LeavesWhole count fuse words = (left : List ℕ) → IsLeft words left → IsInitCut (size_for count) (slots_for count) (steps_under fuse (init_count count)) left
 

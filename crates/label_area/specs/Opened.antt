@@ -1,4 +1,4 @@
--- A label area that is held open: its words, and what they show.
+-- An open label area: its words, and what they show.
 use Rattle.std.specs.Prelude.{◌≡◌, ℕ, ◌*◌, false, List, length, Option, Result, Ok, Err}
 use Rattle.label_codec.specs.declared.label.Label.{Label}
 use Rattle.label_index.specs.declared.index.IndexBlock.{IndexBlock}
@@ -10,22 +10,22 @@ use Rattle.label_area.specs.declared.fault.AreaRefused.{AreaRefused}
 use Rattle.label_area.specs.Area.{block_in, slots_by, labels_in}
 use Rattle.label_area.specs.State.{AreaState}
 
--- the labels of an area's words by an index block: by slot, none where the slot is free or has no valid one
+-- the labels of an area's words by an index block: for each slot, none if it is free or has no valid label
 abbrev pub labels_by : List ℕ → IndexBlock → List (Option Label)
 labels_by values block = labels_in (slots_by (bytes_of values) block)
 
--- an area as words show it of which none is pending
+-- the area that words without pending ones show
 abbrev pub state_of : List ℕ → IndexBlock → AreaState
 state_of values block = record { words = settled values; block = block; labels = labels_by values block; stopped = false }
 
--- What holds of an area that isn't stopped: no word is pending, and its block and labels are those that the words show. So they
--- are what the area is opened with after a power cut, too.
+-- What holds of an area that isn't stopped: no word is pending, and the words show its block and labels. So it also opens with
+-- them after a power loss.
 pub record IsReady (area : AreaState) : Type 0 where
   pub size : IsAreaSize (8 * length area.words.kept)
   pub current : block_in (bytes_of area.words.kept) ≡ Ok area.block
   pub shown : area ≡ state_of area.words.kept area.block
 
--- what every area keeps
+-- the invariant of every area
 abbrev pub IsStoppedOrReady : AreaState → Type 0
 IsStoppedOrReady area = area.stopped ≡ false → IsReady area
 
@@ -38,11 +38,11 @@ abbrev pub opened_by : List ℕ → Result IndexBlock AreaFault → Result AreaS
 opened_by values (Ok block) = Ok (state_of values block)
 opened_by values (Err fault) = Err (refused values fault)
 
--- an area that is opened, or why it is refused
+-- an opened area, or why it is refused
 abbrev pub opened : List ℕ → Result AreaState AreaRefused
 opened values = opened_by values (block_in (bytes_of values))
 
--- words that are opened as an area with this block and these labels
+-- words that open as an area with this block and these labels
 pub record OpensAs (values : List ℕ) (now : IndexBlock) (list : List (Option Label)) : Type 0 where
   pub size : IsAreaSize (8 * length values)
   pub opens : opened values ≡ Ok (record { words = settled values; block = now; labels = list; stopped = false })

@@ -1,4 +1,4 @@
--- What contracts see of a label area that is held open.
+-- What contracts see of an open label area.
 use Rattle.std.specs.Prelude.{Bool, List, Option}
 use Rattle.label_codec.specs.declared.label.Label.{Label}
 use Rattle.label_index.specs.declared.index.IndexBlock.{IndexBlock}

@@ -1,4 +1,4 @@
--- One label change is whole under every cut: this project's rule.
+-- A crash never splits a label change: this project's rule.
 use Rattle.std.specs.Prelude.{◌≡◌, ◌⊎◌, ℕ, ◌+◌, ◌<◌, ◌≤◌, List, length, Option, Some, None, Ok}
 use Rattle.label_codec.specs.declared.label.Label.{Label}
 use Rattle.label_codec.specs.Writable.{IsWritable}
@@ -28,23 +28,23 @@ pub record Shows (words : List ℕ) (block : IndexBlock) (slots : List SlotState
   pub current : block_in (bytes_of words) ≡ Ok block
   pub listed : slots_in (bytes_of words) ≡ Ok slots
 
--- what a cut after n steps leaves shows
+-- the area after a crash that follows n steps
 pub record IsCut (words : List ℕ) (now : IndexBlock) (out : Option ℕ) (put : Option Label) (n : ℕ) (left : List ℕ) : Type 0 where
   pub before : n + 1 < count_of_steps now.size put → Shows left now (slots_before words now)
   pub either : n + 1 ≡ count_of_steps now.size put → Shows left now (slots_before words now) ⊎ Shows left (next_block now out put) (slots_after words now out put)
   pub after : count_of_steps now.size put ≤ n → Shows left (next_block now out put) (slots_after words now out put)
 
--- a law: a cut within one change leaves the area before it or after it
+-- a law: a crash during a change leaves the area before it or after it
 abbrev pub ReplaceIsWhole : Type 0
 ReplaceIsWhole = (words : List ℕ) (now : IndexBlock) (out : Option ℕ) (put : Option Label) (n : ℕ) (left : List ℕ) → IsChange words now out put
     → IsLeftAfter words (replace_steps words now out put) n left → IsCut words now out put n left
 
--- a law: after the last step no word is pending, and the words are those after the change, so that the next change may follow
+-- a law: after the last step no word is pending, and the words are those after the change, so another change may follow
 abbrev pub ReplaceSettles : Type 0
 ReplaceSettles = (words : List ℕ) (now : IndexBlock) (out : Option ℕ) (put : Option Label) → IsChange words now out put
     → after (settled words) (replace_steps words now out put) ≡ settled (words_after words now out put)
 
--- how many of so many steps are made under a fuse; a fuse may be for more
+-- how many of `count` steps are made under a fuse; the fuse may allow more
 abbrev pub steps_under : Option ℕ → ℕ → ℕ
 steps_under None count = count
 steps_under (Some n) count = n

@@ -1,4 +1,4 @@
--- What the code of a change stores and keeps, word for word, and what a cut leaves of it.
+-- The stores and flushes of a change as the code makes them, and the words after a crash.
 use Rattle.std.specs.Prelude.{◌≡◌, ◌⊎◌, ℕ, ◌+◌, ◌-◌, ◌*◌, ◌/◌, ◌%◌, ◌^◌, ◌≤◌, Bool, true, List, [], ◌++◌, length, take, drop, slice_index, Option, Some, None}
 use Rattle.label_codec.specs.declared.label.Label.{Label}
 use Rattle.label_codec.specs.Label.{spelling_of as label_spelling}
@@ -16,7 +16,7 @@ use Rattle.label_area.specs.Whole.{IsChange, Shows, slots_before, slots_after}
 
 -- ---- steps
 
--- the words of a block but the third, which has Seq
+-- the words of a block, except the third, which has Seq
 abbrev pub others_stores : ℕ → List ℕ → List Step
 others_stores base block = stores_from base (take 2 block) ++ stores_from (base + 3) (drop 3 block)
 
@@ -26,34 +26,34 @@ others_keeps base count = keeps_from base 2 ++ keeps_from (base + 3) (count - 3)
 abbrev pub others_steps : ℕ → List ℕ → List Step
 others_steps base block = others_stores base block ++ others_keeps base (length block)
 
--- the words of a block from a place on: the third closed, the others, and the third opened
+-- the words of a block from `base` on: the third closed, the others, and the third opened
 abbrev pub block_steps_from : ℕ → List ℕ → List Step
 block_steps_from base block = written (base + 2) (slice_index block 2 % 2 ^ 32) ++ (others_steps base block ++ written (base + 2) (slice_index block 2))
 
--- the words with a block on its side, and with a label in its slot, if one is put
+-- the words with a block on its side, and with a label in its slot, if there is one
 abbrev pub words_with : List ℕ → IndexBlock → Option Label → List ℕ
 words_with words block put = with_block block (with_label block.size put words)
 
--- the steps that write them: one change of labels has these, and so has a block alone
+-- the steps that write them: those of a change of labels, or of a block alone
 abbrev pub writing_steps : List ℕ → IndexBlock → Option Label → List Step
 writing_steps words block put = change_steps (words_with words block put) block.size block.side (slot_of_put put)
 
--- a block, and a label, if one is put, that can be written into words
+-- a block, and a label if there is one, that can be written into words
 pub record CanWrite (words : Words) (block : IndexBlock) (put : Option Label) : Type 0 where
   pub none_pending : words ≡ settled words.kept
   pub valid : IsValid (8 * length words.kept) block
   pub room : (l : Label) → put ≡ Some l → 2 * block.size + 256 * l.slot + 256 ≤ 8 * length words.kept
   pub sound : (l : Label) → put ≡ Some l → IsSound l
 
--- ---- what a cut leaves
+-- ---- after a crash
 
--- a label's words and their place, none where no label is put
+-- a label's words and their place; no words if no label is put
 abbrev pub IsLabelAt : ℕ → Option Label → ℕ → List ℕ → Type 0
 IsLabelAt size None at label = label ≡ []
 IsLabelAt size (Some l) at label = (at ≡ 2 * size / 8 + 32 * l.slot) × (label ≡ words_in (label_spelling l))
 
--- What a power cut leaves after a change was begun on words of which none was pending, with the words of that change at their
--- places: it shows the area before or after it, and where the change was made to its end, the one after it.
+-- The words after a crash, if a change was begun on words none of which was pending, with the words of that change at their
+-- places: they show the area before or after it, and if the change was completed, the area after it.
 abbrev pub IsWholeAfter : Words → Words → ℕ → List ℕ → ℕ → List ℕ → Bool → Type 0
 IsWholeAfter old new label_at label block_at block made =
     (words : List ℕ) (now : IndexBlock) (out : Option ℕ) (put : Option Label) (left : List ℕ) → old ≡ settled words → IsChange words now out put
@@ -61,7 +61,7 @@ IsWholeAfter old new label_at label block_at block made =
     → (Shows left now (slots_before words now) ⊎ Shows left (next_block now out put) (slots_after words now out put))
     × (made ≡ true → Shows left (next_block now out put) (slots_after words now out put))
 
--- where the change was made to its end, no word is pending, and the words are those after it, so that the next change may follow
+-- if the change was completed, no word is pending, and the words are those after it, so another change may follow
 abbrev pub SettlesAfter : Words → Words → ℕ → List ℕ → ℕ → List ℕ → Bool → Type 0
 SettlesAfter old new label_at label block_at block made =
     (words : List ℕ) (now : IndexBlock) (out : Option ℕ) (put : Option Label) → old ≡ settled words → IsChange words now out put

@@ -10,10 +10,10 @@ use label_codec::{Label, LabelFault, read_label};
 use label_index::{IndexBlock, IndexFault, Side, current, read_index};
 use std::alloc::Global;
 
-/// The bytes of a label slot.
+/// The size of a label slot, in bytes.
 const SLOT_SIZE: usize = 256;
 
-/// The version for which a side was refused.
+/// Returns the fault of a side that was refused for its version.
 fn refused_version(read: &Result<IndexBlock, IndexFault>) -> Option<AreaFault>
     ensures { result ≡ refused_version read.now }
 {
@@ -26,7 +26,7 @@ fn refused_version(read: &Result<IndexBlock, IndexFault>) -> Option<AreaFault>
     }
 }
 
-/// Why an area is refused of which neither side is valid.
+/// Returns why an area without a valid side is refused.
 fn no_side(a: &Result<IndexBlock, IndexFault>, b: &Result<IndexBlock, IndexFault>) -> AreaFault
     ensures { result ≡ no_side a.now b.now }
 {
@@ -35,7 +35,7 @@ fn no_side(a: &Result<IndexBlock, IndexFault>, b: &Result<IndexBlock, IndexFault
         .unwrap_or(AreaFault::NoIndex)
 }
 
-/// The block of the side that counts.
+/// Returns the block of the current side.
 fn block_of(
     side: Option<Side>,
     a: Result<IndexBlock, IndexFault>,
@@ -50,11 +50,11 @@ fn block_of(
     }
 }
 
-/// The current index block of a label area.
+/// Returns the current index block of a label area.
 ///
-/// The area has a label area's size. `Unsupported` comes exactly where no side is valid and one was
-/// refused for its version, `NoIndex` exactly where no side is valid otherwise. Of a block that is
-/// given, all slots lie inside the area.
+/// The area's size must be one that a label area may have. The call returns `Unsupported` exactly
+/// if no side is valid and one was refused for its version, `NoIndex` exactly if no side is valid
+/// and none was. All slots of a returned block lie inside the area.
 pub fn current_block(alloc: Global, area: &[u8]) -> Result<IndexBlock, AreaFault>
     requires { IsAreaSize (length area.now) }
     ensures block { Answers AreaFault.OutOfMemory result (block_in area.now) }
@@ -71,9 +71,9 @@ pub fn current_block(alloc: Global, area: &[u8]) -> Result<IndexBlock, AreaFault
     block_of(current(&a, &b), a, b)
 }
 
-/// Reads the label in a used slot of an area whose index blocks have so many bytes each.
+/// Reads the label in a used slot of an area with index blocks of `block_size` bytes.
 ///
-/// The slot lies inside the area. It takes no memory.
+/// The slot must lie inside the area. The call takes no memory.
 pub fn read_slot(area: &[u8], block_size: u64, slot: u32) -> Result<Label, LabelFault>
     requires { 2 * block_size + 256 * slot + 256 ≤ length area.now }
     ensures { result ≡ label_reading (slot_bytes area.now block_size slot) slot }

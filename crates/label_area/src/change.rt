@@ -13,16 +13,16 @@ use cut_words::{
 use label_codec::Label;
 use label_index::{IndexBlock, Side};
 
-/// The word of an index block that has Seq, in its high half: the word at offset 16.
+/// The word of an index block with Seq in its high half: the word at offset 16.
 const SEQ_WORD: usize = 2;
 
-/// The first word behind it.
+/// The word after it.
 const AFTER_SEQ: usize = 3;
 
-/// The values of the low half of a word. A block whose word with Seq has only those is closed.
+/// 2^32: a word modulo this has Seq 0, so its block is closed.
 const CLOSED: u64 = 1 << 32;
 
-/// Stores the words of a block but the one with Seq, into the words from a place on.
+/// Stores the words of a block, except the one with Seq, from `base` on.
 fn store_others<W: WordSpace>(
     words: &mut W,
     fuse: &mut Fuse,
@@ -41,7 +41,7 @@ fn store_others<W: WordSpace>(
     store_from(words, fuse, base + 3, &block[AFTER_SEQ..])
 }
 
-/// Keeps them: of a block of so many words all but the one with Seq.
+/// Flushes these words of a block of `count` words.
 fn keep_others<W: WordSpace>(
     words: &mut W,
     fuse: &mut Fuse,
@@ -59,7 +59,7 @@ fn keep_others<W: WordSpace>(
     keep_from(words, fuse, base + 3, count - 3)
 }
 
-/// Writes the words of a block but the one with Seq.
+/// Writes the words of a block, except the one with Seq.
 fn write_others<W: WordSpace>(
     words: &mut W,
     fuse: &mut Fuse,
@@ -78,10 +78,11 @@ fn write_others<W: WordSpace>(
     keep_others(words, fuse, base, block.len() as u64)
 }
 
-/// Writes the words of an index block: the one with Seq closed, the others, and then that one with Seq.
+/// Writes the words of an index block: the word with Seq closed, the other words, and then the word
+/// with Seq.
 ///
-/// None of the words is pending. `PowerCut` comes exactly where the fuse has fewer steps left than two
-/// for each word and two more, and then as many were made as there were.
+/// None of the words may be pending. It returns `PowerCut` exactly if fewer steps are left than two
+/// for each word and two more. Then it has made as many as there were.
 pub fn write_block<W: WordSpace>(
     words: &mut W,
     fuse: &mut Fuse,
@@ -101,7 +102,7 @@ pub fn write_block<W: WordSpace>(
     write_word(words, fuse, base + 2, block[SEQ_WORD])
 }
 
-/// The label's words, and then those of the block.
+/// Writes the label's words, then those of the block.
 fn write_steps<W: WordSpace>(
     words: &mut W,
     fuse: &mut Fuse,
@@ -124,15 +125,15 @@ fn write_steps<W: WordSpace>(
     write_block(words, fuse, block_at, block)
 }
 
-/// Makes one change of a label area: writes a label's words, none where no label is put, and then the
-/// words of the other side's block.
+/// Makes one change of a label area: writes a label's words, if there are any, and then the words
+/// of the other side's block.
 ///
-/// The words are those of the spellings, at their places; none of them is pending. `PowerCut` comes
-/// exactly where the fuse has fewer steps left than the change needs. Whatever came, a cut leaves words
-/// that show the area before the change or after it, and after `Ok` only the one after it, where the
-/// block is the next one of the current block with a slot freed and the label's slot, which was free,
-/// taken (`IsWholeAfter`). After `Ok` no word is pending, so that the next change may follow
-/// (`SettlesAfter`).
+/// The words must be those of the canonical encodings, at their places, and none of them may be
+/// pending. It returns `PowerCut` exactly if fewer steps are left than the change needs. In any
+/// case, the words after a crash show the area before the change or after it; after `Ok` they show
+/// only the area after it (`IsWholeAfter`). There the block is the current block's successor, with
+/// one slot freed, and the label's slot, which was free, taken. After `Ok` no word is pending, so
+/// another change may follow (`SettlesAfter`).
 pub fn write_change<W: WordSpace>(
     words: &mut W,
     fuse: &mut Fuse,
@@ -156,7 +157,7 @@ pub fn write_change<W: WordSpace>(
     write_steps(words, fuse, label_at, label, block_at, block)
 }
 
-/// The first word of a block.
+/// Returns the first word of a block.
 fn block_at(block: &IndexBlock) -> u64
     ensures { result ≡ place_of block.now.size block.now.side / 8 }
 {
@@ -166,11 +167,11 @@ fn block_at(block: &IndexBlock) -> u64
     }
 }
 
-/// Writes a block, and before it a label into its slot, if one is put.
+/// Writes a block, and before it a label into its slot, if there is one.
 ///
-/// No word is pending, the block is one of the area, and the label's slot lies inside the area.
-/// `PowerCut` comes exactly where the fuse has fewer steps left than two for each word of the block and
-/// two more, and 64 for a label; then as many were made as there were.
+/// No word may be pending, the block must be one of the area, and the label's slot must lie inside
+/// the area. It returns `PowerCut` exactly if fewer steps are left than two for each word of the
+/// block, two more, and 64 for a label. Then it has made as many as there were.
 pub(crate) fn write_spelled(
     words: &mut CutWords,
     fuse: &mut Fuse,

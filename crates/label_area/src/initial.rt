@@ -18,20 +18,20 @@ use cut_words::{CutWords, Fuse, PowerCut, WordSpace};
 use label_index::{FreeList, IndexBlock, Side, area_index_size, slots_for};
 use std::alloc::{AllocError, Global};
 
-/// The sequence number of the block that is written first, that of side One.
+/// The sequence number of the first block written, that of side One.
 const FIRST_SEQ: u32 = 2;
 
-/// The sequence number of the other one.
+/// The sequence number of the second block written, that of side Zero.
 const SECOND_SEQ: u32 = 3;
 
-/// A list of slots that are all free.
+/// Makes a list of slots that are all free.
 fn all_free(alloc: Global, slots: usize) -> Result<FreeList, AllocError>
     ensures { IfOk result (λ free. free ≡ replicate slots true) }
 {
     Ok(FreeList::from_vec(vec![in alloc; true; slots]?))
 }
 
-/// What an area of so many words shows where all of its slots are free.
+/// Returns the contents of an area of `count` words whose slots are all free.
 fn blank(alloc: Global, count: u64) -> Result<Shown, AllocError>
     requires { IsAreaSize (8 * count) }
     ensures { IfOk result (λ shown. shown ≡ blank_of count) }
@@ -52,7 +52,8 @@ fn blank(alloc: Global, count: u64) -> Result<Shown, AllocError>
     })
 }
 
-/// The first block of an area that has none, and its labels, or why it isn't initialised.
+/// Returns the contents of the words after initialisation, under the first block, or why they can't
+/// be initialised.
 pub(crate) fn blank_of_words(alloc: Global, words: &CutWords) -> Result<Shown, AreaFault>
     requires settled { words.now ≡ settled words.now.kept }
     requires size { IsAreaSize (8 * length words.now.kept) }
@@ -68,7 +69,7 @@ pub(crate) fn blank_of_words(alloc: Global, words: &CutWords) -> Result<Shown, A
     }
 }
 
-/// Writes both blocks, first that of side One, and leaves the other one. It is the current one then.
+/// Writes both blocks, side One first. `block` becomes the second one, which is then current.
 pub(crate) fn write_both(
     words: &mut CutWords,
     fuse: &mut Fuse,

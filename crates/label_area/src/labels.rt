@@ -1,4 +1,4 @@
-//! A label area that is held open, and its labels.
+//! An open label area and its labels.
 ghost use Rattle.std.specs.Prelude.{◌≡◌, ◌*◌, ◌≤◌, ℕ, Bool, true, false, not, Some, Err, length, option_copied, count_by, slice_index_or};
 ghost use Rattle.nvd_words.specs.Checks.{Answers};
 ghost use Rattle.label_index.specs.Area.{IsAreaSize};
@@ -26,8 +26,8 @@ use std::marker::Model;
 
 /// One module's label area: its words, its current index block, and its labels by slot.
 ///
-/// It is made by [`open_area`] from words that none is pending of. Where power is cut in a change the area
-/// is **stopped**: what its words then show only a cut decides, and no call is left but
+/// [`open_area`] makes it from words none of which is pending. If power is cut during a change, the
+/// area is **stopped**: only a crash decides what its words show, and the only calls left are
 /// [`LabelArea::is_stopped`] and [`LabelArea::into_words`].
 #[derive(Debug, Drop)]
 pub struct LabelArea {
@@ -51,12 +51,12 @@ impl Model for LabelArea {
 
 /// Opens a module's label area (UEFI 2.10, section 13.19).
 ///
-/// None of the words is pending, and the area has a label area's size: a multiple of 256 from 1,024 to
-/// 1,048,576 bytes. The words are the area's bytes, eight a word, the low byte first. Refusals, which
-/// give the words back as they are:
+/// None of the words may be pending, and the area's size must be a multiple of 256 from 1,024 to
+/// 1,048,576 bytes. The words are the area's bytes, eight a word, the low byte first. A refusal
+/// returns the words unchanged:
 ///
-/// 1. `Unsupported`: no index block is valid, and one was refused for its version; it is that of the
-///    first such side.
+/// 1. `Unsupported`: no index block is valid, and one was refused for its version; it is that of
+///    the first such side.
 /// 2. `NoIndex`: no index block is valid, and none was refused for its version.
 /// 3. `OutOfMemory`: no memory for the area's bytes, its list of free slots or its labels.
 pub fn open_area(alloc: Global, words: CutWords) -> Result<LabelArea, AreaRefused>
@@ -75,21 +75,21 @@ pub fn open_area(alloc: Global, words: CutWords) -> Result<LabelArea, AreaRefuse
     }
 }
 
-/// Initialises a module's label area that has no index block: writes the block of side One under the
-/// sequence number 2, and then that of side Zero under 3, with all slots free (UEFI 2.10, section 13.19;
-/// the order is this project's rule). It has as many slots as fit.
+/// Initialises a module's label area that has no index block: writes the block of side One with
+/// sequence number 2, and then that of side Zero with 3, with all slots free (UEFI 2.10, section
+/// 13.19; the order is this project's rule). The area gets as many slots as fit.
 ///
-/// None of the words is pending, and the area has a label area's size, as for [`open_area`]. Each block
-/// takes two steps for each of its words and two more, so both take 132 where a block has 256 bytes.
-/// Refusals, of which all but the last give the words and the fuse back as they are:
+/// None of the words may be pending, and the area's size must be as for [`open_area`]. Each block
+/// takes two steps for each of its words and two more, so both together take 132 if a block has 256
+/// bytes. All refusals but the last leave the words and the fuse unchanged:
 ///
 /// 1. `Unsupported`: no index block is valid, and one was refused for its version.
 /// 2. `AlreadyInitialised`: an index block is valid; the number is that of the current one.
 /// 3. `OutOfMemory`: no memory for the area's bytes, its list of free slots or its labels.
-/// 4. `PowerCut`: the fuse has fewer steps left than the two blocks need. As many were made as there
-///    were. What a cut then leaves is refused by [`open_area`] as `NoIndex` until the first block stands,
-///    and is an empty area from then on; where one step of a block alone is missing the chooser says which
-///    (`IsInitCut`).
+/// 4. `PowerCut`: fewer steps were left than the two blocks need, and all of them were made. After
+///    a crash [`open_area`] refuses the area as `NoIndex` until the first block is complete; from
+///    then on it opens as an empty area. If only one step of a block is missing, the chooser
+///    decides (`IsInitCut`).
 pub fn init_area(alloc: Global, words: CutWords, fuse: &mut Fuse) -> Result<LabelArea, AreaRefused>
     requires settled { words ≡ settled words.kept }
     requires size { IsAreaSize (8 * length words.kept) }
@@ -103,7 +103,8 @@ pub fn init_area(alloc: Global, words: CutWords, fuse: &mut Fuse) -> Result<Labe
     }
 }
 
-/// Writes both blocks of an area that has none, of which the first and the list of labels are there.
+/// Writes both blocks of an area that has none. The first block and the list of labels are in
+/// memory.
 fn initialise(mut words: CutWords, shown: Shown, fuse: &mut Fuse) -> Result<LabelArea, AreaRefused>
     requires settled { words ≡ settled words.kept }
     requires size { IsAreaSize (8 * length words.kept) }
@@ -129,8 +130,9 @@ fn initialise(mut words: CutWords, shown: Shown, fuse: &mut Fuse) -> Result<Labe
 }
 
 impl LabelArea {
-    /// The label of each slot, by the slot's number: `None` is a free slot, or a used one without a valid
-    /// label. There are as many as the current block has slots, at most 4,096. The area isn't stopped.
+    /// Returns the label of each slot: `None` for a free slot, or a used one without a valid label.
+    /// There are as many as the current block has slots, at most 4,096. The area must not be
+    /// stopped.
     pub fn labels(&self) -> &[Option<Label>]
         requires { self.now.stopped ≡ false }
         ensures listed { result.now ≡ self.now.labels }
@@ -140,7 +142,7 @@ impl LabelArea {
         self.labels.as_slice()
     }
 
-    /// How many slots are free. The area isn't stopped.
+    /// Returns how many slots are free. The area must not be stopped.
     pub fn free_slots(&self) -> u32
         requires { self.now.stopped ≡ false }
         ensures { result ≡ count_by (λ free. free) self.now.block.free }
@@ -148,7 +150,8 @@ impl LabelArea {
         self.block.free.count() as u32
     }
 
-    /// The sequence number of the current index block, 1 to 3. The area isn't stopped.
+    /// Returns the sequence number of the current index block, 1 to 3. The area must not be
+    /// stopped.
     pub fn seq(&self) -> u32
         requires { self.now.stopped ≡ false }
         ensures { result ≡ self.now.block.seq }
@@ -156,7 +159,7 @@ impl LabelArea {
         self.block.seq
     }
 
-    /// The side of the current index block. The area isn't stopped.
+    /// Returns the side of the current index block. The area must not be stopped.
     pub fn side(&self) -> Side
         requires { self.now.stopped ≡ false }
         ensures { result ≡ self.now.block.side }
@@ -164,7 +167,8 @@ impl LabelArea {
         self.block.side
     }
 
-    /// Whether a slot is used; a slot that the area doesn't have is not. The area isn't stopped.
+    /// Returns whether a slot is used, false for a slot that the area doesn't have. The area must
+    /// not be stopped.
     pub fn is_used(&self, slot: u32) -> bool
         requires { self.now.stopped ≡ false }
         ensures { result ≡ not (slice_index_or self.now.block.free slot true) }
@@ -172,20 +176,21 @@ impl LabelArea {
         self.block.free.as_slice().get(slot as usize) == Some(&false)
     }
 
-    /// Changes the labels of at most two slots in one change (UEFI 2.10, section 13.19; the order of its
-    /// steps is this project's rule): frees slot `out`, and puts a label, under the number of its new slot,
-    /// into the least free slot. The answer is that slot, and `None` where no label is put.
+    /// Changes the labels of at most two slots in one change (UEFI 2.10, section 13.19; the order
+    /// of its steps is this project's rule). It frees slot `out`, and puts a label into the least
+    /// free slot, with that slot's number. It returns the label's slot, or `None` if no label is
+    /// put.
     ///
-    /// Slot `out` is used, the label's name has no zero byte, its sizes aren't odd, and the area isn't
-    /// stopped. With neither of the two the current block is written again under the next sequence number.
-    /// A label that is put takes 64 steps, and the block two for each of its words and two more, so 66 where
-    /// an index block has 256 bytes. Refusals:
+    /// Slot `out` must be used, the label's name must have no zero byte, its sizes must not be odd,
+    /// and the area must not be stopped. With neither of the two, the current block is written
+    /// again with the next sequence number. A label takes 64 steps, and the block two for each of
+    /// its words and two more: 66 if an index block has 256 bytes. Refusals:
     ///
-    /// 1. `NoSlot`: a label is put, and no slot is free. Nothing has changed.
-    /// 2. `PowerCut`: the fuse has fewer steps left than the change needs. As many were made as there were,
-    ///    and the area is stopped. What a cut then leaves shows the current block and the labels from before
-    ///    the change; where one step alone is missing it may show those after it, as the chooser says
-    ///    (`IsCut`).
+    /// 1. `NoSlot`: there is a label to put, and no slot is free. Nothing has changed.
+    /// 2. `PowerCut`: fewer steps were left than the change needs. All of them were made, and the
+    ///    area is stopped. After a crash the words show the block and the labels from before the
+    ///    change. If only one step was missing, they may show those after it, as the chooser
+    ///    decides (`IsCut`).
     pub fn replace(
         &mut self,
         fuse: &mut Fuse,
@@ -203,7 +208,7 @@ impl LabelArea {
         self.change(fuse, out, &put)
     }
 
-    /// The change, with the label that is put under the number of its slot, which is free.
+    /// Makes the change; the label to put has the number of its slot, which is free.
     fn change(
         &mut self,
         fuse: &mut Fuse,
@@ -230,8 +235,8 @@ impl LabelArea {
         }
     }
 
-    /// Whether power was cut in a change. Where it wasn't, no word is pending, and the current block and
-    /// the labels are those that the words show (`IsReady`).
+    /// Returns whether power was cut during a change. If not, no word is pending, and the words
+    /// show the current block and the labels (`IsReady`).
     pub fn is_stopped(&self) -> bool
         ensures flag { result ≡ self.now.stopped }
         ensures ready { result ≡ false → IsReady self.now }
@@ -239,7 +244,7 @@ impl LabelArea {
         self.stopped
     }
 
-    /// The area's words: none is pending unless the area is stopped.
+    /// Returns the area's words. None is pending, unless the area is stopped.
     pub fn into_words(self) -> CutWords
         ensures { result ≡ self.words }
     {

@@ -4,7 +4,7 @@ use label_codec::Label;
 use std::alloc::{AllocError, Global};
 use std::marker::Model;
 
-/// The labels of an area, an entry for each slot. Contracts see it as the list of these.
+/// The labels of an area, an entry for each slot. Contracts see it as a list of them.
 #[derive(Debug, Drop)]
 pub(crate) struct LabelList {
     slots: Vec<Option<Label>>,
@@ -20,14 +20,14 @@ impl Model for LabelList {
 }
 
 impl LabelList {
-    /// The list of a vector's entries.
+    /// Makes the list from a vector.
     pub(crate) fn from_vec(slots: Vec<Option<Label>>) -> LabelList
         ensures { result ≡ slots.items }
     {
         LabelList { slots }
     }
 
-    /// So many slots without a label.
+    /// Makes a list of `count` slots without labels.
     pub(crate) fn none(alloc: Global, count: usize) -> Result<LabelList, AllocError>
         ensures { IfOk result (λ list. list ≡ replicate count None) }
     {
@@ -35,7 +35,7 @@ impl LabelList {
         Ok(LabelList { slots })
     }
 
-    /// Says which label a slot has, which is there.
+    /// Sets the label of a slot, which must exist.
     pub(crate) fn set(&mut self, slot: u32, label: Option<Label>)
         requires { slot < length self.old }
         ensures { self.new ≡ slice_set self.old slot label }

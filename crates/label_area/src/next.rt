@@ -1,4 +1,4 @@
-//! What a change makes of an index block and of the list of labels, in memory.
+//! The effect of a change on an index block and on the list of labels, in memory.
 ghost use Rattle.std.specs.Prelude.{◌≡◌, ◌<◌, ◌≤◌, length, IfSome};
 ghost use Rattle.std.specs.Option.{option_copied};
 ghost use Rattle.label_area.specs.Change.{next_block, slot_of_put};
@@ -10,7 +10,7 @@ use label_codec::Label;
 use label_index::{FreeList, IndexBlock, Side};
 use nvd_words::seq_next;
 
-/// The place of the first slot that is free.
+/// Returns the place of the first free slot.
 fn first_free(slots: &[bool]) -> Option<usize>
     ensures value { result ≡ least_free slots.now }
     ensures bound { IfSome result (λ slot. slot < length slots.now) }
@@ -18,7 +18,7 @@ fn first_free(slots: &[bool]) -> Option<usize>
     slots.iter().position(|free| *free)
 }
 
-/// The least slot that is free.
+/// Returns the least free slot.
 fn least_free(free: &FreeList) -> Option<u32>
     requires { length free.now ≤ 4096 }
     ensures { result ≡ least_free free.now }
@@ -26,7 +26,7 @@ fn least_free(free: &FreeList) -> Option<u32>
     first_free(free.as_slice()).map(|slot| slot as u32)
 }
 
-/// The label that is put, if one is, under the number of the least free slot.
+/// Returns the label to put, if there is one, with the number of the least free slot.
 pub(crate) fn placed(free: &FreeList, put: Option<&Label>) -> Result<Option<Label>, ChangeRefused>
     requires { length free.now ≤ 4096 }
     ensures { result ≡ placed free.now (option_copied put.entry) }
@@ -40,7 +40,7 @@ pub(crate) fn placed(free: &FreeList, put: Option<&Label>) -> Result<Option<Labe
     }
 }
 
-/// The slot of the label that is put, if one is.
+/// Returns the slot of the label to put, if there is one.
 pub(crate) fn slot_of(put: &Option<Label>) -> Option<u32>
     ensures { result ≡ slot_of_put put.now }
 {
@@ -50,8 +50,8 @@ pub(crate) fn slot_of(put: &Option<Label>) -> Option<u32>
     }
 }
 
-/// Makes a block the one that a change writes: that of the other side, with the next Seq and with two
-/// slots changed.
+/// Turns a block into the one that a change writes: that of the other side, with the next Seq and
+/// with two slots changed.
 pub(crate) fn turn(block: &mut IndexBlock, out: Option<u32>, put: &Option<Label>)
     requires low { 1 ≤ block.old.seq }
     requires high { block.old.seq ≤ 3 }

@@ -1,4 +1,4 @@
-//! What the words of a label area show, read into memory.
+//! Reading the words of a label area into memory.
 ghost use Rattle.std.specs.Prelude.{◌≡◌, ◌+◌, ◌*◌, ◌≤◌, length, IfOk, Ok};
 ghost use Rattle.nvd_words.specs.Checks.{Answers};
 ghost use Rattle.label_index.specs.Area.{IsAreaSize};
@@ -15,7 +15,7 @@ use label_codec::Label;
 use label_index::IndexBlock;
 use std::alloc::{AllocError, Global};
 
-/// The bytes of words, of which none is pending.
+/// Returns the bytes of words, none of which is pending.
 fn bytes_of_words(alloc: Global, words: &CutWords) -> Result<Vec<u8>, AllocError>
     requires { words.now ≡ settled words.now.kept }
     ensures { IfOk result (λ bytes. bytes.items ≡ bytes_of words.now.kept) }
@@ -27,7 +27,8 @@ fn bytes_of_words(alloc: Global, words: &CutWords) -> Result<Vec<u8>, AllocError
     Ok(bytes)
 }
 
-/// The label of a slot of an area whose index blocks have so many bytes, if it is used and has a valid one.
+/// Returns the label in a slot of an area with index blocks of `size` bytes, if the slot is used
+/// and its label is valid.
 fn label_of_slot(area: &[u8], size: u64, slot: u32, free: bool) -> Option<Label>
     requires { 2 * size + 256 * slot + 256 ≤ length area.now }
     ensures { result ≡ label_in (slot_at area.now size (slot, free)) }
@@ -39,14 +40,14 @@ fn label_of_slot(area: &[u8], size: u64, slot: u32, free: bool) -> Option<Label>
     }
 }
 
-/// What an area shows: its current index block, and its labels.
+/// The contents of an area: its current index block, and its labels.
 #[derive(Debug, Drop)]
 pub(crate) struct Shown {
     pub(crate) block: IndexBlock,
     pub(crate) labels: LabelList,
 }
 
-/// The labels of an area by its current block, one entry for each slot.
+/// Returns the labels of an area by its current block, one entry for each slot.
 fn labels_of(alloc: Global, area: &[u8], block: &IndexBlock) -> Result<LabelList, AllocError>
     requires fits { 2 * block.now.size + 256 * length block.now.free ≤ length area.now }
     requires small { length area.now ≤ 1048576 }
@@ -59,7 +60,7 @@ fn labels_of(alloc: Global, area: &[u8], block: &IndexBlock) -> Result<LabelList
     Ok(LabelList::from_vec(labels))
 }
 
-/// What an area's bytes show, or why there is no current block.
+/// Returns the contents of an area's bytes, or why there is no current block.
 fn shown_in(alloc: Global, area: &[u8]) -> Result<Shown, AreaFault>
     requires { IsAreaSize (length area.now) }
     ensures { Answers AreaFault.OutOfMemory result (shown_by area.now (block_in area.now)) }
@@ -71,7 +72,7 @@ fn shown_in(alloc: Global, area: &[u8]) -> Result<Shown, AreaFault>
     }
 }
 
-/// What words show, none of which is pending, or why there is no current block.
+/// Returns the contents of words none of which is pending, or why there is no current block.
 pub(crate) fn shown_by_words(alloc: Global, words: &CutWords) -> Result<Shown, AreaFault>
     requires settled { words.now ≡ settled words.now.kept }
     requires size { IsAreaSize (8 * length words.now.kept) }
@@ -83,7 +84,7 @@ pub(crate) fn shown_by_words(alloc: Global, words: &CutWords) -> Result<Shown, A
     }
 }
 
-/// The current block of words, none of which is pending, or why there is none.
+/// Returns the current block of words none of which is pending, or why there is none.
 pub(crate) fn block_of_words(alloc: Global, words: &CutWords) -> Result<IndexBlock, AreaFault>
     requires settled { words.now ≡ settled words.now.kept }
     requires size { IsAreaSize (8 * length words.now.kept) }

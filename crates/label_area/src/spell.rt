@@ -1,4 +1,4 @@
-//! The one spellings of index blocks and labels, as words.
+//! The canonical encodings of index blocks and labels, as words.
 ghost use Rattle.std.specs.Prelude.{◌≡◌, ◌*◌, ◌/◌, ◌%◌, ◌≤◌, length, take};
 ghost use Rattle.cut_words.specs.WordBytes.{words_in};
 ghost use Rattle.label_codec.specs.Writable.{IsSound, IsWritable as IsWritableLabel};
@@ -16,14 +16,14 @@ const LABEL_WORDS: usize = 32;
 /// The bytes of a label.
 const LABEL_BYTES: usize = 256;
 
-/// The most words that an index block has: that of an area of 1,048,576 bytes, with a bit for each of at
+/// The most words of an index block: that of an area of 1,048,576 bytes, with a bit for each of at
 /// most 4,096 slots.
 const BLOCK_WORDS: usize = 96;
 
-/// The most bytes that an index block has.
+/// The most bytes of an index block.
 const BLOCK_BYTES: usize = 768;
 
-/// Puts the words of bytes in place of others, eight bytes a word, the low byte first.
+/// Fills words from bytes, eight bytes a word, the low byte first.
 fn fill_words(into: &mut [u64], bytes: &[u8])
     requires { length bytes.now ≡ 8 * length into.old }
     ensures { into.new ≡ words_in bytes.now }
@@ -33,7 +33,7 @@ fn fill_words(into: &mut [u64], bytes: &[u8])
     }
 }
 
-/// A block's spelling, and zeros behind it.
+/// Returns a block's encoding, padded with zeros.
 fn block_bytes(block: &IndexBlock) -> [u8; BLOCK_BYTES]
     requires writable { IsWritable block.now }
     requires small { block.now.size ≤ 768 }
@@ -44,7 +44,8 @@ fn block_bytes(block: &IndexBlock) -> [u8; BLOCK_BYTES]
     bytes
 }
 
-/// The words of a block's spelling, and zeros behind them. The block is one of a label area.
+/// Returns the words of a block's encoding, padded with zeros. The block must be one of a label
+/// area.
 pub(crate) fn block_words(block: &IndexBlock) -> [u64; BLOCK_WORDS]
     requires writable { IsWritable block.now }
     requires small { block.now.size ≤ 768 }
@@ -58,7 +59,8 @@ pub(crate) fn block_words(block: &IndexBlock) -> [u64; BLOCK_WORDS]
     words
 }
 
-/// The words of a label's spelling. The label's name has no zero byte, and its sizes aren't odd.
+/// Returns the words of a label's encoding. The name must have no zero byte, and the sizes must not
+/// be odd.
 pub(crate) fn label_words(label: &Label) -> [u64; LABEL_WORDS]
     requires { IsSound label.now }
     ensures spelled { result ≡ words_in (label_spelling label.now) }

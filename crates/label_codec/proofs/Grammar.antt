@@ -1,4 +1,4 @@
--- A slot is read as a label exactly where its bytes stand for it by the grammar.
+-- A slot is read as a label exactly if its bytes encode it by the grammar.
 use Rattle.std.proofs.Common.{◌≡◌, ℕ, ◌+◌, ◌%◌, ◌^◌, ◌≤◌, Bool, true, false, eqb, ltb, cond, not, List, [], ◌∷◌, Option, Some, None, Ok, refl, sym, ap, ◌∙◌, arith, inl, inr}
 use Rattle.std.specs.Prelude.{◌||◌}
 use Rattle.std.specs.Int.{w32, w64}
@@ -13,7 +13,7 @@ use Rattle.label_codec.specs.Sizes.{size_fault_of}
 use Rattle.label_codec.specs.Label.{label_of, label_reading, has_checksum}
 use Rattle.label_codec.specs.Grammar.{StandsFor, GrammarIsReading}
 
--- ---- where no fault is found
+-- ---- no fault was found
 
 no_first : {A F : Type 0} (value r : A) (o : Option F) (faults : List (Option F)) → value_unless value (first_fault (o ∷ faults)) ≡ Ok r
     → (o ≡ None) × (value_unless value (first_fault faults) ≡ Ok r)

@@ -1,4 +1,4 @@
--- The laws of the spelling of labels.
+-- The laws of the canonical encoding of labels.
 use Rattle.std.proofs.Common.{◌≡◌, ◌≢◌, ℕ, ◌-◌, ◌<◌, ◌≤◌, Bool, true, false, not, eqb, List, ◌++◌, length, take, drop, get_or, replicate, refl, sym, ap, ◌∙◌, subst, arith, append_assoc, Ok}
 use Rattle.std.specs.List.{prefix_len}
 use Rattle.std.proofs.lemmas.Bool.{eq-eqb}
@@ -28,7 +28,7 @@ no_double_reading l ok number other g = sym (label_is (spelling_of l) number oth
 pub no_shared_spelling : NoSharedSpelling
 no_shared_spelling a b wa wb e = sym (spelled.label_is a wa) ∙ ap label_of e ∙ spelled.label_is b wb
 
--- ---- the spelling is clean
+-- ---- the canonical encoding is clean
 
 field_at : (l : Label) → IsWritable l → bytes_at (spelling_of l) 16 64 ≡ padded 64 l.name
 field_at l ok =
@@ -46,7 +46,7 @@ spelling_is_clean l ok =
       after_cookie = ap (take 80) (spelled.drop_past l 88 ok);
     }
 
--- ---- what is read can be written
+-- ---- a label that was read can be written
 
 clash : (b : Bool) → not b ≡ true → b ≡ true → ⊥
 clash true e f = cc

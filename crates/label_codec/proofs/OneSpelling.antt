@@ -1,4 +1,4 @@
--- The spelling of a label is the one list of 256 bytes that stands for it and is clean.
+-- Only the canonical encoding encodes a label and is clean.
 use Rattle.std.proofs.Common.{◌≡◌, ℕ, ◌+◌, ◌≤◌, List, [], ◌∷◌, ◌++◌, length, take, drop, replicate, refl, sym, ap, ◌∙◌, arith, append_assoc}
 use Rattle.std.specs.Int.{w16, w32, w64, to_le_bytes}
 use Rattle.std.proofs.lemmas.List.{take_at, take_min, drop_all, length-append, length-take, length-drop, take-append-drop, append-nil}

@@ -14,7 +14,7 @@ use Rattle.label_codec.specs.Name.{text_in}
 use Rattle.label_codec.specs.Sizes.{size_fault_of}
 use Rattle.label_codec.specs.Writable.{IsWritable}
 
--- the GUIDs as they stand on a medium
+-- the GUIDs on a medium
 pub memory_bytes : swap_fields persistent_memory ≡ 0x79 ∷ 0xd3 ∷ 0xf0 ∷ 0x66 ∷ 0xf3 ∷ 0xb4 ∷ 0x74 ∷ 0x40 ∷ 0xac ∷ 0x43 ∷ 0x0d ∷ 0x33 ∷ 0x18 ∷ 0xb7 ∷ 0x8c ∷ 0xdb ∷ []
 memory_bytes = refl
 
@@ -75,7 +75,7 @@ pub past_the_end : size_fault_of (2 ^ 63) 4096 ≡ Some RawSize
 unfolding size_fault_of
 past_the_end = refl
 
--- the conditions of the laws are met: a label of four mebibytes from address 0 on, in slot 0
+-- the premises of the laws hold: a label of four mebibytes from address 0 on, in slot 0
 abbrev plain : Label
 plain = record {
   uuid = replicate 16 17;

@@ -1,4 +1,4 @@
--- The spelling of a label that can be written is read as that label.
+-- The canonical encoding of a label that can be written is read as that label.
 use Rattle.std.proofs.Common.{◌≡◌, ◌≢◌, ℕ, zero, suc, ◌+◌, ◌-◌, ◌<◌, ◌≤◌, true, false, not, eqb, List, [], ◌∷◌, ◌++◌, length, take, drop, get_or, replicate, Ok, refl, sym, ap, ◌∙◌, subst, arith, append_assoc}
 use Rattle.std.specs.List.{prefix_len}
 use Rattle.std.specs.Int.{Width, byte_len, w16, w32, w64, to_le_bytes, from_le_bytes}
@@ -177,7 +177,7 @@ summed : (l : Label) → IsWritable l → has_checksum (spelling_of l) ≡ true
 unfolding has_checksum
 summed l ok = eq-eqb (number_at w64 (spelling_of l) 248) (fletcher64_of (without_eight (spelling_of l) 248)) (check_at l ok ∙ sym (ap fletcher64_of (without_is l ok)))
 
--- the spelling is read as the label
+-- the canonical encoding is read as the label
 pub spelled : (l : Label) → IsWritable l → label_reading (spelling_of l) l.slot ≡ Ok l
 unfolding first_fault
 spelled l ok =

@@ -2,11 +2,11 @@
 use Rattle.std.specs.Prelude.{ℕ, Bool, ◌+◌, ◌-◌, ◌*◌, ◌/◌, ◌%◌, ◌==◌}
 use Rattle.label_codec.specs.declared.label.Label.{Label}
 
--- the namespace may only be read
+-- the namespace is read-only
 abbrev pub has_rolabel : ℕ → Bool
 has_rolabel flags = flags % 2 == 1
 
--- the namespace is one module's own
+-- the namespace lies on one module alone
 abbrev pub has_local : ℕ → Bool
 has_local flags = flags / 2 % 2 == 1
 
@@ -22,10 +22,10 @@ without_updating flags = flags - flags / 8 % 2 * 8
 abbrev pub with_updating : ℕ → ℕ
 with_updating flags = without_updating flags + 8
 
--- a label with UPDATING set, and all else kept
+-- a label with UPDATING set, all else the same
 abbrev pub updating : Label → Label
 updating l = record l { flags = with_updating l.flags }
 
--- a label with UPDATING cleared, and all else kept
+-- a label with UPDATING cleared, all else the same
 abbrev pub settled : Label → Label
 settled l = record l { flags = without_updating l.flags }

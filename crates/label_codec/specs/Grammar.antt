@@ -7,18 +7,18 @@ use Rattle.nvd_words.specs.Fletcher.{fletcher64_of, without_eight}
 use Rattle.label_codec.specs.declared.label.Label.{Label}
 use Rattle.label_codec.specs.Label.{bytes_at, name_in, label_reading}
 
--- the 256 bytes of a slot stand for a label
+-- the 256 bytes of a slot encode a label
 pub record StandsFor (bytes : List ℕ) (number : ℕ) (l : Label) : Type 0 where
   -- Checksum, over the bytes with that field as zero
   pub sum : number_at w64 bytes 248 ≡ fletcher64_of (without_eight bytes 248)
   -- Slot: the label is in the slot that it names
   pub numbered : number_at w32 bytes 120 ≡ number
-  -- Dpa and RawSize: multiples of 4,096, of at least a byte, up to 2^63
+  -- Dpa and RawSize: multiples of 4,096, RawSize not 0, their sum at most 2^63
   pub dpa_whole : l.dpa % 4096 ≡ 0
   pub raw_whole : l.raw % 4096 ≡ 0
   pub raw_some : 1 ≤ l.raw
   pub raw_ends : l.dpa + l.raw ≤ 2 ^ 63
-  -- the label has the fields; the two GUIDs have their first three fields turned round
+  -- the label has the fields; the two GUIDs have their first three fields byte-swapped
   pub uuid : l.uuid ≡ bytes_at bytes 0 16
   pub name : l.name ≡ name_in bytes
   pub flags : l.flags ≡ number_at w32 bytes 80
@@ -34,6 +34,6 @@ pub record StandsFor (bytes : List ℕ) (number : ℕ) (l : Label) : Type 0 wher
   pub abstraction : l.abstraction ≡ swap_fields (bytes_at bytes 144 16)
   pub spa_cookie : l.spa_cookie ≡ number_at w64 bytes 160
 
--- a law: a slot is read as a label exactly where its bytes stand for it
+-- a law: a slot is read as a label exactly if its bytes encode it
 abbrev pub GrammarIsReading : Type 0
 GrammarIsReading = (bytes : List ℕ) (number : ℕ) (l : Label) → (label_reading bytes number ≡ Ok l) ↔ StandsFor bytes number l

@@ -1,4 +1,4 @@
--- Laws of the spelling of labels.
+-- Laws of the canonical encoding of labels.
 use Rattle.std.specs.Prelude.{◌≡◌, ℕ, ◌-◌, List, length, drop, replicate, Ok}
 use Rattle.nvd_words.specs.Bytes.{AreBytes}
 use Rattle.label_codec.specs.declared.label.Label.{Label}
@@ -6,15 +6,15 @@ use Rattle.label_codec.specs.Label.{bytes_at, name_in, label_reading, spelling_o
 use Rattle.label_codec.specs.Grammar.{StandsFor}
 use Rattle.label_codec.specs.Writable.{IsWritable}
 
--- a law: the spelling of a label stands for that label, in the slot that it names
+-- a law: the canonical encoding of a label encodes it, in the slot that it names
 abbrev pub SpellingStands : Type 0
 SpellingStands = (l : Label) → IsWritable l → StandsFor (spelling_of l) l.slot l
 
--- a law: the spelling of a label is read as that label
+-- a law: the canonical encoding of a label is read as that label
 abbrev pub SpellingReadsBack : Type 0
 SpellingReadsBack = (l : Label) → IsWritable l → label_reading (spelling_of l) l.slot ≡ Ok l
 
--- a slot's bytes that have zero where the grammar leaves them open
+-- a slot with zeros in the bytes that readers ignore
 pub record IsClean (bytes : List ℕ) : Type 0 where
   -- the bytes of Name after the name
   pub name : drop (length (name_in bytes)) (bytes_at bytes 16 64) ≡ replicate (64 - length (name_in bytes)) 0
@@ -22,22 +22,22 @@ pub record IsClean (bytes : List ℕ) : Type 0 where
   pub after_align : bytes_at bytes 125 3 ≡ replicate 3 0
   pub after_cookie : bytes_at bytes 168 80 ≡ replicate 80 0
 
--- a law: the spelling is the one list of 256 bytes that stands for a label and has zero there
+-- a law: only the canonical encoding encodes a label and has zeros there
 abbrev pub SpellingIsTheOne : Type 0
 SpellingIsTheOne = (bytes : List ℕ) (number : ℕ) (l : Label) → AreBytes bytes → length bytes ≡ 256 → StandsFor bytes number l → IsClean bytes → bytes ≡ spelling_of l
 
--- a law: the spelling has zero there
+-- a law: the canonical encoding has zeros there
 abbrev pub SpellingIsClean : Type 0
 SpellingIsClean = (l : Label) → IsWritable l → IsClean (spelling_of l)
 
--- a law: no two labels share a spelling
+-- a law: no two labels share a canonical encoding
 abbrev pub NoSharedSpelling : Type 0
 NoSharedSpelling = (a b : Label) → IsWritable a → IsWritable b → spelling_of a ≡ spelling_of b → a ≡ b
 
--- a law: no spelling stands for two labels, whatever the slot
+-- a law: a canonical encoding doesn't encode two labels, whatever the slot
 abbrev pub NoDoubleReading : Type 0
 NoDoubleReading = (l : Label) → IsWritable l → (number : ℕ) (other : Label) → StandsFor (spelling_of l) number other → other ≡ l
 
--- a law: what is read can be written again
+-- a law: a label that was read can be written
 abbrev pub ReadIsWritable : Type 0
 ReadIsWritable = (bytes : List ℕ) (number : ℕ) (l : Label) → AreBytes bytes → length bytes ≡ 256 → label_reading bytes number ≡ Ok l → IsWritable l

@@ -1,16 +1,16 @@
--- Which labels can be written; this project's rule.
+-- The labels that can be written; this project's rule.
 use Rattle.std.specs.Prelude.{◌≡◌, ◌^◌, ◌<◌, ◌≤◌, length, None}
 use Rattle.nvd_words.specs.Bytes.{AreBytes}
 use Rattle.label_codec.specs.declared.label.Label.{Label}
 use Rattle.label_codec.specs.Name.{HasNoZero}
 use Rattle.label_codec.specs.Sizes.{size_fault_of}
 
--- what no type says of a label that can be written: its name has no zero byte, and its sizes aren't odd
+-- what the types don't ensure of a label that can be written: its name has no zero byte, and its sizes aren't odd
 pub record IsSound (l : Label) : Type 0 where
   pub no_zero : HasNoZero l.name
   pub sizes : size_fault_of l.dpa l.raw ≡ None
 
--- what the types say of the fields that are numbers
+-- the bounds that the types ensure for the numbers
 pub record NumbersFit (l : Label) : Type 0 where
   pub flags : l.flags < 2 ^ 32
   pub count : l.count < 2 ^ 16
@@ -23,7 +23,7 @@ pub record NumbersFit (l : Label) : Type 0 where
   pub align : l.align < 256
   pub spa_cookie : l.spa_cookie < 2 ^ 64
 
--- what the types say of the fields that are bytes
+-- the bounds that the types ensure for the bytes
 pub record BytesFit (l : Label) : Type 0 where
   pub uuid_len : length l.uuid ≡ 16
   pub uuid : AreBytes l.uuid

@@ -5,23 +5,23 @@ ghost use Rattle.label_codec.specs.Flags.{has_rolabel, has_local, has_updating, 
 
 use crate::label::Label;
 
-/// ROLABEL, bit 0: the namespace may only be read.
+/// ROLABEL, bit 0: the namespace is read-only.
 pub const ROLABEL: u32 = 1;
 
-/// LOCAL, bit 1: the namespace is one module's own.
+/// LOCAL, bit 1: the namespace lies on one module alone.
 pub const LOCAL: u32 = 2;
 
 /// UPDATING, bit 3: a change of the namespace's labels isn't finished.
 pub const UPDATING: u32 = 8;
 
-/// Flags with UPDATING cleared, and all other bits kept.
+/// Clears UPDATING in the flags; all other bits are kept.
 fn without_updating(flags: u32) -> u32
     ensures { result ≡ without_updating flags }
 {
     flags - flags / UPDATING % 2 * UPDATING
 }
 
-/// Flags with UPDATING set, and all other bits kept.
+/// Sets UPDATING in the flags; all other bits are kept.
 fn with_updating(flags: u32) -> u32
     ensures { result ≡ with_updating flags }
 {
@@ -29,7 +29,7 @@ fn with_updating(flags: u32) -> u32
 }
 
 impl Label {
-    /// The label with UPDATING set; all else is kept.
+    /// Returns the label with UPDATING set; all else is the same.
     pub fn with_updating(&self) -> Label
         ensures { result ≡ updating self.now }
     {
@@ -39,7 +39,7 @@ impl Label {
         }
     }
 
-    /// The label with UPDATING cleared; all else is kept.
+    /// Returns the label with UPDATING cleared; all else is the same.
     pub fn without_updating(&self) -> Label
         ensures { result ≡ settled self.now }
     {
@@ -49,21 +49,21 @@ impl Label {
         }
     }
 
-    /// Whether the flag ROLABEL is set.
+    /// Returns whether ROLABEL is set.
     pub fn is_read_only(&self) -> bool
         ensures { result ≡ has_rolabel self.now.flags }
     {
         self.flags / ROLABEL % 2 == 1
     }
 
-    /// Whether the flag LOCAL is set.
+    /// Returns whether LOCAL is set.
     pub fn is_local(&self) -> bool
         ensures { result ≡ has_local self.now.flags }
     {
         self.flags / LOCAL % 2 == 1
     }
 
-    /// Whether the flag UPDATING is set.
+    /// Returns whether UPDATING is set.
     pub fn is_updating(&self) -> bool
         ensures { result ≡ has_updating self.now.flags }
     {

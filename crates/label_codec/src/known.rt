@@ -1,12 +1,12 @@
-//! What the types say of a label's fields, as clauses: each number fits its width, and identifiers and
-//! names are bytes. Nothing is done here: `prove!` costs nothing when it runs.
+//! States the bounds of a label's types as clauses: each number fits its width, and identifiers and
+//! names are bytes. It does nothing at run time.
 ghost use Rattle.std.specs.Prelude.{◌≡◌, ◌^◌, ◌<◌, length};
 ghost use Rattle.nvd_words.specs.Bytes.{AreBytes};
 ghost use Rattle.label_codec.specs.Writable.{IsSound, IsWritable};
 
 use crate::label::Label;
 
-/// A label whose name has no zero byte and whose sizes aren't odd can be written.
+/// A label can be written if its name has no zero byte and its sizes aren't odd.
 pub(crate) fn know_writable(label: &Label)
     requires { IsSound label.now }
     ensures { IsWritable label.now }

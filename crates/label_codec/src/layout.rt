@@ -1,19 +1,19 @@
-//! Where the fields of a label stand, in bytes from the slot's start, by UEFI 2.10, section 13.19,
+//! The offsets of a label's fields, in bytes from the slot's start: UEFI 2.10, section 13.19,
 //! EFI_NVDIMM_LABEL. Numbers have their low byte first.
 
-/// The bytes of a label.
+/// The size of a label, in bytes.
 pub(crate) const LABEL_BYTES: usize = 256;
 
-/// Uuid, 16 bytes in the order of their text.
+/// Uuid, 16 bytes in the order of the text.
 pub(crate) const UUID_AT: usize = 0;
 
-/// Name, 64 bytes: ended by a zero and filled with zeros.
+/// Name, 64 bytes: the name, padded with zeros.
 pub(crate) const NAME_AT: usize = 16;
 
 /// Flags, 4 bytes: ROLABEL 1, LOCAL 2, UPDATING 8.
 pub(crate) const FLAGS_AT: usize = 80;
 
-/// NLabel, 2 bytes: of how many labels the namespace's set is.
+/// NLabel, 2 bytes: the number of labels in the namespace's set.
 pub(crate) const COUNT_AT: usize = 84;
 
 /// Position, 2 bytes: which of the set's labels this is.
@@ -28,13 +28,13 @@ pub(crate) const LBA_AT: usize = 96;
 /// Dpa, 8 bytes: the first device address of the part on this module.
 pub(crate) const DPA_AT: usize = 104;
 
-/// RawSize, 8 bytes: the bytes of the part on this module.
+/// RawSize, 8 bytes: the size of the part on this module, in bytes.
 pub(crate) const RAW_AT: usize = 112;
 
 /// Slot, 4 bytes: the number of the slot that the label is in.
 pub(crate) const SLOT_AT: usize = 120;
 
-/// Alignment, 1 byte. Three reserved bytes follow: any when read, zero when written.
+/// Alignment, 1 byte. Three reserved bytes follow: ignored when read, zero when written.
 pub(crate) const ALIGN_AT: usize = 124;
 
 /// TypeGuid, 16 bytes in GUID order.
@@ -46,7 +46,7 @@ pub(crate) const ABSTRACTION_AT: usize = 144;
 /// SPALocationCookie, 8 bytes.
 pub(crate) const SPA_COOKIE_AT: usize = 160;
 
-/// Eighty reserved bytes: any when read, zero when written.
+/// Eighty reserved bytes: ignored when read, zero when written.
 pub(crate) const RESERVED_AT: usize = 168;
 
 /// Checksum, 8 bytes: Fletcher64 of the 256 bytes with this field as zero.

@@ -11,14 +11,14 @@ use crate::name::Name;
 use nvd_words::{fletcher64_without, guid_read, u16_at, u32_at, word_at};
 use uuid::Uuid;
 
-/// The unit of Dpa and RawSize, in bytes.
+/// Dpa and RawSize are multiples of this, in bytes.
 const SIZE_UNIT: u64 = 4096;
 
-/// Reads the label in the slot of a number (UEFI 2.10, section 13.19).
+/// Reads the label in slot `slot` (UEFI 2.10, section 13.19).
 ///
-/// `Ok` comes exactly where the bytes stand for a label in that slot, and has that label; else the
-/// fault is the first check that fails, in the order of [`LabelFault`]. Reserved bytes, and a name's
-/// bytes after its zero, are not looked at but by the checksum.
+/// It returns `Ok` with a label exactly if the bytes encode it in that slot, else the first failing
+/// check, in the order of [`LabelFault`]. Reserved bytes, and the bytes after a name's zero, matter
+/// only to the checksum.
 #[tactic(auto, using(nvd_words::proofs::Checks::faults))]
 pub fn read_label(bytes: &[u8; 256], slot: u32) -> Result<Label, LabelFault>
     ensures { result ≡ label_reading bytes.now slot }
@@ -36,10 +36,10 @@ pub fn read_label(bytes: &[u8; 256], slot: u32) -> Result<Label, LabelFault>
     Ok(fields_of(bytes))
 }
 
-/// Which size no label may have, of a first device address and a number of bytes, if one is such.
+/// Returns which of a first device address and a size no label may have, if there is one.
 ///
-/// Both are multiples of 4,096, there is at least one byte, and together they are at most 2^63. This is
-/// this project's rule. The sum is taken as a whole number, so that it can't wrap.
+/// Both must be multiples of 4,096, the size at least one byte, and their sum at most 2^63. This is
+/// this project's rule. The sum can't wrap.
 #[tactic(auto, unfolding(crate::specs::Sizes::size_fault_of))]
 pub fn odd_size(dpa: u64, raw: u64) -> Option<SizeField>
     ensures { result ≡ size_fault_of dpa raw }
@@ -53,7 +53,7 @@ pub fn odd_size(dpa: u64, raw: u64) -> Option<SizeField>
     None
 }
 
-/// Whether Checksum is that of the label.
+/// Returns whether Checksum is correct.
 #[tactic(auto, unfolding(crate::specs::Label::has_checksum))]
 fn has_checksum(bytes: &[u8; 256]) -> bool
     ensures { result ≡ has_checksum bytes.now }
@@ -61,7 +61,7 @@ fn has_checksum(bytes: &[u8; 256]) -> bool
     word_at(bytes, CHECKSUM_AT) == fletcher64_without(bytes, CHECKSUM_AT)
 }
 
-/// Sixteen bytes at a place.
+/// Returns the sixteen bytes at an offset.
 fn sixteen_at(bytes: &[u8; 256], at: usize) -> [u8; 16]
     requires { at + 16 ≤ 256 }
     ensures { result ≡ bytes_at bytes.now at 16 }
@@ -71,7 +71,7 @@ fn sixteen_at(bytes: &[u8; 256], at: usize) -> [u8; 16]
     sixteen
 }
 
-/// The label whose fields stand in a slot.
+/// Returns the label in a slot's fields.
 #[tactic(auto, unfolding(crate::specs::Label::label_of))]
 fn fields_of(bytes: &[u8; 256]) -> Label
     ensures { result ≡ label_of bytes.now }

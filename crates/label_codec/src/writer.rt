@@ -11,11 +11,11 @@ use crate::layout::{
 };
 use nvd_words::{fletcher64, guid_bytes};
 
-/// Writes a label into the bytes of a slot: its one spelling (UEFI 2.10, section 13.19).
+/// Writes a label into a slot, in its canonical encoding (UEFI 2.10, section 13.19).
 ///
-/// The label's name has no zero byte, and its sizes aren't odd ([`crate::odd_size`]). All reserved bytes
-/// and the bytes after the name are written as zero, whatever stood there. What is written reads back as
-/// the label, in the slot that the label names ([`crate::spelling_reads_back`]).
+/// The name must have no zero byte, and the sizes must not be odd ([`crate::odd_size`]). All
+/// reserved bytes and the bytes after the name are written as zero, whatever was there before. The
+/// slot reads back as the label, in the slot that the label names ([`crate::spelling_reads_back`]).
 pub fn write_label(into: &mut [u8; 256], label: &Label)
     requires { IsSound label.now }
     ensures spelled { into.new ≡ spelling_of label.now }
@@ -30,7 +30,7 @@ pub fn write_label(into: &mut [u8; 256], label: &Label)
     into[CHECKSUM_AT..].copy_from_slice(&sum.to_le_bytes());
 }
 
-/// A label's bytes with Uuid, Name and Checksum still zero.
+/// Returns a label's bytes with Uuid, Name and Checksum still zero.
 fn fixed_fields(label: &Label) -> [u8; 256]
     ensures { result ≡ replicate 80 0 ++ (fields_of label.now ++ replicate 8 0) }
 {

@@ -1,4 +1,4 @@
--- A block is read as a record exactly where it stands for it by the grammar.
+-- A block is read as a record exactly if it encodes it by the grammar.
 use Rattle.std.proofs.Common.{◌≡◌, ◌≢◌, ℕ, ◌+◌, ◌*◌, ◌/◌, ◌%◌, ◌<◌, ◌≤◌, Bool, true, false, eqb, leb, not, List, length, take, drop, get_or, Ok, refl, sym, ap, ◌∙◌, arith}
 use Rattle.std.specs.Prelude.{◌&&◌, Some, slice_get}
 use Rattle.std.specs.Int.{w16, w32, w64}

@@ -1,4 +1,4 @@
--- The laws of the spelling of index blocks.
+-- The laws of the canonical encoding of index blocks.
 use Rattle.std.proofs.Common.{◌≡◌, ℕ, ◌+◌, ◌/◌, ◌≤◌, false, List, [], ◌∷◌, length, take, drop, refl, sym, ap, ◌∙◌, subst, arith}
 use Rattle.std.specs.Int.{w32}
 use Rattle.std.proofs.lemmas.Nat.{from_le_bytes-to_le_bytes_4}
@@ -28,7 +28,7 @@ flags_clean : (b : IndexBlock) → take 3 (drop 16 (spelling_of b)) ≡ 0 ∷ 0 
 unfolding spelling_of
 flags_clean b = refl
 
--- the sequence number alone stands in Seq
+-- Seq has only the sequence number
 pub seq_clean : (b : IndexBlock) → b.seq ≤ 3 → number_at w32 (spelling_of b) 20 ≡ b.seq
 unfolding number_at spelling_of
 seq_clean b le = from_le_bytes-to_le_bytes_4 b.seq (omega (arith, le))

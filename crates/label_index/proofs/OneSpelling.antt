@@ -1,4 +1,4 @@
--- The spelling of a record is the one list of bytes that stands for it and is clean.
+-- Only the canonical encoding encodes a record and is clean.
 use Rattle.std.proofs.Common.{◌≡◌, ℕ, zero, suc, ◌+◌, ◌-◌, ◌*◌, ◌/◌, ◌%◌, ◌^◌, ◌<◌, ◌≤◌, Bool, true, false, eqb, List, [], ◌∷◌, ◌++◌, length, take, drop, get_or, replicate, refl, sym, ap, ◌∙◌, arith, inl, inr}
 use Rattle.std.specs.Int.{w16, w32, w64, to_le_bytes}
 use Rattle.std.proofs.lemmas.Bool.{eqb-true, eqb-false, cases_lt}
@@ -52,7 +52,7 @@ bit_is area size s block b n ok clean lt =
       | inr past ↦ get_or_past b.free n false (omega (arith, past, ok.listed)) ∙ sym (clean.free n past lt)
     ]
 
--- the bit of a number of eight and some
+-- the bit at eight times k plus j
 bit_at : (block : List ℕ) (k j : ℕ) → j < 8 → is_free block (8 * k + j) ≡ eqb (get_or block (72 + k) 0 / 2 ^ j % 2) 1
 bit_at block k j lt =
     let place : (8 * k + j) / 8 ≡ k = omega (arith, lt) in

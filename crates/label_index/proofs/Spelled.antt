@@ -1,4 +1,4 @@
--- The spelling of a valid block is read as that block.
+-- The canonical encoding of a valid block is read as that block.
 use Rattle.std.proofs.Common.{◌≡◌, ℕ, zero, suc, ◌+◌, ◌-◌, ◌*◌, ◌/◌, ◌%◌, ◌^◌, ◌<◌, ◌≤◌, Bool, true, false, eqb, List, [], ◌∷◌, ◌++◌, length, take, drop, map, get_or, replicate, Ok, refl, sym, ap, ◌∙◌, arith}
 use Rattle.std.specs.List.{range_with_len}
 use Rattle.std.specs.Int.{w16, w32, w64, to_le_bytes}
@@ -18,7 +18,7 @@ use Rattle.label_index.specs.Index.{block_reading, index_of, place_of, other_pla
 use Rattle.label_index.specs.Valid.{IsValid}
 use Rattle.label_index.specs.Spelling.{number_of_bits, head_of, tail_of, spelling_of}
 
--- an index block has at least 256 bytes and less than its area, which is no more than a mebibyte
+-- an index block has at least 256 bytes and less than its area, which has at most a mebibyte
 pub enough : (area : ℕ) (b : IndexBlock) → IsValid area b → 256 ≤ b.size
 enough area b ok = omega (arith, ok.whole)
 
@@ -155,7 +155,7 @@ length_spelling b enough = omega (arith, length-map-range_with_len (λ k. number
 
 -- ---- its bytes are bytes
 
--- so many bits are a number below that power of two
+-- n bits are a number below 2 ^ n
 pub bits_below : (n : ℕ) (bits : List Bool) → length bits ≤ n → number_of_bits bits < 2 ^ n
 bits_below zero [] le = omega arith
 bits_below zero (b ∷ bits) le = absurd (omega (arith, le))

@@ -1,4 +1,4 @@
--- What the writes of an index block leave.
+-- The bytes of an index block after the writes.
 use Rattle.std.proofs.Common.{◌≡◌, ℕ, ◌-◌, ◌≤◌, List, [], ◌++◌, length, take, drop, replicate, sym, ap, ◌∙◌, arith, append_assoc}
 use Rattle.std.specs.Int.{w64, to_le_bytes}
 use Rattle.std.proofs.lemmas.List.{take_at, drop_at, drop-drop, append-nil, length-append, length-take, length-drop, take-append-drop}
@@ -14,7 +14,7 @@ put_part front old rest new a k ea ek =
     ∙ ap (λ (r : List ℕ). front ++ (new ++ drop k r)) (drop_at front (old ++ rest) a ea)
     ∙ ap (λ (r : List ℕ). front ++ (new ++ r)) (drop_at old rest k ek)
 
--- the head and zeros, over what stood there
+-- the head and zeros replace the first bytes
 first_two : (head zero into : List ℕ) → length head ≡ 64 → length zero ≡ 8 → 72 ≤ length into → put_mid 64 8 (head ++ drop 64 into) zero ≡ head ++ (zero ++ drop 72 into)
 first_two head zero into lh lz long =
     ap (λ (r : List ℕ). put_mid 64 8 (head ++ r) zero) (sym (take-append-drop 8 (drop 64 into)) ∙ ap (λ (r : List ℕ). take 8 (drop 64 into) ++ r) (drop-drop 8 64 into))
@@ -24,7 +24,7 @@ length_two : (head zero into : List ℕ) → length head ≡ 64 → length zero 
 length_two head zero into lh lz long =
     ap length (first_two head zero into lh lz long) ∙ length-append head (zero ++ drop 72 into) ∙ omega (arith, length-append zero (drop 72 into), length-drop 72 into, lh, lz, long)
 
--- what is written before the Checksum is known: the head, zeros in its place, and the bits
+-- the bytes before the Checksum is known: the head, zeros in its place, and the bits
 pub unsummed : (head zero tail into : List ℕ) (n : ℕ) → length head ≡ 64 → length zero ≡ 8 → 72 ≤ length into
     → n ≡ length (put_mid 64 8 (head ++ drop 64 into) zero) - 72 → put_mid 72 n (put_mid 64 8 (head ++ drop 64 into) zero) tail ≡ head ++ (zero ++ tail)
 unsummed head zero tail into n lh lz long len =
@@ -37,7 +37,7 @@ unsummed head zero tail into n lh lz long len =
     ∙ put_part (head ++ zero) (drop 72 into) [] tail 72 n (omega (arith, length-append head zero, lh, lz)) rest
     ∙ append_assoc head zero (tail ++ []) ∙ ap (λ (r : List ℕ). head ++ (zero ++ r)) (append-nil tail)
 
--- what is written at the end is the spelling
+-- the bytes at the end are the canonical encoding
 pub written : (b : IndexBlock) (head zero tail into le : List ℕ) (n sum : ℕ) → head ≡ head_of b → zero ≡ replicate 8 0 → 72 ≤ length into → length into ≡ b.size
     → n ≡ length (put_mid 64 8 (head ++ drop 64 into) zero) - 72 → tail ≡ bit_bytes (length (take n (drop 72 (put_mid 64 8 (head ++ drop 64 into) zero)))) b.free
     → sum ≡ fletcher64_of (put_mid 72 n (put_mid 64 8 (head ++ drop 64 into) zero) tail) → le ≡ to_le_bytes w64 sum

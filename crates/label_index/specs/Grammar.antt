@@ -8,7 +8,7 @@ use Rattle.label_index.specs.declared.index.IndexBlock.{IndexBlock}
 use Rattle.label_index.specs.Area.{block_size_of}
 use Rattle.label_index.specs.Index.{place_of, other_place_of, signature, is_free, index_reading}
 
--- a block of a size in an area of a size, on one side, stands for a record
+-- a block on side s, for blocks of `size` bytes in an area of `area` bytes, encodes a record
 pub record IsBlockOf (area size : ℕ) (s : Side) (block : List ℕ) (b : IndexBlock) : Type 0 where
   -- Sig
   pub signed : take 16 block ≡ signature
@@ -37,12 +37,12 @@ pub record IsBlockOf (area size : ℕ) (s : Side) (block : List ℕ) (b : IndexB
   pub listed : length b.free ≡ number_at w32 block 56
   pub free : (n : ℕ) → n < number_at w32 block 56 → slice_get b.free n ≡ Some (is_free block n)
 
--- the bytes of a side of an area stand for a record
+-- the bytes of a side of an area encode a record
 abbrev pub StandsFor : List ℕ → Side → IndexBlock → Type 0
 StandsFor area s b =
     let size = block_size_of (length area) in
     IsBlockOf (length area) size s (take size (drop (place_of size s) area)) b
 
--- a law: a side is read as a record exactly where its bytes stand for it
+-- a law: a side is read as a record exactly if its bytes encode it
 abbrev pub GrammarIsReading : Type 0
 GrammarIsReading = (area : List ℕ) (s : Side) (b : IndexBlock) → (index_reading area s ≡ Ok b) ↔ StandsFor area s b

@@ -1,9 +1,9 @@
--- Which records an index block can be written for.
+-- The records that can be written as an index block.
 use Rattle.std.specs.Prelude.{◌≡◌, ℕ, ◌+◌, ◌*◌, ◌/◌, ◌≤◌, length}
 use Rattle.label_index.specs.declared.index.IndexBlock.{IndexBlock}
 use Rattle.label_index.specs.Area.{block_size_of, IsAreaSize}
 
--- a record of a block in an area of a size
+-- the record of a block in an area of this size
 pub record IsValid (area : ℕ) (b : IndexBlock) : Type 0 where
   pub sized : IsAreaSize area
   -- a number of the ring
@@ -17,6 +17,6 @@ pub record IsValid (area : ℕ) (b : IndexBlock) : Type 0 where
   -- an entry for each slot
   pub listed : length b.free ≡ b.slots
 
--- a record of a block in some area
+-- the record of a block in some area
 abbrev pub IsWritable : IndexBlock → Type 0
 IsWritable b = (area : ℕ) × IsValid area b

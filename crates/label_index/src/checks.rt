@@ -1,4 +1,4 @@
-//! The checks of an index block, one function each. Their order is the reader's.
+//! The checks of an index block, one function each, in the order in which the reader calls them.
 ghost use Rattle.std.specs.Prelude.{◌≡◌, ◌+◌, ◌/◌, ◌%◌, ◌^◌, ◌≤◌, IsTrue, length};
 ghost use Rattle.std.specs.Int.{w32};
 ghost use Rattle.nvd_words.specs.Bytes.{number_at};
@@ -11,7 +11,7 @@ use crate::layout::{
 };
 use nvd_words::{fletcher64_without, u16_at, u32_at, word_at};
 
-/// Whether Sig is that of an index block.
+/// Returns whether Sig is that of an index block.
 #[tactic(auto, unfolding(crate::specs::Index::has_signature))]
 pub(crate) fn has_signature(block: &[u8]) -> bool
     requires { 16 ≤ length block.now }
@@ -20,7 +20,7 @@ pub(crate) fn has_signature(block: &[u8]) -> bool
     &block[..SIGNATURE.len()] == SIGNATURE.as_slice()
 }
 
-/// The sequence number, the low two bits of Seq: 0 where the block is closed.
+/// Returns the sequence number, the low two bits of Seq. It is 0 if the block is closed.
 #[tactic(auto, unfolding(crate::specs::Index::sequence_of))]
 pub(crate) fn sequence_of_block(block: &[u8]) -> u32
     requires { 24 ≤ length block.now }
@@ -29,7 +29,7 @@ pub(crate) fn sequence_of_block(block: &[u8]) -> u32
     u32_at(block, SEQ_AT) % 4
 }
 
-/// Whether the version is 1.2.
+/// Returns whether the version is 1.2.
 #[tactic(auto, unfolding(crate::specs::Index::has_version))]
 pub(crate) fn has_version(block: &[u8]) -> bool
     requires { 64 ≤ length block.now }
@@ -38,7 +38,8 @@ pub(crate) fn has_version(block: &[u8]) -> bool
     u16_at(block, MAJOR_AT) == 1 && u16_at(block, MINOR_AT) == 2
 }
 
-/// Whether MyOff, MySize, OtherOff and LabelOff are those of a side, in blocks of so many bytes.
+/// Returns whether MyOff, MySize, OtherOff and LabelOff are those of a side, for blocks of this
+/// size.
 #[tactic(auto, unfolding(crate::specs::Index::has_offsets))]
 pub(crate) fn has_offsets(block: &[u8], side: Side, size: u64) -> bool
     requires len { 56 ≤ length block.now }
@@ -51,7 +52,8 @@ pub(crate) fn has_offsets(block: &[u8], side: Side, size: u64) -> bool
         && word_at(block, LABEL_OFFSET_AT) == 2 * size
 }
 
-/// Whether labels have 256 bytes, and there are slots, whose bits fit the block and which fit the area.
+/// Returns whether labels have 256 bytes, there is a slot, the slots' bits fit the block, and the
+/// slots fit the area.
 #[tactic(auto, unfolding(crate::specs::Index::has_slots))]
 pub(crate) fn has_slots(block: &[u8], size: u64, area: u64) -> bool
     requires len { 72 ≤ length block.now }
@@ -66,7 +68,7 @@ pub(crate) fn has_slots(block: &[u8], size: u64, area: u64) -> bool
         && 2 * size + 256 * slots <= area
 }
 
-/// Whether Checksum is that of the block.
+/// Returns whether Checksum is correct.
 #[tactic(auto, unfolding(crate::specs::Index::has_checksum))]
 pub(crate) fn has_checksum(block: &[u8]) -> bool
     requires len { 72 ≤ length block.now }

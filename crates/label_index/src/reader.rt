@@ -17,11 +17,11 @@ use std::alloc::Global;
 
 /// Reads the index block of a side from a whole label area (UEFI 2.10, section 13.19).
 ///
-/// The area has a label area's size: a multiple of 256 from 1,024 to 1,048,576 bytes. `Ok` comes
-/// exactly where the side's bytes stand for a record, and has that record; else the fault is the
-/// first check that fails, in the order of [`IndexFault`]. Flags, the high bits of Seq and the bits
-/// of Free from NSlot on are not looked at. That Sequence is checked before Version is this
-/// project's rule: a block that a power cut left closed is never taken for another version.
+/// The area's size must be a multiple of 256 from 1,024 to 1,048,576 bytes. The call returns `Ok`
+/// with a record exactly if the side's bytes encode it, else the first failing check, in the order
+/// of [`IndexFault`]. Flags, the high bits of Seq and the bits of Free from NSlot on are ignored.
+/// It is this project's rule to check Sequence before Version: a block that a crash left closed is
+/// never taken for another version.
 pub fn read_index(alloc: Global, bytes: &[u8], side: Side) -> Result<IndexBlock, IndexFault>
     requires { IsAreaSize (length bytes.now) }
     ensures { Answers IndexFault.OutOfMemory result (index_reading bytes.now side) }
@@ -37,7 +37,7 @@ pub fn read_index(alloc: Global, bytes: &[u8], side: Side) -> Result<IndexBlock,
     )
 }
 
-/// The bytes of a side, in blocks of so many bytes.
+/// Returns the bytes of a side, for blocks of this size.
 fn block_of_side(area: &[u8], side: Side, size: usize) -> &[u8]
     requires { 2 * size ≤ length area.now }
     ensures bytes { result.now ≡ take size (drop (place_of size side) area.now) }
@@ -47,7 +47,7 @@ fn block_of_side(area: &[u8], side: Side, size: usize) -> &[u8]
     &area[place..place + size]
 }
 
-/// Reads the block of a side, one of so many bytes in an area of so many.
+/// Reads the block of a side, of `size` bytes in an area of `area` bytes.
 #[tactic(auto, using(nvd_words::proofs::Checks::checks))]
 fn read_block(
     alloc: Global,
@@ -83,7 +83,7 @@ fn read_block(
     record_of(alloc, block, side)
 }
 
-/// The fault of a block of another version.
+/// Returns the fault of a block of another version.
 fn version_fault(block: &[u8]) -> IndexFault
     requires { 64 ≤ length block.now }
     ensures { result ≡ IndexFault.Version (number_at w16 block.now 60) (number_at w16 block.now 62) }
@@ -94,7 +94,7 @@ fn version_fault(block: &[u8]) -> IndexFault
     }
 }
 
-/// The record of a block that passed all checks.
+/// Returns the record of a block that passed all checks.
 #[tactic(auto, unfolding(crate::specs::Index::index_of))]
 fn record_of(alloc: Global, block: &[u8], side: Side) -> Result<IndexBlock, IndexFault>
     requires len { 72 ≤ length block.now }

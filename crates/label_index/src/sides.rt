@@ -4,12 +4,12 @@ ghost use Rattle.label_index.specs.Index.{current_of};
 use crate::index::{IndexBlock, IndexFault, Side};
 use nvd_words::seq_newer;
 
-/// The side that is current, of what was read of side Zero (`a`) and of side One (`b`).
+/// Returns the current side; `a` is the result of reading side Zero, `b` that of side One.
 ///
-/// It is the valid one, and of two valid ones the one whose sequence number is newer by the ring
-/// 1, 2, 3, 1 (UEFI 2.10, section 13.19, Seq); of two with one number the one at the higher offset,
-/// side One. `None` comes exactly where neither is valid. Neither argument may be
-/// [`IndexFault::OutOfMemory`], which is no finding about a block; it counts here as not valid.
+/// The valid side is current. Of two valid sides it is the newer one, by the sequence numbers 1, 2,
+/// 3, 1 (UEFI 2.10, section 13.19, Seq); if both have the same number, it is side One, at the
+/// higher offset. The call returns `None` exactly if neither is valid. Don't pass
+/// [`IndexFault::OutOfMemory`], which says nothing about a block; it counts as invalid here.
 pub fn current(
     a: &Result<IndexBlock, IndexFault>,
     b: &Result<IndexBlock, IndexFault>,

@@ -10,12 +10,12 @@ use crate::layout::{
 };
 use nvd_words::fletcher64;
 
-/// Writes an index block: the one spelling of a record (UEFI 2.10, section 13.19).
+/// Writes an index block: the canonical encoding of a record (UEFI 2.10, section 13.19).
 ///
-/// `into` has the block's size, and the record is one of a block in some label area: `seq` is 1 to 3,
-/// `size` is that area's index size, the slots fit, and `free` has an entry for each. Flags, the high
-/// bits of Seq and the bits of Free from NSlot on are written as zero, whatever stood there. What is
-/// written reads back as the record ([`crate::spelling_reads_back`]).
+/// `into` must have the block's size, and the record must fit some label area: `seq` is 1 to 3,
+/// `size` is that area's index size, the slots fit, and `free` has an entry for each. Flags, the
+/// high bits of Seq and the bits of Free from NSlot on are written as zero, whatever was there
+/// before. The block reads back as the record ([`crate::spelling_reads_back`]).
 pub fn write_index(into: &mut [u8], block: &IndexBlock)
     requires len { length into.old ≡ block.now.size }
     requires writable { IsWritable block.now }
@@ -29,7 +29,7 @@ pub fn write_index(into: &mut [u8], block: &IndexBlock)
     into[CHECKSUM_AT..FREE_AT].copy_from_slice(&sum.to_le_bytes());
 }
 
-/// The bytes of a block before its Checksum.
+/// Returns the bytes of a block before its Checksum.
 fn head_bytes(block: &IndexBlock) -> [u8; 64]
     requires { block.now.size ≤ 1048576 }
     ensures { result ≡ head_of block.now }

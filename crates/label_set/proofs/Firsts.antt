@@ -1,4 +1,4 @@
--- The first of a list, and the list.
+-- The first of a list.
 use Rattle.std.proofs.Common.{◌≡◌, Bool, true, false, not, ◌&&◌, ◌||◌, cond, List, [], ◌∷◌, Some, None, refl, sym, ap, ◌∙◌, inl, inr}
 use Rattle.std.specs.Prelude.{find, filter, slice_get}
 use Rattle.std.specs.List.{list_any, list_all}

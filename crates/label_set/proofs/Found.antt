@@ -4,7 +4,7 @@ use Rattle.std.specs.Prelude.{find, position}
 use Rattle.std.specs.List.{position_from}
 use Rattle.std.proofs.lemmas.Iterator.Adapters.{position_from-zero}
 
--- what stands where a search ended
+-- the state when a search has ended
 pub record IsFound {X : Type 0} (p : X → Bool) (xs : List X) (i : ℕ) : Type 0 where
   pub item : X
   pub found : find p xs ≡ Some item

@@ -27,7 +27,7 @@ lesser-assoc key (Some a) b (Some c) = three key a b c (leb (key a) (key b)) (le
 rest_of : {X : Type 0} (xs : List X) (i : ℕ) (d : X) → i < length xs → drop i xs ≡ get_or xs i d ∷ drop (i + 1) xs
 rest_of xs i d lt = rw add-one (drop-cons xs i d lt)
 
--- what the least of those so far and of those to come is
+-- the least of those so far and of those to come
 abbrev pub IsLeastOf : {X : Type 0} → (X → ℕ) → (X → Bool) → Option X → List X → List X → Type 0
 IsLeastOf key test least rest all = lesser key least (least_where key test rest) ≡ least_where key test all
 

@@ -1,4 +1,4 @@
--- Worked rows, computed: two modules of 32 MiB, one line of 4,096 bytes each.
+-- Worked examples, computed on the definitions: two modules of 32 MiB, one line of 4,096 bytes each.
 use Rattle.std.proofs.Common.{◌≡◌, ℕ, ◌+◌, List, [], ◌∷◌, Some, None, true, false, codes, replicate, refl}
 use Rattle.nfit_reader.specs.declared.table.Mapping.{Mapping}
 use Rattle.interleave.specs.Places.{cookie_of}

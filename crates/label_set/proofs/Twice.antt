@@ -1,4 +1,4 @@
--- The least module that has two labels, found by going up from module to module.
+-- The least module with two labels, found by going up from module to module.
 use Rattle.std.proofs.Common.{◌≡◌, ℕ, ◌+◌, ◌<◌, ◌≤◌, Bool, true, false, cond, leb, ltb, List, [], ◌∷◌, length, get_or, zero, suc, Option, Some, None, refl, sym, ap, ◌∙◌, inl, inr, arith}
 use Rattle.std.specs.Option.{option_map}
 use Rattle.std.proofs.lemmas.Bool.{cases_Bool, cases_lt, leb-true, leb-false, le-leb}
@@ -6,7 +6,7 @@ use Rattle.nfit_reader.specs.declared.table.Mapping.{Mapping}
 use Rattle.label_set.specs.declared.placed.Placed.{Placed}
 use Rattle.label_set.specs.Rules.{lesser, least_where, module_of, count_on, is_twice, least_twice, modules_of}
 
--- ---- what holds of each
+-- ---- a property of each
 
 abbrev pub Each : {X : Type 0} → (X → Type 0) → List X → Type 0
 Each P [] = Unit
@@ -26,7 +26,7 @@ each_so P R (x ∷ xs) p so = (so x p.0, each_so P R xs p.1 so)
 
 -- ---- the least that passes a test
 
--- it holds of the least what holds of each
+-- a property of each is one of the least
 one_by : {X : Type 0} (key : X → ℕ) (b : Bool) (o : Option X) (P : X → Type 0) (x m : X) → lesser key (cond b (Some x) None) o ≡ Some m
     → P x → ((y : X) → o ≡ Some y → P y) → P m
 one_by key true None P x m e here on = let same : x ≡ m = cc in rw (← same) here

@@ -1,5 +1,5 @@
--- What single labels of a set break, and how several hang together: UEFI 2.10, section 13.19 (EFI_NVDIMM_LABEL), and this
--- project's rules.
+-- Rules for single labels of a set, and for several together: UEFI 2.10, section 13.19 (EFI_NVDIMM_LABEL), and this project's
+-- rules.
 use Rattle.std.specs.Prelude.{ℕ, ◌+◌, ◌-◌, ◌%◌, ◌==◌, nat_le, nat_lt, Bool, true, false, not, ◌&&◌, ◌||◌, if◌then◌else◌, List, [], ◌∷◌, length, map, find, position, count_by, Option, Some, None}
 use Rattle.std.specs.List.{list_any, list_all}
 use Rattle.std.specs.Option.{option_map}
@@ -18,18 +18,18 @@ use Rattle.label_set.specs.declared.rules.Rule.TheVariants as rule
 
 -- ---- the least of several
 
--- of two things the one with the lesser key, of two with one key the first
+-- the one with the lesser key, or the first if the keys are equal
 abbrev pub lesser : {X : Type 0} → (X → ℕ) → Option X → Option X → Option X
 lesser key None later = later
 lesser key (Some a) None = Some a
 lesser key (Some a) (Some b) = if nat_le (key a) (key b) then Some a else Some b
 
--- of the things that pass a test the one with the least key, of several with that key the first
+-- the one with the least key of those that pass a test, the first of several
 abbrev pub least_where : {X : Type 0} → (X → ℕ) → (X → Bool) → List X → Option X
 least_where key test [] = None
 least_where key test (x ∷ xs) = lesser key (if test x then Some x else None) (least_where key test xs)
 
--- the number of the module that a label is on
+-- the number of a label's module
 abbrev pub module_of : Placed → ℕ
 module_of p = p.«module»
 
@@ -61,31 +61,31 @@ is_local p = has_local p.label.flags
 abbrev pub is_updating : Placed → Bool
 is_updating p = has_updating p.label.flags
 
--- it has UPDATING, or hasn't
+-- its flag UPDATING is as given
 abbrev pub is_marked : Bool → Placed → Bool
 is_marked true p = is_updating p
 is_marked false p = not (is_updating p)
 
--- ---- a label and its set, seen as the list of its mappings by position
+-- ---- a label and its set, a list of mappings in order of position
 
 -- the mapping of a module
 abbrev pub mapping_of : List Mapping → ℕ → Option Mapping
 mapping_of set number = find (λ m. m.«module» == number) set
 
--- an address, counted from the start of a mapping
+-- an address relative to the start of a mapping
 abbrev pub counted_from : Option Mapping → ℕ → ℕ
 counted_from None address = address
 counted_from (Some m) address = address - m.start
 
--- a label's address, counted from the start of its module's mapping
+-- a label's address relative to the start of its module's mapping
 abbrev pub relative_of : List Mapping → Placed → ℕ
 relative_of set p = counted_from (mapping_of set p.«module») p.label.dpa
 
--- a label's extent isn't inside so many bytes from a start on
+-- a label's extent isn't inside `span` bytes from `start` on
 abbrev pub is_past : ℕ → ℕ → Placed → Bool
 is_past start span p = nat_lt p.label.dpa start || nat_lt (start + span) (p.label.dpa + p.label.raw)
 
--- a label's extent isn't inside a mapping; the mappings of a sound set have one size
+-- a label's extent isn't inside a mapping; the mappings of a valid set have the same size
 abbrev pub leaves : ℕ → Option Mapping → Placed → Bool
 leaves span None p = true
 leaves span (Some m) p = is_past m.start span p
@@ -105,11 +105,11 @@ is_not_at (Some place) p = not (p.label.position == place)
 abbrev pub is_elsewhere : List Mapping → Placed → Bool
 is_elsewhere set p = is_not_at (position (λ m. m.«module» == p.«module») set) p
 
--- its address, relative to the mapping, or its size is no multiple of the unit
+-- its address, relative to the mapping, or its size isn't a multiple of the unit
 abbrev pub is_unaligned : List Mapping → Placed → Bool
 is_unaligned set p = not (relative_of set p % unit_of set == 0) || not (p.label.raw % unit_of set == 0)
 
--- a label breaks a rule
+-- a label violates a rule
 abbrev pub breaks_of : Rule → List Mapping → Placed → Bool
 breaks_of rule.Inside set p = is_outside set p
 breaks_of rule.Cookie set p = has_other_cookie set p
@@ -139,12 +139,12 @@ agrees_of LbaSize set p q = q.label.lba == p.label.lba
 agrees_of Guids set p q = same_guids p q
 agrees_of Names set p q = same_name p q
 
--- a label doesn't agree with the first
+-- some label differs from the first
 abbrev pub differ_in : Field → List Mapping → List Placed → Bool
 differ_in field set [] = false
 differ_in field set (p ∷ labels) = list_any (λ q. not (agrees_of field set p q)) (p ∷ labels)
 
--- the one name that labels have, where there is one
+-- the name of all labels, if they have the same
 abbrev pub agreed_name : List Placed → Option (List ℕ)
 agreed_name [] = None
 agreed_name (p ∷ labels) = if list_all (same_name p) (p ∷ labels) then Some p.label.name else None

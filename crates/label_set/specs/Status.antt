@@ -1,4 +1,4 @@
--- What the labels of one UUID make: this project's list of rules over UEFI 2.10, section 13.19.
+-- The status of the labels of one UUID: this project's list of rules over UEFI 2.10, section 13.19.
 use Rattle.std.specs.Prelude.{ℕ, true, false, if◌then◌else◌, List, [], ◌∷◌, filter, Option, Some, None, unwrap_or}
 use Rattle.std.specs.Option.{option_map}
 use Rattle.std.specs.List.{list_any, list_all}
@@ -14,7 +14,7 @@ use Rattle.label_set.specs.declared.rules.Rule.{Rule}
 use Rattle.label_set.specs.declared.rules.Rule.TheVariants as rule
 use Rattle.label_set.specs.Rules.{least_where, module_of, least_twice, least_missing, is_local, is_updating, is_marked, breaks_of, why_of, differ_in, agreed_name}
 
--- ---- what each rule finds
+-- ---- the finding of each rule
 
 abbrev pub local_finding : List Placed → Option SetStatus
 local_finding labels = fault_if (list_any is_local labels) Local
@@ -28,7 +28,7 @@ broken_finding r set labels = option_map (λ p. Incomplete (why_of r p)) (least_
 abbrev pub differing_finding : Field → List Mapping → List Placed → Option SetStatus
 differing_finding field set labels = fault_if (differ_in field set labels) (Incomplete (Differs field))
 
--- labels of which some are missing: all that are there have UPDATING, or not
+-- some labels are missing: Unfinished if all existing ones have UPDATING, else Missing
 abbrev pub short_of : List Placed → ℕ → SetStatus
 short_of labels number = if list_all is_updating labels then Unfinished else Incomplete (Missing number)
 
@@ -52,9 +52,9 @@ findings set labels =
     ∷ missing_finding set labels
     ∷ []
 
--- ---- labels of which no rule finds anything
+-- ---- labels without a finding
 
--- names that don't agree: those without UPDATING have one, and those with it another
+-- names that differ: those without UPDATING have one, and those with it another
 abbrev pub half_named : Option (List ℕ) → Option (List ℕ) → SetStatus
 half_named (Some old) (Some new) = Complete old true
 half_named (Some old) None = Incomplete (Differs Names)

@@ -8,28 +8,29 @@ use crate::rules::{agrees, is_local, is_updating, same_name};
 use interleave::InterleaveSet;
 use label_codec::Name;
 
-/// Whether a label has the flag LOCAL (UEFI 2.10, section 13.19, Flags): the namespace is one module's own.
+/// Returns whether a label has the flag LOCAL (UEFI 2.10, section 13.19, Flags): the namespace lies
+/// on one module alone.
 pub fn some_local(labels: &[Placed]) -> bool
     ensures { result ≡ list_any is_local labels.now }
 {
     labels.iter().any(is_local)
 }
 
-/// Whether a label has the flag UPDATING.
+/// Returns whether some label has the flag UPDATING.
 pub fn some_updating(labels: &[Placed]) -> bool
     ensures { result ≡ list_any is_updating labels.now }
 {
     labels.iter().any(is_updating)
 }
 
-/// Whether all labels have the flag UPDATING.
+/// Returns whether all labels have the flag UPDATING.
 pub fn all_updating(labels: &[Placed]) -> bool
     ensures { result ≡ list_all is_updating labels.now }
 {
     labels.iter().all(is_updating)
 }
 
-/// Whether one of the labels doesn't agree in a field with a first one, or, for Count, with the set.
+/// Returns whether some label differs in a field from `first`, or, for Count, from the set.
 fn some_differs(field: Field, set: &InterleaveSet, first: &Placed, labels: &[Placed]) -> bool
     ensures { result ≡ list_any (λ q. not (agrees_of field set.now first.now q)) labels.now }
 {
@@ -38,7 +39,7 @@ fn some_differs(field: Field, set: &InterleaveSet, first: &Placed, labels: &[Pla
         .any(|placed| !agrees(field, set, first, placed))
 }
 
-/// Whether a label doesn't agree in a field with the first, or, for Count, with the set.
+/// Returns whether some label differs in a field from the first one, or, for Count, from the set.
 pub fn differ_in(field: Field, set: &InterleaveSet, labels: &[Placed]) -> bool
     ensures { result ≡ differ_in field set.now labels.now }
 {
@@ -48,14 +49,14 @@ pub fn differ_in(field: Field, set: &InterleaveSet, labels: &[Placed]) -> bool
     }
 }
 
-/// Whether all labels have the name of one.
+/// Returns whether all labels have this label's name.
 fn all_named(first: &Placed, labels: &[Placed]) -> bool
     ensures { result ≡ list_all (same_name first.now) labels.now }
 {
     labels.iter().all(|placed| same_name(first, placed))
 }
 
-/// The one name that all labels have, where there is one.
+/// Returns the name of all labels, if they have the same.
 pub fn agreed_name(labels: &[Placed]) -> Option<Name>
     ensures { result ≡ agreed_name labels.now }
 {
@@ -67,7 +68,7 @@ pub fn agreed_name(labels: &[Placed]) -> Option<Name>
     }
 }
 
-/// Whether a label has the flag UPDATING, or hasn't.
+/// Returns whether a label's flag UPDATING is as given.
 fn is_marked(updating: bool, placed: &Placed) -> bool
     ensures { result ≡ is_marked updating placed.now }
 {
@@ -78,21 +79,21 @@ fn is_marked(updating: bool, placed: &Placed) -> bool
     }
 }
 
-/// The first label with the flag UPDATING, or without it.
+/// Returns the first label whose flag UPDATING is as given.
 fn first_marked(updating: bool, labels: &[Placed]) -> Option<&Placed>
     ensures { option_map (λ placed. placed.now) result ≡ find (is_marked updating) labels.now }
 {
     labels.iter().find(|placed| is_marked(updating, placed))
 }
 
-/// Whether all labels with the flag UPDATING, or without it, have the name of one.
+/// Returns whether all labels whose flag UPDATING is as given have this label's name.
 fn all_marked_named(updating: bool, first: &Placed, labels: &[Placed]) -> bool
     ensures { result ≡ list_all (λ q. not (is_marked updating q) || same_name first.now q) labels.now }
 {
     labels.iter().all(|placed| !is_marked(updating, placed) || same_name(first, placed))
 }
 
-/// The one name that all labels have of those with the flag UPDATING, or of those without it.
+/// Returns the name of all labels whose flag UPDATING is as given, if they have the same.
 pub fn agreed_name_where(updating: bool, labels: &[Placed]) -> Option<Name>
     ensures { result ≡ agreed_name (filter (is_marked updating) labels.now) }
 {

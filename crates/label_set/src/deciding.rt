@@ -10,7 +10,7 @@ use crate::placed::{Field, Placed, SetStatus, Why};
 use crate::rules::Rule;
 use interleave::InterleaveSet;
 
-/// A label has the flag LOCAL.
+/// Finds a label with the flag LOCAL.
 fn local(labels: &[Placed]) -> Option<SetStatus>
     ensures { result ≡ local_finding labels.now }
 {
@@ -21,7 +21,7 @@ fn local(labels: &[Placed]) -> Option<SetStatus>
     }
 }
 
-/// A module has two of the labels.
+/// Finds a module with two of the labels.
 fn twice(labels: &[Placed]) -> Option<SetStatus>
     ensures { result ≡ twice_finding labels.now }
 {
@@ -33,7 +33,7 @@ fn twice(labels: &[Placed]) -> Option<SetStatus>
     }
 }
 
-/// A label breaks a rule.
+/// Finds a label that violates a rule.
 fn broken(rule: Rule, set: &InterleaveSet, labels: &[Placed]) -> Option<SetStatus>
     ensures { result ≡ broken_finding rule set.now labels.now }
 {
@@ -45,7 +45,7 @@ fn broken(rule: Rule, set: &InterleaveSet, labels: &[Placed]) -> Option<SetStatu
     }
 }
 
-/// Labels don't agree in a field.
+/// Finds labels that differ in a field.
 fn differing(field: Field, set: &InterleaveSet, labels: &[Placed]) -> Option<SetStatus>
     ensures { result ≡ differing_finding field set.now labels.now }
 {
@@ -58,7 +58,7 @@ fn differing(field: Field, set: &InterleaveSet, labels: &[Placed]) -> Option<Set
     }
 }
 
-/// A module of the set has no label.
+/// Finds a module of the set without a label.
 fn missing(set: &InterleaveSet, labels: &[Placed]) -> Option<SetStatus>
     ensures { result ≡ missing_finding set.now labels.now }
 {
@@ -71,7 +71,7 @@ fn missing(set: &InterleaveSet, labels: &[Placed]) -> Option<SetStatus>
     })
 }
 
-/// The first rule that finds something.
+/// Returns the first finding, in the order of the rules.
 fn finding(set: &InterleaveSet, labels: &[Placed]) -> Option<SetStatus>
     ensures { result ≡ first_fault (findings set.now labels.now) }
 {
@@ -89,8 +89,8 @@ fn finding(set: &InterleaveSet, labels: &[Placed]) -> Option<SetStatus>
         .or(missing(set, labels))
 }
 
-/// What labels make of which no rule finds anything: a namespace where their names agree, or where
-/// those without UPDATING agree on one and those with it on another.
+/// Returns the status of labels without a finding: they make up a namespace if their names agree,
+/// or if those without UPDATING agree on one name and those with it on another.
 fn naming(labels: &[Placed]) -> SetStatus
     ensures { result ≡ naming_of labels.now }
 {
@@ -116,16 +116,18 @@ fn naming(labels: &[Placed]) -> SetStatus
     }
 }
 
-/// What the labels of one UUID make, next to the interleave set of the region in which they lie.
+/// Returns the status of the labels of one UUID, with the interleave set of the region in which
+/// they lie.
 ///
-/// The first rule of `specs/Status.antt` that applies decides: Local; Twice; Outside; Cookie; Differs
-/// in Count; Position; Differs in Dpa (relative to the mapping), RawSize, LbaSize, Guids; Unaligned;
-/// then, where a module has no label, Unfinished if all labels have UPDATING and else Missing; then
-/// Complete, or Differs in Names. Of several modules the least is named. The rules are this project's,
-/// over the fields of UEFI 2.10, section 13.19.
+/// The first rule of `specs/Status.antt` that applies decides: Local; Twice; Outside; Cookie;
+/// Differs in Count; Position; Differs in Dpa (relative to the mapping), RawSize, LbaSize, Guids;
+/// Unaligned; then, if a module has no label, Unfinished if all labels have UPDATING, else Missing;
+/// then Complete, or Differs in Names. Of several modules the least is named. The rules are this
+/// project's, over the fields of UEFI 2.10, section 13.19.
 ///
-/// Condition: there is a label. All labels have one UUID; nothing else about them is asked. It takes no
-/// memory, and a pass over the labels for each rule; for Twice one for each module that has a label.
+/// There must be at least one label. All labels should have one UUID; the call doesn't check it. It
+/// takes no memory. It makes one pass over the labels for each rule; for Twice, one for each module
+/// that has a label.
 pub fn status(set: &InterleaveSet, labels: &[Placed]) -> SetStatus
     requires { 0 < length labels.now }
     ensures { result ≡ status_of set.now labels.now }

@@ -5,7 +5,7 @@ use crate::placed::Placed;
 use crate::rules::Rule;
 use interleave::InterleaveSet;
 
-/// Of two labels the one on the lesser module, of two on one module the first.
+/// Returns the label on the lesser module, or the first if both are on the same one.
 fn lesser(least: Option<Placed>, placed: Placed) -> Option<Placed>
     ensures { result ≡ lesser module_of least (Some placed) }
 {
@@ -15,7 +15,7 @@ fn lesser(least: Option<Placed>, placed: Placed) -> Option<Placed>
     }
 }
 
-/// The lesser of two numbers.
+/// Returns the lesser of two numbers.
 fn lesser_number(least: Option<u32>, number: u32) -> Option<u32>
     ensures { result ≡ lesser (λ n. n) least (Some number) }
 {
@@ -25,7 +25,7 @@ fn lesser_number(least: Option<u32>, number: u32) -> Option<u32>
     }
 }
 
-/// Of the labels that break a rule the one on the least module, of several there the first.
+/// Returns the label on the least module that violates a rule, the first of several there.
 pub fn least_breaking(rule: Rule, set: &InterleaveSet, labels: &[Placed]) -> Option<Placed>
     ensures { result ≡ least_where module_of (breaks_of rule set.now) labels.now }
 {
@@ -38,7 +38,7 @@ pub fn least_breaking(rule: Rule, set: &InterleaveSet, labels: &[Placed]) -> Opt
     least
 }
 
-/// Of the labels on modules from a number on the one on the least of them, of several there the first.
+/// Returns the label on the least module from `from` on, the first of several there.
 fn next_label(labels: &[Placed], from: u64) -> Option<Placed>
     ensures { result ≡ least_where module_of (λ p. nat_le from p.«module») labels.now }
 {
@@ -51,7 +51,7 @@ fn next_label(labels: &[Placed], from: u64) -> Option<Placed>
     least
 }
 
-/// How many of the labels a module has.
+/// Returns how many of the labels a module has.
 fn count_on(labels: &[Placed], module: u32) -> usize
     ensures { result ≡ count_by (λ p. p.«module» == «module») labels.now }
 {
@@ -61,7 +61,7 @@ fn count_on(labels: &[Placed], module: u32) -> usize
         .count()
 }
 
-/// The least module that has two of the labels. It takes one pass for each module that has one.
+/// Returns the least module with two of the labels. It makes one pass for each module that has one.
 pub fn least_twice(labels: &[Placed]) -> Option<u32>
     ensures { result ≡ least_twice labels.now }
 {
@@ -75,7 +75,7 @@ pub fn least_twice(labels: &[Placed]) -> Option<u32>
     None
 }
 
-/// The least module of the set that has no label.
+/// Returns the least module of the set without a label.
 pub fn least_missing(set: &InterleaveSet, labels: &[Placed]) -> Option<u32>
     ensures { result ≡ least_missing labels.now set.now }
 {

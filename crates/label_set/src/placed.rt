@@ -1,17 +1,17 @@
 use label_codec::{Label, Name};
 
-/// A valid label and where it is.
+/// A valid label and its place.
 #[derive(Clone, Copy, Debug)]
 pub struct Placed {
-    /// The number of the module in whose label area it is.
+    /// The number of its module.
     pub module: u32,
-    /// The number of its slot there.
+    /// The number of its slot on the module.
     pub slot: u32,
-    /// What it says.
+    /// The label.
     pub label: Label,
 }
 
-/// What the labels of one UUID make.
+/// The status of the labels of one UUID.
 #[derive(Clone, Copy, Debug)]
 pub enum SetStatus {
     /// A namespace with a label on each module of its set.
@@ -21,35 +21,35 @@ pub enum SetStatus {
         /// A label has the flag UPDATING: a change of the namespace isn't finished.
         pending: bool,
     },
-    /// A namespace whose creation or deletion isn't finished: labels are missing, and all that are
-    /// there have the flag UPDATING.
+    /// A namespace whose creation or deletion isn't finished: labels are missing, and all existing
+    /// ones have the flag UPDATING.
     Unfinished,
-    /// A label has the flag LOCAL: a namespace of one module, which isn't served.
+    /// A label has the flag LOCAL: a namespace of one module, which isn't supported.
     Local,
     /// No namespace.
     Incomplete {
-        /// The first rule that the labels break.
+        /// The first rule that the labels violate.
         why: Why,
     },
 }
 
-/// Why labels make no namespace. Modules are named by their numbers, and of several the least.
+/// Why labels make up no namespace. Modules are named by their numbers, the least of several.
 #[derive(Clone, Copy, Debug, PartialEq, Eq)]
 pub enum Why {
     /// The module has two of the labels.
     Twice { module: u32 },
     /// The module isn't in the set, or its label's extent isn't inside its mapping.
     Outside { module: u32 },
-    /// The module's label has a cookie, `found`, that isn't the set's.
+    /// The cookie in the module's label, `found`, isn't the set's.
     Cookie { module: u32, found: u64 },
-    /// The module's label has a position, `found`, that isn't the module's.
+    /// The position in the module's label, `found`, isn't the module's.
     Position { module: u32, found: u16 },
-    /// Two labels don't agree in a field; for Count, a label's NLabel isn't the set's count of modules.
+    /// Two labels differ in a field; for Count, a label's NLabel isn't the set's number of modules.
     Differs { field: Field },
-    /// The module's label begins, relative to its mapping, at no multiple of the set's unit, or its
-    /// RawSize is none.
+    /// The Dpa of the module's label, relative to its mapping, or its RawSize isn't a multiple of
+    /// the set's unit.
     Unaligned { module: u32 },
-    /// The module of the set has no label.
+    /// This module of the set has no label.
     Missing { module: u32 },
 }
 

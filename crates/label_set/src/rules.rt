@@ -5,7 +5,7 @@ ghost use Rattle.label_set.specs.Rules.{mapping_of, relative_of, is_past, is_out
 use crate::placed::{Field, Placed, Why};
 use interleave::InterleaveSet;
 
-/// What a single label may break, next to its interleave set.
+/// A rule for a single label and its interleave set.
 #[derive(Clone, Copy, Debug, PartialEq, Eq)]
 pub enum Rule {
     /// Its module is in the set, and its extent inside the module's mapping.
@@ -18,21 +18,21 @@ pub enum Rule {
     Aligned,
 }
 
-/// Whether a label has the flag LOCAL.
+/// Returns whether a label has the flag LOCAL.
 pub fn is_local(placed: &Placed) -> bool
     ensures { result ≡ is_local placed.now }
 {
     placed.label.is_local()
 }
 
-/// Whether a label has the flag UPDATING.
+/// Returns whether a label has the flag UPDATING.
 pub fn is_updating(placed: &Placed) -> bool
     ensures { result ≡ is_updating placed.now }
 {
     placed.label.is_updating()
 }
 
-/// The first device address of a module's mapping.
+/// Returns the first device address of a module's mapping.
 fn start_of(set: &InterleaveSet, module: u32) -> Option<u64>
     ensures { result ≡ option_map (λ m. m.start) (mapping_of set.now «module») }
 {
@@ -42,7 +42,7 @@ fn start_of(set: &InterleaveSet, module: u32) -> Option<u64>
     }
 }
 
-/// A label's address from the start of its mapping on, in bytes.
+/// Returns a label's address relative to the start of its mapping, in bytes.
 fn relative(set: &InterleaveSet, placed: &Placed) -> u64
     ensures { result ≡ relative_of set.now placed.now }
 {
@@ -52,7 +52,7 @@ fn relative(set: &InterleaveSet, placed: &Placed) -> u64
     }
 }
 
-/// Whether a label's extent isn't inside `span` bytes from `start` on.
+/// Returns whether a label's extent isn't inside `span` bytes from `start` on.
 fn leaves(start: u64, span: u64, placed: &Placed) -> bool
     ensures { result ≡ is_past start span placed.now }
 {
@@ -60,8 +60,8 @@ fn leaves(start: u64, span: u64, placed: &Placed) -> bool
     label.dpa < start || label.raw > span || label.dpa - start > span - label.raw
 }
 
-/// Whether a label's module isn't in the set, or its extent isn't inside the mapping of that module
-/// (UEFI 2.10, section 13.19, Dpa and RawSize).
+/// Returns whether a label's module isn't in the set, or its extent isn't inside the module's
+/// mapping (UEFI 2.10, section 13.19, Dpa and RawSize).
 pub fn is_outside(set: &InterleaveSet, placed: &Placed) -> bool
     ensures { result ≡ is_outside set.now placed.now }
 {
@@ -71,7 +71,7 @@ pub fn is_outside(set: &InterleaveSet, placed: &Placed) -> bool
     }
 }
 
-/// Whether a label's position isn't its module's.
+/// Returns whether a label's position isn't its module's.
 fn is_elsewhere(set: &InterleaveSet, placed: &Placed) -> bool
     ensures { result ≡ is_elsewhere set.now placed.now }
 {
@@ -81,7 +81,7 @@ fn is_elsewhere(set: &InterleaveSet, placed: &Placed) -> bool
     }
 }
 
-/// Whether a label's address or size is no multiple of the unit.
+/// Returns whether a label's address or size isn't a multiple of the unit.
 fn is_unaligned(set: &InterleaveSet, placed: &Placed) -> bool
     ensures { result ≡ is_unaligned set.now placed.now }
 {
@@ -90,7 +90,7 @@ fn is_unaligned(set: &InterleaveSet, placed: &Placed) -> bool
 }
 
 impl Rule {
-    /// Whether a label breaks the rule.
+    /// Returns whether a label violates the rule.
     pub fn breaks(self, set: &InterleaveSet, placed: &Placed) -> bool
         ensures { result ≡ breaks_of self set.now placed.now }
     {
@@ -102,7 +102,7 @@ impl Rule {
         }
     }
 
-    /// What a label that breaks the rule makes of its namespace.
+    /// Returns the reason for a label that violates the rule.
     pub fn why(self, placed: &Placed) -> Why
         ensures { result ≡ why_of self placed.now }
     {
@@ -122,7 +122,7 @@ impl Rule {
     }
 }
 
-/// Whether a label's GUIDs are those of another.
+/// Returns whether two labels have the same GUIDs.
 fn same_guids(first: &Placed, placed: &Placed) -> bool
     ensures { result ≡ same_guids first.now placed.now }
 {
@@ -130,7 +130,8 @@ fn same_guids(first: &Placed, placed: &Placed) -> bool
         && placed.label.abstraction.into_bytes() == first.label.abstraction.into_bytes()
 }
 
-/// Whether a label agrees in a field with the first of its namespace, or, for Count, with the set.
+/// Returns whether a label agrees in a field with the first of its namespace, or, for Count, with
+/// the set.
 pub fn agrees(field: Field, set: &InterleaveSet, first: &Placed, placed: &Placed) -> bool
     ensures { result ≡ agrees_of field set.now first.now placed.now }
 {
@@ -144,7 +145,7 @@ pub fn agrees(field: Field, set: &InterleaveSet, first: &Placed, placed: &Placed
     }
 }
 
-/// Whether a label's name is that of another.
+/// Returns whether two labels have the same name.
 pub fn same_name(first: &Placed, placed: &Placed) -> bool
     ensures { result ≡ same_name first.now placed.now }
 {

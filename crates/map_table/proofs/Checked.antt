@@ -1,4 +1,4 @@
--- The answer of the check from its parts.
+-- The result of the check, from its parts.
 use Rattle.std.proofs.Common.{◌≡◌, ℕ, zero, suc, ◌+◌, ◌<◌, ◌≤◌, min, Bool, true, false, cond, leb, ltb, List, [], ◌∷◌, ◌++◌, length, get_or, replicate, Option, Some, None, Result, Ok, Err, refl, sym, ap, ◌∙◌, inl, inr, arith}
 use Rattle.std.specs.Prelude.{find, position}
 use Rattle.std.specs.Option.{option_map}
@@ -13,7 +13,7 @@ use Rattle.map_table.specs.declared.check.BlockFault.TheVariants.{Range, Twice, 
 use Rattle.map_table.specs.Blocks.{blocks_from, blocks_of, count_of, first_outside, least_twice, block_check, IsCounted}
 use Rattle.map_table.proofs.Counting.{count_of-append}
 
--- ---- two lists one after another
+-- ---- two lists in sequence
 
 pub outside_first : (n b : ℕ) (xs ys : List ℕ) → Some b ≡ first_outside n xs → Some b ≡ first_outside n (xs ++ ys)
 unfolding first_outside
@@ -69,7 +69,7 @@ twice_is n counts blocks len counted =
 
 -- ---- the answers
 
--- the check by what its parts are
+-- the check, from the results of its parts
 parts : (n : ℕ) (blocks : List ℕ) (o p : Option ℕ) (short : Bool) → first_outside n blocks ≡ o → least_twice n blocks ≡ p → ltb (length blocks) n ≡ short
     → block_check n blocks ≡ value_unless tt (first_fault (option_map Range o ∷ option_map Twice p ∷ fault_if short (Count n (length blocks)) ∷ []))
 parts n blocks o p short e f g =
@@ -94,7 +94,7 @@ pub fine_answer : (n : ℕ) (blocks : List ℕ) → first_outside n blocks ≡ N
 unfolding first_fault
 fine_answer n blocks e f le = sym (parts n blocks None None false e f (le-ltb (length blocks) n le))
 
--- no case of Some is left
+-- an option that is never Some is None
 pub none_of : (o : Option ℕ) → ((x : ℕ) → o ≡ Some x → ⊥) → o ≡ None
 none_of None not' = refl
 none_of (Some x) not' = absurd (not' x refl)
@@ -106,13 +106,13 @@ pub counted_zeros : (n m : ℕ) (before now all : List ℕ) → m ≡ n → befo
 counted_zeros n m before now all e f counted block below =
     counted block (omega (arith, below, e)) ∙ ap (λ (l : List ℕ). min 2 (get_or l block 0 + count_of block all)) f
 
--- the first count above 1, where the counts began at zero
+-- the first count above 1, if the counts began at zero
 pub least_is : (n : ℕ) (before now all : List ℕ) (r : Option ℕ) → before ≡ replicate n 0 → length now ≡ length before → IsCounted (length before) before now all
     → r ≡ position (ltb 1) now → r ≡ least_twice n all
 least_is n before now all r e same counted is =
     let len : length before ≡ n = len_zeros n before e in
     is ∙ twice_is n now all (same ∙ len) (counted_zeros n (length before) before now all len e counted)
 
--- the first block outside, by the number of counts
+-- the first block without a count
 pub outside_is : (n : ℕ) (before all : List ℕ) (r : Option ℕ) → before ≡ replicate n 0 → r ≡ first_outside (length before) all → r ≡ first_outside n all
 outside_is n before all r e is = is ∙ ap (λ (m : ℕ). first_outside m all) (len_zeros n before e)

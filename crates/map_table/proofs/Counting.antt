@@ -1,4 +1,4 @@
--- Counts of blocks, one after another.
+-- Counting blocks one by one.
 use Rattle.std.proofs.Common.{◌≡◌, ◌≢◌, ℕ, ◌+◌, ◌<◌, ◌≤◌, min, Bool, true, false, cond, eqb, List, [], ◌∷◌, ◌++◌, length, drop, set, get_or, Some, None, refl, sym, ap, ◌∙◌, subst, arith, add-one, drop-cons}
 use Rattle.std.proofs.lemmas.Bool.{eqb-true, eqb-false, le-leb, lt-leb}
 use Rattle.std.proofs.lemmas.List.Sums.{sum_by-cons, sum_by-append}
@@ -13,7 +13,7 @@ count_of-cons block x xs = sum_by-cons (λ b. cond (eqb b block) 1 0) x xs
 pub count_of-append : (block : ℕ) (xs ys : List ℕ) → count_of block (xs ++ ys) ≡ count_of block xs + count_of block ys
 count_of-append block xs ys = sum_by-append (λ b. cond (eqb b block) 1 0) xs ys
 
--- the first outside, one element on
+-- the first block outside, past one inside
 pub outside_on : (n x : ℕ) (xs : List ℕ) → x < n → first_outside n (x ∷ xs) ≡ first_outside n xs
 unfolding first_outside
 outside_on n x xs lt = rw (lt-leb n x lt) refl
@@ -26,7 +26,7 @@ pub outside_none : (n : ℕ) → first_outside n [] ≡ None
 unfolding first_outside
 outside_none n = refl
 
--- what is counted and what is still to be counted make up what is to be counted
+-- the counts so far and the blocks still to come add up to the total
 abbrev pub IsCountedTo : ℕ → List ℕ → List ℕ → List ℕ → List ℕ → Type 0
 IsCountedTo n now rest before all =
     (block : ℕ) → block < n → min 2 (get_or now block 0 + count_of block rest) ≡ min 2 (get_or before block 0 + count_of block all)
@@ -48,7 +48,7 @@ counted_by false n now next before all rest x block test lt e was =
     let more : count_of block (x ∷ rest) ≡ count_of block rest = count_of-cons block x rest ∙ ap (λ (b : Bool). cond b 1 0 + count_of block rest) test ∙ omega arith in
     omega (arith, here, more, was)
 
--- a loop over blocks: what is still to come decides as all do, and is still to be counted
+-- the invariant of a loop over blocks: the rest decides as the whole does, and is still to be counted
 pub record Going (n : ℕ) (now rest before all : List ℕ) : Type 0 where
   pub sized : length now ≡ n
   pub outside : first_outside n all ≡ first_outside n rest

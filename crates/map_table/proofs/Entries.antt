@@ -25,7 +25,7 @@ unfolding entry_in with_entry
 put_by true word sector entry lt e = rw e (omega arith)
 put_by false word sector entry lt e = rw e (omega arith)
 
--- an entry that was put in is taken out
+-- an entry that was put in is read back
 pub put_back : (word sector entry : ℕ) → entry < 2 ^ 32 → entry_in (with_entry word sector entry) sector ≡ entry
 put_back word sector entry lt = put_by (eqb (sector % 2) 0) word sector entry lt refl
 
@@ -40,6 +40,6 @@ other_by false word sector entry other lt e apart =
     let o : eqb (other % 2) 0 ≡ true = eq-eqb (other % 2) 0 (omega (arith, apart, odd)) in
     rw (e, o) (omega arith)
 
--- the other entry of the word stays
+-- the other entry of the word is unchanged
 pub other_stays : (word sector entry other : ℕ) → entry < 2 ^ 32 → other % 2 ≢ sector % 2 → entry_in (with_entry word sector entry) other ≡ entry_in word other
 other_stays word sector entry other lt apart = other_by (eqb (sector % 2) 0) word sector entry other lt refl apart

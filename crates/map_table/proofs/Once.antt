@@ -1,4 +1,5 @@
--- Each block is named once exactly where none is outside, none is named twice and there are enough (the pigeonhole principle).
+-- Each block is named once exactly if none is outside, none is named twice, and there are enough names (the pigeonhole
+-- principle).
 use Rattle.std.proofs.Common.{◌≡◌, ℕ, zero, suc, ◌+◌, ◌<◌, ◌≤◌, Bool, true, false, cond, eqb, leb, ltb, List, [], ◌∷◌, length, get_or, Option, Some, None, Result, Ok, Err, refl, sym, ap, ◌∙◌, inl, inr, arith}
 use Rattle.std.specs.Prelude.{find, All, OnOk}
 use Rattle.std.specs.List.{range_with_len}
@@ -53,7 +54,7 @@ total_low : (n : ℕ) (blocks : List ℕ) → ((b : ℕ) → b < n → count_of 
 total_low zero blocks low = omega arith
 total_low (suc n) blocks low = omega (arith, low n (omega arith), total_low n blocks (λ b lt. low b (omega (arith, lt))))
 
--- the pigeonhole principle: where none is named twice and there are n, each is named
+-- the pigeonhole principle: if none is named twice and there are n names, each is named
 pub each_once : (n : ℕ) (blocks : List ℕ) → ((b : ℕ) → b < n → count_of b blocks ≤ 1) → n ≤ total n blocks → (b : ℕ) → b < n → count_of b blocks ≡ 1
 each_once zero blocks low enough b lt = absurd (omega arith)
 each_once (suc n) blocks low enough b lt =
@@ -138,7 +139,7 @@ once_named n blocks names =
     find_none (λ k. ltb 1 (count_of k blocks)) 0 n (λ b low high. le-ltb 1 (count_of b blocks) (omega (arith, names.once b (omega (arith, high))))) in
     sym (fine_answer n blocks none least (omega (arith, total_all n blocks names.below, total_ones n blocks names.once)))
 
--- what was answered Ok
+-- the check returned Ok
 pub sound : (n : ℕ) (blocks : List ℕ) (r : Result (Unit {0}) BlockFault) → Answers OutOfMemory r (block_check n blocks) → OnOk r (NamesEachOnce n blocks)
 sound n blocks (Ok u) answer = names_once n blocks (sym (answer (λ e. cc)))
 sound n blocks (Err f) answer = tt

@@ -1,4 +1,4 @@
--- Worked rows, computed.
+-- Worked examples, computed on the definitions.
 use Rattle.std.proofs.Common.{◌≡◌, ℕ, [], ◌∷◌, Result, Ok, Err, refl}
 use Rattle.nvd_words.specs.Checks.{first_fault}
 use Rattle.map_table.specs.declared.kinds.Entry.{Entry}

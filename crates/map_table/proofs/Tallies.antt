@@ -14,7 +14,7 @@ pub none_counted : (n : ℕ) → counts_of (replicate n false) (replicate n fals
 none_counted zero = refl
 none_counted (suc n) = ap (λ (rest : List ℕ). 0 ∷ rest) (none_counted n)
 
--- a block that wasn't named is named
+-- a block is named for the first time
 pub counts_first : (named again : List Bool) (i : ℕ) → length again ≡ length named → i < length named → get_or named i false ≡ false
     → counts_of (set named i true) again ≡ set (counts_of named again) i (min 2 (get_or (counts_of named again) i 0 + 1))
 counts_first [] again i same lt is = absurd (omega (arith, lt))
@@ -24,7 +24,7 @@ counts_first (n ∷ named) (false ∷ again) zero same lt is = rw is refl
 counts_first (n ∷ named) (a ∷ again) (suc i) same lt is =
     ap (λ (rest : List ℕ). times n a ∷ rest) (counts_first named again i (omega (arith, same)) (omega (arith, lt)) is)
 
--- a block that was named is named again
+-- a block is named again
 pub counts_again : (named again : List Bool) (i : ℕ) → length again ≡ length named → i < length named → get_or named i false ≡ true
     → counts_of named (set again i true) ≡ set (counts_of named again) i (min 2 (get_or (counts_of named again) i 0 + 1))
 counts_again [] again i same lt is = absurd (omega (arith, lt))
@@ -49,7 +49,7 @@ flagged_from k (n ∷ named) (a ∷ again) same =
     ap (λ (b : Bool). cond b (Some k) (position_from (ltb 1) (k + 1) (counts_of named again))) (above n a)
     ∙ ap (λ (r : Option ℕ). cond a (Some k) r) (flagged_from (k + 1) named again (omega (arith, same)))
 
--- the first count above 1 stands where the second row's first flag does
+-- the first count above 1 is at the second row's first set flag
 pub first_flagged : (named again : List Bool) → length again ≡ length named → position (ltb 1) (counts_of named again) ≡ position (λ (a : Bool). a) again
 first_flagged named again same =
     position_from-zero (ltb 1) (counts_of named again) ∙ flagged_from 0 named again same ∙ sym (position_from-zero (λ (a : Bool). a) again)
@@ -69,7 +69,7 @@ searched_by flag flags i lt is =
     ap (λ (l : List Bool). position_from (λ (f : Bool). f) i l) (rest_of_flags flags i lt)
     ∙ ap (λ (b : Bool). cond b (Some i) (position_from (λ (f : Bool). f) (i + 1) (drop (i + 1) flags))) is
 
--- the flag at a place is the first that is set
+-- the flag at a place is the first set one
 pub search_ends : (flags : List Bool) (i : ℕ) → i < length flags → get_or flags i false ≡ true
     → position_from (λ (f : Bool). f) 0 flags ≡ position_from (λ (f : Bool). f) i (drop i flags) → Some i ≡ position (λ (f : Bool). f) flags
 search_ends flags i lt set' was = sym (position_from-zero (λ (f : Bool). f) flags ∙ was ∙ searched_by true flags i lt set')

@@ -6,7 +6,7 @@ use Rattle.map_table.specs.declared.kinds.Kind.TheVariants as kind
 
 -- ---- one entry of 32 bits
 
--- the bits: 0 to 29 number a block, 30 is Error, 31 is Zero
+-- bits 0 to 29 are the block's number, bit 30 is Error, bit 31 is Zero
 abbrev pub block_bits : ℕ → ℕ
 block_bits word = word % 2 ^ 30
 
@@ -30,7 +30,7 @@ block_of kind.Zero word sector = block_bits word
 block_of kind.Bad word sector = block_bits word
 block_of kind.Normal word sector = block_bits word
 
--- what the entry of a sector means
+-- decodes the entry of a sector
 unfoldable pub entry_of : ℕ → ℕ → Entry
 entry_of word sector =
     let k = kind_of (has_zero word) (has_error word) in
@@ -44,9 +44,9 @@ normal_of block = 2 ^ 31 + 2 ^ 30 + block
 abbrev pub zero_of : ℕ → ℕ
 zero_of block = 2 ^ 31 + block
 
--- ---- a map word of 64 bits has two entries, the even sector's below
+-- ---- a map word of 64 bits has two entries, the even sector's in the low half
 
--- the number by which a sector's entry stands higher in its word
+-- the weight of a sector's entry in its word
 abbrev pub weight_of : ℕ → ℕ
 weight_of sector = if sector % 2 == 0 then 1 else 2 ^ 32
 

@@ -1,7 +1,7 @@
--- How often blocks were named, by two rows of flags.
+-- Counts as two rows of flags.
 use Rattle.std.specs.Prelude.{ℕ, Bool, if◌then◌else◌, List, [], ◌∷◌}
 
--- 2 stands for every number above 1
+-- 2 stands for every count above 1
 abbrev pub times : Bool → Bool → ℕ
 times named again = if again then 2 else if named then 1 else 0
 

@@ -6,20 +6,21 @@ use crate::counts::Counts;
 use crate::words::entry;
 use std::alloc::Global;
 
-/// Why a map and its free blocks don't name each block once.
+/// Why a map and its lanes' free blocks don't name each block exactly once.
 #[derive(Clone, Copy, Debug, PartialEq, Eq)]
 pub enum BlockFault {
-    /// A block isn't below the number of blocks: the first such in the map, and then among the free ones.
+    /// A block number isn't below the number of blocks: the first such one in the map, else among
+    /// the free blocks.
     Range { block: u32 },
-    /// A block is named more than once: the least such.
+    /// The least block that is named more than once.
     Twice { block: u32 },
-    /// There are fewer entries and free blocks together (`had`) than blocks (`said`).
+    /// Entries and free blocks together (`had`) are fewer than the blocks (`said`).
     Count { said: u32, had: u64 },
-    /// There was no memory for two bits a block.
+    /// No memory for two bits for each block.
     OutOfMemory,
 }
 
-/// Counts the blocks of a map's entries; the first that has no count is handed back.
+/// Counts the blocks of a map's entries. It returns the first one without a count, if there is one.
 fn count_entries(counts: &mut Counts, map: &[u32]) -> Option<u32>
     requires { length map.now ≤ 2 ^ 32 }
     ensures sized { length counts.new ≡ length counts.old }
@@ -36,7 +37,7 @@ fn count_entries(counts: &mut Counts, map: &[u32]) -> Option<u32>
     None
 }
 
-/// Counts free blocks; the first that has no count is handed back.
+/// Counts free blocks. It returns the first one without a count, if there is one.
 fn count_free(counts: &mut Counts, free: &[u32]) -> Option<u32>
     ensures sized { length counts.new ≡ length counts.old }
     ensures outside { result ≡ first_outside (length counts.old) free.now }
@@ -51,7 +52,8 @@ fn count_free(counts: &mut Counts, free: &[u32]) -> Option<u32>
     None
 }
 
-/// Counts the blocks of a map's entries and then free ones; the first that has no count is handed back.
+/// Counts the blocks of a map's entries, then the free ones. It returns the first one without a
+/// count, if there is one.
 fn count_all(counts: &mut Counts, map: &[u32], free: &[u32]) -> Option<u32>
     requires { length map.now ≤ 2 ^ 32 }
     ensures sized { length counts.new ≡ length counts.old }
@@ -64,7 +66,7 @@ fn count_all(counts: &mut Counts, map: &[u32], free: &[u32]) -> Option<u32>
     }
 }
 
-/// The check over counts that are all zero.
+/// Makes the check with counts that are all zero.
 fn check_counted(
     counts: &mut Counts,
     map: &[u32],
@@ -93,7 +95,7 @@ fn check_counted(
     Ok(())
 }
 
-/// Memory for the counts, and the check.
+/// Allocates the counts and makes the check.
 fn check_in(alloc: Global, map: &[u32], free: &[u32], internal: u32) -> Result<(), BlockFault>
     requires { length map.now ≤ 2 ^ 32 }
     ensures { Answers BlockFault.OutOfMemory result (block_check internal (blocks_of map.now free.now)) }
@@ -104,12 +106,14 @@ fn check_in(alloc: Global, map: &[u32], free: &[u32], internal: u32) -> Result<(
     }
 }
 
-/// Whether the entries of a map and the lanes' free blocks name each block below `internal` exactly once.
+/// Checks that the entries of a map and the lanes' free blocks name each block below `internal`
+/// exactly once.
 ///
-/// `map` has the entry of sector i at i. Refusals, the first that holds: Range, Twice, Count; want of memory may come
-/// in place of any answer. Takes two bits for each block and one pass over each list.
+/// `map` has the entry of sector i at i. The call refuses with the first of Range, Twice and Count
+/// that applies; `OutOfMemory` may replace any result. It takes two bits for each block and one
+/// pass over each list.
 ///
-/// Condition: the map's sectors are numbered by `u32`.
+/// The map may have at most 2^32 entries.
 pub fn check_blocks(
     alloc: Global,
     map: &[u32],

@@ -4,18 +4,18 @@ use nvd_words::Flags;
 use std::alloc::{AllocError, Global};
 use std::marker::Model;
 
-/// How often each block was named. Contracts see the list of the counts, in which 2 stands for every
-/// number above 1.
+/// How often each block was named. Contracts see a list of counts; 2 stands for every count above
+/// 1.
 ///
-/// It takes two bits a block, in two rows of which the second is hardly ever touched, so that counting
-/// stays within the processor's cache for maps of millions of blocks in any order.
+/// It takes two bits for each block, in two rows. The second row is rarely touched, so the counts
+/// of millions of blocks in random order stay in the processor's cache.
 #[derive(Drop)]
 pub struct Counts {
     named: Flags,
     again: Flags,
 }
 
-/// The first flag of a row that is set.
+/// Returns the place of the first set flag.
 fn first_flag(flags: &Flags) -> Option<usize>
     ensures first { result ≡ position (λ flag. flag) flags.now }
     ensures inside { IfSome result (λ place. place < length flags.now) }
@@ -40,7 +40,7 @@ impl Model for Counts {
 }
 
 impl Counts {
-    /// Counts of so many blocks, all of them 0. The one refusal is want of memory.
+    /// Makes `blocks` counts, all of them 0. It fails only if memory runs out.
     pub fn new(alloc: Global, blocks: usize) -> Result<Counts, AllocError>
         ensures { IfOk result (λ counts. counts ≡ replicate blocks 0) }
     {
@@ -57,7 +57,7 @@ impl Counts {
         self.named.len()
     }
 
-    /// Counts a block once more. A count that has reached 2 stays there.
+    /// Counts a block once more. A count of 2 stays 2.
     #[inline]
     pub fn add(&mut self, block: usize)
         requires { block < length self.old }
@@ -70,7 +70,7 @@ impl Counts {
         }
     }
 
-    /// The least block with a count of 2.
+    /// Returns the least block with a count of 2.
     pub fn least_twice(&self) -> Option<usize>
         ensures block { result ≡ position (nat_lt 1) self.now }
         ensures inside { IfSome result (λ block. block < length self.now) }

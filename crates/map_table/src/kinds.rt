@@ -1,13 +1,14 @@
-/// What a sector's entry says of its bytes.
+/// What a sector's entry says about its bytes.
 #[derive(Clone, Copy, Debug, PartialEq, Eq)]
 pub enum Kind {
-    /// Neither flag: never written. The block has the sector's own number, and its bytes count as they stand.
+    /// Neither flag: never written. The block has the sector's own number, and the sector has its
+    /// bytes.
     Initial,
-    /// Zero alone: reads give zeros.
+    /// Zero alone: reads return zeros.
     Zero,
-    /// Error alone: reads are bad, and a write clears it.
+    /// Error alone: reads fail, and a write clears it.
     Bad,
-    /// Both flags: the block's bytes.
+    /// Both flags: the sector has the block's bytes.
     Normal,
 }
 
@@ -15,6 +16,6 @@ pub enum Kind {
 #[derive(Clone, Copy, Debug, PartialEq, Eq)]
 pub struct Entry {
     pub kind: Kind,
-    /// The block that belongs to the sector, whatever the kind.
+    /// The sector's block, whatever the kind.
     pub block: u32,
 }

@@ -1,8 +1,8 @@
 //! The map of an arena: which block holds a sector.
 //!
-//! An arena has `external` sectors and some more blocks, its `internal` ones. The map has one entry of 32 bits for each
-//! sector; each block that no entry names is a lane's free block. A write fills a free block and then switches one
-//! entry, so a sector has its old bytes or its new ones.
+//! An arena has `external` sectors and a few more blocks, `internal` in all. The map has an entry
+//! of 32 bits for each sector; each block that no entry names is a lane's free block. A write fills
+//! a free block and then switches one entry, so a sector has its old bytes or its new ones.
 //!
 //! ```text
 //!   bit  31      30      29 .. 0
@@ -16,12 +16,12 @@
 //!                          +----------------------+----------------------+
 //! ```
 //!
-//! What holds is stated in `specs/Entry.antt` (`entry_of` is what an entry means, `entry_in` and `with_entry` take one
-//! out of a word and put one in) and in `specs/Blocks.antt` (`block_check`, and `NamesEachOnce`: the map and the lanes
-//! name each block exactly once, which [`check_blocks`] answers).
+//! `specs/Entry.antt` defines the meaning of an entry (`entry_of`) and how two entries share a word
+//! (`entry_in`, `with_entry`). `specs/Blocks.antt` defines `NamesEachOnce`, that the map and the
+//! lanes name each block exactly once, and `block_check`, the result of [`check_blocks`].
 //!
-//! Sources: UEFI 2.10, section 6.2, BTT Map Entry; that an initial entry's sector has its block's bytes as they stand is
-//! this project's rule.
+//! Sources: UEFI 2.10, section 6.2, BTT Map Entry. It is this project's rule that a sector with an
+//! initial entry has the bytes of its block.
 #![tactic(auto)]
 
 mod check;

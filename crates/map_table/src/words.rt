@@ -3,7 +3,7 @@ ghost use Rattle.map_table.specs.Entry.{entry_of, normal_of, zero_of, entry_in, 
 
 use crate::kinds::{Entry, Kind};
 
-/// Bits 0 to 29 number a block.
+/// Bits 0 to 29 are the block's number.
 const BLOCK: u32 = (1 << 30) - 1;
 /// Bit 30, Error.
 const ERROR: u32 = 1 << 30;
@@ -12,7 +12,7 @@ const ZERO: u32 = 1 << 31;
 /// A normal entry has both flags.
 const NORMAL: u32 = ZERO | ERROR;
 
-/// What the entry of a sector means. The low bits of an initial entry are ignored.
+/// Decodes the entry of a sector. The low bits of an initial entry are ignored.
 #[inline]
 #[tactic(auto, unfolding(crate::specs::Entry::entry_of))]
 pub fn entry(word: u32, sector: u32) -> Entry
@@ -39,7 +39,7 @@ pub fn entry(word: u32, sector: u32) -> Entry
     }
 }
 
-/// The normal entry of a block. Condition: the block is below 2^30.
+/// Returns the normal entry of a block. The block must be below 2^30.
 #[inline]
 pub fn normal(block: u32) -> u32
     requires { block < 2 ^ 30 }
@@ -49,7 +49,8 @@ pub fn normal(block: u32) -> u32
     NORMAL + block
 }
 
-/// The entry of a block that reads as zeros, as a new arena has it. Condition: the block is below 2^30.
+/// Returns the entry of a block that reads as zeros, as in a new arena. The block must be below
+/// 2^30.
 #[inline]
 pub fn zero(block: u32) -> u32
     requires { block < 2 ^ 30 }
@@ -59,7 +60,7 @@ pub fn zero(block: u32) -> u32
     ZERO + block
 }
 
-/// Takes a sector's entry out of its map word (that of number sector / 2).
+/// Returns a sector's entry from its map word, the word sector / 2.
 #[inline]
 #[tactic(auto, unfolding(crate::specs::Entry::entry_in))]
 pub fn entry_in(word: u64, sector: u32) -> u32
@@ -84,7 +85,7 @@ fn replaced(word: u64, sector: u32, entry: u32) -> u64
     }
 }
 
-/// Puts a sector's entry into its map word; the other sector's entry stays.
+/// Returns the map word with a new entry for a sector; the other sector's entry is unchanged.
 #[inline]
 pub fn with_entry(word: u64, sector: u32, entry: u32) -> u64
     ensures word { result ≡ with_entry word sector entry }

@@ -13,7 +13,7 @@ use Rattle.label_area.specs.Area.{SlotState}
 use Rattle.namespace_map.proofs.Slots.{IsOwn, own_place}
 use Rattle.namespace_map.proofs.Labels.{part, placed_at, part_none, part_one, own_from, labels_of_areas}
 
--- the label of a module, as it lies there
+-- the label of a module, with its place
 abbrev pub placed_by : (ℕ → Option Label) → (ℕ → ℕ) → ℕ → Option Placed
 placed_by lab slots m = option_map (λ l. placed_at m (slots m) (record l { slot = slots m })) (lab m)
 

@@ -1,4 +1,4 @@
--- The map and the areas of a list of changes, by what it makes of one entry and of the free slots.
+-- The map and the areas after a list of changes, from its effect on one entry and on the free slots.
 use Rattle.std.proofs.Common.{◌≡◌, ◌≢◌, ℕ, ◌+◌, ◌-◌, ◌<◌, Bool, true, false, cond, List, [], ◌∷◌, length, get_or, Option, Some, None, refl, sym, ap, ◌∙◌, subst, arith, inl, inr, ◌⊎◌}
 use Rattle.std.specs.Prelude.{map}
 use Rattle.std.specs.List.{AllByRecursion}
@@ -71,7 +71,7 @@ module _ (sets : List (List Mapping)) (areas : List (Option Area)) (uuid : List 
   others u ne =
       lookup_entries sets (placed_in_all (all_changed areas cs)) u ∙ other_entries_stay sets cs u uuid areas ne of ∙ sym (lookup_entries sets (placed_in_all areas) u)
 
-  -- one entry comes, or takes the place of one
+  -- one entry is added or replaced
   pub entries_put : (e : Entry) → e.uuid ≡ uuid → lookup uuid after ≡ Some e → after ≡ put e before
   entries_put e is found =
       rising_same after (put e before) (rising_entries sets (placed_in_all (all_changed areas cs))) (rising_put before e (rising_entries sets (placed_in_all areas)))
@@ -81,7 +81,7 @@ module _ (sets : List (List Mapping)) (areas : List (Option Area)) (uuid : List 
       by u (inl it) = rw it (subst (λ (v : List ℕ). lookup v after ≡ Some e) (sym is ∙ (bytes_eq-Decides e.uuid u).0 it) found)
       by u (inr not_it) = rw not_it (others u (λ same. false≢true (sym not_it ∙ (bytes_eq-Decides e.uuid u).1 (is ∙ sym same))))
 
-  -- one entry goes
+  -- one entry is removed
   pub entries_without : lookup uuid after ≡ None → after ≡ without uuid before
   entries_without found =
       rising_same after (without uuid before) (rising_entries sets (placed_in_all (all_changed areas cs))) (rising_without before uuid (rising_entries sets (placed_in_all areas)))

@@ -1,4 +1,4 @@
--- A whole create: its label changes make of the areas what it makes of the map.
+-- A complete create: its label changes have the effect of its step on the map.
 use Rattle.std.proofs.Common.{◌≡◌, ◌≢◌, ℕ, suc, ◌+◌, ◌-◌, ◌≤◌, true, false, List, [], ◌∷◌, length, Option, Some, None, refl, sym, ap, ◌∙◌, subst, arith, inl, inr}
 use Rattle.std.specs.Prelude.{◌==◌, map}
 use Rattle.std.specs.List.{AllByRecursion, enumerate_from}
@@ -46,7 +46,7 @@ none_apart : (ms : List Mapping) (m : ℕ) → AllByRecursion (λ (k : Mapping).
 none_apart [] m all = refl
 none_apart (k ∷ ks) m (ne, rest) = rw (ne_eqb k.«module» m (λ e. ne (sym e))) (none_apart ks m rest)
 
--- a module of a set stands once among its modules
+-- a module of a set occurs once among its modules
 count_in_one : (ms : List Mapping) (m : ℕ) (k : Mapping) → ModulesApart ms → mapping_of ms m ≡ Some k → count_in (modules_of ms) m ≡ 1
 count_in_one [] m k apart e = absurd (none-some k e)
 count_in_one (j ∷ js) m k (one, rest) e =

@@ -1,4 +1,4 @@
--- A whole delete and a whole rename: their label changes make of the areas what they make of the map.
+-- A complete delete and a complete rename: their label changes have the effect of their steps on the map.
 use Rattle.std.proofs.Common.{◌≡◌, ◌≢◌, ℕ, ◌+◌, ◌≤◌, Bool, true, false, List, [], ◌∷◌, length, Option, Some, None, refl, sym, ap, ◌∙◌, subst, arith, inl, inr}
 use Rattle.std.specs.List.{AllByRecursion}
 use Rattle.std.proofs.lemmas.Bool.{cases_Bool, false≢true, cases_eq, cases_lt, eq-eqb, ne_eqb, le-leb}
@@ -101,7 +101,7 @@ module _ (sets : List (List Mapping)) (areas : List (Option Area)) (uuid : List 
           | inr not_it ↦ two_miss to_updating to_nothing own_ps lab m not_it ∙ unnamed_none m not_it
         ]
 
-    -- one label alone, which needs no free slot
+    -- a single label, which needs no free slot
     module _ (p : ℕ × Label) (same : own_ps ≡ p ∷ []) where
       abbrev gone : Change
       gone = change_to to_nothing p

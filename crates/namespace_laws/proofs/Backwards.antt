@@ -1,4 +1,4 @@
--- A complete status that isn't pending says that all names agree, and that no label changes.
+-- A complete status that isn't pending means that all names agree, and that no label has UPDATING.
 use Rattle.std.proofs.Common.{◌≡◌, ℕ, true, false, List, [], Option, Some, None, refl, sym, ap, ◌∙◌}
 use Rattle.std.specs.Prelude.{filter, map, unwrap_or}
 use Rattle.std.specs.List.{list_any}

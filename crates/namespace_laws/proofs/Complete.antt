@@ -29,7 +29,7 @@ use Rattle.namespace_laws.proofs.Sets.{no_fault, unmapped}
 use Rattle.namespace_laws.proofs.Shaped.{least_nothing}
 use Rattle.namespace_laws.proofs.Allowed.{passed_if}
 
--- ---- no finding says that labels are complete
+-- ---- without a finding, labels are complete
 
 abbrev FindsNone : Option SetStatus → Type 0
 FindsNone o = (s : SetStatus) → o ≡ Some s → is_complete s ≡ false
@@ -87,7 +87,7 @@ each_finds set own = (
   ),
 )
 
--- so a complete status says that nothing is found, and comes from the names
+-- so a complete status means that there is no finding, and follows from the names
 record Passed (set : List Mapping) (own : List Placed) (name : List ℕ) (pending : Bool) : Type 0 where
   none : first_fault (findings set own) ≡ None
   named : naming_of own ≡ Complete name pending
@@ -100,7 +100,7 @@ passed set own name pending e = by (first_fault (findings set own)) refl e
     by None is f = record { none = is; named = f }
     by (Some s) is f = absurd (false≢true (sym (first_finds (findings set own) (each_finds set own) s is) ∙ ap is_complete f))
 
--- ---- what no label breaks
+-- ---- rules that no label violates
 
 differ_none : (field : Field) (set : List Mapping) (p : Placed) (ps : List Placed) → differing_finding field set (p ∷ ps) ≡ None → AllByRecursion (λ q. agrees_of field set p q ≡ true) (p ∷ ps)
 differ_none field set p ps e =
@@ -110,11 +110,11 @@ differ_none field set p ps e =
 broken_none : (r : Rule) (set : List Mapping) (own : List Placed) → broken_finding r set own ≡ None → AllByRecursion (λ q. breaks_of r set q ≡ false) own
 broken_none r set own e = least_nothing module_of (breaks_of r set) own (unmapped (λ p. Incomplete (why_of r p)) (least_where module_of (breaks_of r set) own) e)
 
--- what the labels have in common, as the first of them says it
+-- what the labels have in common, from the first of them
 abbrev pub shared_of : List Mapping → Placed → Shared
 shared_of set p = record { offset = relative_of set p; raw = p.label.raw; lba = p.label.lba; kind = p.label.kind; abstraction = p.label.abstraction }
 
--- what the rules say of one label next to the first
+-- one label follows the rules, given the first
 record Keeps (set : List Mapping) (p q : Placed) : Type 0 where
   quiet : is_local q ≡ false
   inside : breaks_of rule.Inside set q ≡ false
@@ -169,7 +169,7 @@ sound_one set p q k = by (mapping_of set q.«module») refl (position (λ m. m.�
           not_local = k.quiet;
         }
 
--- what a complete status says
+-- what follows from a complete status
 pub record Facts (set : List Mapping) (p : Placed) (own : List Placed) (name : List ℕ) (pending : Bool) : Type 0 where
   pub sound : AllByRecursion (SoundIn set (shared_of set p)) own
   pub whole : IsWhole set (shared_of set p)

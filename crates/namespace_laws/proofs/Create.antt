@@ -1,4 +1,4 @@
--- What a cut of a create leaves.
+-- The areas after a crash during a create.
 use Rattle.std.proofs.Common.{◌≡◌, ℕ, zero, suc, ◌<◌, ◌≤◌, Bool, true, false, List, [], ◌∷◌, ◌++◌, length, take, get_or, Option, Some, None, refl, sym, ap, ◌∙◌, subst, arith, inl, inr, ◌⊎◌}
 use Rattle.std.proofs.Math.ListN.{length-set}
 use Rattle.std.specs.Prelude.{map}
@@ -25,13 +25,13 @@ use Rattle.namespace_laws.proofs.Staged.{in_two_many, front_of_two, FrontOfTwo, 
 use Rattle.namespace_laws.proofs.Table.{changes_now, updating_changes, settled_doesnt, sound_like, like_updating, like_settled, own_unfinished, own_complete, Model, SoundAs}
 use Rattle.namespace_map.proofs.Fronts.{cut_is_front, IsFront}
 
--- what holds before, and of each new label, holds after
+-- a property that holds before, and of each new label, holds after
 pub lab_keeps : (Q : ℕ → Label → Type 0) (f : Label → Option Label) (ps : List (ℕ × Label)) (lab : ℕ → Option Label) → AllLab Q lab
     → AllByRecursion (λ p. (l : Label) → f p.1 ≡ Some l → Q p.0 l) ps → AllLab Q (moved_all lab (map (change_to f) ps))
 lab_keeps Q f ps lab before each m l is =
     moved_keeps (λ n o. (k : Label) → o ≡ Some k → Q n k) (map (change_to f) ps) lab before (all_map (λ c. (k : Label) → c.label ≡ Some k → Q c.number k) (change_to f) ps each) m l is
 
--- an entry of sound labels with one name stands with this status
+-- an entry of valid labels with one name has this status
 pub record StandsAs (uuid : List ℕ) (set : List Mapping) (c : Model) (name : List ℕ) (status : SetStatus) (left : List (Option Area)) : Type 0 where
   pub lab : ℕ → Option Label
   pub proper : Proper uuid lab left
@@ -57,7 +57,7 @@ pub record IsNew (set : List Mapping) (c : Model) (name : List ℕ) (p : ℕ × 
   pub sound : SoundAs set c p.0 p.1
   pub named : p.1.name ≡ name
 
--- what may stand: nothing, a part, all of it with some label still changing, all of it
+-- the possible states: nothing, a part, all of it with some label still updating, all of it
 abbrev pub CreateLeft : List ℕ → List Mapping → Model → List ℕ → List (Option Area) → List (Option Area) → Type 0
 CreateLeft uuid set c name areas left =
     (left ≡ areas)
@@ -83,7 +83,7 @@ module _ (uuid : List ℕ) (set : List Mapping) (c : Model) (whole : IsWhole set
   proper_one : (k : ℕ) → Proper uuid (lab_one k) (all_changed areas (first (take k ps)))
   proper_one k = proper_after (first (take k ps)) uuid lab areas proper (fit_one k)
 
-  -- what each label is while the first stage goes on
+  -- each label during the first stage
   each_one : (k : ℕ) → AllLab (λ m l. SoundAs set c m l × (l.name ≡ name) × (changes_now l ≡ true)) (lab_one k)
   each_one k =
       lab_keeps (λ m l. SoundAs set c m l × (l.name ≡ name) × (changes_now l ≡ true)) put_updating (take k ps) lab (λ m l is. absurd (none-some l (sym (none m) ∙ is)))
@@ -98,7 +98,7 @@ module _ (uuid : List ℕ) (set : List Mapping) (c : Model) (whole : IsWhole set
   place_there : (i : ℕ) → i < length ps → at i < length areas
   place_there i below = (all_at (IsGiven uuid lab areas) ps i d below given).1.there
 
-  -- a change of a module's label happened
+  -- a change of a module's label was made
   given_one : (k i : ℕ) → i < k → i < length ps → (l : Label) × (lab_one k (at i) ≡ Some l) × (changes_now l ≡ true)
   given_one k i below there =
       moved_hit (λ m o. (l : Label) × (o ≡ Some l) × (changes_now l ≡ true)) put_updating (take k ps) lab (at i) (named_in_front ps i k d below there)
@@ -206,7 +206,7 @@ module _ (uuid : List ℕ) (set : List Mapping) (c : Model) (whole : IsWhole set
     some = some_two j;
   }
 
-  -- all put, and not all settled: complete and pending
+  -- all put, but not all settled: complete and pending
   part_settled : (j : ℕ) → j < length ps → StandsAs uuid set c name (Complete name true) (all_changed areas (both j))
   part_settled j less = stands_two j true (by (given_one (length ps) j less less))
     where
@@ -264,10 +264,10 @@ module _ (uuid : List ℕ) (set : List Mapping) (c : Model) (whole : IsWhole set
                 (inr (inr (inr all_settled)))
           ]
 
-  -- what a cut leaves after any number of steps
+  -- after a crash that follows any number of steps
   pub create_cut : (n : ℕ) (stays : Bool) → (CreateLeft uuid set c name areas) (after_steps areas create_changes n stays)
   create_cut n stays = by (cut_is_front create_changes areas n stays)
     where
       by : IsFront areas create_changes (after_steps areas create_changes n stays) → (CreateLeft uuid set c name areas) (after_steps areas create_changes n stays)
       by (k, below, is) = rw is (by_front k)
-      -- ---- the labels that a whole create makes
+      -- ---- the labels of a complete create

@@ -1,4 +1,4 @@
--- What a cut of a create leaves of its entry, with any number of modules.
+-- The entry after a crash during a create, with any number of modules.
 use Rattle.std.proofs.Common.{◌≡◌, ℕ, ◌≤◌, Bool, true, false, List, [], ◌∷◌, length, take, Option, Some, None, refl, sym, ap, ◌∙◌, subst, arith, inl, inr, ◌⊎◌}
 use Rattle.std.specs.List.{AllByRecursion}
 use Rattle.std.proofs.lemmas.Bool.{cases_lt}
@@ -23,7 +23,7 @@ use Rattle.namespace_laws.proofs.CreateLaw as law
 use Rattle.namespace_laws.proofs.CreateLaw.{length_new, label_for, ps, model, made_entry}
 use Rattle.namespace_laws.proofs.Backwards.{none_changing}
 
--- a cut keeps the number of areas
+-- a crash keeps the number of areas
 pub length_cut : (cs : List Change) (areas : List (Option Area)) (n : ℕ) (stays : Bool) → length (after_steps areas cs n stays) ≡ length areas
 length_cut cs areas n stays = by (cut_is_front cs areas n stays)
   where

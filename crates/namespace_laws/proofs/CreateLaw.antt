@@ -43,7 +43,7 @@ use Rattle.namespace_laws.proofs.Allowed.{Allowed, allowed, all_both, free_there
 
 -- ---- the list of new labels
 
--- what holds of each mapping and its place holds of each new label
+-- a property of each mapping and its place holds of each new label
 pub each_new : (P : ℕ × Label → Type 0) (f : ℕ × Mapping → ℕ × Label) (ms : List Mapping) (k : ℕ) (Q : Mapping → Type 0) (R : ℕ × Mapping → Type 0)
     → ((e : ℕ × Mapping) → Q e.1 → R e → P (f e)) → AllByRecursion Q ms → AllByRecursion R (enumerate_from k ms) → AllByRecursion P (map f (enumerate_from k ms))
 each_new P f [] k Q R step qs rs = tt
@@ -89,7 +89,7 @@ label_self (p ∷ ps) (one, rest) = (
     later [] a b = tt
     later (q ∷ qs) (a, as') (b, bs) = (rw (ne_eqb p.0 q.0 b) a, later qs as' bs)
 
--- what holds of each label of a list holds of that of each module
+-- a property of each label of a list holds of that of each module
 pub label_has : (Q : ℕ → Label → Type 0) (ps : List (ℕ × Label)) → AllByRecursion (λ p. Q p.0 p.1) ps → AllLab Q (label_of ps)
 label_has Q ps all m l is = by (find (λ p. p.0 == m) ps) refl is
   where

@@ -1,4 +1,4 @@
--- Recovery that is cut, and run again.
+-- Recovery that is interrupted and run again.
 use Rattle.std.proofs.Common.{◌≡◌, ◌≢◌, ℕ, Bool, true, false, List, [], ◌∷◌, length, take, Option, None, refl, sym, ap, ◌∙◌, subst, inl, inr, ◌⊎◌}
 use Rattle.std.specs.Prelude.{map}
 use Rattle.std.specs.List.{AllByRecursion, flat_map}
@@ -28,11 +28,11 @@ use Rattle.namespace_laws.proofs.SettleEntry as one
 use Rattle.namespace_laws.proofs.SettleFront as settle_front
 use Rattle.namespace_laws.proofs.SettleFront.{recovery_of}
 
--- recovery comes to this
+-- the result of recovery
 abbrev ComesTo : List (List Mapping) → Namespaces → List (Option Area) → Type 0
 ComesTo sets end areas = recovery_of sets areas ≡ end
 
--- after all changes it comes to what it comes to after each front
+-- after all changes the result is the same as after each front
 whole : (sets : List (List Mapping)) (areas : List (Option Area)) (cs : List Change) → ((k : ℕ) → recovery_of sets (all_changed areas (take k cs)) ≡ recovery_of sets areas) → recovery_of sets (all_changed areas cs) ≡ recovery_of sets areas
 whole sets areas cs each = ap (λ (ds : List Change). recovery_of sets (all_changed areas ds)) (sym (take-length cs)) ∙ each (length cs)
 

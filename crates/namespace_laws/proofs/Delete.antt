@@ -1,4 +1,4 @@
--- What a cut of a delete and of a rename leaves.
+-- The areas after a crash during a delete or a rename.
 use Rattle.std.proofs.Common.{◌≡◌, ℕ, ◌<◌, ◌≤◌, Bool, true, false, List, [], ◌∷◌, length, take, get_or, Option, Some, None, refl, sym, ap, ◌∙◌, subst, arith, inl, inr, ◌⊎◌}
 use Rattle.std.specs.List.{AllByRecursion, list_any}
 use Rattle.std.proofs.lemmas.Bool.{cases_Bool, false≢true, cases_lt}
@@ -22,7 +22,7 @@ use Rattle.namespace_laws.proofs.Table.{changes_now, updating_changes, sound_lik
 use Rattle.namespace_laws.proofs.Two as stage
 use Rattle.namespace_laws.proofs.Two.{length_kept, lab_keeps}
 
--- an entry of sound labels stands with this status
+-- an entry of valid labels has this status
 pub record Stands (uuid : List ℕ) (set : List Mapping) (c : Model) (status : SetStatus) (left : List (Option Area)) : Type 0 where
   pub lab : ℕ → Option Label
   pub proper : Proper uuid lab left
@@ -30,7 +30,7 @@ pub record Stands (uuid : List ℕ) (set : List Mapping) (c : Model) (status : S
   pub has_status : status_of set (own_of uuid left) ≡ status
   pub some : list_any (λ (p : Placed). true) (own_of uuid left) ≡ true
 
--- a complete entry none of whose labels changes, with its labels in the order of the changes
+-- a complete entry without updating labels, with its labels in the order of the changes
 pub record IsComplete (uuid : List ℕ) (set : List Mapping) (c : Model) (name : List ℕ) (lab : ℕ → Option Label) (ps : List (ℕ × Label)) : Type 0 where
   pub sound : AllLab (SoundAs set c) lab
   pub named : AllLab (λ m l. l.name ≡ name) lab
@@ -51,7 +51,7 @@ keeps_updating l l' is = ap (λ (k : Label). k.uuid) (sym (same_Some (updating l
 pub keeps_nothing : KeepsUuid to_nothing
 keeps_nothing l l' is = absurd (none-some l' is)
 
--- what holds on each named module
+-- a property of each named module
 pub at_name : (P : ℕ → Type 0) (ps : List (ℕ × Label)) (m : ℕ) → names ps m ≡ true → AllByRecursion (λ p. P p.0) ps → P m
 at_name P ps m named each = moved_hit (λ n o. P n) to_updating ps (λ n. None) m named each
 
@@ -125,7 +125,7 @@ module _ (uuid : List ℕ) (set : List Mapping) (c : Model) (whole : IsWhole set
       all_pass_to (λ (m : Mapping). names ps m.«module» ≡ true) (λ (m : Mapping). (m.«module» < length (one k)) × ((l : Label) × (lab_one k m.«module» ≡ Some l)))
       (λ m named. (stage.there_one uuid areas lab ps d to_updating to_nothing keeps_updating keeps_nothing proper given apart many k m.«module» named, has_one k m.«module» named)) set is.covers
 
-  -- some labels change, none is gone: complete and pending
+  -- some labels have UPDATING, none is removed: complete and pending
   delete_one : (k : ℕ) → 0 < k → k ≤ length ps → Stands uuid set c (Complete name true) (one k)
   delete_one k more less = by (changed_one k (at 0) (named_in_front ps 0 k d more (omega arith)))
     where
@@ -143,7 +143,7 @@ module _ (uuid : List ℕ) (set : List Mapping) (c : Model) (whole : IsWhole set
             some = some;
           }
 
-  -- after the first stage each label changes
+  -- after the first stage each label has UPDATING
   all_change : AllLab (λ m l. changes_now l ≡ true) (lab_one (length ps))
   all_change m l e =
       elim (cases_Bool (names (take (length ps) ps) m)) [
@@ -164,7 +164,7 @@ module _ (uuid : List ℕ) (set : List Mapping) (c : Model) (whole : IsWhole set
   nothings : AllByRecursion (λ p. to_nothing p.1 ≡ None) ps
   nothings = all_pass_to (λ p. lab p.0 ≡ Some p.1) (λ p. to_nothing p.1 ≡ None) (λ p e. refl) ps is.labels
 
-  -- some are gone, not all: unfinished
+  -- some are removed, not all: unfinished
   delete_two : (j : ℕ) → 0 < j → j < length ps → Stands uuid set c Unfinished (gone j)
   delete_two j more less = by (has_one (length ps) (at j) (stage.named_at uuid areas lab ps d to_updating to_nothing keeps_updating keeps_nothing proper given apart many j less))
     where
@@ -181,7 +181,7 @@ module _ (uuid : List ℕ) (set : List Mapping) (c : Model) (whole : IsWhole set
             some = some_of (gone j) (lab_two j) (at j) l (stage.proper_two uuid areas lab ps d to_updating to_nothing keeps_updating keeps_nothing proper given apart many j) (stage.later_two uuid areas lab ps d to_updating to_nothing keeps_updating keeps_nothing proper given apart many j less ∙ e) (stage.there_two uuid areas lab ps d to_updating to_nothing keeps_updating keeps_nothing proper given apart many j (at j) (stage.named_at uuid areas lab ps d to_updating to_nothing keeps_updating keeps_nothing proper given apart many j less));
           }
 
-  -- all are gone
+  -- all are removed
   delete_all : own_of uuid (gone (length ps)) ≡ []
   delete_all = own_empty uuid (lab_two (length ps)) (gone (length ps)) (stage.proper_two uuid areas lab ps d to_updating to_nothing keeps_updating keeps_nothing proper given apart many (length ps)) none
     where

@@ -1,4 +1,4 @@
--- What a cut leaves of a command's entry lies in its parts, so that entries stay apart.
+-- After a crash, a command's entry has only parts of its own, so entries stay apart.
 use Rattle.std.proofs.Common.{◌≡◌, ◌≢◌, ℕ, zero, suc, ◌+◌, Bool, true, false, eqb, List, [], ◌∷◌, ◌++◌, length, Option, Some, None, refl, sym, ap, ◌∙◌, subst, arith, inl, inr, ◌⊎◌}
 use Rattle.std.specs.Prelude.{◌==◌, ◌&&◌, not, map, nat_lt}
 use Rattle.std.specs.Option.{option_map}
@@ -46,7 +46,7 @@ contains_map f [] x (k, below, is) = absurd (omega arith)
 contains_map f (z ∷ zs) x (zero, below, is) = (0, omega arith, ap f is)
 contains_map f (z ∷ zs) x (suc k, below, is) = let c = contains_map f zs x (k, omega arith, is) in (suc c.0, omega (arith, c.1), c.2)
 
--- what a filter let through
+-- what passed a filter
 from_filter : {X Y : Type 0} (f : X → Option Y) (xs : List X) (y : Y) → Contains (filter_map f xs) y → (x : X) × (f x ≡ Some y)
 from_filter f [] y (k, below, is) = absurd (omega arith)
 from_filter {X = X} {Y = Y} f (x ∷ xs) y c = by (f x) refl c (from_filter f xs y)
@@ -94,7 +94,7 @@ itself_from (x ∷ xs) = ((0, omega arith, refl), all_pass_to (Contains xs) (Con
 pub itself : (xs : List Part) → AllByRecursion (Contains xs) xs
 itself xs = itself_from xs
 
--- ---- one entry lies in the parts of one that is apart from all others
+-- ---- an entry with some of the parts of one that is apart from all others
 
 pub keeps_apart : (sets : List (List Mapping)) (areas left : List (Option Area)) (uuid : List ℕ) (whole : Entry) → EntriesApart (namespaces_of sets areas)
     → ((v : List ℕ) → v ≢ uuid → lookup v (namespaces_of sets left).entries ≡ lookup v (namespaces_of sets areas).entries)
@@ -127,7 +127,7 @@ module _ (sets : List (List Mapping)) (areas : List (Option Area)) (uuid : List 
   abbrev new : Entry
   new = made_entry sets areas uuid name region size made
 
-  -- the new parts meet no extent that was there
+  -- the new parts overlap no existing extent
   new_apart : (v : List ℕ) (f : Entry) → lookup v (namespaces_of sets areas).entries ≡ Some f → AreApart new f
   new_apart v f is a b ca cb =
       by (from_filter (λ n. option_map (new_part uuid (law.offset sets areas uuid name region size made) (law.raw sets areas uuid name region size made)) (mapping_of (law.set sets areas uuid name region size made) n))
@@ -152,7 +152,7 @@ module _ (sets : List (List Mapping)) (areas : List (Option Area)) (uuid : List 
               (ap (λ (c : Bool). c && ranges_meet (k.start + law.offset sets areas uuid name region size made) (law.raw sets areas uuid name region size made) b.extent.start b.extent.length) (eqb_turned k.«module» b.extent.«module»)
               ∙ not-true ((b.extent.«module» == k.«module») && ranges_meet (k.start + law.offset sets areas uuid name region size made) (law.raw sets areas uuid name region size made) b.extent.start b.extent.length) none)
 
-  -- what is left has its parts
+  -- the entry after a crash has its parts
   left_parts : (x : Entry) (left : Option Entry) → CutOfCreate new left → left ≡ Some x → AllByRecursion (Contains new.parts) x.parts
   left_parts x left (inl none) is = absurd (none-some x (sym none ∙ is))
   left_parts x left (inr (inl (y, at, part))) is = subst (λ (z : Entry). AllByRecursion (Contains new.parts) z.parts) (same_Some y x (sym at ∙ is)) part.parts

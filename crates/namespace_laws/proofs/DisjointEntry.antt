@@ -1,4 +1,4 @@
--- What a cut of a delete or rename leaves lies in the entry's parts.
+-- After a crash during a delete or rename, the entry has only its own parts.
 use Rattle.std.proofs.Common.{◌≡◌, ◌≢◌, ℕ, ◌+◌, Bool, List, [], ◌∷◌, length, take, Option, Some, None, refl, sym, ap, ◌∙◌, subst, arith, inl, inr, ◌⊎◌}
 use Rattle.std.specs.Prelude.{map, slice_get}
 use Rattle.std.specs.Option.{option_map}
@@ -39,7 +39,7 @@ use Rattle.namespace_laws.proofs.Final.{two_fits, two_of}
 use Rattle.namespace_laws.proofs.Disjoint.{keeps_apart, itself}
 use Rattle.namespace_laws.proofs.Refusals.{delete_found, rename_found}
 
--- labels that are like those that are meant make parts that are among theirs
+-- labels like the intended ones make some of their parts
 pub parts_like : (uuid : List ℕ) (base lab : ℕ → Option Label) (left : List (Option Area)) → Proper uuid lab left → AllLab (λ m l. (b : Label) × (base m ≡ Some b) × IsLike b l) lab → (count : ℕ) → length left ≡ count
     → AllByRecursion (Contains (base_parts base count)) (map part_of (own_of uuid left))
 parts_like uuid base lab left proper like count same =
@@ -72,7 +72,7 @@ own_parts sets left uuid x is = by (slice_get (own_of uuid left) 0) refl
     by None e = absurd (none-some x (sym (ap (option_map (entry_with sets (own_of uuid left))) e) ∙ at))
     by (Some p) e = ap (λ (y : Entry). y.parts) (sym (same_Some (entry_with sets (own_of uuid left) p) x (sym (ap (option_map (entry_with sets (own_of uuid left))) e) ∙ at)))
 
--- ---- changes that keep labels like they are
+-- ---- changes that keep labels like the intended ones
 
 abbrev pub KeepsLike : (Label → Option Label) → Type 0
 KeepsLike f = (l l' : Label) → f l ≡ Some l' → IsLike l l'
@@ -93,7 +93,7 @@ like_two lab f g kf kg (p ∷ []) labels = like_map lab g kg (p ∷ []) labels
 like_two lab f g kf kg (p ∷ q ∷ ps) labels =
     all_append (λ (c : Change). LikeIn lab c.number c.label) (map (change_to f) (p ∷ q ∷ ps)) (map (change_to g) (p ∷ q ∷ ps)) (like_map lab f kf (p ∷ q ∷ ps) labels) (like_map lab g kg (p ∷ q ∷ ps) labels)
 
--- what any front of the changes leaves has the parts of the labels that were there
+-- any front of the changes leaves some of the parts of the existing labels
 pub front_parts : (uuid : List ℕ) (lab : ℕ → Option Label) (areas : List (Option Area)) (ps : List (ℕ × Label)) (f g : Label → Option Label) → KeepsUuid f → KeepsUuid g → KeepsLike f → KeepsLike g → Proper uuid lab areas
     → AllByRecursion (IsGiven uuid lab areas) ps → AllByRecursion (λ p. lab p.0 ≡ Some p.1) ps → (n : ℕ) (stays : Bool)
     → AllByRecursion (Contains (base_parts lab (length areas))) (map part_of (own_of uuid (after_steps areas (in_two f g ps) n stays)))
@@ -145,7 +145,7 @@ module _ (sets : List (List Mapping)) (areas : List (Option Area)) (uuid : List 
     base_is : base_parts lab (length areas) ≡ e.parts
     base_is = ap (λ (x : Entry). x.parts) (st.entry_shaped sets areas uuid e pending regions read is status unlocked)
 
-    -- parts that are among those of the labels are among the entry's
+    -- some of the labels' parts are some of the entry's
     among : (left : List (Option Area)) → AllByRecursion (Contains (base_parts lab (length areas))) (map part_of (own_of uuid left)) → (x : Entry) → lookup uuid (namespaces_of sets left).entries ≡ Some x → AllByRecursion (Contains e.parts) x.parts
     among left all x at = subst (λ (xs : List Part). AllByRecursion (Contains e.parts) xs) (sym (own_parts sets left uuid x at)) (subst (λ (base : List Part). AllByRecursion (Contains base) (map part_of (own_of uuid left))) base_is all)
 

@@ -1,4 +1,4 @@
--- What a cut of a delete and of a rename leaves of the entry, with any number of modules.
+-- The entry after a crash during a delete or a rename, with any number of modules.
 use Rattle.std.proofs.Common.{◌≡◌, ℕ, ◌≤◌, Bool, false, List, [], ◌∷◌, length, Option, Some, None, refl, sym, ap, ◌∙◌, arith, inl, inr, ◌⊎◌}
 use Rattle.std.specs.Prelude.{nat_lt, nat_le, if◌then◌else◌, not}
 use Rattle.std.specs.Option.{option_map}
@@ -30,7 +30,7 @@ use Rattle.namespace_laws.proofs.One.{delete_cut_one, rename_cut_one}
 no_label : ℕ × Label
 no_label = (0, record { uuid = []; name = []; flags = 0; count = 0; position = 0; cookie = 0; lba = 0; dpa = 0; raw = 0; slot = 0; align = 0; kind = []; abstraction = []; spa_cookie = 0 })
 
--- ---- what isn't refused
+-- ---- commands that aren't refused
 
 -- a delete that isn't refused
 pub record DeleteGood (ns : Namespaces) (e : Entry) : Type 0 where

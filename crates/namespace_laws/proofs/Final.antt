@@ -1,4 +1,4 @@
--- All changes of two rounds, and what stands after them.
+-- All changes of two rounds, and the state after them.
 use Rattle.std.proofs.Common.{◌≡◌, ℕ, zero, suc, ◌+◌, ◌-◌, ◌<◌, ◌≤◌, Bool, true, false, List, [], ◌∷◌, length, get_or, Option, Some, None, refl, sym, ap, ◌∙◌, subst, arith, inl, inr, ◌⊎◌}
 use Rattle.std.proofs.Math.ListN.{set}
 use Rattle.std.specs.Prelude.{◌==◌, map, filter, is_some, cond, count_by}
@@ -65,7 +65,7 @@ two_of uuid f g kf kg (p ∷ []) all = of_map uuid g kg (p ∷ []) all
 two_of uuid f g kf kg (p ∷ q ∷ ps) all =
     all_append (IsOf uuid) (map (change_to f) (p ∷ q ∷ ps)) (map (change_to g) (p ∷ q ∷ ps)) (of_map uuid f kf (p ∷ q ∷ ps) all) (of_map uuid g kg (p ∷ q ∷ ps) all)
 
--- ---- what stands in the end, where each label becomes sound, has one name and doesn't change
+-- ---- the final state, if each label becomes valid, has the same name and isn't updating
 
 pub record Becomes (set : List Mapping) (c : Model) (name : List ℕ) (g : Label → Option Label) (p : ℕ × Label) : Type 0 where
   pub new : Label
@@ -87,13 +87,13 @@ module _ (uuid : List ℕ) (set : List Mapping) (c : Model) (whole : IsWhole set
   pub proper_end : Proper uuid lab_end areas_end
   proper_end = proper_after (in_two f g ps) uuid lab areas proper (two_fits uuid lab areas f g kf kg ps given)
 
-  -- on a module that is named, a label is there and is such
+  -- a named module has such a label
   pub hit_end : (m : ℕ) → names ps m ≡ true → (l : Label) × (lab_end m ≡ Some l) × SoundAs set c m l × (l.name ≡ name) × (changes_now l ≡ false)
   hit_end m named =
       two_hit (λ n o. (l : Label) × (o ≡ Some l) × SoundAs set c n l × (l.name ≡ name) × (changes_now l ≡ false)) f g ps lab m named
       (all_pass_to (Becomes set c name g) (λ p. (l : Label) × (g p.1 ≡ Some l) × SoundAs set c p.0 l × (l.name ≡ name) × (changes_now l ≡ false)) (λ p b. (b.new, b.is_new, b.sound, b.named, b.quiet)) ps becomes)
 
-  -- and elsewhere none
+  -- the other modules have none
   pub miss_end : (m : ℕ) → names ps m ≡ false → lab_end m ≡ None
   miss_end m none = two_miss f g ps lab m none ∙ by (lab m) refl
     where
@@ -146,7 +146,7 @@ count_in_is (x ∷ xs) m = by (cases_Bool (x.«module» == m)) (count_in_is xs m
         let a : count_by (on_module m) (x ∷ xs) ≡ count_by (on_module m) xs = count_cons (on_module m) x xs ∙ rw not_it (omega arith) in
         ap (λ (b : Bool). length (cond b (x.«module» ∷ filter (λ k. k == m) (map (λ (p : Placed). p.«module») xs)) (filter (λ k. k == m) (map (λ (p : Placed). p.«module») xs)))) not_it ∙ omega (arith, a, h)
 
--- a module has a label of the UUID as often as it stands among their modules
+-- a module has a label of the UUID as often as it occurs among their modules
 pub owned_count : (uuid : List ℕ) (lab : ℕ → Option Label) (areas : List (Option Area)) → Proper uuid lab areas → (m : ℕ) → owned (lab m) ≡ count_in (map (λ (p : Placed). p.«module») (own_of uuid areas)) m
 owned_count uuid lab areas proper m = by (lab m) refl ∙ sym (count_in_is (own_of uuid areas) m)
   where
@@ -191,7 +191,7 @@ state_is : (a : Option Area) → area_state a ≡ record { ready = is_ready a; b
 state_is None = refl
 state_is (Some a) = refl
 
--- after changes, an area's state is as before but for its free slots
+-- after changes, an area's state differs only in its free slots
 pub state_after : (cs : List Change) (areas : List (Option Area)) (m n : ℕ) → free_in (slots_on (all_changed areas cs) m) ≡ n → area_state (area_at (all_changed areas cs) m) ≡ record (area_state (area_at areas m)) { free = n }
 state_after cs areas m n free =
     state_is (area_at (all_changed areas cs) m)

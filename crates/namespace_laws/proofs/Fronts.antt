@@ -1,4 +1,4 @@
--- What holds after every front of a list of changes.
+-- Properties after every front of a list of changes.
 use Rattle.std.proofs.Common.{◌≡◌, ◌≢◌, ℕ, zero, suc, Bool, true, false, cond, List, [], ◌∷◌, ◌++◌, take, Option, refl, sym, ap, ◌∙◌, inl, inr, ◌⊎◌}
 use Rattle.std.specs.Prelude.{◌&&◌, map, filter}
 use Rattle.std.specs.List.{AllByRecursion}
@@ -28,7 +28,7 @@ unfolding all_changed
 fronts_append P [] ds areas all more = more
 fronts_append P (c ∷ cs) ds areas (one, rest) more = (one, fronts_append P cs ds (changed areas c) rest more)
 
--- a front of those that pass a test are all that pass a test
+-- a front of the elements that pass a test is the elements of a front that pass
 pub front_passes : (s : ℕ × Label → Bool) (k : ℕ) (xs : List (ℕ × Label)) → Apart xs → take k (filter s xs) ≡ filter (λ p. s p && names (take k (filter s xs)) p.0) xs
 front_passes s k [] apart = none k
   where

@@ -1,4 +1,4 @@
--- The label changes by which unfinished entries go.
+-- The label changes that remove unfinished entries.
 use Rattle.std.proofs.Common.{◌≡◌, ◌≢◌, ℕ, ◌+◌, Bool, true, false, cond, List, [], ◌∷◌, ◌++◌, Option, Some, None, refl, sym, ap, ◌∙◌, subst, arith, inl, inr, ◌⊎◌}
 use Rattle.std.specs.Prelude.{◌&&◌, ◌||◌, map, slice_get}
 use Rattle.std.specs.Option.{option_map}

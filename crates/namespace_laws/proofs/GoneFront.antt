@@ -1,4 +1,4 @@
--- After a front of the changes by which one unfinished entry goes, recovery comes to the same.
+-- After a front of the changes that remove an unfinished entry, recovery has the same result.
 use Rattle.std.proofs.Common.{◌≡◌, ◌≢◌, ℕ, zero, suc, ◌+◌, ◌<◌, Bool, true, false, List, [], ◌∷◌, take, get_or, Option, Some, None, refl, sym, ap, ◌∙◌, subst, arith, inl, inr, ◌⊎◌}
 use Rattle.std.specs.Prelude.{map, find, slice_get}
 use Rattle.std.specs.Option.{option_map}
@@ -157,7 +157,7 @@ module _ (sets : List (List Mapping)) (areas : List (Option Area)) (uuid : List 
   abbrev model : Model
   model = record { shared = c; base = lab }
 
-  -- ---- a front of its labels is gone
+  -- ---- a front of its labels is removed
 
   module _ (k : ℕ) where
     abbrev cs : List Change
@@ -176,7 +176,7 @@ module _ (sets : List (List Mapping)) (areas : List (Option Area)) (uuid : List 
     nothings [] = tt
     nothings (q ∷ qs) = (refl, nothings qs)
 
-    -- a label that is left was there
+    -- a remaining label was there before
     was : (m : ℕ) (l : Label) → lab_then m ≡ Some l → lab m ≡ Some l
     was m l at = elim (cases_Bool (names (take k ps) m)) [
       | inl it ↦ absurd (none-some l (sym (moved_hit (λ n o. o ≡ None) to_nothing (take k ps) lab m it (nothings (take k ps))) ∙ at))
@@ -189,7 +189,7 @@ module _ (sets : List (List Mapping)) (areas : List (Option Area)) (uuid : List 
     good : AllByRecursion (λ p. SoundIn set c p) (own_of uuid left)
     good = own_each uuid lab_then left went.proper (SoundAt set c) (λ m l at n. at_like set c m l (record l { slot = n }) (sound m l (was m l at)) (like_slot l n))
 
-    -- one is gone
+    -- one is removed
     short : (p : ℕ × Label) → lab p.0 ≡ Some p.1 → names (take k ps) p.0 ≡ true → status_of set (own_of uuid left) ≡ Unfinished
     short p at named =
         let s = sound p.0 p.1 at in
@@ -250,7 +250,7 @@ module _ (sets : List (List Mapping)) (areas : List (Option Area)) (uuid : List 
         (goes_settled (unfinished_gone (namespaces_of sets left) (namespaces_of sets left).entries) (found sets left uuid) goes
         ∙ sym (goes_settled (unfinished_gone ns ns.entries) (found sets areas uuid) (inr (e, is, status))))
 
-  -- nothing is gone yet, or one label is
+  -- nothing is removed yet, or one label is
   abbrev Front : ℕ → Type 0
   Front j = (take j ps ≡ []) ⊎ ((p : ℕ × Label) × (lab p.0 ≡ Some p.1) × (names (take j ps) p.0 ≡ true))
 

@@ -1,4 +1,4 @@
--- Removals: labels that are read stay so, and a UUID's labels go without a free slot.
+-- Removals: labels stay valid, and removing a UUID's labels needs no free slot.
 use Rattle.std.proofs.Common.{◌≡◌, ◌≢◌, ℕ, zero, suc, ◌+◌, ◌<◌, ◌≤◌, List, [], ◌∷◌, length, Option, Some, None, refl, sym, ap, ◌∙◌, subst, arith, inl, inr, ◌⊎◌}
 use Rattle.std.proofs.Math.ListN.{set}
 use Rattle.std.specs.Prelude.{map, slice_get}
@@ -18,7 +18,7 @@ use Rattle.namespace_laws.proofs.Delete.{to_nothing}
 use Rattle.namespace_laws.proofs.One.{proper_gone}
 use Rattle.namespace_laws.proofs.Shaped.{lies_there}
 
--- ---- what holds of each label in its slot
+-- ---- properties of each label in its slot
 
 abbrev HasEach : (ℕ → Label → Type 0) → List SlotState → Type 0
 HasEach P slots = (s : ℕ) (l : Label) → slice_get slots s ≡ Some (Some (Some l)) → P s l
@@ -78,13 +78,13 @@ read_one areas c read bytes = record { number = λ m s l is. (each m s l is).0; 
         by (inr changes) =
             replaced_has IsReadAt (slots_on areas m) (slot_of (slots_on areas m) c.uuid) c.label (before m) (λ k n e. (refl, bytes k e)) s l (sym (ap (λ (xs : List SlotState). slice_get xs s) changes) ∙ is)
 
--- labels stay as they are read
+-- labels stay as they were read
 pub read_all : (cs : List Change) (areas : List (Option Area)) → AreRead areas → AllByRecursion PutsBytes cs → AreRead (all_changed areas cs)
 unfolding all_changed
 read_all [] areas read all = read
 read_all (c ∷ cs) areas read (one, rest) = read_all cs (changed areas c) (read_one areas c read one) rest
 
--- ---- a list of labels goes
+-- ---- removing a list of labels
 
 one_free : (uuid : List ℕ) (lab : ℕ → Option Label) (areas : List (Option Area)) (p : ℕ × Label) → Proper uuid lab areas → lab p.0 ≡ Some p.1 → (i : ℕ)
     → free_in (slots_on (changed areas (change_to to_nothing p)) i) + owned (moved lab (change_to to_nothing p) i) ≡ free_in (slots_on areas i) + owned (lab i)

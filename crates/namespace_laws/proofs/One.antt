@@ -49,7 +49,7 @@ module _ (uuid : List ℕ) (areas : List (Option Area)) (lab : ℕ → Option La
   of_uuid : p.1.uuid ≡ uuid
   of_uuid = proper.named p.0 p.1 at
 
-  -- a label goes, and needs no free slot
+  -- removing a label needs no free slot
   pub proper_gone : Proper uuid (moved lab gone) (changed areas gone)
   proper_gone = record { own = own; named = named }
     where

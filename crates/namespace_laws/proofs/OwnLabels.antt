@@ -55,7 +55,7 @@ module _ (uuid : List ℕ) (areas : List (Option Area)) (read : AreRead areas) (
       pairs_named (by_position (own_of uuid areas)) m
       (by_position_any (on_module m) (own_of uuid areas) (any_of uuid lab areas m l (on_module m) proper (lies_there uuid lab areas proper m l here) here (λ s. eq-eqb m m refl)))
 
-  -- what holds of each label in the list holds of that on each module
+  -- a property of each label in the list holds of the label on each module
   pub each_lab : (Q : ℕ → Label → Type 0) → AllByRecursion (λ p. Q p.«module» p.label) (own_of uuid areas) → AllLab Q lab
   each_lab Q all m l here =
       subst (λ (x : Label). Q m x) (sym (slots_of_lab uuid areas read once m l here))
@@ -71,7 +71,7 @@ module _ (uuid : List ℕ) (areas : List (Option Area)) (read : AreRead areas) (
   pub apart : Apart (own_labels areas uuid)
   apart = pairs_apart (by_position (own_of uuid areas)) (by_position_apart (own_of uuid areas) (own_apart uuid lab areas proper))
 
--- ---- an unfinished status says that no module has two
+-- ---- with an unfinished status no module has two
 
 twice_none : (own : List Placed) → twice_finding own ≡ None → IsOnce own
 twice_none own e = least_nothing module_of (is_twice own) own (unmapped module_of (least_where module_of (is_twice own) own) (unmapped (λ number. Incomplete (Twice number)) (least_twice own) e))
@@ -112,7 +112,7 @@ unfinished_once set own e = by (first_fault (findings set own)) refl e
         twice_none own (second_of _ (local_finding own) (twice_finding own) Unfinished (is ∙ ap Some f)
         (λ x a. local_not (list_any is_local own) x a) (λ x b. twice_not (least_twice own) x b))
 
--- so of an entry that is unfinished
+-- the same for an unfinished entry
 pub entry_once : (sets : List (List Mapping)) (own : List Placed) (e : Entry) → option_map (entry_with sets own) (slice_get own 0) ≡ Some e → e.status ≡ Unfinished → IsOnce own
 entry_once sets own e is status = by (slice_get own 0) refl
   where

@@ -1,4 +1,4 @@
--- Labels in the order of their positions: the order changes nothing but the order.
+-- Sorting labels by position changes only their order.
 use Rattle.std.proofs.Common.{◌≡◌, ◌≢◌, ℕ, Bool, true, false, List, [], ◌∷◌, refl, sym, inl, inr, ◌⊎◌}
 use Rattle.std.specs.Prelude.{◌==◌, map, nat_le}
 use Rattle.std.specs.List.{AllByRecursion, list_any}
@@ -9,7 +9,7 @@ use Rattle.namespace_map.specs.Changes.{by_position, by_position_with}
 use Rattle.namespace_laws.proofs.Apart.{PlacesApart}
 use Rattle.namespace_laws.proofs.Staged.{Apart, names, all_map}
 
--- ---- an order by position changes nothing but the order
+-- ---- sorting by position changes only the order
 
 module _ (P : Placed → Type 0) where
   with_all : (xs : List Placed) (p : Placed) → P p → AllByRecursion P xs → AllByRecursion P (by_position_with p xs)

@@ -35,7 +35,7 @@ count_append test (x ∷ xs) ys =
     let a = count_cons test x (xs ++ ys) in let b = count_cons test x xs in let h = count_append test xs ys in
     omega (arith, a, b, h)
 
--- on its own module a part counts its slots, and on others nothing
+-- on its own module a part counts its slots, on others none
 part_count : (slots : List SlotState) (uuid : List ℕ) (m k : ℕ) → count_by (on_module m) (part uuid m k slots) ≡ count_by (has_uuid uuid) slots
 part_count [] uuid m k = refl
 part_count (None ∷ slots) uuid m k = let h = part_count slots uuid m (k + 1) in let a = count_cons (has_uuid uuid) None slots in omega (arith, a, h)
@@ -82,7 +82,7 @@ count_passes test d [] s below e = absurd (omega arith)
 count_passes test d (x ∷ xs) zero below e = let a : count_by test (x ∷ xs) ≡ 1 + count_by test xs = count_cons test x xs ∙ rw e refl in omega (arith, a)
 count_passes test d (x ∷ xs) (suc s) below e = let h = count_passes test d xs s (omega arith) e in let a = count_cons test x xs in omega (arith, a, h)
 
--- where at most one passes, the others don't
+-- if at most one passes, the others don't
 only_one : {X : Type 0} (test : X → Bool) (d : X) → test d ≡ false → (xs : List X) (s j : ℕ) → count_by test xs ≤ 1 → s < length xs → test (get_or xs s d) ≡ true → j ≢ s → test (get_or xs j d) ≡ false
 only_one test d none [] s j few below e ne = absurd (omega arith)
 only_one test d none (x ∷ xs) zero zero few below e ne = absurd (ne refl)

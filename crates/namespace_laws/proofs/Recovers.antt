@@ -1,4 +1,4 @@
--- What a cut leaves of a command recovers to what there was before it, or to what there is after it.
+-- After a crash during a command, recovery leads to the map before it or after it.
 use Rattle.std.proofs.Common.{◌≡◌, ◌≢◌, ℕ, zero, suc, ◌+◌, ◌≤◌, Bool, true, false, cond, List, [], ◌∷◌, length, take, get_or, Option, Some, None, refl, sym, ap, ◌∙◌, subst, arith, inl, inr}
 use Rattle.std.specs.Prelude.{◌==◌, map, filter, slice_get, unwrap_or}
 use Rattle.std.specs.Option.{option_map}
@@ -99,7 +99,7 @@ given_more [] modules k m = omega arith
 given_more (a ∷ as') modules k zero = omega arith
 given_more (a ∷ as') modules k (suc m) = given_more as' modules (k + 1) m
 
--- recovery of unfinished entries takes no free slot
+-- recovering unfinished entries takes no free slot
 gone_free : (es : List Entry) (ns : Namespaces) (m : ℕ) → (area_of ns m).free ≤ (area_of (unfinished_gone ns es) m).free
 unfolding unfinished_gone
 gone_free [] ns m = omega arith
@@ -120,7 +120,7 @@ modules_all P test (x ∷ xs) (one, rest) = elim (cases_Bool (test x)) [
 
 -- ---- the entry of a front
 
--- how often a module stands among those of an entry, where it isn't given back
+-- how often a module occurs among those of an entry, if it isn't removed
 abbrev pub cnt : Option Entry → ℕ → ℕ
 cnt None i = 0
 cnt (Some e) i = count_in (entry_modules e) i
@@ -206,7 +206,7 @@ module _ (sets : List (List Mapping)) (uuid : List ℕ) (lab : ℕ → Option La
       ∙ ap (λ (s : SetStatus). cond (is_unfinished s) None (Some (settled_entry (unfinished_gone (namespaces_of sets left) (namespaces_of sets left).entries) x))) status
       ∙ sym (ap (settle (unfinished_gone (namespaces_of sets right) (namespaces_of sets right).entries)) none))
 
-  -- one is pending, the other as it will be
+  -- one is pending, the other is settled
   pub recovers_settled : (left right : List (Option Area)) → FrontOf sets uuid lab areas left → FrontOf sets uuid lab areas right → (x b : Entry) (name : List ℕ) → found left ≡ Some x
       → x ≡ record b { name = name; status = Complete name true; updating = x.updating } → found right ≡ Some b → b.name ≡ name → b.status ≡ Complete name false → b.updating ≡ []
       → recovered (namespaces_of sets left) ≡ recovered (namespaces_of sets right)

@@ -1,4 +1,4 @@
--- A cut create, delete or rename recovers to what there was before it, or to what there is after it.
+-- After a crash during a create, delete or rename, recovery leads to the map before it or after it.
 use Rattle.std.proofs.Common.{◌≡◌, ℕ, zero, suc, ◌≤◌, Bool, true, false, List, [], ◌∷◌, length, take, Option, Some, None, refl, sym, ap, ◌∙◌, arith, inl, inr, ◌⊎◌}
 use Rattle.std.specs.List.{AllByRecursion}
 use Rattle.std.specs.Str.{bytes_eq}

@@ -1,4 +1,4 @@
--- Recovery as a step on the map: what it makes depends on each entry and on the free slots, unfinished entries' slots among them.
+-- Recovery as a step on the map: its result depends on each entry and on the free slots, including those of unfinished entries.
 use Rattle.std.proofs.Common.{◌≡◌, ◌≢◌, ℕ, ◌+◌, ◌<◌, Bool, true, false, cond, List, [], ◌∷◌, length, get_or, Option, Some, None, refl, sym, ap, ◌∙◌, arith, inl, inr, ◌⊎◌}
 use Rattle.std.specs.Prelude.{◌&&◌, ◌||◌, map}
 use Rattle.std.specs.Option.{option_map}
@@ -16,7 +16,7 @@ use Rattle.namespace_map.specs.Commands.{no_area, count_in, entry_modules, delet
 use Rattle.namespace_laws.proofs.Agrees.{lookup_without, rising_without}
 use Rattle.namespace_laws.proofs.Final.{same_states, length_given, get_given}
 
--- ---- what is found after recovery
+-- ---- lookups after recovery
 
 pub lookup_settled : (gone : Namespaces) (es : List Entry) (u : List ℕ) → lookup u (map (settled_entry gone) es) ≡ option_map (settled_entry gone) (lookup u es)
 lookup_settled gone [] u = refl
@@ -28,7 +28,7 @@ lookup_settled gone (e ∷ es) u = elim (cases_Bool (bytes_eq e.uuid u)) [
 abbrev pub goes : List ℕ → Entry → Bool
 goes u e = is_unfinished e.status && bytes_eq e.uuid u
 
--- what stands once the unfinished entries of a list are gone
+-- lookups after the unfinished entries of a list were removed
 pub lookup_gone : (es : List Entry) (ns : Namespaces) (u : List ℕ) → lookup u (unfinished_gone ns es).entries ≡ cond (list_any (goes u) es) None (lookup u ns.entries)
 unfolding unfinished_gone
 lookup_gone [] ns u = refl
@@ -74,7 +74,7 @@ stays_there (f ∷ fs) u e (above_f, rising) is status = elim (cases_Bool (bytes
   | inr not_it ↦ rw (and_right (is_unfinished f.status) (bytes_eq f.uuid u) not_it) (stays_there fs u e rising (rw not_it at is) status)
 ]
 
--- whether one of a UUID goes is seen from its entry
+-- an entry tells whether it is removed
 abbrev pub gone_of : Option Entry → Bool
 gone_of None = false
 gone_of (Some e) = is_unfinished e.status
@@ -96,7 +96,7 @@ goes_is es u rising = by (lookup u es) refl
       | inr not_it ↦ stays_there es u e rising is not_it ∙ sym not_it
     ]
 
--- what becomes of an entry
+-- the entry after settling
 abbrev pub settle : Namespaces → Option Entry → Option Entry
 settle gone None = None
 settle gone (Some e) = cond (is_unfinished e.status) None (Some (settled_entry gone e))
@@ -155,7 +155,7 @@ gone_claims (e ∷ es) ns = by (is_unfinished e.status) (gone_claims es)
     by true on = on (deleted_entry ns (Some e))
     by false on = on ns
 
--- ---- the slots that unfinished entries give back
+-- ---- the slots that unfinished entries free
 
 abbrev pub weight : Option Entry → ℕ → ℕ
 weight None i = 0
@@ -208,7 +208,7 @@ total_parts (f ∷ fs) u i (above, rising) = elim (cases_Bool (bytes_eq f.uuid u
   | inr not_it ↦ rw not_it (let h = total_parts fs u i rising in omega (arith, h))
 ]
 
--- ---- two maps that differ in one entry alone
+-- ---- two maps that differ only in one entry
 
 pub record AreNear (left right : Namespaces) (uuid : List ℕ) : Type 0 where
   pub sets : left.sets ≡ right.sets
@@ -217,7 +217,7 @@ pub record AreNear (left right : Namespaces) (uuid : List ℕ) : Type 0 where
   pub rising_right : IsRising right.entries
   pub others : (u : List ℕ) → u ≢ uuid → lookup u left.entries ≡ lookup u right.entries
   pub count : length left.areas ≡ length right.areas
-  -- free slots and those that the one entry gives back are as many
+  -- free slots, plus those that the entry frees, are as many
   pub areas : (i : ℕ) → i < length left.areas
       → with_free (get_or left.areas i no_area) ((get_or left.areas i no_area).free + weight (lookup uuid left.entries) i)
       ≡ with_free (get_or right.areas i no_area) ((get_or right.areas i no_area).free + weight (lookup uuid right.entries) i)
@@ -257,12 +257,12 @@ module _ (left right : Namespaces) (uuid : List ℕ) (near : AreNear left right 
           ∙ ap (λ (n : ℕ). with_free (get_or right.areas i no_area) ((get_or right.areas i no_area).free + n)) (sym (total_parts right.entries uuid i near.rising_right))
           ∙ sym (gone_area right.entries right i (omega (arith, near.count)))
 
-  -- settling looks at the areas alone
+  -- settling depends only on the areas
   pub settle_same : (o : Option Entry) → settle gone_left o ≡ settle gone_right o
   settle_same None = refl
   settle_same (Some e) = ap (λ (areas : List AreaState). cond (is_unfinished e.status) None (Some (settled_entry (record gone_right { areas = areas }) e))) same_areas
 
-  -- where the one entry comes to the same, so does all
+  -- if the entry has the same result, so has the whole map
   pub recovered_same : settle gone_left (lookup uuid left.entries) ≡ settle gone_right (lookup uuid right.entries) → recovered left ≡ recovered right
   recovered_same own =
       namespaces_same (recovered left) (recovered right) (gone_sets left.entries left ∙ near.sets ∙ sym (gone_sets right.entries right)) same_areas

@@ -1,4 +1,4 @@
--- Recovery's label changes make of the areas what recovery makes of the map.
+-- Recovery's label changes have the effect of recovery on the map.
 use Rattle.std.proofs.Common.{◌≡◌, ℕ, ◌+◌, ◌<◌, Bool, true, false, cond, List, [], ◌∷◌, length, get_or, Option, Some, None, refl, sym, ap, ◌∙◌, arith, inl, inr, ◌⊎◌}
 use Rattle.std.specs.Prelude.{map, slice_get}
 use Rattle.std.specs.Option.{option_map}
@@ -47,7 +47,7 @@ self_found (e ∷ es) (above, rising) = (rw ((bytes_eq-Decides e.uuid e.uuid).1 
         by (inl at) = absurd (above_apart e.uuid f.uuid less (sym ((bytes_eq-Decides e.uuid f.uuid).0 at)))
         by (inr not_at) = rw not_at one
 
--- a UUID under which an entry stands is among the entries'
+-- the UUID of an entry is among the entries'
 among : (es : List Entry) (u : List ℕ) (gone : Namespaces) → cond (list_any (λ (e : Entry). bytes_eq e.uuid u) es) (option_map (settled_entry gone) (lookup u es)) (lookup u es) ≡ option_map (settled_entry gone) (lookup u es)
 among es u gone = by (cases_Bool (list_any (λ (e : Entry). bytes_eq e.uuid u) es))
   where

@@ -24,7 +24,7 @@ use Rattle.namespace_laws.proofs.Sets.{no_fault}
 use Rattle.namespace_laws.proofs.Allowed.{passed_if}
 use Rattle.namespace_laws.proofs.AgreesEntry as agree
 
--- a complete entry, under the name that its status gives
+-- a complete entry, with the name of its status
 pub record IsFound (sets : List (List Mapping)) (areas : List (Option Area)) (uuid : List ℕ) : Type 0 where
   pub entry : Entry
   pub pending : Bool

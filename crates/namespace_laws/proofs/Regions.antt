@@ -1,4 +1,4 @@
--- The region of a sound label is the one in whose set it is sound; the place of a mapping among those of its set.
+-- The region of a valid label is the one in whose set it is valid; the place of a mapping in its set.
 use Rattle.std.proofs.Common.{◌≡◌, ◌≢◌, ℕ, zero, suc, ◌+◌, ◌<◌, Bool, true, false, List, [], ◌∷◌, Option, Some, None, refl, sym, ap, ◌∙◌, subst, arith, inl, inr}
 use Rattle.std.specs.Prelude.{◌==◌, not, nat_lt, find, slice_get, position}
 use Rattle.std.specs.List.{AllByRecursion, Contains, enumerate_from, position_from}
@@ -73,7 +73,7 @@ places set apart =
 
 -- ---- regions
 
--- no mapping of one region meets one of another on the same module
+-- no mapping of one region overlaps one of another on the same module
 abbrev pub RegionsApart : List (List Mapping) → Type 0
 RegionsApart sets =
     (i j : ℕ) (s t : List Mapping) (m k : Mapping) → slice_get sets i ≡ Some s → slice_get sets j ≡ Some t → i ≢ j → Contains s m → Contains t k → m.«module» ≡ k.«module»

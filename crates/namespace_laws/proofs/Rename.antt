@@ -1,4 +1,4 @@
--- What a cut of a rename leaves.
+-- The areas after a crash during a rename.
 use Rattle.std.proofs.Common.{◌≡◌, ℕ, ◌<◌, ◌≤◌, Bool, true, false, List, length, take, get_or, Option, Some, refl, sym, ap, ◌∙◌, subst, arith, inl, inr, ◌⊎◌}
 use Rattle.std.specs.List.{AllByRecursion, list_any}
 use Rattle.std.proofs.lemmas.Bool.{cases_Bool, false≢true, cases_lt}
@@ -106,7 +106,7 @@ module _ (uuid : List ℕ) (set : List Mapping) (c : Model) (whole : IsWhole set
       all_pass_to (λ (m : Mapping). names ps m.«module» ≡ true) (λ (m : Mapping). (m.«module» < length (one k)) × ((l : Label) × (lab_one k m.«module» ≡ Some l)))
       (λ m named. (stage.there_one uuid areas lab ps d (to_renamed new) (to_settled new) (keeps_renamed new) (keeps_settled new) proper given apart many k m.«module» named, has_one k m.«module» named)) set is.covers
 
-  -- after the first stage each label changes and has the new name
+  -- after the first stage each label has UPDATING and the new name
   all_change : AllLab (λ m l. (changes_now l ≡ true) × (l.name ≡ new)) (lab_one (length ps))
   all_change m l e =
       elim (cases_Bool (names (take (length ps) ps) m)) [
@@ -121,7 +121,7 @@ module _ (uuid : List ℕ) (set : List Mapping) (c : Model) (whole : IsWhole set
   there : (k i : ℕ) → i < length ps → at i < length (one k)
   there k i below = stage.there_one uuid areas lab ps d (to_renamed new) (to_settled new) (keeps_renamed new) (keeps_settled new) proper given apart many k (at i) (stage.named_at uuid areas lab ps d (to_renamed new) (to_settled new) (keeps_renamed new) (keeps_settled new) proper given apart many i below)
 
-  -- some labels have the new name and change: complete and pending, with the old name
+  -- some labels have the new name and UPDATING: complete and pending, with the old name
   rename_one : (k : ℕ) → 0 < k → k < length ps → Stands uuid set c (Complete name true) (one k)
   rename_one k more less = by (changed_one k (at 0) (named_in_front ps 0 k d more (omega arith)))
     where
@@ -145,7 +145,7 @@ module _ (uuid : List ℕ) (set : List Mapping) (c : Model) (whole : IsWhole set
             some = some_of (one k) (lab_one k) (at 0) l (stage.proper_one uuid areas lab ps d (to_renamed new) (to_settled new) (keeps_renamed new) (keeps_settled new) proper given apart many k) e (there k 0 (omega arith));
           }
 
-  -- all have the new name and change: complete and pending, with the new name
+  -- all have the new name and UPDATING: complete and pending, with the new name
   rename_whole : Stands uuid set c (Complete new true) (one (length ps))
   rename_whole = by (has_one (length ps) (at 0) (stage.named_at uuid areas lab ps d (to_renamed new) (to_settled new) (keeps_renamed new) (keeps_settled new) proper given apart many 0 (omega arith)))
     where

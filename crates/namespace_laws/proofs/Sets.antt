@@ -1,4 +1,4 @@
--- A set that passes the checks: its modules stand once, and its mappings have one size.
+-- A set that passes the checks: its modules occur once, and its mappings have one size.
 use Rattle.std.proofs.Common.{◌≡◌, ◌≢◌, suc, ◌<◌, Bool, false, List, [], ◌∷◌, length, Option, Some, None, refl, sym, ◌∙◌, subst, arith, inl, inr, Ok}
 use Rattle.std.specs.Prelude.{◌==◌, nat_lt, find, not}
 use Rattle.std.specs.Option.{option_map}
@@ -35,7 +35,7 @@ none_found test (x ∷ xs) e =
       | inr not_it ↦ (not_it, none_found test xs (rw not_it at e))
     ]
 
--- ---- modules that stand once
+-- ---- modules without repetition
 
 abbrev pub ModulesApart : List Mapping → Type 0
 ModulesApart [] = Unit {0}
@@ -77,13 +77,13 @@ unfolding by_offset
 sorted_apart [] apart = tt
 sorted_apart (x ∷ xs) (one, rest) = placed_apart (by_offset xs) x (sorted_all (λ (k : Mapping). x.«module» ≢ k.«module») xs one) (sorted_apart xs rest)
 
--- ---- what a reading of a region gives
+-- ---- what follows from a region's reading
 
 pub all_of_contained : {X : Type 0} (P : X → Type 0) (xs : List X) → ((x : X) → Contains xs x → P x) → AllByRecursion P xs
 all_of_contained P [] each = tt
 all_of_contained P (x ∷ xs) each = (each x (0, omega arith, refl), all_of_contained P xs (λ y c. each y (suc c.0, omega (arith, c.1), c.2)))
 
--- the mappings' sizes, and that no two are one module's
+-- the mappings' sizes; no two mappings are of one module
 pub record IsSet (set : List Mapping) : Type 0 where
   pub some : 0 < length set
   pub apart : ModulesApart set

@@ -131,7 +131,7 @@ module _ (uuid name : List ℕ) (areas : List (Option Area)) (lab : ℕ → Opti
   abbrev pub lab_then : ℕ → Option Label
   lab_then = moved_all lab cs
 
-  -- what a module's label becomes
+  -- the new label of a module
   abbrev pub step_of : ℕ → Label → Label
   step_of m l = cond (t (m, l)) (with_name name (settled l)) l
 
@@ -198,7 +198,7 @@ module _ (uuid name : List ℕ) (areas : List (Option Area)) (lab : ℕ → Opti
     | inr not_it ↦ rw not_it (like_self l)
   ]
 
-  -- a label that is there comes from one
+  -- a label comes from a previous one
   pub from_lab : (m : ℕ) (k : Label) → lab_then m ≡ Some k → (l : Label) × (lab m ≡ Some l) × (k ≡ step_of m l)
   from_lab m k is = by (lab m) refl
     where
@@ -209,7 +209,7 @@ module _ (uuid name : List ℕ) (areas : List (Option Area)) (lab : ℕ → Opti
   pub like_lab : (m : ℕ) (k : Label) → lab_then m ≡ Some k → (l : Label) × (lab m ≡ Some l) × IsLike l k
   like_lab m k is = let f = from_lab m k is in (f.0, f.1, subst (IsLike f.0) (sym f.2) (step_like m f.0))
 
-  -- it changes no more, where it is settled
+  -- it isn't updating any more, if it is settled
   upd_step : (m : ℕ) (l : Label) → changes_now (step_of m l) ≡ (changes_now l && not (t (m, l)))
   upd_step m l = elim (cases_Bool (t (m, l))) [
     | inl it ↦ rw it (settled_doesnt l ∙ sym (and_right (changes_now l) false refl))
@@ -220,7 +220,7 @@ module _ (uuid name : List ℕ) (areas : List (Option Area)) (lab : ℕ → Opti
       and_true true = refl
       and_true false = refl
 
-  -- where a module has a free slot, whether it is in the list is no matter
+  -- if a module has a free slot, it doesn't matter whether it is in the list
   pub upd_full : (m : ℕ) (z : Bool) → (1 ≤ free_in (slots_on areas m) → z ≡ false) → (upd (lab_then m) && z) ≡ (upd (lab m) && z)
   upd_full m z full = ap (λ (b : Bool). b && z) (ap upd (lab_is m)) ∙ by (lab m)
     where
@@ -236,7 +236,7 @@ module _ (uuid name : List ℕ) (areas : List (Option Area)) (lab : ℕ → Opti
       by None = refl
       by (Some l) = step l
 
-  -- where all unsettled ones are settled, those are left whose module has no free slot
+  -- if all unsettled ones are settled, those on modules without a free slot remain
   pub upd_whole : ((p : ℕ × Label) → t p ≡ is_unsettled areas p) → (m : ℕ) → (upd (lab m) && (free_in (slots_on areas m) == 0)) ≡ upd (lab_then m)
   upd_whole all m = by (lab m) ∙ ap upd (sym (lab_is m))
     where

@@ -29,7 +29,7 @@ pub record SettledAll (sets : List (List Mapping)) (areas : List (Option Area)) 
   pub entries : (u : List ℕ) → found sets (all_changed areas cs) u ≡ cond (list_any (λ (e : Entry). bytes_eq e.uuid u) es) (option_map (settled_entry gone) (found sets areas u)) (found sets areas u)
   pub free : (i : ℕ) → free_in (slots_on (all_changed areas cs) i) ≡ free_in (slots_on areas i)
 
--- an entry that isn't complete stays
+-- an entry that isn't complete is unchanged
 unsettled_stays : (gone : Namespaces) (e : Entry) → is_complete e.status ≡ false → settled_entry gone e ≡ e
 unsettled_stays gone e not_it = ap (λ (b : Bool). record e {
   updating = cond b (filter (λ m. (area_of gone m).free == 0) e.updating) e.updating;

@@ -268,7 +268,7 @@ module _ (sets : List (List Mapping)) (areas : List (Option Area)) (uuid : List 
           ∙ filter_same (λ m. free_in (slots_on areas m) == 0) (λ m. (area_of gone m).free == 0) (λ m. ap (λ (n : ℕ). n == 0) (sym (frees m))) (filter (λ m. upd (lab m)) (range_with_len 0 (length areas)))
           ∙ ap (filter (λ m. (area_of gone m).free == 0)) (sym updating_is)
 
-  -- settled in the end, it comes to the same
+  -- settled in the end, it has the same result
   pub settled_same : (gone : Namespaces) → ((m : ℕ) → free_in (slots_on areas m) ≤ (area_of gone m).free) → settled_entry gone entry_then ≡ settled_entry gone e
   settled_same gone more =
       settles gone entry_then (list_any (λ (m : ℕ). true) still_updating) refl

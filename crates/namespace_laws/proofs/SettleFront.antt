@@ -1,4 +1,4 @@
--- After a front of the changes that settle one entry, recovery comes to the same.
+-- After a front of the changes that settle one entry, recovery has the same result.
 use Rattle.std.proofs.Common.{◌≡◌, ℕ, ◌+◌, ◌<◌, ◌≤◌, Bool, true, List, length, take, get_or, Option, Some, None, refl, sym, ap, ◌∙◌, arith, inl, inr, ◌⊎◌}
 use Rattle.std.specs.Prelude.{◌&&◌, map, filter, unwrap_or}
 use Rattle.std.proofs.Math.ListN.{length-map}
@@ -24,11 +24,11 @@ use Rattle.namespace_laws.proofs.Gone.{found, found_by_own, others_own}
 use Rattle.namespace_laws.proofs.OwnLabels as mine
 use Rattle.namespace_laws.proofs.SettleEntry as one
 
--- what recovery makes of the namespaces of areas
+-- the result of recovery for the namespaces of areas
 abbrev pub recovery_of : List (List Mapping) → List (Option Area) → Namespaces
 recovery_of sets areas = recovered (namespaces_of sets areas)
 
--- no module has fewer free slots once unfinished entries are gone
+-- removing unfinished entries leaves no module with fewer free slots
 pub more_free : (sets : List (List Mapping)) (areas : List (Option Area)) (m : ℕ) → free_in (slots_on areas m) ≤ (area_of (unfinished_gone (namespaces_of sets areas) (namespaces_of sets areas).entries) m).free
 more_free sets areas m = by (cases_lt m (length areas))
   where

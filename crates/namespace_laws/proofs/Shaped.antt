@@ -1,4 +1,4 @@
--- The entry that the labels of a UUID make, where they are sound and like those that are meant.
+-- The entry of the labels of a UUID, if they are valid and like the intended ones.
 use Rattle.std.proofs.Common.{◌≡◌, ℕ, zero, suc, ◌+◌, ◌%◌, ◌<◌, ◌≤◌, Bool, true, false, List, [], ◌∷◌, length, Option, Some, None, refl, sym, ap, ◌∙◌, subst, arith, inl, inr, ◌⊎◌}
 use Rattle.std.specs.Prelude.{◌==◌, find, filter, map, slice_get, unwrap_or, nat_le}
 use Rattle.std.specs.Option.{option_map}
@@ -32,7 +32,7 @@ use Rattle.namespace_laws.proofs.Apart.{on_module, count_none}
 use Rattle.namespace_laws.proofs.Regions.{found_passes, found_number}
 use Rattle.namespace_laws.proofs.Delete.{Stands}
 
--- ---- labels lie on the modules that are there
+-- ---- labels lie on existing modules
 
 in_list : (slots : List SlotState) (s : ℕ) (x : Option Label) → slot slots s ≡ Some x → 0 < length slots
 in_list [] s x e = absurd (none-some x e)
@@ -62,7 +62,7 @@ pub part_like : (m : ℕ) (b l : Label) → IsLike b l → part_at m l ≡ part_
 part_like m b l k =
     same_part l.uuid b.uuid m l.dpa b.dpa l.raw b.raw l.align b.align l.spa_cookie b.spa_cookie (without_updating l.flags) (without_updating b.flags) k.uuid k.dpa k.raw k.align k.spa_cookie k.kept
 
--- the parts of the labels that are meant, by module
+-- the parts of the intended labels, by module
 abbrev pub base_parts : (ℕ → Option Label) → ℕ → List Part
 base_parts base count = filter_map (λ m. option_map (part_at m) (base m)) (range_with_len 0 count)
 
@@ -116,7 +116,7 @@ shaped uuid region c name parts status updating = record {
 abbrev pub changing : List Placed → List ℕ
 changing own = map module_of (filter is_updating own)
 
--- none of the labels that are meant has ROLABEL
+-- none of the intended labels has ROLABEL
 abbrev pub IsLoose : (ℕ → Option Label) → Type 0
 IsLoose base = AllLab (λ m l. (l.flags % 2 == 1) ≡ false) base
 
@@ -141,7 +141,7 @@ module _ (sets : List (List Mapping)) (set : List Mapping) (region : ℕ) (uuid 
     entry_of : (p : Placed) → IsGood p → entry_with sets own p ≡ shaped uuid region c.shared (shown_name status p) (map part_of own) status (changing own)
     entry_of p (sound, of) = rw (in_region p sound, s.has_status, no_lock, sound.kind, sound.abstraction, sound.lba, of) refl
 
-    -- the entry that stands
+    -- the entry
     pub entry_there : (p : Placed) × (lookup uuid (namespaces_of sets left).entries ≡ Some (shaped uuid region c.shared (shown_name status p) (map part_of own) status (changing own)))
     entry_there = by (first_of IsGood own s.some good)
       where
@@ -152,7 +152,7 @@ module _ (sets : List (List Mapping)) (set : List Mapping) (region : ℕ) (uuid 
           lookup_entries sets (placed_in_all left) uuid ∙ ap (option_map (entry_with sets own)) first ∙ ap Some (entry_of p is_good),
         )
 
-    -- its parts are among those that are meant
+    -- its parts are among the intended ones
     pub parts_among : (count : ℕ) → length left ≡ count → AllByRecursion (Contains (base_parts c.base count)) (map part_of own)
     parts_among count same = mapped own (all_pass_to (IsBy s.lab (slot_on uuid left)) (λ p. Contains (base_parts c.base count) (part_of p)) one own (all_by uuid s.lab left s.proper))
       where
@@ -172,7 +172,7 @@ module _ (sets : List (List Mapping)) (set : List Mapping) (region : ℕ) (uuid 
             (in_filter (λ m. option_map (part_at m) (c.base m)) (range_with_len 0 count) p.«module» (part_at p.«module» k.meant)
             (subst (Contains (range_with_len 0 count)) (zero_more p.«module») (in_range count 0 p.«module» (let below = lies_there uuid s.lab left s.proper p.«module» by.given by.is_given in omega (arith, same)))) (ap (option_map (part_at p.«module»)) k.is_meant))
 
-    -- where the labels of all modules that are meant are there, its parts are these
+    -- if all intended labels are there, it has all these parts
     pub parts_whole : (count : ℕ) → length left ≡ count → ((m : ℕ) (l : Label) → c.base m ≡ Some l → (k : Label) × (s.lab m ≡ Some k)) → map part_of own ≡ base_parts c.base count
     parts_whole count same has =
         ap (map part_of) (own_by uuid s.lab left s.proper)
@@ -187,7 +187,7 @@ module _ (sets : List (List Mapping)) (set : List Mapping) (region : ℕ) (uuid 
         each m None is = rw (is, none_meant m (c.base m) refl is) refl
         each m (Some l) is = let k = s.sound m l is in rw (is, k.is_meant) (ap Some (part_like m k.meant l k.like))
 
--- ---- a complete status says that no label is missing
+-- ---- with a complete status no label is missing
 
 pub complete_misses : (set : List Mapping) (own : List Placed) (o : Option ℕ) (name : List ℕ) (pending : Bool) → least_missing own set ≡ o
     → unwrap_or (missing_finding set own) (naming_of own) ≡ Complete name pending → o ≡ None
@@ -233,7 +233,7 @@ module _ (set : List Mapping) (uuid : List ℕ) (c : Model) (whole : IsWhole set
       complete_misses set (own_of uuid left) (least_missing (own_of uuid left) set) name pending refl
       (sym (own_status uuid set c whole s.lab left s.proper s.sound) ∙ s.has_status)
 
-  -- so all labels that are meant are there
+  -- so all intended labels are there
   pub all_there : (m : ℕ) (l : Label) → c.base m ≡ Some l → (k : Label) × (s.lab m ≡ Some k)
   all_there m l is = by (s.lab m) refl
     where

@@ -1,4 +1,4 @@
--- Labels that agree, and the status that they have.
+-- Labels that agree, and their status.
 use Rattle.std.proofs.Common.{◌≡◌, ℕ, ◌+◌, ◌/◌, ◌%◌, ◌≤◌, Bool, true, false, List, [], ◌∷◌, length, Option, Some, None, refl, sym, ap, ◌∙◌, arith}
 use Rattle.std.specs.Prelude.{◌==◌, not, position, unwrap_or, count_by}
 use Rattle.std.specs.List.{AllByRecursion}
@@ -29,7 +29,7 @@ pub record Shared : Type 0 where
   pub kind : List ℕ
   pub abstraction : List ℕ
 
--- a module's label is as the set and the other labels want it
+-- a module's label follows the rules for the set and the other labels
 pub record SoundAt (set : List Mapping) (c : Shared) (m : ℕ) (l : Label) : Type 0 where
   pub mapping : Mapping
   pub found : mapping_of set m ≡ Some mapping
@@ -52,13 +52,13 @@ pub record IsWhole (set : List Mapping) (c : Shared) : Type 0 where
 abbrev pub SoundIn : List Mapping → Shared → Placed → Type 0
 SoundIn set c p = SoundAt set c p.«module» p.label
 
--- ---- nothing is found
+-- ---- there is no finding
 
 pub least_none : {X : Type 0} (key : X → ℕ) (test : X → Bool) (xs : List X) → AllByRecursion (λ x. test x ≡ false) xs → least_where key test xs ≡ None
 least_none key test [] all = refl
 least_none key test (x ∷ xs) (one, rest) = rw one (least_none key test xs rest)
 
--- labels that agree two by two
+-- labels that agree pairwise
 pub agree_all : (field : Field) (set : List Mapping) (P : Placed → Type 0) (xs : List Placed) → AllByRecursion P xs → ((p q : Placed) → P p → P q → agrees_of field set p q ≡ true) → differ_in field set xs ≡ false
 agree_all field set P [] all agree = refl
 agree_all field set P (p ∷ ps) (one, rest) agree =
@@ -132,7 +132,7 @@ module _ (set : List Mapping) (c : Shared) (whole : IsWhole set c) (xs : List Pl
   no_guids : differing_finding Guids set xs ≡ None
   no_guids = no_differing Guids (λ p q s t. rw (same_bytes q.label.kind p.label.kind c.kind t.kind s.kind, same_bytes q.label.abstraction p.label.abstraction c.abstraction t.abstraction s.abstraction) refl)
 
-  -- only a missing label, and the names, are left to decide
+  -- only a missing label, and the names, remain to decide
   pub status_is_rest : status_of set xs ≡ unwrap_or (missing_finding set xs) (naming_of xs)
   unfolding status_of
   status_is_rest =

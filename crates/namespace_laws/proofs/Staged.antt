@@ -62,7 +62,7 @@ all_at P [] i d below all = absurd (omega arith)
 all_at P (x ∷ xs) zero d below (one, rest) = one
 all_at P (x ∷ xs) (suc i) d below (one, rest) = all_at P xs i d (omega arith) rest
 
--- a module isn't among those before it
+-- a module isn't among the earlier ones
 pub not_before : (ps : List (ℕ × Label)) (i : ℕ) (d : ℕ × Label) → i < length ps → Apart ps → AllByRecursion (λ q. (get_or ps i d).0 ≢ q.0) (take i ps)
 not_before [] i d below apart = absurd (omega arith)
 not_before (p ∷ ps) zero d below apart = tt
@@ -75,7 +75,7 @@ named_in_front [] i (suc k) d below there = absurd (omega arith)
 named_in_front (p ∷ ps) zero (suc k) d below there = rw (eq-eqb p.0 p.0 refl) refl
 named_in_front (p ∷ ps) (suc i) (suc k) d below there = or_right (p.0 == (get_or ps i d).0) (names (take k ps) (get_or ps i d).0) (named_in_front ps i k d (omega arith) (omega arith))
 
--- what holds of each new label holds of the label on a module that changed
+-- a property of each new label holds of the label on a changed module
 pub moved_hit : (P : ℕ → Option Label → Type 0) (f : Label → Option Label) (ps : List (ℕ × Label)) (lab : ℕ → Option Label) (m : ℕ) → names ps m ≡ true
     → AllByRecursion (λ p. P p.0 (f p.1)) ps → P m (moved_all lab (map (change_to f) ps) m)
 moved_hit P f [] lab m named all = absurd (false≢true named)
@@ -96,7 +96,7 @@ moved_miss f ps lab m all = moved_none (map (change_to f) ps) lab m (all_map (λ
 pub unnamed : (ps : List (ℕ × Label)) (m : ℕ) → names ps m ≡ false → AllByRecursion (λ q. m ≢ q.0) ps
 unnamed ps m e = all_pass_to (λ q. (q.0 == m) ≡ false) (λ q. m ≢ q.0) (λ q e same. eqb-false q.0 m e (sym same)) ps (all_from_none (λ q. q.0 == m) ps e)
 
--- a front of the changes of two stages is fit
+-- a front of the changes of two stages is possible
 abbrev pub IsGiven : List ℕ → (ℕ → Option Label) → List (Option Area) → ℕ × Label → Type 0
 IsGiven uuid lab areas p = (p.1.uuid ≡ uuid) × HasRoom lab areas p.0
 

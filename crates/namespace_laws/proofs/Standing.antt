@@ -1,4 +1,4 @@
--- A complete namespace that isn't pending: its labels, as the rules and the areas have them.
+-- A complete namespace that isn't pending: its labels, the rules and the areas.
 use Rattle.std.proofs.Common.{◌≡◌, ℕ, zero, suc, ◌+◌, ◌%◌, ◌<◌, ◌≤◌, Bool, true, false, List, [], ◌∷◌, length, Option, Some, None, refl, sym, ap, ◌∙◌, subst, arith, inl, inr, ◌⊎◌}
 use Rattle.std.specs.Prelude.{◌==◌, nat_lt, nat_le, map, find, slice_get}
 use Rattle.std.specs.Option.{option_map}
@@ -123,7 +123,7 @@ module _ (sets : List (List Mapping)) (areas : List (Option Area)) (uuid : List 
   pub proper : Proper uuid lab areas
   proper = proper_of uuid areas read rules.once
 
-  -- what holds of each label in the list holds of that on each module
+  -- a property of each label in the list holds of the label on each module
   each_lab : (Q : ℕ → Label → Type 0) → AllByRecursion (λ p. Q p.«module» p.label) own → AllLab Q lab
   each_lab Q all m l here =
       subst (λ (x : Label). Q m x) (sym (slots_of_lab uuid areas read rules.once m l here))

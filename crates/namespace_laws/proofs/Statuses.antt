@@ -1,4 +1,4 @@
--- The status of labels that agree: by whether one is missing, and by their names.
+-- The status of labels that agree, by whether one is missing, and by their names.
 use Rattle.std.proofs.Common.{◌≡◌, ℕ, Bool, true, false, List, [], ◌∷◌, Option, Some, None, refl, sym, ap, ◌∙◌, arith, inl, inr, ◌⊎◌}
 use Rattle.std.specs.Prelude.{◌==◌, not, find, filter, count_by, nat_le}
 use Rattle.std.specs.List.{AllByRecursion, list_any, list_all}
@@ -50,7 +50,7 @@ some_least key test (n ∷ ns) e = by (cases_Bool (test n)) (λ rest. some_least
     by (inl it) on = rw it (from (least_where key test ns))
     by (inr not_it) on = rw not_it (on (rw not_it at e))
 
--- a module of the set on which no label stands
+-- a module of the set without a label
 pub missing_where : (set : List Mapping) (xs : List Placed) (n : ℕ) (found : Mapping) → find (λ k. k.«module» == n) set ≡ Some found
     → list_any (on_module n) xs ≡ false → (w : ℕ) × (least_missing xs set ≡ Some w)
 missing_where set xs n found is none = some_least (λ number. number) (lacks xs) (modules_of set) (by set is)
@@ -66,7 +66,7 @@ all_list_all : {X : Type 0} (test : X → Bool) (xs : List X) → AllByRecursion
 all_list_all test [] all = refl
 all_list_all test (x ∷ xs) (one, rest) = rw one (all_list_all test xs rest)
 
--- labels that all change, of which one is missing
+-- labels that all have UPDATING, and one is missing
 pub unfinished : (set : List Mapping) (xs : List Placed) (w : ℕ) → AllByRecursion (λ p. is_updating p ≡ true) xs → least_missing xs set ≡ Some w → missing_finding set xs ≡ Some Unfinished
 unfinished set xs w all e = rw (e, all_list_all is_updating xs all) refl
 
@@ -101,7 +101,7 @@ some_kept test (x ∷ xs) e =
 abbrev pub still : Placed → Bool
 still p = not (is_updating p)
 
--- the name on which labels agree is that of each
+-- the name on which labels agree is the name of each
 agreed_each : (xs : List Placed) (name : List ℕ) → agreed_name xs ≡ Some name → AllByRecursion (λ p. p.label.name ≡ name) xs
 agreed_each [] name e = tt
 agreed_each (p ∷ ps) name e = by (cases_Bool (list_all (same_name p) (p ∷ ps)))
@@ -128,7 +128,7 @@ some_gives test Q (x ∷ xs) e (one, rest) =
       | inr not_it ↦ some_gives test Q xs (rw not_it at e) rest
     ]
 
--- some labels change and have one name, and the others, at least one, have another: the status has that of the others
+-- some labels have UPDATING and one name, and the others, at least one, have another: the status has the others' name
 pub two_names : (xs : List Placed) (old new : List ℕ) → AllByRecursion (λ p. still p ≡ true → p.label.name ≡ old) xs → AllByRecursion (λ p. is_updating p ≡ true → p.label.name ≡ new) xs
     → list_any still xs ≡ true → list_any is_updating xs ≡ true → naming_of xs ≡ Complete old true
 two_names xs old new olds news some_old some_new = by (agreed_name xs) refl

@@ -1,4 +1,4 @@
--- What a cut leaves of the entry that a command is about.
+-- The entry of a command after a crash.
 use Rattle.std.proofs.Common.{◌≡◌, ℕ, ◌+◌, ◌/◌, ◌%◌, ◌<◌, Bool, true, false, List, length, Option, Some, None, refl, sym, ap, ◌∙◌, arith}
 use Rattle.std.specs.Prelude.{◌==◌, not, find, unwrap_or}
 use Rattle.std.specs.List.{AllByRecursion, list_any}
@@ -43,7 +43,7 @@ updating_changes l = eq-eqb _ 1 (updates l.flags)
 pub settled_doesnt : (l : Label) → changes_now (settled l) ≡ false
 settled_doesnt l = rw (settles l.flags) refl
 
--- a label that differs in its slot, name and UPDATING alone
+-- a label that differs only in its slot, name and UPDATING
 pub record IsLike (l l' : Label) : Type 0 where
   pub uuid : l'.uuid ≡ l.uuid
   pub dpa : l'.dpa ≡ l.dpa
@@ -153,14 +153,14 @@ like_updating l = like_flags l (without_updating l.flags + 8) (local_updating l.
 pub like_settled : (l : Label) → IsLike l (settled l)
 like_settled l = like_flags l (without_updating l.flags) (local_settled l.flags) (even_settled l.flags) (settled_keeps l.flags)
 
--- ---- labels that are like others by module
+-- ---- labels that are like others, by module
 
--- what labels have in common, and the label that is meant on each module
+-- what labels have in common, and the intended label on each module
 pub record Model : Type 0 where
   pub shared : Shared
   pub base : ℕ → Option Label
 
--- a module's label is sound, and like the one that is meant
+-- a module's label is valid, and like the intended one
 pub record SoundAs (set : List Mapping) (c : Model) (m : ℕ) (l : Label) : Type 0 where
   pub sound : SoundAt set c.shared m l
   pub meant : Label
@@ -186,7 +186,7 @@ at_like set c m l l' s k = record {
 pub sound_like : (set : List Mapping) (c : Model) (m : ℕ) (l l' : Label) → SoundAs set c m l → IsLike l l' → SoundAs set c m l'
 sound_like set c m l l' s k = record { sound = at_like set c.shared m l l' s.sound k; meant = s.meant; is_meant = s.is_meant; like = like_like s.meant l l' s.like k }
 
--- ---- areas in which the labels of one UUID are sound
+-- ---- areas in which the labels of one UUID are valid
 
 module _ (uuid : List ℕ) (set : List Mapping) (c : Model) (whole : IsWhole set c.shared) (lab : ℕ → Option Label) (areas : List (Option Area)) (proper : Proper uuid lab areas)
     (sound : AllLab (SoundAs set c) lab) where
@@ -194,7 +194,7 @@ module _ (uuid : List ℕ) (set : List Mapping) (c : Model) (whole : IsWhole set
   own_status = status_is_rest set c.shared whole (own_of uuid areas) (own_apart uuid lab areas proper)
       (own_each uuid lab areas proper (SoundAt set c.shared) (λ m l is n. (sound_like set c m l (record l { slot = n }) (sound m l is) (like_slot l n)).sound))
 
-  -- a module of the set has no label yet, or no more, and all labels change
+  -- a module of the set has no label yet, or none any more, and all labels have UPDATING
   pub own_unfinished : (m : ℕ) (found : Mapping) → find (λ k. k.«module» == m) set ≡ Some found → lab m ≡ None → AllLab (λ m l. changes_now l ≡ true) lab
       → status_of set (own_of uuid areas) ≡ Unfinished
   own_unfinished m found is none all = by (missing_where set (own_of uuid areas) m found is (any_none uuid lab areas m proper none))

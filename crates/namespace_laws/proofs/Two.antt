@@ -1,4 +1,4 @@
--- A list of labels changes in two stages: what is proved once for create, delete and rename.
+-- Changing a list of labels in two stages: what create, delete and rename have in common.
 use Rattle.std.proofs.Common.{◌≡◌, ℕ, zero, suc, ◌<◌, ◌≤◌, Bool, true, false, List, [], ◌∷◌, ◌++◌, length, take, get_or, Option, Some, refl, sym, ap, ◌∙◌, subst, arith, inl, inr}
 use Rattle.std.proofs.Math.ListN.{length-set}
 use Rattle.std.specs.Prelude.{map}
@@ -20,7 +20,7 @@ unfolding all_changed
 length_kept [] areas = refl
 length_kept (e ∷ cs) areas = length_kept cs (changed areas e) ∙ length-set areas e.number _
 
--- what holds before, and of each new label, holds after
+-- a property that holds before, and of each new label, holds after
 pub lab_keeps : (Q : ℕ → Label → Type 0) (f : Label → Option Label) (ps : List (ℕ × Label)) (lab : ℕ → Option Label) → AllLab Q lab
     → AllByRecursion (λ p. (l : Label) → f p.1 ≡ Some l → Q p.0 l) ps → AllLab Q (moved_all lab (map (change_to f) ps))
 lab_keeps Q f ps lab before each m l is =
@@ -68,7 +68,7 @@ module _ (uuid : List ℕ) (areas : List (Option Area)) (lab : ℕ → Option La
       (all_append (λ c. IsOf uuid c × HasRoom lab areas c.number) (map (change_to f) (take (length ps) ps)) (map (change_to g) (take j ps)) (fit_one (length ps))
       (stage_fits uuid lab areas g keeps_g (take j ps) (all_of_front (IsGiven uuid lab areas) j ps given))))
 
-  -- a module that is named lies among the areas
+  -- a named module is among the areas
   pub there_one : (k m : ℕ) → names ps m ≡ true → m < length (areas_one k)
   there_one k m named =
       rw (length_kept (map (change_to f) (take k ps)) areas)
@@ -104,7 +104,7 @@ module _ (uuid : List ℕ) (areas : List (Option Area)) (lab : ℕ → Option La
   both_is : (j : ℕ) → map (change_to f) ps ++ map (change_to g) (take j ps) ≡ both j
   both_is j = ap (λ (qs : List (ℕ × Label)). map (change_to f) qs ++ map (change_to g) (take j ps)) (sym all_taken)
 
-  -- what holds at each place of the two stages holds of what a cut leaves
+  -- a property of each place of the two stages holds after a crash
   pub by_stages : (P : List (Option Area) → Type 0) → P areas → ((k : ℕ) → 0 < k → k ≤ length ps → P (areas_one k)) → ((j : ℕ) → 0 < j → j ≤ length ps → P (areas_two j))
       → (k : ℕ) → P (all_changed areas (take k two_changes))
   unfolding all_changed

@@ -30,7 +30,7 @@ use Rattle.namespace_laws.proofs.Allowed.{passed_if}
 use Rattle.namespace_laws.proofs.Complete.{shared_of}
 use Rattle.namespace_laws.proofs.OwnLabels.{not_unfinished}
 
--- ---- what finds something finds no unfinished status, but the last rule
+-- ---- only the last rule can find an unfinished status
 
 abbrev FindsOther : Option SetStatus → Type 0
 FindsOther o = (s : SetStatus) → o ≡ Some s → s ≢ Unfinished
@@ -60,7 +60,7 @@ broken_not r p e = let g : Incomplete (why_of r p) ≡ Unfinished = e in cc
 differs_not : (field : Field) → Incomplete (Differs field) ≢ Unfinished
 differs_not field e = let g : Incomplete (Differs field) ≡ Unfinished = e in cc
 
--- ---- what no label breaks
+-- ---- rules that no label violates
 
 differ_none : (field : Field) (set : List Mapping) (p : Placed) (ps : List Placed) → differing_finding field set (p ∷ ps) ≡ None → AllByRecursion (λ q. agrees_of field set p q ≡ true) (p ∷ ps)
 differ_none field set p ps e =
@@ -70,7 +70,7 @@ differ_none field set p ps e =
 broken_none : (r : Rule) (set : List Mapping) (own : List Placed) → broken_finding r set own ≡ None → AllByRecursion (λ q. breaks_of r set q ≡ false) own
 broken_none r set own e = least_nothing module_of (breaks_of r set) own (unmapped (λ p. Incomplete (why_of r p)) (least_where module_of (breaks_of r set) own) e)
 
--- what the rules say of one label next to the first
+-- one label follows the rules, given the first
 record Keeps (set : List Mapping) (p q : Placed) : Type 0 where
   quiet : is_local q ≡ false
   inside : breaks_of rule.Inside set q ≡ false
@@ -125,7 +125,7 @@ sound_one set p q k = by (mapping_of set q.«module») refl (position (λ m. m.�
           not_local = k.quiet;
         }
 
--- ---- what an unfinished status says
+-- ---- what follows from an unfinished status
 
 pub record Facts (set : List Mapping) (p : Placed) (own : List Placed) : Type 0 where
   pub sound : AllByRecursion (SoundIn set (shared_of set p)) own

@@ -1,4 +1,4 @@
--- The list of a UUID's labels against its label on each module.
+-- The list of a UUID's labels and its label on each module.
 use Rattle.std.proofs.Common.{◌≡◌, ℕ, zero, suc, ◌+◌, ◌<◌, Bool, true, false, List, [], ◌∷◌, ◌++◌, length, get_or, Option, Some, None, refl, sym, ap, ◌∙◌, subst, arith}
 use Rattle.std.specs.Prelude.{◌==◌, unwrap_or}
 use Rattle.std.specs.List.{AllByRecursion, list_any}
@@ -24,7 +24,7 @@ own_of uuid areas = labels_with uuid (placed_in_all areas)
 abbrev pub slot_on : List ℕ → List (Option Area) → ℕ → ℕ
 slot_on uuid areas m = unwrap_or (slot_of (slots_on areas m) uuid) 0
 
--- the label that a module's label of the UUID is
+-- p is the UUID's label on its module
 pub record IsBy (lab : ℕ → Option Label) (slots : ℕ → ℕ) (p : Placed) : Type 0 where
   pub given : Label
   pub is_given : lab p.«module» ≡ Some given
@@ -76,7 +76,7 @@ all_by uuid lab areas proper =
     zero_more : (i : ℕ) → i ≡ 0 + i
     zero_more i = omega arith
 
--- and each module's label stands in the list
+-- and each module's label is in the list
 own_from_any : (areas : List (Option Area)) (uuid : List ℕ) (k i : ℕ) (l : Label) (test : Placed → Bool) → i < length areas → l.uuid ≡ uuid
     → IsOwn uuid (Some l) (slots_of (get_or areas i None)) → ((s : ℕ) → test (placed_at (k + i) s (record l { slot = s })) ≡ true)
     → list_any test (own_from uuid k areas) ≡ true
@@ -105,7 +105,7 @@ pub none_passes : {X : Type 0} (test : X → Bool) (xs : List X) → AllByRecurs
 none_passes test [] all = refl
 none_passes test (x ∷ xs) (one, rest) = rw one (none_passes test xs rest)
 
--- no label stands on a module without one
+-- a module without a label has none in the list
 pub any_none : (uuid : List ℕ) (lab : ℕ → Option Label) (areas : List (Option Area)) (m : ℕ) → Proper uuid lab areas → lab m ≡ None
     → list_any (λ p. p.«module» == m) (labels_with uuid (placed_in_all areas)) ≡ false
 any_none uuid lab areas m proper is =
@@ -117,11 +117,11 @@ pub all_from_none : {X : Type 0} (test : X → Bool) (xs : List X) → list_any 
 all_from_none test [] e = tt
 all_from_none test (x ∷ xs) e = let both = or_parts (test x) (list_any test xs) e in (both.0, all_from_none test xs both.1)
 
--- what holds of the label on each module
+-- a property of the label on each module
 abbrev pub AllLab : (ℕ → Label → Type 0) → (ℕ → Option Label) → Type 0
 AllLab Q lab = (m : ℕ) (l : Label) → lab m ≡ Some l → Q m l
 
--- what holds of each module's label holds of each label in the list
+-- a property of each module's label holds of each label in the list
 pub own_each : (uuid : List ℕ) (lab : ℕ → Option Label) (areas : List (Option Area)) → Proper uuid lab areas → (Q : ℕ → Label → Type 0) → AllLab (λ m l. (n : ℕ) → Q m (record l { slot = n })) lab
     → AllByRecursion (λ p. Q p.«module» p.label) (own_of uuid areas)
 own_each uuid lab areas proper Q each =

@@ -1,4 +1,4 @@
--- A law: recovery's label changes make of the areas what recovery makes of the map.
+-- A law: recovery's label changes have the effect of recovery on the map.
 use Rattle.std.specs.Prelude.{◌≡◌, List, Option}
 use Rattle.nfit_reader.specs.declared.table.Mapping.{Mapping}
 use Rattle.namespace_map.specs.Areas.{Area}
@@ -6,6 +6,7 @@ use Rattle.namespace_map.specs.Commands.{recovered}
 use Rattle.namespace_map.specs.Changes.{namespaces_of, recovered_areas}
 use Rattle.namespace_map.specs.Left.{AreRegions, AreRead}
 
--- all the changes of recovery, of unfinished and of pending entries, make of the areas what recovery makes of the map
+-- all the changes of recovery, of unfinished and of pending entries, make the areas whose namespaces are those of recovery on the
+-- map
 abbrev pub RecoveryAgrees : Type 0
 RecoveryAgrees = (sets : List (List Mapping)) (areas : List (Option Area)) → AreRegions sets → AreRead areas → namespaces_of sets (recovered_areas sets areas) ≡ recovered (namespaces_of sets areas)

@@ -1,18 +1,20 @@
 ghost use Rattle.namespace_laws.specs.Laws.{DeleteAloneIsCut, DeleteIsCut, RenameAloneIsCut, RenameIsCut};
 
-/// A law: what a power cut leaves of a delete that isn't refused, of an entry that is complete and not pending.
+/// A law: the entry after a crash during a delete that isn't refused, if it was complete and not
+/// pending.
 ///
-/// After any number of steps there is the entry; or the entry, pending; or an unfinished one whose parts are
-/// among its parts; or none. With one part there is the entry or none.
+/// After any number of steps the entry is unchanged; or it is pending; or it is unfinished, with
+/// some of its parts; or it is gone. With one part, it is unchanged or gone.
 pub fn delete_is_cut()
     ensures left { DeleteIsCut }
     ensures alone { DeleteAloneIsCut }
 {}
 
-/// A law: what a power cut leaves of a rename that isn't refused, of an entry that is complete and not pending.
+/// A law: the entry after a crash during a rename that isn't refused, if it was complete and not
+/// pending.
 ///
-/// After any number of steps there is the entry; or the entry, pending, under the old name or under the new one;
-/// or the entry under the new name. With one part nothing is pending.
+/// After any number of steps the entry is unchanged; or it is pending, under the old name or the
+/// new one; or it has the new name. With one part it is never pending.
 pub fn rename_is_cut()
     ensures left { RenameIsCut }
     ensures alone { RenameAloneIsCut }

@@ -1,60 +1,58 @@
-//! The state of the namespaces after a crash in a command, and after recovery.
+//! The namespaces after a crash in a command, and after recovery.
 //!
-//! A command on a namespace is a list of label changes, module by module (`namespace_map`). A crash ends the list
-//! somewhere. The rules for the labels of one UUID, which look at all of them together, then say what is there. The laws
-//! here say that these rules never take an interrupted command for anything else:
+//! A command on a namespace is a list of label changes, module by module (`namespace_map`). A crash
+//! interrupts the list at any point. The status rules, which judge the labels of one UUID together,
+//! decide what remains. The laws of this crate say that these rules never mistake an interrupted
+//! command for anything else:
 //!
 //! ```text
-//!            before      what is found after a cut                                   after
+//!            before      after a crash                                               after
 //! create     nothing     unfinished, some parts | complete, pending                  the entry
 //! delete     the entry   the entry, pending | unfinished, some parts                 nothing
 //! rename     the entry   the entry, pending, under the old name | under the new one  the entry, renamed
 //! ```
 //!
-//! They are laws about definitions, and no code is asked: whoever makes the changes in this order has them.
-//! `specs/Left.antt` of `namespace_map` says what is asked of the interleave sets and the labels (`AreRegions`, `AreRead`), and
-//! what an entry in the middle of a command is (`IsPartOf`, `IsPending`).
+//! They are laws about definitions: they hold for any code that makes the changes in this order.
+//! `specs/Left.antt` of `namespace_map` has their premises about interleave sets and labels
+//! (`AreRegions`, `AreRead`), and defines an entry during a command (`IsPartOf`, `IsPending`).
 //!
-//! | promise | law | statement |
-//! |---|---|---|
-//! | what a cut leaves of the command's own entry | [`create_is_cut`], [`delete_is_cut`], [`rename_is_cut`] | `specs/Laws.antt` |
-//! | every other entry is as it was, and no two entries meet | [`commands_leave_others`], [`commands_keep_entries_apart`] | `specs/Apart.antt` |
-//! | the whole command is its step on the map | [`commands_are_their_changes`] | `specs/Whole.antt` |
-//! | what a cut leaves recovers to before or after | [`cuts_recover_to_either`] | `specs/Recovered.antt` |
+//! - [`create_is_cut`], [`delete_is_cut`], [`rename_is_cut`]: the command's own entry after a crash
+//!   (`specs/Laws.antt`).
+//! - [`commands_leave_others`], [`commands_keep_entries_apart`]: every other entry is as before,
+//!   and no two entries overlap (`specs/Apart.antt`).
+//! - [`commands_are_their_changes`]: the complete command is its step on the map
+//!   (`specs/Whole.antt`).
+//! - [`cuts_recover_to_either`]: after a crash, recovery leads to the map before or after the
+//!   command (`specs/Recovered.antt`).
 //!
 //! # Recovery
 //!
-//! Recovery finishes the commands that a crash interrupted: it removes the labels of **unfinished** entries, and
-//! rewrites the labels of **pending** ones without UPDATING, under the entry's name. A label on a module
-//! without a free slot can't be rewritten and stays. It is defined twice (`namespace_map`): as a step on
-//! the map of entries, `recovered`, and as a list of label changes, `recovery_changes`, many UUIDs one after
-//! another. The first law here says that both come to the same, for any number of entries of any status.
+//! Recovery finishes the commands that a crash interrupted: it removes the labels of **unfinished**
+//! entries, and rewrites the labels of **pending** ones without UPDATING, under the entry's name. A
+//! label on a module without a free slot can't be rewritten and stays as it is. `namespace_map`
+//! defines recovery twice: as a step on the map of entries, `recovered`, and as a list of label
+//! changes, `recovery_changes`, for many UUIDs one after another. [`recovery_is_its_changes`] says
+//! that both agree, for any number of entries of any status (`RecoveryAgrees` of
+//! `specs/Recovery.antt`).
 //!
-//! Power may be cut in recovery too. The second law says that nothing is lost then: after each single change an
-//! unfinished entry is unfinished still, or gone, and a complete one is complete under the same name, so recovery
-//! that is run again comes to the same namespaces.
-//!
-//! | promise | law | statement |
-//! |---|---|---|
-//! | recovery's changes make of the areas what recovery makes of the map | [`recovery_is_its_changes`] | `RecoveryAgrees` of `specs/Recovery.antt` |
-//! | recovery that was cut comes to the same when it is run again | [`cut_recovery_resumes`] | `RecoveryResumes` of `specs/Cuts.antt` |
+//! Power may be cut during recovery too. [`cut_recovery_resumes`] says that recovery can be run
+//! again with the same result (`RecoveryResumes` of `specs/Cuts.antt`): after each single change an
+//! unfinished entry is still unfinished, or gone, and a complete one is complete under the same
+//! name.
 //!
 //! # The interleave sets of a table
 //!
-//! A table whose mappings of one module into two regions meet is refused (Alias; ACPI 6.5, section 5.2.25.2). So
-//! of a table that is read, the interleave sets of its regions have no byte of a module in common, and a label's extent,
-//! which lies inside one mapping, belongs to one region:
+//! A table with overlapping mappings of one module into two regions is refused (Alias; ACPI 6.5,
+//! section 5.2.25.2). So in a table that is read, the interleave sets of the regions share no byte
+//! of a module, and a label's extent, which lies inside one mapping, belongs to one region:
 //!
 //! ```text
 //!   module 0  | region 0's mapping |   ..   | region 1's mapping |
 //!   module 1  | region 0's mapping |   ..   | region 2's mapping |
 //! ```
 //!
-//! What is said of the commands on namespaces asks for this (`AreRegions` of `namespace_map`).
-//!
-//! | promise | law | statement |
-//! |---|---|---|
-//! | the sets of the regions of a table that is read are regions that share no bytes | [`tables_give_regions`] | `TablesGiveRegions` of `specs/Regions.antt` |
+//! The laws about commands require this (`AreRegions` of `namespace_map`); [`tables_give_regions`]
+//! proves it for each table that is read (`TablesGiveRegions` of `specs/Regions.antt`).
 #![tactic(auto)]
 
 mod agreeing;

@@ -1,7 +1,8 @@
 ghost use Rattle.namespace_laws.specs.Regions.{TablesGiveRegions};
 
-/// A law: where bytes are read as a firmware table, each of whose regions has a mapping and is read as an interleave set,
-/// these sets are regions of which no two share bytes of a module. Whatever code reads them.
+/// A law: if bytes are read as a firmware table, and each of its regions has a mapping and is an
+/// interleave set, no two of these sets share bytes of a module. It holds for any code that reads
+/// them.
 pub fn tables_give_regions()
     ensures { TablesGiveRegions }
 {}

@@ -1,4 +1,4 @@
--- The label of one UUID on each module, and what changes of that UUID make of it.
+-- The label of one UUID on each module, and the effect of changes of that UUID on it.
 use Rattle.std.proofs.Common.{◌≡◌, ◌≢◌, ℕ, zero, suc, ◌+◌, ◌<◌, ◌≤◌, cond, eqb, List, [], ◌∷◌, length, take, Option, Some, None, refl, sym, ap, ◌∙◌, subst, arith, inl, inr}
 use Rattle.std.proofs.Math.ListN.{length-set}
 use Rattle.std.specs.List.{AllByRecursion}
@@ -98,7 +98,7 @@ module _ (uuid : List ℕ) (lab : ℕ → Option Label) (areas : List (Option Ar
         | inr apart ↦ rw (ne_eqb m c.number apart, area_of_other areas c m apart) refl
       ]
 
-  -- and the sum of free slots and labels of the UUID as it was
+  -- and the sum of free slots and labels of the UUID
   pub room_then : (m : ℕ) → HasRoom lab areas m → HasRoom (moved lab c) (changed areas c) m
   room_then m has = record {
     there = let a = has.there in omega (arith, length-set areas c.number (changed_area (area_at areas c.number) c));
@@ -139,7 +139,7 @@ all_of_front P zero xs all = tt
 all_of_front P (suc k) [] all = tt
 all_of_front P (suc k) (x ∷ xs) (one, rest) = (one, all_of_front P k xs rest)
 
--- what a list of changes makes of the label on each module
+-- the label on each module after a list of changes
 pub moved_none : (cs : List Change) (lab : ℕ → Option Label) (m : ℕ) → AllByRecursion (λ c. m ≢ c.number) cs → moved_all lab cs m ≡ lab m
 moved_none [] lab m all = refl
 moved_none (c ∷ cs) lab m (ne, rest) = moved_none cs (moved lab c) m rest ∙ rw (ne_eqb m c.number ne) refl

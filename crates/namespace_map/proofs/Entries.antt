@@ -26,7 +26,7 @@ pub lt_irreflexive : (a b : List ℕ) → uuid_lt a b ≡ true → bytes_eq a b 
 lt_irreflexive a b less =
     false_from_ne_true _ (λ same. false≢true (sym (not_less (slice_cmp nat_cmp a b) (is_eq-slice_cmp a b ∙ same)) ∙ less))
 
--- what a look-up finds after an entry was put
+-- a lookup after an entry was put
 pub lookup_put : (es : List Entry) (e : Entry) (u : List ℕ) → lookup u (put e es) ≡ cond (bytes_eq e.uuid u) (Some e) (lookup u es)
 unfolding put
 lookup_put [] e u = refl
@@ -60,7 +60,7 @@ own_uuids (p ∷ ps) u =
       | inr not_it ↦ rw not_it (own_uuids ps u)
     ]
 
--- an entry has the UUID under which it stands
+-- an entry has the UUID under which it is found
 pub entry_uuid : (sets : List (List Mapping)) (labels : List Placed) (u : List ℕ) (e : Entry) → entry_at sets labels u ≡ Some e → e.uuid ≡ u
 entry_uuid sets labels u e is = by (labels_with u labels) (own_uuids labels u) is
   where
@@ -94,7 +94,7 @@ module _ (sets : List (List Mapping)) (labels : List Placed) (u : List ℕ) wher
       both false = refl
   lookup_one (Some e) p ps is = lookup_put (from_labels ps) e u ∙ ap (λ (v : List ℕ). cond (bytes_eq v u) (Some e) (lookup u (from_labels ps))) (entry_uuid sets labels (uuid_of p) e is)
 
-  -- each look-up gives the entry of that UUID's labels, or nothing where none of these labels has it
+  -- each lookup finds the entry of that UUID's labels, or nothing if none of these labels has it
   lookup_from : (ps : List Placed) → lookup u (from_labels ps) ≡ cond (list_any (λ p. bytes_eq (uuid_of p) u) ps) (entry_at sets labels u) None
   unfolding put_all
   lookup_from [] = refl
@@ -123,7 +123,7 @@ any_or_none (p ∷ ps) u e =
       | inr not_it ↦ rw not_it (any_or_none ps u (rw not_it at e))
     ]
 
--- the map of namespaces: what stands under a UUID is the entry of its labels
+-- the map of namespaces: looking up a UUID finds the entry of its labels
 pub lookup_entries : (sets : List (List Mapping)) (labels : List Placed) (u : List ℕ) → lookup u (entries_of sets labels) ≡ entry_at sets labels u
 lookup_entries sets labels u =
     lookup_from sets labels u labels

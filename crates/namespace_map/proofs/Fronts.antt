@@ -1,4 +1,4 @@
--- A power cut leaves the changes of a front of a list.
+-- After a crash, a front of a list of changes is made.
 use Rattle.std.proofs.Common.{Option, ◌≡◌, ℕ, suc, ◌+◌, ◌-◌, ◌≤◌, Bool, List, [], ◌∷◌, length, take, refl, arith, inl, inr}
 use Rattle.std.specs.Prelude.{nat_le, ◌==◌, ◌&&◌}
 use Rattle.std.proofs.lemmas.Bool.{cases_Bool, le-leb}
@@ -11,7 +11,7 @@ one_more : (c : Change) (cs : List Change) (areas left : List (Option Area)) →
 unfolding all_changed
 one_more c cs areas left (k, below, is) = (suc k, omega arith, is)
 
--- what a cut after any number of steps leaves
+-- after a crash that follows any number of steps
 pub cut_is_front : (cs : List Change) (areas : List (Option Area)) (n : ℕ) (stays : Bool) → IsFront areas cs (after_steps areas cs n stays)
 unfolding after_steps all_changed
 cut_is_front [] areas n stays = (0, omega arith, refl)

@@ -51,7 +51,7 @@ part_one (Some None ∷ slots) uuid m k (suc s) l here e others =
 part_one (Some (Some x) ∷ slots) uuid m k (suc s) l here e others =
     rw (others 0 (λ e. omega arith)) (part_one slots uuid m (k + 1) s l here e (λ j ne. others (suc j) (λ e. ne (omega arith))) ∙ ap (λ (n : ℕ). placed_at m n l ∷ []) (omega arith))
 
--- a write that neither takes nor brings a label of the UUID changes nothing of its labels
+-- a write that neither removes nor puts a label of the UUID changes none of its labels
 pub part_kept : (slots : List SlotState) (uuid : List ℕ) (m k i : ℕ) (x : SlotState) → has_uuid uuid (slot slots i) ≡ false → has_uuid uuid x ≡ false
     → part uuid m k (set slots i x) ≡ part uuid m k slots
 part_kept [] uuid m k i x old new = refl
@@ -117,12 +117,12 @@ written u (y ∷ ys) zero x h e = e
 written u (y ∷ ys) (suc s) x h e = written u ys s x h e
 
 module _ (u v : List ℕ) (apart : u ≢ v) (m : ℕ) where
-  -- a slot of the other UUID goes
+  -- a slot of the other UUID is freed
   freed_kept : (slots : List SlotState) (p : Option ℕ) → ((s : ℕ) → p ≡ Some s → has_uuid u (slot slots s) ≡ false) → part u m 0 (without p slots) ≡ part u m 0 slots
   freed_kept slots None h = refl
   freed_kept slots (Some s) h = part_kept slots u m 0 s None (h s refl) refl
 
-  -- after a label was put into a slot, a slot that had no label of the UUID has none
+  -- after a label was put into a slot, a slot without a label of the UUID still has none
   filled_none : (slots : List SlotState) (s j : ℕ) (l : Label) → l.uuid ≡ v → has_uuid u (slot slots j) ≡ false
       → has_uuid u (slot (set slots s (Some (Some (record l { slot = s })))) j) ≡ false
   filled_none slots s j l e h =
@@ -144,7 +144,7 @@ module _ (u v : List ℕ) (apart : u ≢ v) (m : ℕ) where
           freed_kept (set slots s (Some (Some (record l { slot = s })))) (slot_of slots v) (λ j at. filled_none slots s j l (ls l refl) (of_other slots j at))
           ∙ part_kept slots u m 0 s _ (free_has_none u (slot slots s) (position-Some is_free slots s None is).1) (not_there u v l s apart (ls l refl))
 
--- a change of one UUID leaves the labels of another as they were
+-- a change of one UUID doesn't change the labels of another
 pub others_stay : (u v : List ℕ) (areas : List (Option Area)) (c : Change) → u ≢ v → IsOf v c → labels_with u (placed_in_all (changed areas c)) ≡ labels_with u (placed_in_all areas)
 others_stay u v areas c apart of =
     let area = area_at areas c.number in
@@ -161,7 +161,7 @@ unfolding all_changed
 others_stay_all [] u v areas apart all = refl
 others_stay_all (c ∷ cs) u v areas apart (one, rest) = others_stay_all cs u v (changed areas c) apart rest ∙ others_stay u v areas c apart one
 
--- so every other entry is as it was
+-- so every other entry is as before
 pub other_entries_stay : (sets : List (List Mapping)) (cs : List Change) (u v : List ℕ) (areas : List (Option Area)) → u ≢ v → AllByRecursion (IsOf v) cs
     → entry_at sets (placed_in_all (all_changed areas cs)) u ≡ entry_at sets (placed_in_all areas) u
 other_entries_stay sets cs u v areas apart all = rw (others_stay_all cs u v areas apart all) refl

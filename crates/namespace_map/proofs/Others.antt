@@ -1,4 +1,4 @@
--- A cut of changes of one UUID leaves every other entry as it was.
+-- After a crash during changes of one UUID, every other entry is as before.
 use Rattle.std.proofs.Common.{◌≡◌, ◌≢◌, ℕ, Bool, List, Option, take, sym, ap, ◌∙◌}
 use Rattle.std.specs.List.{AllByRecursion}
 use Rattle.nfit_reader.specs.declared.table.Mapping.{Mapping}

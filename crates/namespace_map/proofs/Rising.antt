@@ -1,4 +1,4 @@
--- Entries rising by UUID: a list is known by what its look-ups find.
+-- Entries that ascend by UUID: a list is determined by its lookups.
 use Rattle.std.proofs.Common.{◌≡◌, ℕ, true, false, List, [], ◌∷◌, Option, Some, None, refl, sym, ap, ◌∙◌, subst, inl, inr, ◌⊎◌, Ordering}
 use Rattle.std.specs.Prelude.{map}
 use Rattle.std.specs.List.{AllByRecursion}
@@ -75,7 +75,7 @@ rising_all (Some e ∷ os) = rising_put (put_all os) e (rising_all os)
 pub rising_entries : (sets : List (List Mapping)) (labels : List Placed) → IsRising (entries_of sets labels)
 rising_entries sets labels = rising_all (map (λ p. entry_at sets labels (uuid_of p)) labels)
 
--- nothing stands under a UUID that is below all
+-- nothing is found under a UUID that is below all
 below_none : (es : List Entry) (u : List ℕ) → Above u es → lookup u es ≡ None
 below_none [] u all = refl
 below_none (e ∷ es) u (one, rest) = rw (apart e.uuid u one) (below_none es u rest)
@@ -90,7 +90,7 @@ self u = (bytes_eq-Decides u u).1 refl
 later : (e : Entry) (es : List Entry) (u : List ℕ) → bytes_eq e.uuid u ≡ false → lookup u (e ∷ es) ≡ lookup u es
 later e es u apart = rw apart refl
 
--- an entry that a look-up in a rising list finds is its first, or above it
+-- an entry that a lookup in an ascending list finds is its first, or after it
 found_above : (es : List Entry) (u v : List ℕ) (e : Entry) → Above v es → lookup u es ≡ Some e → uuid_lt v u ≡ true
 found_above [] u v e all is = absurd (none-some e is)
 found_above (f ∷ fs) u v e (one, rest) is =
@@ -99,7 +99,7 @@ found_above (f ∷ fs) u v e (one, rest) is =
       | inr not_it ↦ found_above fs u v e rest (rw not_it at is)
     ]
 
--- two rising lists with the same look-ups are one
+-- two ascending lists with the same lookups are equal
 pub rising_same : (es fs : List Entry) → IsRising es → IsRising fs → ((u : List ℕ) → lookup u es ≡ lookup u fs) → es ≡ fs
 rising_same [] [] a b same = refl
 rising_same [] (f ∷ fs) a b same = absurd (none-some f (same f.uuid ∙ rw (self f.uuid) refl))

@@ -1,4 +1,5 @@
--- Worked rows, computed: a region of two modules of 32 MiB, one line of 4,096 bytes each, and a region of module 2 alone.
+-- Worked examples, computed on the definitions: a region of two modules of 32 MiB, one line of 4,096 bytes each, and a region of
+-- module 2 alone.
 use Rattle.std.proofs.Common.{◌≡◌, ℕ, ◌+◌, List, [], ◌∷◌, Option, Some, None, true, false, codes, replicate, refl}
 use Rattle.std.specs.Prelude.{map}
 use Rattle.nvd_words.specs.Checks.{first_fault}
@@ -101,7 +102,7 @@ pub all_extents : extents_of (entries two) ≡ extent u 0 0 ∷ extent u 1 0 ∷
 unfolding put_all put status_of first_fault
 all_extents = refl
 
--- as a caller sees them, where the second is claimed twice
+-- as a caller sees them, if the second has two claims
 abbrev claimed : Namespaces
 claimed = record { sets = sets; areas = []; entries = entries two; claims = (v, 2) ∷ [] }
 

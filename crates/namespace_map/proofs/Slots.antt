@@ -26,7 +26,7 @@ module _ {X : Type 0} (test : X → Bool) (d : X) where
   at_from (x ∷ xs) k (suc s) below here others =
       rw (others 0 (λ e. omega arith)) (at_from xs (k + 1) s (omega arith) here (λ j ne. others (suc j) (λ e. ne (omega arith))) ∙ ap Some (omega arith))
 
-  -- a place where the test passes, where one does
+  -- a place where the test passes, if there is one
   there_from : (xs : List X) (k : ℕ) → 1 ≤ count_by test xs
       → (f : ℕ) × (f < length xs) × (position_from test k xs ≡ Some (k + f)) × (test (get_or xs f d) ≡ true)
   there_from [] k some = absurd (omega arith)
@@ -80,7 +80,7 @@ pub own_place : (uuid : List ℕ) (l : Label) (slots : List SlotState) (s : ℕ)
     → ((j : ℕ) → j ≢ s → has_uuid uuid (slot slots j) ≡ false) → slot_of slots uuid ≡ Some s
 own_place uuid l slots s e here others = at_place (has_uuid uuid) None slots s (below_some slots s _ here) (rw here (has_it uuid l s e)) others
 
--- a free slot, where there is one
+-- a free slot, if there is one
 abbrev pub IsFirstFree : List SlotState → ℕ → Type 0
 IsFirstFree slots f = (f < length slots) × (position is_free slots ≡ Some f) × (slot slots f ≡ None)
 
@@ -99,7 +99,7 @@ moved_others uuid slots f s x below others j ne =
       | inr apart ↦ rw (get_or-set_other (set slots f x) s j None None apart, get_or-set_other slots f j x None ne) (others j apart)
     ]
 
--- a label is put into a free slot, and the one that was there goes
+-- a label is put into a free slot, and the previous one is removed
 pub put_own : (uuid : List ℕ) (own : Option Label) (l : Label) (slots : List SlotState) → ((o : Label) → own ≡ Some o → o.uuid ≡ uuid) → l.uuid ≡ uuid → 1 ≤ free_in slots
     → IsOwn uuid own slots → IsOwn uuid (Some l) (replaced (slot_of slots uuid) (Some l) slots)
 put_own uuid None l slots os e room own = rw (nowhere (has_uuid uuid) None slots own) (fill (first_free slots room))
@@ -114,7 +114,7 @@ put_own uuid (Some o) l slots os e room (s, here, others) = rw (own_place uuid o
         let apart : f ≢ s = λ same. none-some _ (sym empty ∙ ap (slot slots) same ∙ here) in
         rw is (f, moved_there slots f s _ below apart, moved_others uuid slots f s _ (below_some slots s _ here) others)
 
--- the only label goes
+-- the only label is removed
 pub remove_own : (uuid : List ℕ) (own : Option Label) (slots : List SlotState) → ((o : Label) → own ≡ Some o → o.uuid ≡ uuid)
     → IsOwn uuid own slots → IsOwn uuid None (replaced (slot_of slots uuid) None slots)
 remove_own uuid None slots os own = rw (nowhere (has_uuid uuid) None slots own) own

@@ -1,5 +1,5 @@
--- Changes of the label areas of several modules, one after another, and what a power cut leaves of them. UEFI 2.10, section 13.19
--- (label slots); one change of one area is that of `label_area`.
+-- Changes of the label areas of several modules, one after another, and the areas after a crash. UEFI 2.10, section 13.19 (label
+-- slots); one change of one area is that of `label_area`.
 use Rattle.std.specs.Prelude.{◌≡◌, ◌⊎◌, ℕ, ◌+◌, ◌-◌, ◌==◌, nat_le, Bool, true, false, ◌&&◌, if◌then◌else◌, List, [], ◌∷◌, slice_get, slice_set, count_by, Option, Some, None, is_none, unwrap_or}
 use Rattle.std.specs.Option.{option_map}
 use Rattle.std.specs.List.{position}
@@ -10,12 +10,12 @@ use Rattle.label_area.specs.Change.{count_of_steps, with_put, without}
 
 -- ---- one area
 
--- a label area that is ready: the bytes of an index block, and its slots
+-- a label area that is ready: the size of its index blocks in bytes, and its slots
 pub record Area : Type 0 where
   pub block : ℕ
   pub slots : List SlotState
 
--- the slots of a module's area; none of one that isn't ready
+-- the slots of a module's area; none if it isn't ready
 abbrev pub slots_of : Option Area → List SlotState
 slots_of None = []
 slots_of (Some area) = area.slots
@@ -30,19 +30,19 @@ is_free slot = is_none slot
 abbrev pub free_in : List SlotState → ℕ
 free_in slots = count_by is_free slots
 
--- a label is put into a slot, under that slot's number, and another slot is freed; where no slot is free nothing changes
+-- a label is put into a slot, with that slot's number, and another slot is freed; if no slot is free, nothing changes
 abbrev pub refilled : Option ℕ → Label → Option ℕ → List SlotState → List SlotState
 refilled out label None slots = slots
 refilled out label (Some slot) slots = without out (with_put (Some (record label { slot = slot })) slots)
 
--- a slot is freed, and a label, if there is one, put into the least slot that was free before
+-- a slot is freed, and a label, if there is one, is put into the least slot that was free before
 abbrev pub replaced : Option ℕ → Option Label → List SlotState → List SlotState
 replaced out None slots = without out slots
 replaced out (Some label) slots = refilled out label (position is_free slots) slots
 
--- ---- changes of areas that are given by module, none where a module has none that is ready
+-- ---- changes of areas, indexed by module; None is an area that isn't ready
 
--- on a module, the label of a UUID goes, and a label comes
+-- on a module, the label of a UUID is removed, and a label is put
 pub record Change : Type 0 where
   pub number : ℕ
   pub uuid : List ℕ
@@ -76,9 +76,9 @@ unfoldable pub all_changed : List (Option Area) → List Change → List (Option
 all_changed areas [] = areas
 all_changed areas (c ∷ cs) = all_changed (changed areas c) cs
 
--- ---- steps, and a cut after so many
+-- ---- steps, and the areas after a crash
 
--- stores and keeps of one change: 64 for a label, and those of the area's other index block
+-- the stores and flushes of one change: 64 for a label, and those of the area's other index block
 abbrev pub steps_for : List (Option Area) → Change → ℕ
 steps_for areas c = count_of_steps (block_of (area_at areas c.number)) c.label
 
@@ -87,8 +87,8 @@ unfoldable pub steps_of_all : List (Option Area) → List Change → ℕ
 steps_of_all areas [] = 0
 steps_of_all areas (c ∷ cs) = steps_for areas c + steps_of_all (changed areas c) cs
 
--- the areas after so many steps: the changes stand that these steps finish, and no other, but that a change of which the last step
--- alone is missing stands where the chooser says so
+-- the areas after this many steps: the changes that these steps complete are made, and no other; a change that lacks only its
+-- last step is made if the chooser says so
 unfoldable pub after_steps : List (Option Area) → List Change → ℕ → Bool → List (Option Area)
 after_steps areas [] steps stays = areas
 after_steps areas (c ∷ cs) steps stays =
@@ -96,6 +96,6 @@ after_steps areas (c ∷ cs) steps stays =
     else if (steps + 1 == steps_for areas c) && stays then changed areas c
     else areas
 
--- what a cut after so many steps may leave
+-- the areas after a crash that follows this many steps
 abbrev pub IsLeftBy : List (Option Area) → List Change → ℕ → List (Option Area) → Type 0
 IsLeftBy areas changes steps left = (left ≡ after_steps areas changes steps true) ⊎ (left ≡ after_steps areas changes steps false)

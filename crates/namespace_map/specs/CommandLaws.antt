@@ -1,4 +1,4 @@
--- Laws of changes, which hold whatever the labels are.
+-- Laws about changes, for any labels.
 use Rattle.std.specs.Prelude.{◌≡◌, ◌≢◌, ◌≤◌, ℕ, Bool, List, Option, Some}
 use Rattle.std.specs.List.{AllByRecursion}
 use Rattle.nfit_reader.specs.declared.table.Mapping.{Mapping}
@@ -7,12 +7,12 @@ use Rattle.namespace_map.specs.Namespaces.{lookup}
 use Rattle.namespace_map.specs.Areas.{Area, Change, all_changed, steps_of_all, after_steps}
 use Rattle.namespace_map.specs.Changes.{namespaces_of}
 
--- a change of one UUID: its label goes, and what comes has that UUID
+-- a change of one UUID: its label is removed, and the label that is put has that UUID
 pub record IsOf (uuid : List ℕ) (c : Change) : Type 0 where
   pub of_uuid : c.uuid ≡ uuid
   pub label_of_uuid : (l : Label) → c.label ≡ Some l → l.uuid ≡ uuid
 
--- a cut of changes of one UUID leaves every other entry as it was
+-- after a crash during changes of one UUID, every other entry is as before
 abbrev pub CutLeavesOthers : Type 0
 CutLeavesOthers =
     (sets : List (List Mapping)) (areas : List (Option Area)) (uuid : List ℕ) (cs : List Change) → AllByRecursion (IsOf uuid) cs

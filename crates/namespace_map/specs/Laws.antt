@@ -5,19 +5,19 @@ use Rattle.nfit_reader.specs.declared.table.Mapping.{Mapping}
 use Rattle.label_set.specs.declared.placed.Placed.{Placed}
 use Rattle.namespace_map.specs.Namespaces.{Entry, uuid_lt, entry_at, entries_of, lookup}
 
--- each entry's UUID is less than those of the entries behind it
+-- each entry's UUID is less than those of the later entries
 abbrev pub IsRising : List Entry → Type 0
 IsRising [] = Unit {0}
 IsRising (e ∷ es) = AllByRecursion (λ (f : Entry). uuid_lt e.uuid f.uuid ≡ true) es × IsRising es
 
--- a law: what stands under a UUID is the entry of that UUID's labels, and nothing where no label has it
+-- a law: looking up a UUID finds the entry of its labels, or nothing if no label has it
 abbrev pub EntriesAreFound : Type 0
 EntriesAreFound = (sets : List (List Mapping)) (labels : List Placed) (uuid : List ℕ) → lookup uuid (entries_of sets labels) ≡ entry_at sets labels uuid
 
--- a law: entries rise by UUID
+-- a law: entries ascend by UUID
 abbrev pub EntriesRise : Type 0
 EntriesRise = (sets : List (List Mapping)) (labels : List Placed) → IsRising (entries_of sets labels)
 
--- a law: rising lists under whose UUIDs the same entries stand are one list
+-- a law: ascending lists with the same lookups are equal
 abbrev pub RisingListsAreMaps : Type 0
 RisingListsAreMaps = (es fs : List Entry) → IsRising es → IsRising fs → ((uuid : List ℕ) → lookup uuid es ≡ lookup uuid fs) → es ≡ fs

@@ -1,4 +1,4 @@
--- What a power cut may leave of the entry that a command is about; and what the laws ask of the sets and the labels.
+-- The entry of a command after a crash, and the premises of the laws.
 use Rattle.std.specs.Prelude.{◌≡◌, ◌≢◌, ℕ, ◌<◌, true, false, List, length, slice_get, Option, Some, Ok}
 use Rattle.std.specs.List.{AllByRecursion, Contains}
 use Rattle.nfit_reader.specs.declared.table.Mapping.{Mapping}
@@ -10,23 +10,23 @@ use Rattle.region_space.specs.Space.{ranges_meet}
 use Rattle.namespace_map.specs.Namespaces.{Entry}
 use Rattle.namespace_map.specs.Areas.{Area, slots_on}
 
--- ---- what the laws ask
+-- ---- the premises of the laws
 
--- the interleave sets of regions, of which no two have mappings of one module that meet
+-- the interleave sets of regions; no two of them have overlapping mappings of one module
 pub record AreRegions (sets : List (List Mapping)) : Type 0 where
-  -- each is the set that a region with some mapping is read as
+  -- each is the set of a region with at least one mapping
   pub read : (i : ℕ) (set : List Mapping) → slice_get sets i ≡ Some set → (r : Region) × (0 < length r.mappings) × (set_reading r ≡ Ok set)
   pub apart : (i j : ℕ) (s t : List Mapping) (m k : Mapping) → slice_get sets i ≡ Some s → slice_get sets j ≡ Some t → i ≢ j → Contains s m → Contains t k → m.«module» ≡ k.«module»
       → ranges_meet m.start m.size k.start k.size ≡ false
 
--- labels are those that a reader of slots finds valid: each names the number of its slot, and has some bytes
+-- labels are as a reader of slots accepts them: each names the number of its slot, and has a positive size
 pub record AreRead (areas : List (Option Area)) : Type 0 where
   pub number : (m s : ℕ) (l : Label) → slice_get (slots_on areas m) s ≡ Some (Some (Some l)) → l.slot ≡ s
   pub bytes : (m s : ℕ) (l : Label) → slice_get (slots_on areas m) s ≡ Some (Some (Some l)) → 0 < l.raw
 
--- ---- an entry in the middle of a command
+-- ---- an entry during a command
 
--- an unfinished entry that has some of another's parts
+-- an unfinished entry with some of another entry's parts
 pub record IsPartOf (e x : Entry) : Type 0 where
   pub unfinished : x.status ≡ Unfinished
   pub uuid : x.uuid ≡ e.uuid
@@ -35,10 +35,10 @@ pub record IsPartOf (e x : Entry) : Type 0 where
   pub lba : x.lba ≡ e.lba
   pub parts : AllByRecursion (Contains e.parts) x.parts
 
--- an entry as it is, but complete under this name, and with some labels that have UPDATING
+-- the same entry, but complete with this name, and some labels have UPDATING
 abbrev pub IsPending : List ℕ → Entry → Entry → Type 0
 IsPending name e x = x ≡ record e { name = name; status = Complete name true; updating = x.updating }
 
--- something is left, and it is such
+-- there is an entry after the crash, with this property
 abbrev pub Left : (Entry → Type 0) → Option Entry → Type 0
 Left P left = (x : Entry) × (left ≡ Some x) × P x

@@ -1,4 +1,4 @@
--- The namespaces that the labels of all modules make: one entry for each UUID that a label names. UEFI 2.10, section 13.19
+-- The namespaces in the labels of all modules: one entry for each UUID that a label names. UEFI 2.10, section 13.19
 -- (EFI_NVDIMM_LABEL: Uuid, Name, Flags, LbaSize, Dpa, RawSize, TypeGuid, AddressAbstractionGuid), with this project's rules.
 use Rattle.std.specs.Prelude.{ℕ, Bool, not, if◌then◌else◌, List, [], ◌∷◌, map, filter, find, slice_get, Option, Some, None, unwrap_or}
 use Rattle.std.specs.Option.{option_map}
@@ -22,15 +22,15 @@ use Rattle.namespace_map.specs.declared.listed.Namespace.{Namespace}
 
 -- ---- the labels of all modules
 
--- the label of a module's slot, where it has one
+-- the label in a module's slot, if there is one
 abbrev pub placed_in : ℕ → ℕ × Option Label → Option Placed
 placed_in number slot = option_map (λ l. record { «module» = number; slot = slot.0; label = l }) slot.1
 
--- the labels of a module, by slot; none of a module whose area isn't read
+-- the labels of a module, by slot; none if its area isn't read
 abbrev pub placed_on : ℕ × Option (List (Option Label)) → List Placed
 placed_on area = filter_map (placed_in area.0) (enumerate_from 0 (unwrap_or area.1 []))
 
--- the labels of areas that are given by module, rising by module and slot
+-- the labels of areas indexed by module, ordered by module and slot
 abbrev pub placed_of : List (Option (List (Option Label))) → List Placed
 placed_of areas = flat_map placed_on (enumerate_from 0 areas)
 
@@ -47,7 +47,7 @@ is_read_only p = has_rolabel p.label.flags
 
 -- ---- an entry
 
--- one label's part of a namespace: its extent, and what a change of the label keeps
+-- one label's part of a namespace: its extent, and the fields that a change of the label keeps
 pub record Part : Type 0 where
   pub extent : Extent
   pub align : ℕ
@@ -61,10 +61,10 @@ pub record Entry : Type 0 where
   pub region : Option ℕ
   pub mode : Mode
   pub lba : ℕ
-  -- rising by module and slot
+  -- ordered by module and slot
   pub parts : List Part
   pub status : SetStatus
-  -- the modules whose label has UPDATING, rising
+  -- the modules whose label has UPDATING, in ascending order
   pub updating : List ℕ
   -- the least module whose label has ROLABEL
   pub read_only : Option ℕ
@@ -72,22 +72,22 @@ pub record Entry : Type 0 where
 abbrev pub part_of : Placed → Part
 part_of p = record { extent = extent_of p; align = p.label.align; spa_cookie = p.label.spa_cookie; flags = without_updating p.label.flags }
 
--- ---- from the labels of one UUID to its entry: the labels rise by module and slot, and the first of them is given
+-- ---- the entry of the labels of one UUID, which are ordered by module and slot; the first is passed separately
 
--- a label's extent lies whole in its module's mapping
+-- a label's extent lies entirely in its module's mapping
 abbrev pub holds_label : Placed → List Mapping → Bool
 holds_label p set = not (is_outside set p)
 
--- the first region in whose mapping a label lies, with its set
+-- the first region whose mapping contains a label, with its set
 abbrev pub region_of : List (List Mapping) → Placed → Option (ℕ × List Mapping)
 region_of sets p = find (λ r. holds_label p r.1) (enumerate_from 0 sets)
 
--- what labels make in the set of their region; without a region, whether one of them is local
+-- the status of labels in the set of their region; without a region, whether one of them is local
 abbrev pub status_in : Option (ℕ × List Mapping) → List Placed → Placed → SetStatus
 status_in None labels first = if list_any is_local labels then Local else Incomplete (Outside first.«module»)
 status_in (Some region) labels first = status_of region.1 labels
 
--- the name that a status gives, else the first label's
+-- the name in a status, else the first label's
 abbrev pub shown_name : SetStatus → Placed → List ℕ
 shown_name (Complete name pending) first = name
 shown_name status first = first.label.name
@@ -112,16 +112,16 @@ entry_with sets labels first =
 abbrev pub labels_with : List ℕ → List Placed → List Placed
 labels_with uuid labels = filter (λ p. bytes_eq (uuid_of p) uuid) labels
 
--- the entry of a UUID, where a label names it; the labels rise by module and slot
+-- the entry of a UUID, if a label names it; the labels are ordered by module and slot
 abbrev pub entry_at : List (List Mapping) → List Placed → List ℕ → Option Entry
 entry_at sets labels uuid = let own = labels_with uuid labels in option_map (entry_with sets own) (slice_get own 0)
 
--- ---- the map from UUIDs to entries, as the list of its entries rising by UUID
+-- ---- the map from UUIDs to entries, as a list of entries that ascend by UUID
 
 abbrev pub uuid_lt : List ℕ → List ℕ → Bool
 uuid_lt a b = is_lt (slice_cmp nat_cmp a b)
 
--- an entry takes the place of one with its UUID, or comes before the first that is greater
+-- an entry replaces the one with its UUID, or is inserted before the first greater one
 unfoldable pub put : Entry → List Entry → List Entry
 put e [] = e ∷ []
 put e (f ∷ fs) = if uuid_lt f.uuid e.uuid then f ∷ put e fs else if bytes_eq f.uuid e.uuid then e ∷ fs else e ∷ f ∷ fs
@@ -137,7 +137,7 @@ put_all [] = []
 put_all (None ∷ entries) = put_all entries
 put_all (Some e ∷ entries) = put e (put_all entries)
 
--- one entry for each UUID that a label names; the labels rise by module and slot
+-- one entry for each UUID that a label names; the labels are ordered by module and slot
 abbrev pub entries_of : List (List Mapping) → List Placed → List Entry
 entries_of sets labels = put_all (map (λ p. entry_at sets labels (uuid_of p)) labels)
 
@@ -148,22 +148,22 @@ extents_in e = map (λ p. p.extent) e.parts
 abbrev pub extents_of : List Entry → List Extent
 extents_of entries = flat_map extents_in entries
 
--- ---- the namespaces of an image set, and what stands beside them
+-- ---- the namespaces of an image set, with the state of its areas
 
--- a module's label area: whether it is read, the size of its index blocks, and how many slots are free
+-- a module's label area: whether it is ready, the size of its index blocks, and the number of free slots
 pub record AreaState : Type 0 where
   pub ready : Bool
   pub block : ℕ
   pub free : ℕ
 
 pub record Namespaces : Type 0 where
-  -- the interleave sets by region number, each the list of its mappings by position
+  -- the interleave sets by region number, each a list of mappings in order of position
   pub sets : List (List Mapping)
   -- by module number
   pub areas : List AreaState
-  -- rising by UUID
+  -- in ascending order of UUIDs
   pub entries : List Entry
-  -- how often UUIDs are claimed
+  -- the claims of UUIDs
   pub claims : List (List ℕ × ℕ)
 
 abbrev pub claims_of : Namespaces → List ℕ → ℕ
@@ -182,6 +182,6 @@ namespace_of e claims = record {
   claims = claims;
 }
 
--- what a list of the namespaces has, rising by UUID
+-- the namespaces as a list, in ascending order of UUIDs
 abbrev pub listed : Namespaces → List Namespace
 listed ns = map (λ e. namespace_of e (claims_of ns e.uuid)) ns.entries

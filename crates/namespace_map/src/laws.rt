@@ -1,7 +1,8 @@
 ghost use Rattle.namespace_map.specs.Laws.{EntriesAreFound, EntriesRise, RisingListsAreMaps};
 
-/// The entries that labels make are a map: under a UUID stands the entry of its labels, they rise by UUID,
-/// and a rising list is known by what stands under each UUID. Whatever code makes the list.
+/// A law: the entries of labels are a map. Looking up a UUID finds the entry of its labels, the
+/// entries ascend by UUID, and an ascending list is determined by its lookups. It holds for any
+/// code that makes the list.
 pub fn entries_are_a_map()
     ensures found { EntriesAreFound }
     ensures rising { EntriesRise }

@@ -4,24 +4,24 @@ use nvd_words::Items;
 use region_space::Extent;
 use uuid::Uuid;
 
-/// A namespace as its labels make it, whatever their status.
+/// A namespace as its labels describe it, whatever their status.
 #[derive(Debug, Drop)]
 pub struct Namespace {
-    /// The UUID by which its labels name it.
+    /// The UUID of its labels.
     pub uuid: Uuid,
-    /// The name that its status gives; where the status gives none, that of its first label: the one on the
-    /// least module, in its least slot.
+    /// The name in its status. If the status has none, it is that of the first label, in the least
+    /// slot of the least module.
     pub name: Name,
-    /// The number of the region in whose mapping its first label's extent lies.
+    /// The number of the region whose mapping contains its first label's extent.
     pub region: Option<u32>,
-    /// How it is accessed, by its first label's two GUIDs.
+    /// How it is accessed, from its first label's two GUIDs.
     pub mode: Mode,
     /// Its first label's LbaSize, in bytes.
     pub lba: u64,
-    /// The extent of each of its labels, rising by module and slot.
+    /// The extent of each of its labels, ordered by module and slot.
     pub extents: Items<Extent>,
-    /// What its labels make, next to its region's interleave set.
+    /// The status of its labels, with its region's interleave set.
     pub status: SetStatus,
-    /// How often it is claimed.
+    /// How many claims it has.
     pub claims: u32,
 }

@@ -1,28 +1,28 @@
-/// Why a command on namespaces is refused. A refusal that names a module names the least one.
+/// Why a command on namespaces is refused. If several modules qualify, the least is named.
 #[derive(Clone, Copy, Debug, PartialEq, Eq)]
 pub enum OpRefused {
-    /// No label names the UUID.
+    /// No label has the UUID.
     NoSuch,
     /// A label has the UUID.
     Exists,
-    /// There is no region of this number.
+    /// There is no region with this number.
     NoRegion { region: u32 },
-    /// No offset is left at which so many bytes of each module of the region fit.
+    /// There is no offset at which the namespace fits on each module of the region.
     NoSpace { wanted: u64 },
-    /// The module's label area hasn't as many free slots as the command needs: two to create, else one.
+    /// The module's label area has too few free slots: create needs two, other commands one.
     NoSlot { module: u32 },
-    /// The namespace is claimed so often.
+    /// The namespace has this many claims.
     Busy { claims: u32 },
-    /// The namespace's labels make no complete one.
+    /// The namespace isn't complete.
     NotComplete,
-    /// The namespace has another mode than sector.
+    /// The namespace's mode isn't sector.
     NotSector,
-    /// The size is 0, or not a multiple of the unit for each module of the region, or no arena is
-    /// planned for it.
+    /// The size is 0, or not a multiple of the unit for each module of the region, or no arena can
+    /// be planned for it.
     BadSize { bytes: u64 },
-    /// The name's text, of so many bytes, makes no name.
+    /// The text, of this many bytes, isn't a valid name.
     BadName { bytes: u64 },
-    /// The module of the region has no label area that is ready.
+    /// The label area of this module of the region isn't ready.
     ModuleLabels { module: u32 },
     /// The module's label of the namespace has ROLABEL.
     ReadOnlyLabel { module: u32 },

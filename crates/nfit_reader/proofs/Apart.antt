@@ -1,4 +1,4 @@
--- Extents of which each is before the next one have no alias.
+-- Extents in strict order have no alias.
 use Rattle.std.proofs.Common.{◌≡◌, ◌⊎◌, ℕ, zero, suc, ◌+◌, ◌-◌, ◌<◌, ◌≤◌, Bool, true, false, ◌&&◌, eqb, ltb, leb, min, max, List, [], ◌∷◌, length, get_or, None, refl, sym, ap, ◌∙◌, inl, inr, subst, arith}
 use Rattle.std.specs.List.{find, Contains}
 use Rattle.std.specs.List.Sorted.{IsPermutation}
@@ -27,7 +27,7 @@ further a b d (inl low) (inr same) = let e = same.0 in inl (omega arith)
 further a b d (inr same) (inl low) = let e = same.0 in inl (omega arith)
 further a b d (inr same) (inr same') = let e = same.0 in let e' = same'.0 in let f = same.1 in let f' = same'.1 in inr (omega arith, omega arith)
 
--- each is before all that come later
+-- each extent is before all later ones
 later : (xs : List Extent) (x : Extent) → StandApart xs → (i n : ℕ) → i + n + 1 < length xs → Before (get_or xs i x) (get_or xs (i + n + 1) x)
 later xs x apart i zero h =
     let e : i + 1 ≡ i + zero + 1 = omega arith in
@@ -37,7 +37,7 @@ later xs x apart i (suc n) h =
     subst (λ k. Before (get_or xs i x) (get_or xs k x)) e
     (further (get_or xs i x) (get_or xs (i + n + 1) x) (get_or xs ((i + n + 1) + 1) x) (later xs x apart i n (omega arith)) (told (get_or xs (i + n + 1) x) (get_or xs ((i + n + 1) + 1) x) (apart (i + n + 1) x (omega arith))))
 
--- one before another is no alias of it, in either order
+-- if one extent is before another, neither is an alias of the other
 no_alias : (a b : Extent) → Before a b → (is_alias a b ≡ false) × (is_alias b a ≡ false)
 unfolding is_alias Before
 no_alias a b (inl low) =

@@ -166,7 +166,7 @@ counted_from structures None (Ok n) a few short =
     subst AreCounted same (counted_regions structures few short)
 counted_from structures (Some f) (Ok n) a few short = absurd (let e : ◌≡◌ {A = Result Nfit NfitFault} (Ok n) (Err f) = a (λ e. cc) in cc)
 
--- what is read of sound structures is counted
+-- a table that is read is within the bounds
 pub counted_table : (structures : List Structure) (r : Result Nfit NfitFault) → Answers OutOfMemory r (table_reading structures) → 4 * length structures < 4294967296
     → All IsShort structures → IfOk r AreCounted
 unfolding table_reading
@@ -190,7 +190,7 @@ few_from structures None (Ok n) a few =
     subst (λ (nfit : Nfit). length nfit.regions < 2 ^ 32) same (few_regions structures few)
 few_from structures (Some f) (Ok n) a few = absurd (let e : ◌≡◌ {A = Result Nfit NfitFault} (Ok n) (Err f) = a (λ e. cc) in cc)
 
--- what is read of few structures has few regions
+-- few structures make few regions
 pub few_table : (structures : List Structure) (r : Result Nfit NfitFault) → Answers OutOfMemory r (table_reading structures) → 4 * length structures < 4294967296
     → IfOk r (λ nfit. length nfit.regions < 2 ^ 32)
 unfolding table_reading

@@ -16,7 +16,7 @@ use Rattle.nfit_reader.proofs.Numbers.{is_eq-nat_cmp}
 
 pub ruleset orders = (is_eq-nat_cmp)
 
--- a list from which nothing is picked has none of that kind
+-- a list with no matching element has none of that kind
 pub list_any-filter : {A : Type 0} (p : A → Bool) (xs : List A) → not (eqb (length (filter p xs)) 0) ≡ list_any p xs
 list_any-filter p [] = refl
 list_any-filter p (x ∷ xs) = elim (cases_Bool (p x)) [
@@ -64,7 +64,7 @@ filter_map_more h xs i d lt =
     one None = refl
     one (Some x) = refl
 
--- the regions of ranges are those of the ranges that are regions
+-- mapping ranges to regions selects the ranges that are regions
 pub filter_map-region_where : (structures : List Structure) (ranges : List Range) → filter_map (region_where structures) ranges ≡ map (region_of structures) (filter (is_region structures) ranges)
 unfolding region_where
 filter_map-region_where structures [] = refl

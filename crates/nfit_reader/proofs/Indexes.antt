@@ -59,7 +59,7 @@ in_get (y ∷ ys) (suc i) x e = inr (in_get ys i x e)
 
 -- ---- indexes
 
--- an index is none of these
+-- the index isn't one of these
 abbrev pub IsNone : ℕ → List Range → Type 0
 IsNone index ranges = AllByRecursion (λ (r : Range). index ≢ r.index) ranges
 
@@ -128,7 +128,7 @@ regions_apart structures once i j r s e e' ne =
 
 -- ---- the first region of an index
 
--- the place of a region is found
+-- a region with the index has a place
 pub place_there : (index i : ℕ) (rs : List Region) (s : Region) → In rs s → s.index ≡ index → (p : ℕ) × (position_from (λ (r : Region). r.index == index) i rs ≡ Some p)
 place_there index i [] s j e = absurd j
 place_there index i (r ∷ rs) s j e =
@@ -141,7 +141,7 @@ place_there index i (r ∷ rs) s j e =
           ]
     ]
 
--- the region at such a place has the index
+-- the region at that place has the index
 pub place_named : (index i p : ℕ) (rs : List Region) → position_from (λ (r : Region). r.index == index) i rs ≡ Some p → (i ≤ p) × ((s : Region) → slice_get rs (p - i) ≡ Some s → s.index ≡ index)
 place_named index i p [] e = absurd (none-some p e)
 place_named index i p (r ∷ rs) e =

@@ -1,4 +1,4 @@
--- What byteorder reads is what std's bytes give.
+-- byteorder and std read the same number.
 use Rattle.std.proofs.Common.{◌≡◌, ℕ, List, take, arith}
 use Rattle.std.specs.Int.{w16, w32, w64, from_le_bytes}
 use Rattle.std.proofs.lemmas.List.{get_or-take}

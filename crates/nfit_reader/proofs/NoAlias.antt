@@ -10,7 +10,7 @@ use Rattle.nfit_reader.specs.declared.table.NfitFault.TheVariants as fault
 use Rattle.nfit_reader.specs.Table.{meets, is_alias, alias_in}
 use Rattle.nfit_reader.proofs.Indexes.{In}
 
--- what no element of a list passes, one of them doesn't
+-- if `find` fails, the test fails for each element
 pub missed : {X : Type 0} (test : X → Bool) (xs : List X) (x : X) → find test xs ≡ None → In xs x → test x ≡ false
 missed test [] x none i = absurd i
 missed test (y ∷ ys) x none i =
@@ -39,7 +39,7 @@ meets_back a b e =
       | inr not_it ↦ not_it
     ]
 
--- two extents of a table without aliases, of one module and two regions, have no byte in common
+-- in a table without aliases, two extents of one module and two regions share no byte
 pub none_meet : (xs : List Extent) (a b : Extent) → alias_in xs ≡ None → In xs a → In xs b → a.«module» ≡ b.«module» → a.region ≢ b.region → meets a b ≡ false
 unfolding alias_in
 none_meet [] a b none i j same other = absurd i

@@ -8,7 +8,7 @@ use Rattle.std.proofs.lemmas.Bool.{cases_Bool, ne_eqb, eq-eqb, cases_eq}
 use Rattle.std.proofs.lemmas.Bool.Decides.{nat_tests}
 use Rattle.nfit_reader.specs.Table.{distinct_after, place_of}
 
--- the order of numbers tells which are equal
+-- the order of numbers decides equality
 pub is_eq-nat_cmp : (k q : ℕ) → is_eq (nat_cmp k q) ≡ eqb k q
 is_eq-nat_cmp k q = grind (arith, nat_tests)
 
@@ -40,7 +40,7 @@ or_new : (o p : Option ℕ) → is_some o ≡ false → option_or o p ≡ p
 or_new None p e = refl
 or_new (Some x) p e = cc
 
--- a key that is new gets its place
+-- a new key gets its place
 pub place_new : (f g : ℕ → Option ℕ) (keys : List ℕ) (i k : ℕ) → i < length keys → k ≡ get_or keys i 0 → ((q : ℕ) → f q ≡ place_of q (take i keys)) → is_some (f k) ≡ false
     → ((q : ℕ) → g q ≡ cond (is_eq (nat_cmp k q)) (Some i) (f q)) → (q : ℕ) → g q ≡ place_of q (take (i + 1) keys)
 place_new f g keys i k h is inv new put q =
@@ -57,7 +57,7 @@ place_new f g keys i k h is inv new put q =
           told ∙ ap (λ b. cond b (Some i) (f q)) e ∙ sym (due ∙ ap (λ b. option_or (f q) (cond b (Some i) None)) e ∙ or_none (f q))
     ]
 
--- a key that was there keeps its place
+-- a known key keeps its place
 pub place_old : (f : ℕ → Option ℕ) (keys : List ℕ) (i k : ℕ) → i < length keys → k ≡ get_or keys i 0 → ((q : ℕ) → f q ≡ place_of q (take i keys)) → is_some (f k) ≡ true
     → (q : ℕ) → f q ≡ place_of q (take (i + 1) keys)
 place_old f keys i k h is inv old q =
@@ -68,9 +68,9 @@ place_old f keys i k h is inv old q =
       | inr other ↦ let e : eqb k q ≡ false = ne_eqb k q other in sym (due ∙ ap (λ b. option_or (f q) (cond b (Some i) None)) e ∙ or_none (f q))
     ]
 
--- ---- numbers that stand once
+-- ---- numbers without repetition
 
--- a set and a list have what came so far, and the rest is still to come
+-- a set and a list have the numbers so far, and the rest is still to come
 pub record IsListed (contains : ℕ → Bool) (modules rest all : List ℕ) : Type 0 where
   pub seen : List ℕ
   pub same : (x : ℕ) → contains x ≡ list_any (λ y. eqb y x) seen

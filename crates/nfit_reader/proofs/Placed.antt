@@ -16,7 +16,7 @@ use Rattle.nfit_reader.specs.declared.structures.Link.{Link}
 use Rattle.nfit_reader.specs.Table.{distinct_after, place_of, modules_of, links_of, ranges_of, mapping_of, region_of, regions_of, is_region, nfit_of, too_large, table_reading}
 use Rattle.nfit_reader.specs.Counted.{NamesItsModules}
 
--- an answer that is Ok had no fault
+-- a result that is Ok had no fault
 third_none : {A F : Type 0} (v n : A) (a b c d : Option F) → value_unless v (first_fault (a ∷ b ∷ c ∷ d ∷ [])) ≡ Ok n → (n ≡ v) × (c ≡ None)
 unfolding first_fault
 third_none v n (Some f) b c d is = absurd (cc)
@@ -34,7 +34,7 @@ found p i (x ∷ xs) some = elim (cases_Bool (p x)) [
   | inr on ↦ rw on (let h = found p (i + 1) xs (rw on at some) in omega arith)
 ]
 
--- a number of a list that wasn't seen before is among the distinct ones
+-- a number of the list that wasn't seen before is among the distinct ones
 kept : (x : ℕ) (seen xs : List ℕ) → list_any (λ y. eqb y x) xs ≡ true → list_any (λ y. eqb y x) seen ≡ false → list_any (λ y. eqb y x) (distinct_after seen xs) ≡ true
 unfolding distinct_after
 kept x seen [] some unseen = some

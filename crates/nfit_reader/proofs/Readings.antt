@@ -35,7 +35,7 @@ sound bytes e =
     let parts = or_parts (ltb (length bytes) (said_of bytes)) (ltb (said_of bytes) 40) (none_if _ _ len.0) in
     record { inside = ltb-false (length bytes) (said_of bytes) parts.0; header = ltb-false (said_of bytes) 40 parts.1 }
 
--- the reading of a table with a sound header is that of its structures
+-- the reading of a table with a valid header is that of its structures
 pub reading_on : (bytes table : List ℕ) → None ≡ header_fault bytes → table ≡ take (said_of bytes) bytes
     → structures_reading (structures_of (spans_from (length table) 40 (drop 40 table))) ≡ nfit_reading bytes
 reading_on bytes table none is =

@@ -1,4 +1,4 @@
--- Worked rows, computed.
+-- Worked examples, computed on the definitions.
 use Rattle.std.proofs.Common.{◌≡◌, ℕ, ◌-◌, ◌%◌, ◌++◌, List, [], ◌∷◌, Some, Ok, Err, replicate, sum, length, codes, refl}
 use Rattle.std.specs.Int.{w16, w32, w64, to_le_bytes}
 use Rattle.nvd_words.specs.Bytes.{number_at}
@@ -71,27 +71,27 @@ pub short_structure : nfit_reading (table_of 44 (9 ∷ 0 ∷ 3 ∷ 0 ∷ [])) �
 unfolding number_at first_fault said_of header_fault spans_from is_structure least_length has_lines
 short_structure = refl
 
--- of the indices 1, 2, 2, 1 the first that stands again is 1
+-- of the indices 1, 2, 2, 1 the first that occurs again is 1
 pub doubled : nfit_reading (table_of 264 (range 1 0 4096 ++ range 2 0 4096 ++ range 2 0 4096 ++ range 1 0 4096)) ≡ Err (TwiceIndex 0 1)
 unfolding number_at first_fault spans_from structure_of range_structure interleave_structure control_structure least_length is_structure has_lines range_of link_of lines_of identity_of distinct_after twice_in alias_in is_alias mapping_of region_of regions_of missing_of lacks_range lacks_identity lacks_lines extent_of table_reading said_of header_fault
 doubled = refl
 
--- a control index 0 of a mapping into persistent memory names nothing
+-- control index 0 names nothing, which a mapping into persistent memory must not do
 pub no_control : nfit_reading (table_of 144 (range 1 0 4096 ++ mapping 1 1 0 0 0 0)) ≡ Err (MissingIndex 4 0)
 unfolding number_at first_fault spans_from structure_of range_structure interleave_structure control_structure least_length is_structure has_lines range_of link_of lines_of identity_of distinct_after twice_in alias_in is_alias mapping_of region_of regions_of missing_of lacks_range lacks_identity lacks_lines extent_of table_reading said_of header_fault
 no_control = refl
 
--- an interleave structure with no lines is none, also one with index 0
+-- an interleave structure with no lines is invalid, even with index 0
 pub no_lines : nfit_reading (table_of 56 (2 ∷ 0 ∷ 16 ∷ 0 ∷ replicate 12 0)) ≡ Err (Structure 40)
 unfolding number_at first_fault spans_from is_structure has_lines least_length said_of header_fault
 no_lines = refl
 
--- the mapping into region 1 stands first, and is named first
+-- the mapping into region 1 comes first, and is named first
 pub crossed : nfit_reading (table_of 280 (mapping 7 2 1 0 4096 0 ++ mapping 7 1 1 0 8192 0 ++ range 1 0 4096 ++ range 2 0 4096 ++ control 1 1)) ≡ Err (Alias 0 1 0)
 unfolding number_at first_fault spans_from structure_of range_structure interleave_structure control_structure least_length is_structure has_lines range_of link_of lines_of identity_of distinct_after twice_in alias_in is_alias mapping_of region_of regions_of missing_of lacks_range lacks_identity lacks_lines extent_of table_reading said_of header_fault
 crossed = refl
 
--- a byte of the Length field that isn't there counts as zero
+-- a missing byte of the Length field counts as zero
 pub length_cut : nfit_reading (codes "NFIT" ++ 41 ∷ []) ≡ Err (Length 41 5)
 unfolding number_at first_fault said_of header_fault
 length_cut = refl

@@ -19,7 +19,7 @@ use Rattle.nfit_reader.specs.Sharing.{RegionsShareNoBytes}
 use Rattle.nfit_reader.proofs.NoAlias.{none_meet, one_ends}
 use Rattle.nfit_reader.proofs.Indexes.{In, in_from, in_filter, in_map, in_filter_map, in_get, regions_apart, place_there, places_differ}
 
--- ---- what a table that is read has passed
+-- ---- the checks that a table has passed
 
 record IsTable (structures : List Structure) (nfit : Nfit) : Type 0 where
   is : nfit_of structures ≡ nfit
@@ -75,7 +75,7 @@ extent_is : (structures : List Structure) (l : Link) (region : ℕ) → position
 unfolding extent_of
 extent_is structures l region e = ap (λ (o : Option ℕ). option_map (λ region. record { «module» = unwrap_or (place_of l.handle (modules_of structures)) 0; region = region; start = l.start; size = l.size }) o) e
 
--- a mapping of a link
+-- the extent of a mapping
 link_extent : (structures : List Structure) (r : Region) (m : Mapping) (l : Link) → In (regions_of structures) r → In (links_of structures) l → l.range ≡ r.index → mapping_of structures l ≡ m → HasExtent structures r m
 unfolding mapping_of
 link_extent structures r m l i among named is =

@@ -1,4 +1,4 @@
--- The list of spans, from any place on.
+-- The spans from any offset on.
 use Rattle.std.proofs.Common.{◌≡◌, ℕ, zero, suc, ◌+◌, ◌-◌, ◌*◌, ◌<◌, ◌≤◌, true, false, not, ◌&&◌, ◌||◌, eqb, leb, List, [], ◌∷◌, ◌++◌, length, take, drop, get_or, Result, Ok, Err, refl, sym, ap, ◌∙◌, subst, arith, length-drop, append_assoc}
 use Rattle.std.proofs.lemmas.List.{take-take, drop-take, drop-drop, get_or-take, get_or-drop, length-take-le, drop_all, length_push, append-nil}
 use Rattle.std.proofs.lemmas.Bool.{and_parts, leb-true, not_from_true, eq-eqb, cases_Bool}
@@ -31,7 +31,7 @@ little_said bytes = omega (
   get_or-drop 4 bytes 3 0,
 )
 
--- a number that stands in the front of bytes
+-- a number in a prefix of the bytes
 pub number_at-take : (w : Width) (n : ℕ) (xs : List ℕ) (at : ℕ) → at + byte_len w ≤ n → number_at w (take n xs) at ≡ number_at w xs at
 unfolding number_at
 number_at-take w n xs at h =
@@ -51,7 +51,7 @@ least_four kind = grind arith
 
 pub ruleset least = (least_two, least_four)
 
--- what the test of a structure says
+-- a complete structure, as its test says
 record Fits (rest : List ℕ) : Type 0 where
   pub header : 4 ≤ length rest
   pub least : least_length (number_at w16 rest 0) ≤ number_at w16 rest 2
@@ -79,7 +79,7 @@ fits rest e =
           leb-true _ _ (and_parts some room (rw no at a.1)).1;
     }
 
--- a structure takes four bytes at least
+-- a structure takes at least four bytes
 pub takes_four : (rest : List ℕ) → is_structure rest ≡ true → 4 ≤ number_at w16 rest 2
 takes_four rest e = let f = fits rest e in omega (arith, f.least, least_four (number_at w16 rest 0))
 
@@ -127,7 +127,7 @@ pub ruleset whole = (whole_range, whole_mapping, whole_interleave, whole_lines, 
 
 -- ---- from structure to structure
 
--- more allowed structures than bytes change nothing
+-- a larger bound on the number of structures changes nothing
 fuel : (m n at : ℕ) (rest : List ℕ) → length rest ≤ m → length rest ≤ n → spans_from m at rest ≡ spans_from n at rest
 unfolding spans_from
 fuel m n at [] h k = refl
@@ -144,7 +144,7 @@ fuel (suc m) (suc n) at (b ∷ rest) h k =
       | inr bad ↦ rw bad refl
     ]
 
--- what the structures from a place on are
+-- the structures from an offset on
 abbrev pub rest_at : List ℕ → ℕ → Result (List Structure) NfitFault
 rest_at table at = structures_of (spans_from (length table) at (drop at table))
 
@@ -188,7 +188,7 @@ rest_at-good table at h e =
     ∙ structures_of-with_first (take len rest) (spans_from n (at + len) (drop len rest))
     ∙ ap (λ ys. with_first (structure_of (take len rest)) (structures_of (spans_from n (at + len) ys))) (drop-drop len at table)
 
--- ---- a front of structures that are read already
+-- ---- the structures read so far
 
 abbrev pub with_front : List Structure → Result (List Structure) NfitFault → Result (List Structure) NfitFault
 with_front front (Ok structures) = Ok (front ++ structures)
@@ -202,7 +202,7 @@ pub with_front-nil : (r : Result (List Structure) NfitFault) → with_front [] r
 with_front-nil (Ok structures) = refl
 with_front-nil (Err f) = refl
 
--- the structures before a place are read
+-- the structures before an offset are read
 pub record IsReadTo (table : List ℕ) (at : ℕ) (structures : List Structure) : Type 0 where
   pub inside : at ≤ length table
   pub few : 4 * length structures ≤ at

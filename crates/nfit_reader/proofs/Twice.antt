@@ -1,4 +1,4 @@
--- Names that stand again.
+-- Names that occur twice.
 use Rattle.std.proofs.Common.{◌≡◌, ℕ, Bool, cond, eqb, ◌==◌, ◌&&◌, List, [], ◌∷◌, Option, Some, None, refl, sym, inl, inr}
 use Rattle.std.specs.Option.{is_some, option_or}
 use Rattle.std.specs.List.{list_any, filter_map}
@@ -13,7 +13,7 @@ use Rattle.nfit_reader.specs.declared.structures.Control.{Control}
 use Rattle.nfit_reader.specs.Table.{range_named, lines_named, identity_named, name_of, twice_in}
 use Rattle.nfit_reader.specs.Names.{again_in}
 
--- a name stands in a list of structures
+-- a list of structures has a name
 abbrev pub has_name : ℕ → ℕ → List Structure → Bool
 has_name kind index structures = list_any (λ other. (other.0 == kind) && (other.1 == index)) (filter_map name_of structures)
 
@@ -41,7 +41,7 @@ has_control index (structure.Interleave i ∷ rest) = has_control index rest
 has_control index (structure.Control c ∷ rest) = elim (cases_Bool (eqb c.index index)) [ inl same ↦ rw same refl | inr other ↦ rw other (has_control index rest) ]
 has_control index (structure.PassedOver ∷ rest) = has_control index rest
 
--- the first name that stands again, with one more structure in front
+-- the first name that occurs again, with one more structure in front
 pub twice_in-front : (s : Structure) (rest : List Structure) → twice_in (filter_map name_of (s ∷ rest)) ≡ option_or (again_in s rest) (twice_in (filter_map name_of rest))
 unfolding twice_in again_in
 twice_in-front (structure.Range r) rest = elim (cases_Bool (has_name 0 r.index rest)) [ inl again ↦ rw again refl | inr new ↦ rw new refl ]
@@ -50,7 +50,7 @@ twice_in-front (structure.Interleave i) rest = elim (cases_Bool (has_name 2 i.in
 twice_in-front (structure.Control c) rest = elim (cases_Bool (has_name 4 c.index rest)) [ inl again ↦ rw again refl | inr new ↦ rw new refl ]
 twice_in-front structure.PassedOver rest = refl
 
--- what the three maps tell of the name of a structure
+-- the lookups in the three maps for the name of a structure
 pub again_range : (s : Structure) (r : Range) (rest : List Structure) (again : Bool) → s ≡ structure.Range r → again ≡ is_some (range_named rest r.index)
     → cond again (Some (fault.TwiceIndex 0 r.index)) None ≡ again_in s rest
 unfolding again_in

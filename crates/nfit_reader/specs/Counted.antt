@@ -1,4 +1,4 @@
--- How much stands in a table: bounds that follow from its Length, which is a number of 32 bits.
+-- Bounds on the counts in a table. They follow from its Length, a 32-bit number.
 use Rattle.std.specs.Prelude.{◌≡◌, ◌<◌, ◌≤◌, ◌^◌, length, Some}
 use Rattle.std.specs.List.{All}
 use Rattle.nfit_reader.specs.declared.table.Nfit.{Nfit}
@@ -9,7 +9,7 @@ use Rattle.nfit_reader.specs.declared.structures.Structure.{Structure}
 use Rattle.nfit_reader.specs.declared.structures.Interleave.{Interleave}
 use Rattle.nfit_reader.specs.Table.{as_interleave}
 
--- the lines of a mapping, where it has any, are fewer than 2^32
+-- a mapping has fewer than 2^32 lines
 abbrev pub HasFewLines : Mapping → Type 0
 HasFewLines m = (lines : Lines) → m.lines ≡ Some lines → length lines.offsets < 2 ^ 32
 
@@ -19,7 +19,7 @@ pub record IsCounted (r : Region) : Type 0 where
   pub few : length r.mappings < 2 ^ 32
   pub lines : All HasFewLines r.mappings
 
--- each region is counted
+-- each region has these bounds
 abbrev pub AreCounted : Nfit → Type 0
 AreCounted nfit = All IsCounted nfit.regions
 
@@ -28,6 +28,6 @@ pub record NamesItsModules (nfit : Nfit) : Type 0 where
   pub few : length nfit.modules ≤ 64
   pub each : All (λ region. All (λ m. m.«module» < length nfit.modules) region.mappings) nfit.regions
 
--- the lines of a structure, where it is an interleave structure, are fewer than 2^32
+-- an interleave structure has fewer than 2^32 lines
 abbrev pub IsShort : Structure → Type 0
 IsShort s = (i : Interleave) → as_interleave s ≡ Some i → length i.lines.offsets < 2 ^ 32

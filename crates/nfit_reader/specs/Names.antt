@@ -17,17 +17,17 @@ abbrev pub items_of : Option (Vec Link) → List Link
 items_of None = []
 items_of (Some links) = links.items
 
--- the maps give what indices name in a list of structures
+-- the maps return what indices name in a list of structures
 pub record IsNamed (names : Names) (structures : List Structure) : Type 0 where
   pub ranges : (index : ℕ) → tree.get nat_cmp names.ranges index ≡ range_named structures index
   pub lines : (index : ℕ) → tree.get nat_cmp names.lines index ≡ lines_named structures index
   pub identities : (index : ℕ) → tree.get nat_cmp names.identities index ≡ identity_named structures index
 
--- the map gives the number of each device handle
+-- the map returns the number of each device handle
 pub record IsNumbered (numbers : tree.BTreeMap ℕ ℕ) (structures : List Structure) : Type 0 where
   pub places : (handle : ℕ) → tree.get nat_cmp numbers handle ≡ place_of handle (modules_of structures)
 
--- the map gives the number of the region with an index
+-- the map returns the number of the region with an index
 pub record IsPlaced (places : tree.BTreeMap ℕ ℕ) (structures : List Structure) : Type 0 where
   pub regions : (index : ℕ) → tree.get nat_cmp places index ≡ position_from (λ r. r.index == index) 0 (regions_of structures)
 
@@ -35,11 +35,11 @@ pub record IsPlaced (places : tree.BTreeMap ℕ ℕ) (structures : List Structur
 pub record IsGrouped (groups : tree.BTreeMap ℕ (Vec Link)) (links : List Link) : Type 0 where
   pub group : (index : ℕ) → items_of (tree.get nat_cmp groups index) ≡ filter (λ m. m.range == index) links
 
--- a range's region, where it is one
+-- the region of a range, if it is one
 unfoldable pub region_where : List Structure → Range → Option Region
 region_where structures r = if is_region structures r then Some (region_of structures r) else None
 
--- the fault of a name that stands again in the rest
+-- the fault of a name that occurs again in the rest
 abbrev pub again_of : Option (ℕ × ℕ) → List (ℕ × ℕ) → Option NfitFault
 again_of None rest = None
 again_of (Some n) rest = if list_any (λ other. (other.0 == n.0) && (other.1 == n.1)) rest then Some (fault.TwiceIndex n.0 n.1) else None

@@ -9,7 +9,7 @@ use Rattle.nfit_reader.specs.Table.{nfit_reading}
 abbrev pub EndsBefore : Mapping → Mapping → Type 0
 EndsBefore m k = m.start + m.size ≤ k.start
 
--- a law: in a table that is read two regions' mappings of one module, of some bytes each, have no byte in common
+-- a law: in a table that is read, no byte is in two nonempty mappings of one module into two regions
 abbrev pub RegionsShareNoBytes : Type 0
 RegionsShareNoBytes =
     (bytes : List ℕ) (nfit : Nfit) (i j : ℕ) (r s : Region) (m k : Mapping) → nfit_reading bytes ≡ Ok nfit → slice_get nfit.regions i ≡ Some r → slice_get nfit.regions j ≡ Some s → i ≢ j

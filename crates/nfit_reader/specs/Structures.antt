@@ -13,9 +13,9 @@ use Rattle.nfit_reader.specs.declared.structures.Structure.TheVariants as struct
 use Rattle.nfit_reader.specs.declared.structures.Range.{Range}
 use Rattle.nfit_reader.specs.declared.structures.Link.{Link}
 
--- ---- the list of spans
+-- ---- splitting the table into spans
 
--- the least Length of a type: SPA range 0, region mapping 1, interleave 2, control region 4
+-- the minimum Length of a type: SPA range 0, region mapping 1, interleave 2, control region 4
 unfoldable pub least_length : ℕ → ℕ
 least_length kind = if kind == 0 then 56 else if kind == 1 then 48 else if kind == 2 then 16 else if kind == 4 then 32 else 4
 
@@ -23,7 +23,7 @@ least_length kind = if kind == 0 then 56 else if kind == 1 then 48 else if kind 
 unfoldable pub has_lines : List ℕ → Bool
 has_lines rest = nat_le 1 (number_at w32 rest 8) && nat_le (16 + 4 * number_at w32 rest 8) (number_at w16 rest 2)
 
--- the front of the rest of a table is a whole structure: Type at 0, Length at 2
+-- the bytes begin with a complete structure: Type at 0, Length at 2
 unfoldable pub is_structure : List ℕ → Bool
 is_structure rest = nat_le 4 (length rest)
     && nat_le (least_length (number_at w16 rest 0)) (number_at w16 rest 2)
@@ -34,7 +34,7 @@ abbrev pub with_first : {A F : Type 0} → A → Result (List A) F → Result (L
 with_first x (Ok xs) = Ok (x ∷ xs)
 with_first x (Err f) = Err f
 
--- the bytes of the structures that follow one another from a place to the table's end, of which there are at most so many
+-- the bytes of the structures from offset `at` to the table's end, at most `most` of them
 unfoldable pub spans_from : ℕ → ℕ → List ℕ → Result (List (List ℕ)) NfitFault
 spans_from most at [] = Ok []
 spans_from zero at (b ∷ rest) = Err (fault.Structure at)
@@ -44,7 +44,7 @@ spans_from (suc most) at (b ∷ rest) =
     then with_first (take len (b ∷ rest)) (spans_from most (at + len) (drop len (b ∷ rest)))
     else Err (fault.Structure at)
 
--- ---- what a span says
+-- ---- decoding a span
 
 -- the GUID of persistent memory, 66f0d379-b4f3-4074-ac43-0d3318b78cdb, its first three fields with their low bytes first
 abbrev pub persistent_memory : List ℕ
@@ -88,7 +88,7 @@ identity_of span = record {
   serial = number_at w32 span 24;
 }
 
--- a structure with index 0 is passed over
+-- a structure with index 0 is skipped
 abbrev pub unless_zero : ℕ → Structure → Structure
 unless_zero index s = if index == 0 then structure.PassedOver else s
 
@@ -101,7 +101,7 @@ interleave_structure span = unless_zero (number_at w16 span 4) (structure.Interl
 unfoldable pub control_structure : List ℕ → Structure
 control_structure span = unless_zero (number_at w16 span 4) (structure.Control (record { index = number_at w16 span 4; identity = identity_of span }))
 
--- the structure that a span is, by its Type; each other type is passed over
+-- decodes a span by its Type; other types are skipped
 unfoldable pub structure_of : List ℕ → Structure
 structure_of span =
     let kind = number_at w16 span 0 in
@@ -111,7 +111,7 @@ structure_of span =
     else if kind == 4 then control_structure span
     else structure.PassedOver
 
--- what spans say, or the fault at which they ended
+-- the decoded spans, or the fault at which splitting ended
 abbrev pub structures_of : Result (List (List ℕ)) NfitFault → Result (List Structure) NfitFault
 structures_of (Ok spans) = Ok (map structure_of spans)
 structures_of (Err f) = Err f

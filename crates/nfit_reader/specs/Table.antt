@@ -1,4 +1,4 @@
--- What an NFIT says: ACPI 6.5, section 5.2.25.
+-- The content of an NFIT: ACPI 6.5, section 5.2.25.
 use Rattle.std.specs.Prelude.{ℕ, ◌+◌, ◌%◌, min, max, ◌==◌, nat_lt, Bool, false, not, ◌&&◌, ◌||◌, if◌then◌else◌, List, [], ◌∷◌, length, take, drop, map, filter, sum, find, codes, Option, Some, None, is_none, unwrap_or, Result, Ok, Err}
 use Rattle.std.specs.Option.{option_map}
 use Rattle.std.specs.List.{position_from, filter_map, list_any}
@@ -70,7 +70,7 @@ identity_named structures index = option_map (λ c. c.identity) (find (λ c. c.i
 
 -- ---- modules
 
--- each number once, in the order of first appearance, after those that were seen
+-- the numbers in the order of first appearance, without repetition and without those already seen
 unfoldable pub distinct_after : List ℕ → List ℕ → List ℕ
 distinct_after seen [] = []
 distinct_after seen (x ∷ xs) = if list_any (λ y. y == x) seen then distinct_after seen xs else x ∷ distinct_after (x ∷ seen) xs
@@ -89,7 +89,7 @@ abbrev pub is_persistent : Option Range → Bool
 is_persistent None = false
 is_persistent (Some r) = r.persistent
 
--- what stands for a control region that isn't there
+-- the identity of a missing control region
 abbrev pub no_identity : Identity
 no_identity = record { vendor = 0; date = 0; location = 0; serial = 0 }
 
@@ -131,7 +131,7 @@ name_of (structure.Interleave i) = Some (2, i.index)
 name_of (structure.Control c) = Some (4, c.index)
 name_of structure.PassedOver = None
 
--- the first name that stands again further on
+-- the first name that occurs again later
 unfoldable pub twice_in : List (ℕ × ℕ) → Option NfitFault
 twice_in [] = None
 twice_in (n ∷ names) =
@@ -141,8 +141,8 @@ twice_in (n ∷ names) =
 abbrev pub is_into_persistent : List Structure → Link → Bool
 is_into_persistent structures m = is_persistent (range_named structures m.range)
 
--- what a mapping must name and the table lacks: a range, unless the index is 0; where it is into persistent memory,
--- a control region; and there an interleave structure, unless the index is 0
+-- a structure that a mapping must name but that the table lacks: a range, unless the index is 0; and if that is persistent
+-- memory, a control region, and an interleave structure, unless its index is 0
 unfoldable pub lacks_range : List Structure → Link → Bool
 lacks_range structures m = not (m.range == 0) && is_none (range_named structures m.range)
 
@@ -160,7 +160,7 @@ missing_of structures m = first_fault (
     ∷ fault_if (lacks_lines structures m) (fault.MissingIndex 2 m.interleave)
     ∷ [])
 
--- the bytes of its module that a mapping takes, where it is into a region
+-- the bytes of its module that a mapping into a region takes
 unfoldable pub extent_of : List Structure → Link → Option Extent
 extent_of structures m = option_map
     (λ region. record { «module» = unwrap_or (place_of m.handle (modules_of structures)) 0; region = region; start = m.start; size = m.size })
@@ -169,15 +169,15 @@ extent_of structures m = option_map
 abbrev pub extents_of : List Structure → List Extent
 extents_of structures = filter_map (extent_of structures) (links_of structures)
 
--- two extents have a byte in common
+-- two extents share a byte
 abbrev pub meets : Extent → Extent → Bool
 meets a b = nat_lt (max a.start b.start) (min (a.start + a.size) (b.start + b.size))
 
--- they are of one module, in two regions, and meet
+-- they are of one module, in two regions, and share a byte
 unfoldable pub is_alias : Extent → Extent → Bool
 is_alias a b = (a.«module» == b.«module») && not (a.region == b.region) && meets a b
 
--- the first extent that one further on shares bytes with, and the first of those
+-- the first extent that shares bytes with a later one, and the first such later one
 unfoldable pub alias_in : List Extent → Option NfitFault
 alias_in [] = None
 alias_in (a ∷ extents) =
@@ -202,11 +202,11 @@ table_reading structures = value_unless (nfit_of structures) (first_fault (table
 
 -- ---- the whole
 
--- the Length field, at byte 4; a byte of it that isn't there counts as zero
+-- the Length field, at byte 4; a missing byte of it counts as zero
 unfoldable pub said_of : List ℕ → ℕ
 said_of bytes = number_at w32 bytes 4
 
--- what holds of the whole bytes before their structures are read
+-- the checks of the header
 unfoldable pub header_fault : List ℕ → Option NfitFault
 header_fault bytes = first_fault (
     fault_if (not (bytes_eq (take 4 bytes) (codes "NFIT"))) fault.Signature
@@ -226,6 +226,6 @@ abbrev pub reading_after : List ℕ → Option NfitFault → Result Nfit NfitFau
 reading_after bytes None = structures_reading (structures_of (spans_of bytes))
 reading_after bytes (Some f) = Err f
 
--- the table that bytes stand for, or the first fault
+-- the table that the bytes encode, or the first fault
 abbrev pub nfit_reading : List ℕ → Result Nfit NfitFault
 nfit_reading bytes = reading_after bytes (header_fault bytes)

@@ -17,8 +17,8 @@ use nvd_words::Items;
 use std::alloc::{AllocError, Global};
 use std::collections::BTreeMap;
 
-/// The bytes of its module that a mapping into a region takes.
-/// In order, extents stand by module and then by start.
+/// The bytes of its module that a mapping into a region takes. Extents are ordered by module, then
+/// by start.
 #[derive(Clone, Copy, PartialEq, Eq, PartialOrd, Ord)]
 pub(crate) struct Extent {
     pub module: u32,
@@ -27,7 +27,7 @@ pub(crate) struct Extent {
     pub region: u32,
 }
 
-/// Whether two extents are of one module, in two regions, and have a byte in common.
+/// Returns whether two extents of one module, in two regions, share a byte.
 #[tactic(auto, unfolding(crate::specs::Table::is_alias))]
 fn is_alias(a: Extent, b: Extent) -> bool
     ensures { result ≡ is_alias a b }
@@ -39,7 +39,7 @@ fn is_alias(a: Extent, b: Extent) -> bool
         && u128::from(a.start.max(b.start)) < end_of_a.min(end_of_b)
 }
 
-/// The first of the extents that is an alias of another.
+/// Returns the first of these extents that is an alias of `a`.
 fn first_alias(a: Extent, others: &[Extent]) -> Option<Extent>
     ensures { result ≡ find (is_alias a) others.now }
 {
@@ -53,7 +53,7 @@ fn others_after(extents: &[Extent], place: usize) -> &[Extent]
     &extents[place + 1..]
 }
 
-/// The first extent that one further on is an alias of, and the first of those.
+/// Returns the fault of the first extent that has an alias after it, with the first such alias.
 fn alias_in(extents: &[Extent]) -> Option<NfitFault>
     ensures { result ≡ alias_in extents.now }
 {
@@ -69,8 +69,8 @@ fn alias_in(extents: &[Extent]) -> Option<NfitFault>
     None
 }
 
-/// Whether an extent is of a module before another's, or ends before the other of its module
-/// starts.
+/// Returns whether extent `a` is of a module before `b`'s, or ends before `b` starts on the same
+/// module.
 #[tactic(auto, unfolding(crate::specs::Apart::is_before))]
 fn is_before(a: Extent, b: Extent) -> bool
     ensures { result ≡ is_before a b }
@@ -90,8 +90,8 @@ fn stand_apart(sorted: &[Extent]) -> bool
     true
 }
 
-/// Whether no two extents of one module meet, seen in the order of n log n steps. Where it isn't
-/// so, each pair must be looked at.
+/// Returns true only if no two extents of one module meet. It sorts them, in n log n steps. If it
+/// returns false, each pair must be compared.
 fn is_apart(alloc: Global, extents: &[Extent]) -> Result<bool, AllocError>
     ensures { IfOk result (λ apart. IsTrue apart → alias_in extents.now ≡ None) }
 {
@@ -100,7 +100,7 @@ fn is_apart(alloc: Global, extents: &[Extent]) -> Result<bool, AllocError>
     Ok(stand_apart(&sorted))
 }
 
-/// The fault of the first alias, where there is one.
+/// Returns the fault of the first alias, if there is one.
 pub(crate) fn alias_fault(
     alloc: Global,
     extents: &[Extent],
@@ -113,7 +113,7 @@ pub(crate) fn alias_fault(
     Ok(alias_in(extents))
 }
 
-/// The number of the first region with an index.
+/// Maps each index to the number of the first region with it.
 fn region_numbers(alloc: Global, regions: &[Region]) -> Result<BTreeMap<u32, u32>, AllocError>
     requires { length regions.now < 2 ^ 32 }
     ensures { IfOk result (λ places. (index : ℕ) → tree.get nat_cmp places index
@@ -144,7 +144,7 @@ fn extent_of(
     })
 }
 
-/// The extents of the mappings into regions, in the order of the table.
+/// Returns the extents of the mappings into regions, in the order of the table.
 pub(crate) fn extents_of(
     alloc: Global,
     numbers: &BTreeMap<u32, u32>,

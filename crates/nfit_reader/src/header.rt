@@ -1,5 +1,5 @@
-//! The header of the table, 36 bytes of a system description table and 4 reserved bytes (ACPI 6.5,
-//! section 5.2.25).
+//! The header of the table: the 36 bytes of a system description table and 4 reserved bytes (ACPI
+//! 6.5, section 5.2.25).
 
 ghost use Rattle.std.specs.Prelude.{◌≡◌, ◌%◌, length, slice_index, sum, take, codes};
 ghost use Rattle.std.specs.Str.{bytes_eq};
@@ -8,15 +8,15 @@ ghost use Rattle.nfit_reader.specs.Table.{said_of, header_fault};
 use crate::table::NfitFault;
 use byteorder::{ByteOrder, LittleEndian};
 
-/// Where the structures begin.
+/// The offset of the first structure.
 pub(crate) const HEADER_BYTES: u32 = 40;
 
-/// Where the Length field stands, u32.
+/// The offset of the Length field, u32.
 const LENGTH_AT: usize = 4;
 
 const SIGNATURE: &[u8; 4] = b"NFIT";
 
-/// The Length field. A byte of it that isn't there counts as zero.
+/// Returns the Length field. A missing byte of it counts as zero.
 pub(crate) fn said(bytes: &[u8]) -> u32
     ensures { result ≡ said_of bytes.now }
 {
@@ -51,8 +51,8 @@ fn sum_of(bytes: &[u8]) -> u8
     total
 }
 
-/// What is wrong with the table before its structures are looked at: the signature, the Length, or
-/// the checksum over all bytes up to Length. Bytes past Length are ignored.
+/// Returns what is wrong with the table before its structures are read: the signature, the Length,
+/// or the checksum over all bytes up to Length. Bytes past Length are ignored.
 #[tactic(auto, using(crate::proofs::Firsts::firsts), unfolding(crate::specs::Table::header_fault))]
 pub(crate) fn header_fault(bytes: &[u8]) -> Option<NfitFault>
     ensures { result ≡ header_fault bytes.now }

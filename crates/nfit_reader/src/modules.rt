@@ -10,7 +10,7 @@ use nvd_words::Items;
 use std::alloc::{AllocError, Global};
 use std::collections::{BTreeMap, BTreeSet};
 
-/// The device handle of each module, by its number.
+/// Returns the device handle of each module, by its number.
 pub(crate) fn modules_of(alloc: Global, links: &[Link]) -> Result<Items<u32>, AllocError>
     ensures numbered { IfOk result (λ modules.
         modules ≡ distinct_after [] (map (λ m. m.handle) links.now)) }
@@ -26,7 +26,7 @@ pub(crate) fn modules_of(alloc: Global, links: &[Link]) -> Result<Items<u32>, Al
     Ok(modules)
 }
 
-/// The first place of each key in a list.
+/// Maps each key to its first place in a list.
 pub(crate) fn places_of(alloc: Global, keys: &[u32]) -> Result<BTreeMap<u32, u32>, AllocError>
     requires { length keys.now < 2 ^ 32 }
     ensures { IfOk result (λ places. (key : ℕ) →

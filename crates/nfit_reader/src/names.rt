@@ -16,7 +16,7 @@ use nvd_words::Items;
 use std::alloc::{AllocError, Global};
 use std::collections::BTreeMap;
 
-/// The structures by index. The first of two with one index counts.
+/// The structures by index. If two have the same index, the first counts.
 #[derive(Drop)]
 pub(crate) struct Names {
     ranges: BTreeMap<u16, Range>,
@@ -45,8 +45,8 @@ impl Names {
         }
     }
 
-    /// Adds a structure that stands before all others. The fault is there if its name is one of
-    /// theirs.
+    /// Adds a structure that comes before all others. The fault is set if one of the others has its
+    /// type and index.
     fn add(&mut self, structure: Structure) -> Result<Option<NfitFault>, AllocError>
         ensures named { (rest : List Structure) → IsNamed self.old rest →
             OnOk result (IsNamed self.new (structure ∷ rest)) }
@@ -127,7 +127,7 @@ impl Names {
         self.lines(index).is_some()
     }
 
-    /// The first index of a mapping that names nothing, where there is one.
+    /// Returns the fault of the first index of a mapping that names nothing, if there is one.
     #[tactic(auto, using(crate::proofs::Firsts::firsts), unfolding(crate::specs::Table::missing_of))]
     fn missing(&self, link: Link) -> Option<NfitFault>
         ensures { (structures : List Structure) → IsNamed self.now structures →
@@ -161,8 +161,8 @@ fn is_persistent(range: Option<Range>) -> bool
     }
 }
 
-/// The structures by index, and the first of them whose type and index stand again further on. It
-/// goes over the structures from the last to the first.
+/// Returns the structures by index, and the fault of the first structure whose type and index occur
+/// again later. It goes from the last structure to the first.
 pub(crate) fn named(
     alloc: Global,
     structures: Items<Structure>,
@@ -179,7 +179,7 @@ pub(crate) fn named(
     Ok((names, twice))
 }
 
-/// The first mapping that names what isn't there.
+/// Returns the fault of the first mapping that names a missing structure.
 pub(crate) fn first_missing(names: &Names, links: &[Link]) -> Option<NfitFault>
     ensures { (structures : List Structure) → IsNamed names.now structures →
         result ≡ first_fault (map (missing_of structures) links.now) }

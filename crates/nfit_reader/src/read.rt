@@ -18,25 +18,23 @@ use std::alloc::Global;
 /// The most modules that a table may have: this project's rule.
 const MODULES: usize = 64;
 
-/// Reads a table: its modules and regions, or the first fault that holds, in the order of
-/// `NfitFault`. Each region has a mapping, and all counts are below 2^32 (`AreCounted`); each mapping is
-/// of one of the table's modules, at most 64 (`NamesItsModules`).
+/// Reads a table: its modules and regions, or the first fault, in the order of `NfitFault`. Each
+/// region has a mapping, and all counts are below 2^32 (`AreCounted`). Each mapping is of one of
+/// the table's modules, at most 64 (`NamesItsModules`).
 ///
-/// `bytes` may go on past the table's Length; what stands there is ignored. `OutOfMemory` may
-/// come in place of any other answer, where memory was refused. Nothing is kept between calls.
+/// `bytes` may be longer than the table's Length; the rest is ignored. `OutOfMemory` may replace
+/// any other result if memory runs out. No state is kept between calls.
 ///
-/// - `Signature`, `Length`, `Checksum`: of the header (ACPI 6.5, section 5.2.25). A byte of the
-///   Length field that isn't there counts as zero.
-/// - `Structure`: the first place, in bytes from the table's start, where no whole structure
-///   stands.
-/// - `TwiceIndex`: the first structure whose type and index stand again further on.
-/// - `MissingIndex`: the first mapping that names what isn't there; in one mapping first its range
-///   (unless the index is 0), then, if that is persistent memory, its control region and its
-///   interleave structure (unless the index is 0).
+/// - `Signature`, `Length`, `Checksum`: faults of the header (ACPI 6.5, section 5.2.25). A missing
+///   byte of the Length field counts as zero.
+/// - `Structure`: the first offset, in bytes from the table's start, with no complete structure.
+/// - `TwiceIndex`: the first structure whose type and index occur again later.
+/// - `MissingIndex`: the first mapping that names a missing structure. In one mapping the order is:
+///   its range (unless the index is 0); then, if that is persistent memory, its control region and
+///   its interleave structure (unless the index is 0).
 /// - `TooLarge`: more than 64 device handles, which is this project's rule.
-/// - `Alias`: of the pairs of mappings of one module into two regions that share bytes of the
-///   module the least by place in the table; `a` is the region of the earlier mapping. This
-///   project's rule.
+/// - `Alias`: the first pair, by place in the table, of mappings of one module into two regions
+///   that share bytes of the module; `a` is the region of the earlier mapping. This project's rule.
 #[tactic(auto, using(crate::proofs::Readings::readings))]
 pub fn read_nfit(alloc: Global, bytes: &[u8]) -> Result<Nfit, NfitFault>
     ensures reading { Answers NfitFault.OutOfMemory result (nfit_reading bytes.now) }
@@ -51,7 +49,7 @@ pub fn read_nfit(alloc: Global, bytes: &[u8]) -> Result<Nfit, NfitFault>
     table_of(alloc, structures_in(alloc, table)?)
 }
 
-/// What sound structures say of the modules and regions.
+/// Returns the modules and regions of a table with complete structures.
 #[tactic(auto, using(nvd_words::proofs::Checks::faults), unfolding(crate::specs::Table::table_reading))]
 fn table_of(alloc: Global, structures: Items<Structure>) -> Result<Nfit, NfitFault>
     requires { 4 * length structures < 2 ^ 32 }
@@ -69,7 +67,7 @@ fn table_of(alloc: Global, structures: Items<Structure>) -> Result<Nfit, NfitFau
     nfit_of(alloc, &names, &ranges, &links)
 }
 
-/// The modules and regions of a table in which each index names one structure.
+/// Returns the modules and regions of a table in which each index names one structure.
 #[tactic(auto, using(nvd_words::proofs::Checks::faults))]
 fn nfit_of(
     alloc: Global,

@@ -1,4 +1,4 @@
-//! Regions: the ranges of persistent memory with the parts of modules that are mapped into them.
+//! Regions: the ranges of persistent memory with their mappings.
 
 ghost use Rattle.std.specs.Prelude.{◌≡◌, ◌≤◌, ◌==◌, ◌++◌, OnOk, length, ℕ, List, [], map, filter, IfOk, unwrap_or, Some, None, if◌then◌else◌};
 ghost use Rattle.std.specs.Option.{option_to_list};
@@ -45,7 +45,7 @@ fn lines_of(names: &Names, index: u16) -> Result<Option<Lines>, AllocError>
     }
 }
 
-/// What stands for a control region that isn't there.
+/// The identity of a missing control region.
 const NO_IDENTITY: Identity = Identity {
     vendor: 0,
     date: 0,
@@ -53,7 +53,7 @@ const NO_IDENTITY: Identity = Identity {
     serial: 0,
 };
 
-/// A mapping with what it names.
+/// Resolves the indices of a mapping.
 #[tactic(auto, unfolding(crate::specs::Table::mapping_of))]
 fn mapping_of(
     names: &Names,
@@ -76,7 +76,7 @@ fn mapping_of(
     })
 }
 
-/// Takes the group with an index out.
+/// Takes the group with an index out of the map.
 #[tactic(auto, using(crate::proofs::Groups::orders))]
 fn taken(alloc: Global, groups: &mut BTreeMap<u16, Vec<Link>>, index: u16) -> Vec<Link>
     ensures group { result.items ≡ items_of (tree.get nat_cmp groups.old index) }
@@ -89,7 +89,7 @@ fn taken(alloc: Global, groups: &mut BTreeMap<u16, Vec<Link>>, index: u16) -> Ve
     }
 }
 
-/// The mappings by the index of their range, each group in the order of the table.
+/// Groups the mappings by the index of their range, each group in the order of the table.
 pub(crate) fn grouped(alloc: Global, links: &[Link]) -> Result<BTreeMap<u16, Vec<Link>>, AllocError>
     ensures { IfOk result (λ groups. IsGrouped groups links.now) }
 {
@@ -109,7 +109,7 @@ fn is_region(range: Range, group: &[Link]) -> bool
     range.persistent && !group.is_empty()
 }
 
-/// The region of a range, where it is persistent memory and something is mapped into it.
+/// Returns the region of a range, if it is persistent memory with at least one mapping.
 #[tactic(auto, unfolding(crate::specs::Names::region_where, crate::specs::Table::region_of))]
 fn region_where(
     alloc: Global,
@@ -152,7 +152,7 @@ fn mappings_of(
     Ok(mappings)
 }
 
-/// The mappings of the group with an index.
+/// Returns the mappings of the group with an index.
 fn group_of(groups: &BTreeMap<u16, Vec<Link>>, index: u16) -> &[Link]
     ensures { result.now ≡ items_of (tree.get nat_cmp groups.now index) }
 {
@@ -162,7 +162,7 @@ fn group_of(groups: &BTreeMap<u16, Vec<Link>>, index: u16) -> &[Link]
     }
 }
 
-/// Adds a value at the end, where there is one.
+/// Adds a value, if there is one, at the end.
 pub(crate) fn push_some<T: Drop>(items: &mut Items<T>, item: Option<T>) -> Result<(), AllocError>
     ensures { OnOk result (items.new ≡ items.old ++ option_to_list item) }
 {
@@ -172,7 +172,7 @@ pub(crate) fn push_some<T: Drop>(items: &mut Items<T>, item: Option<T>) -> Resul
     Ok(())
 }
 
-/// The regions, in the order of their ranges.
+/// Returns the regions, in the order of their ranges.
 pub(crate) fn regions_of(
     alloc: Global,
     names: &Names,

@@ -9,8 +9,7 @@ use std::fmt::{Debug, Formatter, Write};
 use std::marker::Model;
 use std::sync::ArcSlice;
 
-/// A list that doesn't change, and that several owners share. Contracts see it as the list of its
-/// items.
+/// An immutable list that several owners share. Contracts see it as a list of its items.
 #[derive(Drop)]
 pub struct Shared<T> {
     items: ArcSlice<T>,
@@ -26,7 +25,7 @@ impl<T> Model for Shared<T> {
 }
 
 impl<T: Drop> Shared<T> {
-    /// A list with one owner. `AllocError` where memory ran out.
+    /// Makes a list with one owner. It returns `AllocError` if memory runs out.
     pub fn from_items(items: Items<T>) -> Result<Shared<T>, AllocError>
         ensures { IfOk result (λ shared. shared ≡ items) }
     {
@@ -34,8 +33,8 @@ impl<T: Drop> Shared<T> {
         Ok(Shared { items })
     }
 
-    /// The same list for one more owner; it isn't copied. `AllocError` where it has too many owners
-    /// to count.
+    /// Returns the same list for one more owner, without a copy. It returns `AllocError` if the
+    /// list has too many owners to count.
     pub fn share(&self) -> Result<Shared<T>, AllocError>
         ensures { IfOk result (λ shared. shared ≡ self.now) }
     {
@@ -45,7 +44,7 @@ impl<T: Drop> Shared<T> {
 }
 
 impl<T> Shared<T> {
-    /// How many items the list has.
+    /// The number of items.
     pub fn len(&self) -> usize
         ensures { result ≡ length self.now }
     {

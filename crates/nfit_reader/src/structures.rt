@@ -1,5 +1,4 @@
-//! The structures of the table, each read as its type says (ACPI 6.5, sections 5.2.25.2 to
-//! 5.2.25.6).
+//! The structures of the table, decoded by type (ACPI 6.5, sections 5.2.25.2 to 5.2.25.6).
 
 ghost use Rattle.std.specs.Prelude.{◌≡◌, ◌+◌, ◌*◌, ◌^◌, ◌<◌, ◌≤◌, length, IfOk, drop, IsTrue};
 ghost use Rattle.std.specs.Int.{w16, w32};
@@ -16,7 +15,7 @@ use crate::table::{Identity, Lines, NfitFault};
 use nvd_words::Items;
 use std::alloc::{AllocError, Global};
 
-/// A structure that counts for the table. All others are passed over.
+/// A structure that the reader uses. All others are skipped.
 #[derive(Drop)]
 pub(crate) enum Structure {
     Range(Range),
@@ -51,7 +50,7 @@ impl Structure {
 pub(crate) struct Range {
     /// SPA Range Structure Index, u16 at 4.
     pub index: u16,
-    /// Whether Address Range Type GUID, 16 bytes at 16, is that of persistent memory.
+    /// Whether the Address Range Type GUID, 16 bytes at 16, is that of persistent memory.
     pub persistent: bool,
     /// System Physical Address Range Base, u64 at 32.
     pub base: u64,
@@ -59,7 +58,7 @@ pub(crate) struct Range {
     pub length: u64,
 }
 
-/// A region mapping structure, type 1, which links a module with a range.
+/// A region mapping structure, type 1. It links a module with a range.
 #[derive(Clone, Copy)]
 pub(crate) struct Link {
     /// NFIT Device Handle, u32 at 4.
@@ -86,7 +85,7 @@ pub(crate) struct Interleave {
     /// Interleave Structure Index, u16 at 4.
     pub index: u16,
     /// Number of Lines Described, u32 at 8; Line Size, u32 at 12; from 16 on a Line Offset, u32,
-    /// for each.
+    /// for each line.
     pub lines: Lines,
 }
 
@@ -100,7 +99,7 @@ pub(crate) struct Control {
     pub identity: Identity,
 }
 
-// Every structure: Type u16, Length u16; types 0, 2 and 4 an index u16.
+// Every structure: Type u16, Length u16; types 0, 2 and 4: an index u16.
 const TYPE_AT: usize = 0;
 
 const LENGTH_AT: usize = 2;
@@ -155,13 +154,13 @@ const SERIAL_AT: usize = 24;
 
 const CONTROL_BYTES: u16 = 32;
 
-/// The GUID of persistent memory, 66f0d379-b4f3-4074-ac43-0d3318b78cdb, with the low bytes of its
-/// first three fields first.
+/// The GUID of persistent memory, 66f0d379-b4f3-4074-ac43-0d3318b78cdb, its first three fields with
+/// their low byte first.
 const PERSISTENT_MEMORY: &[u8; 16] = &[
     0x79, 0xd3, 0xf0, 0x66, 0xf3, 0xb4, 0x74, 0x40, 0xac, 0x43, 0x0d, 0x33, 0x18, 0xb7, 0x8c, 0xdb,
 ];
 
-/// The least Length of a type.
+/// Returns the minimum Length of a type.
 #[tactic(auto, unfolding(crate::specs::Structures::least_length))]
 fn least_length(kind: u16) -> u16
     ensures { result ≡ least_length kind }
@@ -175,7 +174,7 @@ fn least_length(kind: u16) -> u16
     }
 }
 
-/// Whether an interleave structure has at least one line, and room for all of them.
+/// Returns whether an interleave structure has at least one line and room for all of them.
 #[tactic(auto, unfolding(crate::specs::Structures::has_lines))]
 fn has_lines(rest: &[u8]) -> bool
     requires { 16 ≤ length rest.now }
@@ -185,7 +184,7 @@ fn has_lines(rest: &[u8]) -> bool
     1 <= lines && 16 + 4 * lines <= u64::from(two_at(rest, LENGTH_AT))
 }
 
-/// Whether bytes begin with a whole structure.
+/// Returns whether the bytes begin with a complete structure.
 #[tactic(auto, using(crate::proofs::Spans::least), unfolding(crate::specs::Structures::is_structure))]
 fn is_structure(rest: &[u8]) -> bool
     ensures { result ≡ is_structure rest.now }
@@ -304,7 +303,7 @@ fn control_structure(span: &[u8]) -> Structure
     }
 }
 
-/// The structure that a span is. One of types 0, 2 and 4 with index 0 is passed over.
+/// Decodes the structure in a span. A structure of type 0, 2 or 4 with index 0 is skipped.
 #[tactic(auto, using(crate::proofs::Spans::whole), unfolding(crate::specs::Structures::structure_of))]
 fn structure_of(alloc: Global, span: &[u8]) -> Result<Structure, AllocError>
     requires { IsWhole span.now }
@@ -326,7 +325,7 @@ fn rest_of(table: &[u8], at: usize) -> &[u8]
     &table[at..]
 }
 
-/// The structures that follow one another from byte 40 to the table's end.
+/// Decodes the structures from byte 40 to the table's end.
 pub(crate) fn structures_in(alloc: Global, table: &[u8]) -> Result<Items<Structure>, NfitFault>
     requires header { 40 ≤ length table.now }
     requires small { length table.now < 2 ^ 32 }

@@ -4,14 +4,14 @@ use crate::shared::Shared;
 use nvd_words::Items;
 use std::alloc::AllocError;
 
-/// What the firmware says of its NVDIMMs: the modules and the regions that they make up.
+/// The firmware's description of its NVDIMMs: the modules, and the regions that they make up.
 #[derive(Debug, Drop)]
 pub struct Nfit {
     /// The device handle of each module. A module's number is the place of its handle here, which
     /// is the order of first appearance in the region mapping structures.
     pub modules: Items<u32>,
-    /// The persistent-memory ranges into which something is mapped, in the order of the table.
-    /// A region's number is its place here.
+    /// The persistent-memory ranges with at least one mapping, in the order of the table. A
+    /// region's number is its place here.
     pub regions: Items<Region>,
 }
 
@@ -37,13 +37,13 @@ pub struct Mapping {
     pub size: u64,
     /// Region Offset, in bytes from the region's base.
     pub offset: u64,
-    /// NVDIMM Physical Address Region Base: the first of these bytes, as the module counts.
+    /// NVDIMM Physical Address Region Base: the device address of the first of these bytes.
     pub start: u64,
     /// Interleave Ways: how many modules share the region.
     pub ways: u16,
-    /// The lines of the interleave structure that the mapping names; none for index 0.
+    /// The lines of the interleave structure that the mapping names; `None` for index 0.
     pub lines: Option<Lines>,
-    /// What the mapping's control region says of the module.
+    /// The module's identity, from the mapping's control region.
     pub identity: Identity,
 }
 
@@ -58,8 +58,8 @@ pub struct Lines {
 }
 
 impl Lines {
-    /// The same lines for one more mapping; nothing is copied. `AllocError` where the list has too
-    /// many owners to count.
+    /// Returns the same lines for one more mapping, without a copy. It returns `AllocError` if the
+    /// list has too many owners to count.
     pub fn share(&self) -> Result<Lines, AllocError>
         ensures { IfOk result (λ lines. lines ≡ self.now) }
     {
@@ -70,7 +70,7 @@ impl Lines {
     }
 }
 
-/// What a control region says of its module, each number as it stands in the table.
+/// A module's identity in its control region, each number as the table has it.
 #[derive(Clone, Copy, Debug, PartialEq, Eq)]
 pub struct Identity {
     /// Vendor ID.
@@ -83,25 +83,24 @@ pub struct Identity {
     pub serial: u32,
 }
 
-/// The first thing that is wrong with a table, in the order in which they are checked.
+/// The first fault of a table, in the order of the checks.
 #[derive(Clone, Copy, Debug, PartialEq, Eq)]
 pub enum NfitFault {
     /// The first four bytes aren't `NFIT`.
     Signature,
-    /// There are fewer bytes than the Length field says, or it says fewer than the 40 of the
-    /// header.
+    /// The Length field exceeds the bytes given, or is less than the 40 of the header.
     Length { said: u32, had: u64 },
-    /// The bytes up to Length add up to this modulo 256, and not to 0.
+    /// The bytes up to Length have this sum modulo 256 instead of 0.
     Checksum { sum: u8 },
-    /// At this byte no whole structure stands: fewer than four bytes are left, or its Length is
+    /// No complete structure begins at this byte: fewer than four bytes are left, or its Length is
     /// less than its type needs or passes the table's end, or it is an interleave structure with no
     /// lines.
     Structure { at: u64 },
-    /// Two structures of one type (0 range, 2 interleave, 4 control region) have this index.
+    /// Two structures of the same type (0 range, 2 interleave, 4 control region) have this index.
     TwiceIndex { kind: u16, index: u16 },
-    /// A mapping names a structure of this type and index, and none is there.
+    /// A mapping names a structure of this type and index, which isn't in the table.
     MissingIndex { kind: u16, index: u16 },
-    /// There are more modules than the 64 that are read.
+    /// There are more than 64 modules.
     TooLarge { modules: u32 },
     /// Mappings of one module into the regions `a` and `b` share bytes of the module.
     Alias { module: u32, a: u32, b: u32 },

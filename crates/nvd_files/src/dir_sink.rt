@@ -1,4 +1,4 @@
-//! An image set that is made as a directory.
+//! Writes an image set as a new directory.
 ghost use Rattle.std.specs.Prelude.{◌≡◌, ◌≤◌, None};
 ghost use Rattle.nvd_media.specs.Causes.{Rose};
 
@@ -10,31 +10,33 @@ use std::rt::Files;
 use std::thread::Threads;
 use std::{fs, io};
 
-/// How far a directory was made.
+/// How far the directory was made.
 #[derive(Drop)]
 enum Progress {
-    /// The directory isn't there yet.
+    /// The directory doesn't exist yet.
     Untouched,
-    /// The directory was made inside the one that is open here, and every call so far was done.
+    /// The directory was made inside this open one, and every call so far succeeded.
     Made(File),
     /// A call failed, so the set is never finished.
     Broken,
 }
 
-/// A directory that becomes an image set, a file for each object.
+/// A new directory that becomes an image set, with a file for each object.
 ///
-/// It tells nothing of their bytes. The first write makes the directory. These are counted failures, before anything is
-/// made: a directory that is there already, one inside the directory that is read, one in a directory that can't be opened
-/// to be synced, and the directory `-`, which stands for none. Once a call failed, all later ones do.
+/// It reveals no bytes. The first write makes the directory. These are counted failures, before
+/// anything is made: the directory already exists; it is inside the directory that is read; the
+/// directory above it can't be opened to be synced; or it is `-`, which means none. After one
+/// failed call, all later calls fail.
 ///
-/// What was written of an object is on the disk, as far as the system's sync calls say so, before another object is written.
-/// `finish` returns Ok once all of the set is on the disk, its mark last. Where that fails after the mark was made, it
-/// removes the mark again; only where the system refuses that too may the mark be there after `Failed`.
+/// The bytes of an object are on the disk, as far as the system's sync calls ensure, before another
+/// object is written. `finish` returns Ok once the whole set is on the disk, its mark last. If it
+/// fails after it made the mark, it removes the mark again; only if the system refuses that too may
+/// the mark be there after `Failed`.
 #[derive(Drop)]
 pub struct DirSink<'a, R: Files<File = File> + AllocGlobal + Threads> {
     rt: &'a R,
     directory: &'a str,
-    /// The directory that is read meanwhile.
+    /// The directory that is read at the same time.
     source: &'a str,
     progress: Progress,
     /// The object that was written last.
@@ -43,8 +45,8 @@ pub struct DirSink<'a, R: Files<File = File> + AllocGlobal + Threads> {
 }
 
 impl<'a, R: Files<File = File> + AllocGlobal + Threads> DirSink<'a, R> {
-    /// An image set in a directory that isn't there yet, outside the directory `source`. Nothing is made before the first
-    /// write.
+    /// Makes a sink for a directory that doesn't exist yet, outside the directory `source`. Nothing
+    /// is made before the first write.
     pub fn new(rt: &'a R, directory: &'a str, source: &'a str) -> DirSink<'a, R> {
         DirSink {
             rt,
@@ -85,7 +87,7 @@ impl<'a, R: Files<File = File> + AllocGlobal + Threads> DirSink<'a, R> {
         }
     }
 
-    /// Puts what was written of the last object on the disk.
+    /// Syncs the last object.
     fn settle(&mut self) -> io::Result<()>
         ensures { self.new.faults ≡ self.old.faults }
     {
@@ -95,7 +97,7 @@ impl<'a, R: Files<File = File> + AllocGlobal + Threads> DirSink<'a, R> {
         }
     }
 
-    /// The file of an object. The one of another object is put on the disk before.
+    /// Returns the file of an object. It first syncs that of another object.
     fn object_file(&mut self, object: Object) -> io::Result<ObjectFile>
         ensures { self.new.faults ≡ self.old.faults }
     {
@@ -107,7 +109,7 @@ impl<'a, R: Files<File = File> + AllocGlobal + Threads> DirSink<'a, R> {
         ObjectFile::open(self.rt, object, &self.path(object)?)
     }
 
-    /// Writes behind what an object has so far. Large objects are put on the disk as they grow.
+    /// Appends to an object. Large objects are synced as they grow.
     fn put(&mut self, object: Object, bytes: &[u8]) -> io::Result<()>
         ensures { self.new.faults ≡ self.old.faults }
     {
@@ -123,7 +125,7 @@ impl<'a, R: Files<File = File> + AllocGlobal + Threads> DirSink<'a, R> {
         fs::open(self.rt, self.directory)?.sync_all()
     }
 
-    /// The directory, with what was written in it, is on the disk, and then the one above it, which names it.
+    /// Syncs the directory with its new files, and then the one above it, which names it.
     fn sync_names(&self) -> io::Result<()> {
         self.sync_directory()?;
         match &self.progress {
@@ -132,7 +134,7 @@ impl<'a, R: Files<File = File> + AllocGlobal + Threads> DirSink<'a, R> {
         }
     }
 
-    /// Makes the mark, and puts it on the disk before its name.
+    /// Makes the mark, and syncs it before the directory that names it.
     fn make_mark(&self, path: &str) -> io::Result<()> {
         let mark = OpenOptions::new()
             .write(true)
@@ -142,14 +144,14 @@ impl<'a, R: Files<File = File> + AllocGlobal + Threads> DirSink<'a, R> {
         self.sync_directory()
     }
 
-    /// Removes the mark again, as far as the system does so.
+    /// Removes the mark again, if the system allows it.
     fn take_back_mark(&self, path: &str) {
         if fs::remove_file(self.rt, path).is_ok() {
             let _ = self.sync_directory();
         }
     }
 
-    /// All of the set is on the disk before its mark is made.
+    /// Syncs the whole set before it makes the mark.
     fn mark(&mut self) -> io::Result<()>
         ensures { self.new.faults ≡ self.old.faults }
     {

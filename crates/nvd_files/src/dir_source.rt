@@ -1,4 +1,4 @@
-//! An image set that is read from a directory.
+//! Reads an image set from a directory.
 ghost use Rattle.std.specs.Prelude.{◌≡◌, ◌≤◌, None};
 ghost use Rattle.nvd_media.specs.Causes.{Rose};
 
@@ -9,17 +9,17 @@ use std::os::unix::fs::{FileExt, MetadataExt};
 use std::rt::Files;
 use std::{fs, io};
 
-/// What shows that a file was changed.
+/// Shows whether a file has changed.
 #[derive(Clone, Copy, Debug, PartialEq, Eq)]
 struct Stamp {
     /// Its length in bytes.
     length: u64,
-    /// When its bytes were last changed: seconds since 1970, and nanoseconds of the next one.
+    /// When its bytes last changed: whole seconds since 1970, and the nanoseconds after them.
     seconds: i64,
     nanoseconds: i64,
 }
 
-/// The stamp of a regular file. Anything else is refused.
+/// Returns the stamp of a regular file. It refuses other files.
 fn stamp_of(metadata: &Metadata) -> io::Result<Stamp> {
     if !metadata.is_file() {
         return Err(io::Error::from(io::ErrorKind::InvalidInput));
@@ -38,19 +38,20 @@ struct Opened {
     file: File,
 }
 
-/// An image set in a directory, a file for each object.
+/// An image set in a directory, with a file for each object.
 ///
-/// It tells nothing of their bytes. A file that isn't there is an absent object. These are counted failures: what else the
-/// system refuses, a link whose target isn't there, a file that is no regular one, one that ends too early, and one that
-/// has another length or time of change than when it was first looked at.
+/// It reveals no bytes. A missing file is an absent object. These are counted failures: everything
+/// else that the system refuses, a link to a missing target, a file that isn't regular, one that
+/// ends too early, and one whose length or time of change differs from the first look.
 ///
-/// An object is opened when it is first read, and all further reads use that descriptor, until another object is read. So
-/// a file that is replaced meanwhile is read from its old bytes alone, or is a failure.
+/// An object is opened when it is first read; further reads use that descriptor, until another
+/// object is read. So a file that is replaced meanwhile is read from its old bytes alone, or is a
+/// failure.
 #[derive(Drop)]
 pub struct DirSource<'a, R: Files<File = File> + AllocGlobal> {
     rt: &'a R,
     directory: &'a str,
-    /// Each object's stamp when it was first looked at.
+    /// Each object's stamp at the first look.
     seen: Vec<(Object, Stamp)>,
     /// The object that was read last.
     opened: Option<Opened>,
@@ -58,7 +59,7 @@ pub struct DirSource<'a, R: Files<File = File> + AllocGlobal> {
 }
 
 impl<'a, R: Files<File = File> + AllocGlobal> DirSource<'a, R> {
-    /// The image set of a directory. Nothing is opened before it is asked for.
+    /// Makes a source for a directory. It opens nothing before the first call.
     pub fn new(rt: &'a R, directory: &'a str) -> DirSource<'a, R> {
         DirSource {
             rt,
@@ -73,7 +74,7 @@ impl<'a, R: Files<File = File> + AllocGlobal> DirSource<'a, R> {
         file_path(self.rt.alloc(), self.directory, object)
     }
 
-    /// Refuses an object whose file isn't a regular one, or was changed since it was first looked at.
+    /// Refuses an object whose file isn't regular, or has changed since the first look.
     fn look(&mut self, object: Object, metadata: &Metadata) -> io::Result<()>
         ensures { self.new.faults ≡ self.old.faults }
     {
@@ -99,7 +100,7 @@ impl<'a, R: Files<File = File> + AllocGlobal> DirSource<'a, R> {
         }
     }
 
-    /// `None` where nothing stands at a path; a link whose target isn't there is a failure.
+    /// Returns `None` if there is nothing at a path; a link to a missing target is a failure.
     fn absent(&self, path: &str) -> io::Result<Option<u64>> {
         match fs::symlink_metadata(self.rt, path) {
             Ok(_) => Err(io::Error::from(io::ErrorKind::NotFound)),
@@ -110,8 +111,9 @@ impl<'a, R: Files<File = File> + AllocGlobal> DirSource<'a, R> {
 
     /// Opens an object's file.
     ///
-    /// Opening a FIFO waits for a writer, and std can't ask the system not to. So what stands at the path is looked at
-    /// before it is opened, and what was opened once more: only a FIFO that is put there between the two makes this wait.
+    /// Opening a FIFO waits for a writer, and std can't ask the system not to. So the path is
+    /// checked before it is opened, and the open file again: only a FIFO that is put there between
+    /// the two makes this wait.
     fn open(&mut self, object: Object) -> io::Result<Opened>
         ensures { self.new.faults ≡ self.old.faults }
     {
@@ -122,7 +124,8 @@ impl<'a, R: Files<File = File> + AllocGlobal> DirSource<'a, R> {
         Ok(Opened { object, file })
     }
 
-    /// The file of an object, opened anew where another object was read last. No file stays open in `self`.
+    /// Returns the file of an object, and opens it if another object was read last. No file stays
+    /// open in `self`.
     fn take_opened(&mut self, object: Object) -> io::Result<Opened>
         ensures { self.new.faults ≡ self.old.faults }
     {

@@ -8,16 +8,16 @@ use std::simd::prelude::*;
 use std::thread::{JoinHandle, Threads};
 use std::{io, thread};
 
-/// After how many bytes a thread begins to put them on the disk, while the next ones are written: 32 MiB.
+/// After this many bytes a thread begins to sync them while the next ones are written: 32 MiB.
 const SETTLED_TOGETHER: u64 = 32 << 20;
 
-/// The bytes that a file system takes or leaves out together, mostly.
+/// The size of the blocks that most file systems allocate or leave out.
 const BLOCK: usize = 4096;
 
 /// How many bytes are compared with zero at once.
 const LANES: usize = 64;
 
-/// Whether a block has zero bytes alone, and is made of whole lanes.
+/// Returns whether a block consists of whole lanes of zero bytes.
 fn is_zero(block: &[u8]) -> bool {
     let (lanes, rest) = block.as_chunks::<LANES>();
     rest.is_empty()
@@ -28,21 +28,21 @@ fn is_zero(block: &[u8]) -> bool {
 
 /// The file of an object, open for writing at its end.
 ///
-/// Blocks of zero bytes are left out, so that they take no room where the file system has files with holes.
+/// Blocks of zero bytes are skipped, so they take no room on a file system with sparse files.
 #[derive(Drop)]
 pub(crate) struct ObjectFile {
     pub(crate) object: Object,
     file: File,
-    /// How many bytes the object has. The file has fewer as long as it ends with blocks that were left out.
+    /// The object's size in bytes. The file is shorter while it ends with skipped blocks.
     length: u64,
-    /// How many bytes were written since a thread began to put them on the disk.
+    /// How many bytes were written since a thread last began to sync.
     unsettled: u64,
-    /// The thread that puts on the disk what was written before.
+    /// The thread that syncs what was written before.
     settling: Option<JoinHandle<io::Result<()>>>,
 }
 
 impl ObjectFile {
-    /// Opens the file of an object, and makes it where it isn't there.
+    /// Opens the file of an object, and makes it if it doesn't exist.
     pub(crate) fn open<R: Files<File = File>>(
         rt: &R,
         object: Object,
@@ -59,7 +59,7 @@ impl ObjectFile {
         })
     }
 
-    /// Writes bytes at the end.
+    /// Appends bytes.
     fn put(&mut self, bytes: &[u8]) -> io::Result<()> {
         if bytes.is_empty() {
             return Ok(());
@@ -71,7 +71,7 @@ impl ObjectFile {
         Ok(())
     }
 
-    /// Writes bytes at the end, but for blocks of zero bytes.
+    /// Appends bytes, but skips blocks of zero bytes.
     pub(crate) fn add(&mut self, bytes: &[u8]) -> io::Result<()> {
         let mut written = 0;
         let mut at = 0;
@@ -87,7 +87,7 @@ impl ObjectFile {
         self.put(&bytes[written..])
     }
 
-    /// Waits for the thread that puts earlier bytes on the disk.
+    /// Waits for the thread that syncs earlier bytes.
     fn join<R: Threads>(&mut self, rt: &R) -> io::Result<()> {
         match self.settling.take() {
             Some(thread) => thread.join(rt),
@@ -95,8 +95,8 @@ impl ObjectFile {
         }
     }
 
-    /// Has a thread put on the disk what was written, where that has become much, once the thread before is done. Where
-    /// none can be started, `settle` does it all.
+    /// Lets a thread sync what was written, once it is 32 MiB and the previous thread has ended.
+    /// If no thread can be started, `settle` syncs it all.
     pub(crate) fn settle_behind<R: Threads>(&mut self, rt: &R) -> io::Result<()> {
         if self.unsettled < SETTLED_TOGETHER {
             return Ok(());
@@ -108,7 +108,7 @@ impl ObjectFile {
         Ok(())
     }
 
-    /// Gives the file its whole length, and puts it on the disk.
+    /// Gives the file its full length, and syncs it.
     pub(crate) fn settle<R: Threads>(mut self, rt: &R) -> io::Result<()> {
         self.join(rt)?;
         self.file.set_len(self.length)?;

@@ -9,10 +9,11 @@ use std::path::Path;
 use std::rt::Files;
 use std::{fs, io};
 
-/// How many directories may stand above one another: more than a path of the system's longest, 4,096 bytes, can go up.
+/// The most directories that a path can go up: more than a path of the system's longest, 4,096
+/// bytes, can.
 const DEEPEST: usize = 1366;
 
-/// The name of the file in which an image directory has an object.
+/// Returns the name of an object's file in an image directory.
 pub fn file_name(alloc: Global, object: Object) -> Result<String, AllocError>
     ensures { IfOk result (λ name. string_bytes name ≡ file_name_of object) }
 {
@@ -25,13 +26,13 @@ pub fn file_name(alloc: Global, object: Object) -> Result<String, AllocError>
     }
 }
 
-/// The path of an object's file in an image directory.
+/// Returns the path of an object's file in an image directory.
 pub(crate) fn file_path(alloc: Global, directory: &str, object: Object) -> io::Result<String> {
     let name = file_name(alloc, object)?;
     Ok(format!(in alloc; "{}/{}", directory, name)?)
 }
 
-/// The path of the directory in which a path's last name stands.
+/// Returns the path of the directory that has a path's last name.
 pub(crate) fn above(path: &str) -> &str {
     match Path::new(path).parent() {
         Some(parent) if parent.as_str().is_empty() => ".",
@@ -40,7 +41,8 @@ pub(crate) fn above(path: &str) -> &str {
     }
 }
 
-/// The device and the inode of a directory: two paths have the same ones exactly where they lead to one directory.
+/// The device and the inode of a directory. Two paths have the same ones exactly if they lead to
+/// the same directory.
 #[derive(Clone, Copy, Debug, PartialEq, Eq)]
 struct DirectoryId {
     device: u64,
@@ -58,10 +60,10 @@ fn id_of(rt: &impl Files, path: &str) -> io::Result<DirectoryId> {
     })
 }
 
-/// Whether a directory is another one, or stands somewhere below it.
+/// Returns whether a directory is another one, or lies somewhere below it.
 ///
-/// It goes up by `..` and compares directories, not their names: so links don't matter, and neither do names above that
-/// aren't UTF-8. A directory that the caller may not look into ends the way up.
+/// It goes up by `..` and compares directories, not their names. So links don't matter, nor do
+/// names above that aren't UTF-8. It stops at a directory that the caller may not look into.
 pub(crate) fn stands_in<R: Files + AllocGlobal>(
     rt: &R,
     directory: &str,

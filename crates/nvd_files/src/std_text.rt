@@ -6,7 +6,7 @@ use std::io::Read;
 
 /// Standard input and standard output.
 ///
-/// It tells nothing of their bytes. A read or a write that the system refuses is counted.
+/// It reveals no bytes. A read or a write that the system refuses is a counted failure.
 #[derive(Drop)]
 pub struct StdText<'a, R: Print + Input> {
     rt: &'a R,
@@ -14,7 +14,7 @@ pub struct StdText<'a, R: Print + Input> {
 }
 
 impl<'a, R: Print + Input> StdText<'a, R> {
-    /// The standard streams of a runtime.
+    /// Makes the standard streams of a runtime.
     pub fn new(rt: &'a R) -> StdText<'a, R> {
         StdText { rt, faults: 0 }
     }

@@ -4,7 +4,7 @@ use Rattle.std.specs.Prelude.{min}
 use Rattle.std.proofs.lemmas.List.{take_all, take-append-drop, drop-drop}
 use Rattle.std.proofs.Math.ListN.{drop_of_length-le}
 
--- what was read stands before what is left, and where nothing was read though there was room, nothing is left
+-- the bytes read are the front of what was left; if none were read into a buffer with room, nothing was left
 pub read_front : (xs filled : List ℕ) (at count n : ℕ) → at ≤ length xs → n ≡ length xs
     → take count filled ≡ take count (take (n - at) (drop at xs)) → count ≡ min (length filled) (length (take (n - at) (drop at xs)))
     → (drop at xs ≡ take count filled ++ drop (at + count) xs) × (count ≡ 0 → 0 < length filled → drop (at + count) xs ≡ [])

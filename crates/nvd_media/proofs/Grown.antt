@@ -1,4 +1,4 @@
--- An image set in memory that grows by bytes of one object.
+-- Appending bytes to an object of an image set in memory.
 use Rattle.std.proofs.Common.{◌≡◌, ◌≢◌, ℕ, zero, suc, ◌+◌, ◌<◌, Bool, true, false, cond, List, [], ◌∷◌, ◌++◌, length, get_or, set, Some, None, Result, Ok, Err, refl, sym, ap, ◌∙◌, inl, inr, arith}
 use Rattle.std.proofs.lemmas.Bool.{cases_Bool, eqb-true}
 use Rattle.std.specs.Prelude.{OnOk, OnErr, is_ok}
@@ -19,7 +19,7 @@ same_object (Contents m) (Contents n) e = ap (λ (k : ℕ). Contents k) (eqb-tru
 same_object (BadRanges m) (BadRanges n) e = ap (λ (k : ℕ). BadRanges k) (eqb-true m n e)
 same_object a b e = absurd cc
 
--- bytes that aren't the mark's leave the mark as it is
+-- appending to another object doesn't change the mark
 pub unfinished : (set now : Images) (object : Object) (bytes : List ℕ) → object ≢ Mark → IsSameSet now (with_more set object bytes) → IsUnfinished set now
 unfinished set now Mark bytes ne same = absurd (ne refl)
 unfinished set now Nfit bytes ne same = same Mark
@@ -49,7 +49,7 @@ lookup_added (x ∷ xs) y object other bytes is same absent =
       | inr there ↦ rw (there, rest) refl
     ]
 
--- more bytes of the object that stands first under its name
+-- bytes appended to the first object of that name
 pub lookup_grown : (xs : List Stored) (i : ℕ) (y d : Stored) (object other : Object) (bytes : List ℕ) → i < length xs
     → is_object (get_or xs i d).object object ≡ true → ((k : ℕ) → k < i → is_object (get_or xs k d).object object ≡ false)
     → y.object ≡ (get_or xs i d).object → y.bytes.items ≡ (get_or xs i d).bytes.items ++ bytes
@@ -85,7 +85,7 @@ lookup_same [] i y d other lt is bytes = absurd (omega arith)
 lookup_same (x ∷ xs) zero y d other lt is bytes = rw (is, bytes) refl
 lookup_same (x ∷ xs) (suc i) y d other lt is bytes = rw (lookup_same xs i y d other (omega arith) is bytes) refl
 
--- what extending the object at its place leaves
+-- after extending the object at its place
 pub extended : {E : Type 0} (r : Result (Unit {0}) E) (xs : List Stored) (i : ℕ) (x y : Stored) (object : Object) (bytes : List ℕ)
     → position (λ (s : Stored). is_object s.object object) xs ≡ Some i → x ≡ get_or xs i x → y.object ≡ x.object
     → y.bytes.items ≡ cond (is_ok r) (x.bytes.items ++ bytes) x.bytes.items
@@ -108,7 +108,7 @@ none_from p (x ∷ xs) i (suc k) d none lt = elim (cases_Bool (p x)) [
   | inr fails ↦ none_from p xs (i + 1) k d (rw fails at none) (omega arith)
 ]
 
--- what pushing an object that is new leaves
+-- after pushing a new object
 pub pushed : (xs ys : List Stored) (y : Stored) (object : Object) (bytes : List ℕ) → position (λ (s : Stored). is_object s.object object) xs ≡ None
     → ys ≡ xs ++ y ∷ [] → y.object ≡ object → y.bytes.items ≡ bytes → IsSameSet (lookup ys) (with_more (lookup xs) object bytes)
 pushed xs ys y object bytes none all is more other =

@@ -8,6 +8,6 @@ abbrev pub lookup : List Stored → Images
 lookup [] object = None
 lookup (stored ∷ others) object = if is_object stored.object object then Some stored.bytes.items else lookup others object
 
--- what is held, where all of it was kept
+-- what is held, if all of it was stored
 abbrev pub while_whole : {A : Type 0} → Bool → A → Option A
 while_whole whole held = if whole then Some held else None

@@ -3,7 +3,7 @@ ghost use Rattle.nvd_media.specs.Choosers.{next_of, high_bit, list_answer};
 
 use crate::traits::Chooser;
 
-/// Gives a list of answers, and then `false`. Beginning anew changes nothing.
+/// Returns the answers of a list, then `false`. A seed changes nothing.
 #[derive(Drop)]
 pub struct ListChooser {
     answers: Vec<bool>,
@@ -11,7 +11,7 @@ pub struct ListChooser {
 }
 
 impl ListChooser {
-    /// A chooser that gives these answers in order.
+    /// Makes a chooser that returns these answers in order.
     pub fn new(answers: Vec<bool>) -> ListChooser
         ensures answers { result.answers ≡ answers }
         ensures first { result.next ≡ 0 }
@@ -34,16 +34,16 @@ impl Chooser for ListChooser {
     }
 }
 
-/// Draws each answer from a linear congruential generator: the state x becomes
-/// `(x * 6364136223846793005 + 1442695040888963407) mod 2^64`, and the answer is whether its bit 63 is 1
-/// (this project's rule). Beginning anew sets x to the seed.
+/// Draws each answer from a linear congruential generator. The state x becomes `(x *
+/// 6364136223846793005 + 1442695040888963407) mod 2^64`, and the answer is whether its bit 63 is 1
+/// (this project's rule). `begin` sets x to the seed.
 #[derive(Clone, Copy, Debug)]
 pub struct SeedChooser {
     state: u64,
 }
 
 impl SeedChooser {
-    /// A chooser that begins at a seed.
+    /// Makes a chooser whose state is the seed.
     pub fn new(seed: u64) -> SeedChooser
         ensures { result.state ≡ seed }
     {

@@ -3,7 +3,8 @@ ghost use Rattle.nvd_media.specs.Causes.{HasCause, Rose};
 
 use crate::traits::Failed;
 
-/// Which calls of a form in memory fail, by their numbers from 0, and how many did.
+/// Says which calls of an object in memory fail, by their numbers from 0, and counts those that
+/// did.
 #[derive(Drop)]
 pub struct Failures {
     failing: Vec<u64>,
@@ -12,7 +13,7 @@ pub struct Failures {
 }
 
 impl Failures {
-    /// Calls with these numbers are to fail, and none was made yet.
+    /// Makes calls with these numbers fail. No call was made yet.
     pub fn new(failing: Vec<u64>) -> Failures
         ensures { result ≡ record { failing = failing; calls = 0; faults = 0 } }
     {
@@ -23,7 +24,7 @@ impl Failures {
         }
     }
 
-    /// Counts a call, and answers whether it goes on.
+    /// Counts a call. It returns `Failed` exactly if the call's number is among the failing ones.
     pub fn next_call(&mut self) -> Result<(), Failed>
         ensures cause { HasCause self.old.faults self.new.faults result }
         ensures chosen { IsErr result ↔ Contains self.old.failing.items self.old.calls }

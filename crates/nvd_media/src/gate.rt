@@ -1,6 +1,6 @@
 use crate::traits::Gate;
 
-/// Holds no call back.
+/// Delays no call.
 #[derive(Clone, Copy, Debug)]
 pub struct NoGate;
 

@@ -1,25 +1,26 @@
-//! The outside of the program: image sets and texts that are read and written.
+//! The outside of the program: image sets and texts that it reads and writes.
 //!
 //! An **image set** holds an NFIT and, for each module, a label area, contents and a list of bad
-//! ranges, each a string of bytes under the name of its [`Object`]. The object `Mark`, of no bytes,
-//! comes last: a set without it was never finished, and is no image set.
+//! ranges. Each is a string of bytes under the name of its [`Object`]. The object `Mark` has no
+//! bytes and is written last: a set without it was never finished, and isn't an image set.
 //!
 //! ```text
 //! IN/nfit.bin  IN/labels-0.bin  IN/contents-0.bin  IN/badranges-0.bin  ..  IN/complete
 //!    Nfit         Labels(0)        Contents(0)        BadRanges(0)           Mark
 //! ```
 //!
-//! The outside is a set of traits. Each has ghost members that say what a proof may know of it:
+//! The outside is a set of traits. Their ghost members say what a proof may know:
 //!
-//! - *what it holds, where it tells* (`held`, `made`, `left`, `written`): an `Option`. A form in memory
-//!   tells; a directory or a terminal tells nothing, and a proof then assumes nothing of its bytes.
-//! - *how often it failed* (`faults`): a count that never falls. A call answers [`Failed`] only where
-//!   the count rose in that call (`specs/Causes.antt`, `HasCause`), so no caller can make a fault up.
+//! - *The bytes* (`held`, `made`, `left`, `written`): an `Option`. An object in memory reveals its
+//!   bytes (`Some`). A directory or a terminal reveals nothing (`None`), and a proof assumes
+//!   nothing of its bytes.
+//! - *The count of failures* (`faults`): it never falls. A call returns [`Failed`] only if the
+//!   count rose in that call (`specs/Causes.antt`, `HasCause`), so no caller can invent a failure.
 //!
-//! `specs/Images.antt` has image sets as functions from objects to bytes, and says how what is told
-//! before and after a call hang together (`Becomes`).
+//! `specs/Images.antt` defines image sets as functions from objects to bytes, and relates what is
+//! revealed before and after a call (`Becomes`).
 //!
-//! [`MemImages`] and [`MemText`] stand in memory and can be made to fail at any call; no call of
+//! [`MemImages`] and [`MemText`] live in memory and can be made to fail at any call. No call of
 //! [`SureImages`] and [`SureText`] fails. Directories and the standard streams are in `nvd_files`.
 #![tactic(auto)]
 

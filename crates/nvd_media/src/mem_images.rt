@@ -15,9 +15,9 @@ pub struct Stored {
     pub bytes: Vec<u8>,
 }
 
-/// An image set in memory, to read and to write, and which of its calls fail.
+/// An image set in memory, to read and to write, with the numbers of the calls that fail.
 ///
-/// It tells what it holds: the first object of each name.
+/// It reveals what it holds: of each name, the first object.
 #[derive(Drop)]
 pub struct MemImages {
     alloc: Global,
@@ -26,8 +26,8 @@ pub struct MemImages {
 }
 
 impl MemImages {
-    /// An image set of these objects, whose calls with these numbers, from 0 and of whatever kind,
-    /// fail.
+    /// Makes an image set of these objects. The calls with these numbers fail, counted from 0 over
+    /// calls of every kind.
     pub fn new(alloc: Global, objects: Vec<Stored>, failing: Vec<u64>) -> MemImages
         ensures objects { result.objects ≡ objects }
         ensures faults { result.failures.faults ≡ 0 }
@@ -39,7 +39,7 @@ impl MemImages {
         }
     }
 
-    /// The bytes of an object, `None` where it is absent.
+    /// Returns the bytes of an object, `None` if it is absent.
     pub fn bytes(&self, object: Object) -> Option<&[u8]>
         ensures { option_map (λ bytes. bytes.now) result ≡ lookup self.now.objects.items object }
     {
@@ -47,7 +47,7 @@ impl MemImages {
     }
 }
 
-/// The bytes of an object of a list.
+/// Returns the bytes of an object in a list, `None` if it is absent.
 pub(crate) fn find(objects: &[Stored], object: Object) -> Option<&[u8]>
     ensures { option_map (λ bytes. bytes.now) result ≡ lookup objects.now object }
 {
@@ -59,7 +59,7 @@ pub(crate) fn find(objects: &[Stored], object: Object) -> Option<&[u8]>
     None
 }
 
-/// The bytes of an object of a list, none where it is absent.
+/// Returns the bytes of an object in a list, no bytes if it is absent.
 pub(crate) fn bytes_in(objects: &[Stored], object: Object) -> &[u8]
     ensures { result.now ≡ bytes_of (lookup objects.now) object }
 {
@@ -69,14 +69,14 @@ pub(crate) fn bytes_in(objects: &[Stored], object: Object) -> &[u8]
     }
 }
 
-/// The place of an object in a list.
+/// Returns the place of an object in a list.
 fn place_of(objects: &[Stored], object: Object) -> Option<usize>
     ensures { result ≡ position (λ stored. is_object stored.object object) objects.now }
 {
     objects.iter().position(|stored| stored.object.is(object))
 }
 
-/// Fills the buffer with bytes from a place on.
+/// Fills the buffer with the bytes from `at` on.
 pub(crate) fn copy_from(bytes: &[u8], at: usize, into: &mut [u8])
     requires { at + length into.old ≤ length bytes.now }
     ensures { into.new ≡ take (length into.old) (drop at bytes.now) }
@@ -100,7 +100,7 @@ fn add(
     Ok(())
 }
 
-/// Adds bytes at the end of the object at a place.
+/// Appends bytes to the object at a place of the list.
 fn grow(
     objects: &mut Vec<Stored>,
     place: usize,
@@ -114,7 +114,7 @@ fn grow(
     objects[place].bytes.extend_from_slice(bytes)
 }
 
-/// Adds bytes at an object's end, and makes the object where it is absent.
+/// Appends bytes to an object, and makes the object if it is absent.
 pub(crate) fn append(
     alloc: Global,
     objects: &mut Vec<Stored>,

@@ -3,9 +3,10 @@ ghost use Rattle.std.specs.Prelude.{◌≡◌, ◌≤◌, Some, length, drop, mi
 use crate::failures::Failures;
 use crate::traits::{Failed, TextSink, TextSource};
 
-/// A text in memory, to read from its front and to write at its end, and which of its calls fail.
+/// A text in memory, read from its front and written at its end, with the numbers of the calls that
+/// fail.
 ///
-/// It tells its bytes.
+/// It reveals its bytes.
 #[derive(Drop)]
 pub struct MemText {
     bytes: Vec<u8>,
@@ -15,7 +16,7 @@ pub struct MemText {
     ghost inside: { at ≤ length bytes.items },
 }
 
-/// Copies as many bytes as there are and as fit from the front, and answers how many.
+/// Copies bytes from the front until either end is reached, and returns how many.
 pub(crate) fn copy_front(bytes: &[u8], into: &mut [u8]) -> usize
     ensures count { result ≡ min (length into.new) (length bytes.now) }
     ensures front { take result into.new ≡ take result bytes.now }
@@ -26,7 +27,8 @@ pub(crate) fn copy_front(bytes: &[u8], into: &mut [u8]) -> usize
 }
 
 impl MemText {
-    /// A text of these bytes, whose calls with these numbers, from 0 and of whatever kind, fail.
+    /// Makes a text of these bytes. The calls with these numbers fail, counted from 0 over calls of
+    /// every kind.
     pub fn new(bytes: Vec<u8>, failing: Vec<u64>) -> MemText
         ensures bytes { result.bytes ≡ bytes }
         ensures unread { result.at ≡ 0 }
@@ -39,7 +41,7 @@ impl MemText {
         }
     }
 
-    /// All bytes, also those that were read.
+    /// Returns all bytes, including those already read.
     pub fn bytes(&self) -> &[u8]
         ensures { result.now ≡ self.now.bytes.items }
     {

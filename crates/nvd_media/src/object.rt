@@ -3,7 +3,7 @@ ghost use Rattle.std.specs.Prelude.{◌≡◌};
 /// The name of an object of an image set. Modules are numbered from 0.
 #[derive(Clone, Copy, Debug, PartialEq, Eq)]
 pub enum Object {
-    /// No bytes; its presence makes an image set whole.
+    /// No bytes; its presence marks an image set as complete.
     Mark,
     /// The NVDIMM Firmware Interface Table (ACPI 6.5, section 5.2.25).
     Nfit,
@@ -18,7 +18,7 @@ pub enum Object {
 impl Object {
     ghost use Rattle.nvd_media.specs.Images.{is_object};
 
-    /// Whether two names name one object.
+    /// Returns whether two names name the same object.
     pub fn is(self, other: Object) -> bool
         ensures { result ≡ is_object self other }
     {

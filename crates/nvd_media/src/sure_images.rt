@@ -8,11 +8,11 @@ use crate::object::Object;
 use crate::traits::{Failed, ImageSink, ImageSource};
 use std::alloc::Global;
 
-/// An image set in memory of which no call fails: its count of faults is always 0.
+/// An image set in memory whose calls never fail: its count of failures is always 0.
 ///
-/// As a source it tells what it holds. As a sink it tells nothing in `made`, since a write that memory
-/// is wanting for can't be said to have failed; while [`SureImages::is_whole`] answers that all was kept,
-/// its `kept` tells what that is.
+/// As a source it reveals what it holds. As a sink it reveals nothing in `made`: a write may find
+/// no memory, but it can't report that as a failure. As long as [`SureImages::is_whole`] returns
+/// true, everything was stored, and `kept` reveals it.
 #[derive(Drop)]
 pub struct SureImages {
     alloc: Global,
@@ -21,7 +21,7 @@ pub struct SureImages {
 }
 
 impl SureImages {
-    /// An image set of these objects.
+    /// Makes an image set of these objects.
     pub fn new(alloc: Global, objects: Vec<Stored>) -> SureImages
         ensures objects { result.objects ≡ objects }
         ensures whole { result.whole ≡ true }
@@ -33,21 +33,21 @@ impl SureImages {
         }
     }
 
-    /// The bytes of an object, `None` where it is absent.
+    /// Returns the bytes of an object, `None` if it is absent.
     pub fn bytes(&self, object: Object) -> Option<&[u8]>
         ensures { option_map (λ bytes. bytes.now) result ≡ lookup self.now.objects.items object }
     {
         find(&self.objects, object)
     }
 
-    /// Whether all that was written was kept.
+    /// Returns whether everything written was stored.
     pub fn is_whole(&self) -> bool
         ensures { result ≡ self.now.whole }
     {
         self.whole
     }
 
-    /// Adds bytes at an object's end, or isn't whole from then on.
+    /// Appends bytes to an object. If memory runs out, the set isn't whole from then on.
     fn keep(&mut self, object: Object, bytes: &[u8])
         ensures kept { Keeps (while_whole self.old.whole (lookup self.old.objects.items)) (while_whole self.new.whole (lookup self.new.objects.items)) (λ set now. IsSameSet now (with_more set object bytes.now)) }
     {

@@ -4,11 +4,11 @@ ghost use Rattle.nvd_media.specs.Memory.{while_whole};
 use crate::mem_text::copy_front;
 use crate::traits::{Failed, TextSink, TextSource};
 
-/// A text in memory of which no call fails: its count of faults is always 0.
+/// A text in memory whose calls never fail: its count of failures is always 0.
 ///
-/// As a source it tells what is left. As a sink it tells nothing in `written`, since a write that memory
-/// is wanting for can't be said to have failed; while [`SureText::is_whole`] answers that all was kept, its
-/// `kept` tells what that is.
+/// As a source it reveals what is left. As a sink it reveals nothing in `written`: a write may find
+/// no memory, but it can't report that as a failure. As long as [`SureText::is_whole`] returns
+/// true, everything was stored, and `kept` reveals it.
 #[derive(Drop)]
 pub struct SureText {
     bytes: Vec<u8>,
@@ -19,7 +19,7 @@ pub struct SureText {
 }
 
 impl SureText {
-    /// A text of these bytes.
+    /// Makes a text of these bytes.
     pub fn new(bytes: Vec<u8>) -> SureText
         ensures bytes { result.bytes ≡ bytes }
         ensures unread { result.at ≡ 0 }
@@ -32,14 +32,14 @@ impl SureText {
         }
     }
 
-    /// All bytes, also those that were read.
+    /// Returns all bytes, including those already read.
     pub fn bytes(&self) -> &[u8]
         ensures { result.now ≡ self.now.bytes.items }
     {
         &self.bytes
     }
 
-    /// Whether all that was written was kept.
+    /// Returns whether everything written was stored.
     pub fn is_whole(&self) -> bool
         ensures { result ≡ self.now.whole }
     {

@@ -5,28 +5,29 @@ ghost use Rattle.nvd_media.specs.Causes.{Rose};
 use crate::traits::TextSource;
 use std::alloc::Global;
 
-/// Why a text isn't read whole.
+/// Why `read_all` failed.
 #[derive(Clone, Copy, Debug, PartialEq, Eq)]
 pub enum TextFault {
     /// The source failed.
     ReadFault,
-    /// More than so many bytes came.
+    /// The text has more bytes than the limit.
     TooLong {
-        /// The greatest length in bytes that was asked for.
+        /// The limit in bytes.
         limit: usize,
     },
-    /// No memory for the bytes.
+    /// Memory ran out.
     OutOfMemory,
 }
 
-/// How many bytes are asked for at a time.
+/// How many bytes one read asks for.
 const CHUNK: usize = 4096;
 
-/// All bytes up to the end of a text, at most `limit` of them.
+/// Reads a text to its end and returns its bytes, at most `limit` of them. `limit` must be below
+/// 2^40.
 ///
-/// `ReadFault` comes only where the source's count of faults rose in this call; `TooLong` exactly where
-/// more than `limit` bytes came, and then some were read and are lost; after any refusal the source is
-/// left where reading stopped. `limit` is below 2^40.
+/// It returns `ReadFault` only if the source's count of failures rose in this call, and `TooLong`
+/// only if the text has more than `limit` bytes. After any refusal the source is left where reading
+/// stopped: the bytes read so far are lost.
 pub fn read_all<T: TextSource>(
     alloc: Global,
     source: &mut T,

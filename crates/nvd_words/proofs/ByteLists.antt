@@ -1,4 +1,4 @@
--- Lists of bytes, and the numbers that stand in them.
+-- Lists of bytes, and the numbers in them.
 use Rattle.std.proofs.Common.{◌≡◌, ℕ, zero, suc, ◌+◌, ◌^◌, ◌<◌, ◌≤◌, Bool, true, ltb, List, [], ◌∷◌, ◌++◌, length, take, drop, get_or, replicate, sym, ap, ◌∙◌, arith}
 use Rattle.std.specs.Prelude.{◌&&◌}
 use Rattle.std.specs.Int.{w16, w32, w64, to_le_bytes}
@@ -38,7 +38,7 @@ take_bytes zero xs all = no_bytes
 take_bytes (suc n) [] all = no_bytes
 take_bytes (suc n) (x ∷ xs) all = one_byte x (take n xs) (all.each zero) (take_bytes n xs (tail_bytes x xs all))
 
--- a list of which it can be computed
+-- decides by computing whether each number is a byte
 abbrev pub are_bytes : List ℕ → Bool
 are_bytes [] = true
 are_bytes (x ∷ xs) = ltb x 256 && are_bytes xs
@@ -59,7 +59,7 @@ two_bytes n = one_byte _ _ (omega arith) (one_byte _ _ (omega arith) no_bytes)
 
 -- ---- a list is its parts
 
--- from a place on a list is its next part and what comes after it
+-- the rest of a list from an offset is its next part and what follows
 pub next_part : (xs part : List ℕ) (at n to : ℕ) → at + n ≡ to → take n (drop at xs) ≡ part → drop at xs ≡ part ++ drop to xs
 next_part xs part at n to e is =
     sym (take-append-drop n (drop at xs)) ∙ ap (λ (p : List ℕ). p ++ drop n (drop at xs)) is ∙ ap (λ (rest : List ℕ). part ++ rest) (drop-drop n at xs ∙ ap (λ (k : ℕ). drop k xs) e)
@@ -85,7 +85,7 @@ next_two xs at to n all e within is =
     next_part xs (to_le_bytes w16 n) at 2 to e
     (sym (le_bytes_2 (take 2 (drop at xs)) n (part_length xs at 2 (omega arith)) (take_bytes 2 (drop at xs) (drop_bytes at xs all)).each (sym is)))
 
--- the one byte at a place
+-- the same for one byte
 pub next_byte : (xs : List ℕ) (at to x : ℕ) → at + 1 ≡ to → to ≤ length xs → get_or xs at 0 ≡ x → drop at xs ≡ x ∷ drop to xs
 next_byte [] at to x e within is = absurd (omega arith)
 next_byte (y ∷ xs) zero to x e within is = ap (λ (k : ℕ). k ∷ xs) is ∙ ap (λ (k : ℕ). x ∷ drop k (y ∷ xs)) e

@@ -16,11 +16,11 @@ length_flags words count = length-map-range_with_len (flag_at words) 0 count
 pub flag_is : (words : List ℕ) (count i : ℕ) → i < count → get_or (flags_of words count) i false ≡ flag_at words i
 flag_is words count i lt = get_or-map-range_with_len (flag_at words) 0 count i i false lt (omega arith)
 
--- where the word of a flag is
+-- the word of a flag lies inside
 pub word_inside : (count i n : ℕ) → i < count → count ≤ 64 * n → i / 64 < n
 word_inside count i n lt fits = omega arith
 
--- no flag of zeros is set
+-- words of zeros have no flag set
 pub none_set : (n count : ℕ) → count ≤ 64 * n → flags_of (replicate n 0) count ≡ replicate count false
 none_set n count fits =
     ext_get_or false (flags_of (replicate n 0) count) (replicate count false) (length_flags (replicate n 0) count ∙ sym (length-replicate {A = Bool} count false))
@@ -30,7 +30,7 @@ none_set n count fits =
     ∙ ap (λ (w : ℕ). eqb (bit_at w (i % 64)) 1) (get_or-replicate n (i / 64) 0 0 (word_inside count i n inside fits))
     ∙ ap (λ (b : ℕ). eqb b 1) (bit_at-zero (i % 64)) ∙ sym (get_or-replicate count i false false inside))
 
--- a word with the bit of a flag changed, and the same other bits, changes that flag alone
+-- changing one flag's bit in its word changes that flag alone
 changed : (words : List ℕ) (count i word : ℕ) (flag : Bool) → i < count → count ≤ 64 * length words → eqb (bit_at word (i % 64)) 1 ≡ flag
     → ((j : ℕ) → j < 64 → j ≢ i % 64 → bit_at word j ≡ bit_at (get_or words (i / 64) 0) j)
     → flags_of (set words (i / 64) word) count ≡ set (flags_of words count) i flag
@@ -79,7 +79,7 @@ clear_flag words count i lt fits =
     (ap (λ (b : ℕ). eqb b 1) (bit_at_clear_same w64 was (i % 64) (omega arith)))
     (λ j low other. bit_at_clear_other w64 was (i % 64) (omega arith) j low other)
 
--- ---- as the fields of a value and its view have it
+-- ---- in terms of the fields of a value and its view
 
 pub in_count : (words : List ℕ) (count i : ℕ) (view : List Bool) → flags_of words count ≡ view → i < length view → i < count
 in_count words count i view is lt = omega (arith, length_flags words count, ap length is)

@@ -1,4 +1,4 @@
--- GUID order there and back.
+-- GUID order, there and back.
 use Rattle.std.proofs.Common.{◌≡◌, ℕ, zero, suc, ◌<◌, List, length, get_or, refl, sym, arith}
 use Rattle.std.proofs.lemmas.List.{ext_get_or}
 use Rattle.uuid.specs.Parts.{swap_fields}

@@ -6,7 +6,7 @@ use Rattle.nvd_words.specs.Bytes.{number_at}
 use Rattle.nvd_words.specs.Fletcher.{fletcher64_of, without_eight}
 use Rattle.nvd_words.specs.Ring.{successor_of, is_newer}
 
--- the words 1 and 2: low 1 + 2, high 2 * 1 + 1 * 2
+-- the words 1 and 2: low half 1 + 2, high half 2 * 1 + 1 * 2
 checksum_of_two_words : fletcher64_of (1 ∷ 0 ∷ 0 ∷ 0 ∷ 2 ∷ 0 ∷ 0 ∷ 0 ∷ []) ≡ 0x0000000400000003
 checksum_of_two_words = refl
 

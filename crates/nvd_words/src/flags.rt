@@ -3,12 +3,12 @@ ghost use Rattle.std.specs.Prelude.{◌≡◌, ◌<◌, ◌*◌, ◌≤◌, ◌+
 use std::alloc::{AllocError, Global};
 use std::marker::Model;
 
-/// How many flags a word has.
+/// The number of flags in a word.
 const BITS: usize = 64;
 
-/// A row of flags, a bit each. Contracts see it as the list of them.
+/// A row of flags, one bit each. Contracts see it as a list of Booleans.
 ///
-/// Flag i is bit i mod 64 of word i / 64, so a row takes an eighth of a byte for each flag.
+/// Flag i is bit i mod 64 of word i / 64.
 #[derive(Debug, Drop)]
 pub struct Flags {
     words: Vec<u64>,
@@ -27,7 +27,7 @@ impl Model for Flags {
 }
 
 impl Flags {
-    /// So many flags, none of them set. The one refusal is want of memory.
+    /// Makes `count` flags, none of them set. It fails only if memory runs out.
     pub fn new(alloc: Global, count: usize) -> Result<Flags, AllocError>
         ensures { IfOk result (λ flags. flags ≡ replicate count false) }
     {
@@ -43,7 +43,7 @@ impl Flags {
         self.count
     }
 
-    /// Whether a flag is set. Condition: it is one of the row.
+    /// Returns whether flag `i` is set. `i` must be less than the number of flags.
     #[inline]
     pub fn get(&self, i: usize) -> bool
         requires { i < length self.now }
@@ -52,7 +52,7 @@ impl Flags {
         (self.words[i / BITS] >> (i % BITS)) & 1 == 1
     }
 
-    /// Sets a flag. Condition: it is one of the row.
+    /// Sets flag `i`, and no other. `i` must be less than the number of flags.
     #[inline]
     pub fn set(&mut self, i: usize)
         requires { i < length self.old }
@@ -61,7 +61,7 @@ impl Flags {
         self.words[i / BITS] |= 1 << (i % BITS);
     }
 
-    /// Clears a flag. Condition: it is one of the row.
+    /// Clears flag `i`, and no other. `i` must be less than the number of flags.
     #[inline]
     pub fn clear(&mut self, i: usize)
         requires { i < length self.old }

@@ -1,8 +1,8 @@
-/// A call of a session: what the logs of calls name it by (the registry's journal, an arena's history).
+/// Names a call of a session in logs, such as an arena's history.
 #[derive(Clone, Copy, Debug, PartialEq, Eq)]
 pub struct Tag {
     /// The session's number.
     pub session: u32,
-    /// Which of the session's calls it is, counted from 0.
+    /// The number of the call in its session, counted from 0.
     pub call: u32,
 }

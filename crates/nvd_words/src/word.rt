@@ -2,7 +2,7 @@ ghost use Rattle.std.specs.Prelude.{◌≡◌, ◌+◌, ◌≤◌, length};
 ghost use Rattle.std.specs.Int.{w16, w32, w64};
 ghost use Rattle.nvd_words.specs.Bytes.{number_at};
 
-/// The little-endian number of the eight bytes at the byte offset `at`, which lie inside.
+/// Returns the little-endian number of the eight bytes at offset `at`. They must lie inside.
 #[tactic(auto, unfolding(crate::specs::Bytes::number_at))]
 pub fn word_at(bytes: &[u8], at: usize) -> u64
     requires { at + 8 ≤ length bytes.now }
@@ -13,7 +13,7 @@ pub fn word_at(bytes: &[u8], at: usize) -> u64
     u64::from_le_bytes(word)
 }
 
-/// The little-endian number of the four bytes at the byte offset `at`, which lie inside.
+/// Returns the little-endian number of the four bytes at offset `at`. They must lie inside.
 #[tactic(auto, unfolding(crate::specs::Bytes::number_at))]
 pub fn u32_at(bytes: &[u8], at: usize) -> u32
     requires { at + 4 ≤ length bytes.now }
@@ -24,7 +24,7 @@ pub fn u32_at(bytes: &[u8], at: usize) -> u32
     u32::from_le_bytes(four)
 }
 
-/// The little-endian number of the two bytes at the byte offset `at`, which lie inside.
+/// Returns the little-endian number of the two bytes at offset `at`. They must lie inside.
 #[tactic(auto, unfolding(crate::specs::Bytes::number_at))]
 pub fn u16_at(bytes: &[u8], at: usize) -> u16
     requires { at + 2 ≤ length bytes.now }

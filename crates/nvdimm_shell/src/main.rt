@@ -4,8 +4,9 @@
 //! nvdimm_shell IN OUT COMMAND ..
 //! ```
 //!
-//! IN is an image directory. OUT is the directory of the image set that a command writes, and `-` for the commands that
-//! write none. All the work is [`shell_run::run`]'s; `main` gives it the directories and the standard streams.
+//! IN is an image directory. OUT is the directory of the image set that a command writes, or `-`
+//! for commands that write none. [`shell_run::run`] does all the work; `main` passes it the
+//! directories and the standard streams.
 #![tactic(auto)]
 
 use nvd_files::{DirSink, DirSource, StdText};
@@ -20,7 +21,7 @@ use std::rt::{Env, Files};
 use std::sync::Wait;
 use std::thread::Threads;
 
-/// Why the words of the command line can't be looked at.
+/// Why the words of the command line can't be read.
 #[derive(Clone, Copy, Debug, PartialEq, Eq)]
 enum Unread {
     /// One of them isn't UTF-8.
@@ -28,7 +29,7 @@ enum Unread {
     OutOfMemory,
 }
 
-/// The words of the command line after the program's name.
+/// Returns the words of the command line after the program's name.
 fn command_line(rt: &(impl Env + AllocGlobal)) -> Result<Vec<String>, Unread> {
     match env::args(rt) {
         Ok(args) => args
@@ -48,7 +49,7 @@ fn usage<O: TextSink>(text: &mut O) -> Status {
     }
 }
 
-/// Ends a run with a word that isn't UTF-8, and says so on standard error, as far as that can be written.
+/// Ends a run with a word that isn't UTF-8, and reports it on standard error, if possible.
 fn not_text(rt: &(impl Print + Eprint + Input)) -> Status {
     let _ = eprintln!(rt; "nvdimm_shell: a word of the command line isn't UTF-8");
     usage(&mut StdText::new(rt))

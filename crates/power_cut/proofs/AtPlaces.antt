@@ -1,4 +1,4 @@
--- The words of arenas are put where the definition says, whatever order they come in.
+-- The words of arenas are put as the definition says, in whatever order.
 use Rattle.std.proofs.Common.{◌≡◌, ◌≢◌, ◌⊎◌, ℕ, zero, suc, ◌+◌, ◌-◌, ◌*◌, ◌/◌, ◌<◌, ◌≤◌, true, false, List, [], ◌∷◌, ◌++◌, length, take, drop, map, get_or, Option, Some, None, refl, sym, ap, ◌∙◌, subst, arith, inl, inr}
 use Rattle.std.specs.Prelude.{◌==◌, slice_get, unwrap_or}
 use Rattle.std.specs.List.{All, range_with_len}
@@ -134,7 +134,7 @@ apart_tail run place places apart i j p q which k at_i at_j in_p in_q =
     let same : suc i ≡ suc j = apart (suc i) (suc j) p q which k at_i at_j in_p in_q in
     omega (arith, same)
 
--- the place in whose run a word is
+-- the place whose run has a word
 record InRuns (run : ℕ) (words : List ℕ) (places : List Place) (which k x : ℕ) : Type 0 where
   pub j : ℕ
   pub place : Place
@@ -175,7 +175,7 @@ there_in run (p ∷ ps) words which k (suc j) place is inside = elim (cases_Bool
       (rest.0, rw h rest.1)
 ]
 
--- what one run needs of the words
+-- the room that one run needs
 pub record RunFits (run : ℕ) (words : List ℕ) (place : Place) (places : List Place) (rows : List (List ℕ)) : Type 0 where
   pub first : length (take run words) ≡ run
   pub others : length (drop run words) ≡ run * length places
@@ -245,7 +245,7 @@ places_apart : (arena : ArenaLeft) (arenas : List ArenaLeft) → AreRunsApart (a
 places_apart arena arenas apart i j p q which k at_i at_j in_p in_q =
     (apart zero zero arena arena i j which k refl refl (record { place = p; is = at_i; inside = in_p }) (record { place = q; is = at_j; inside = in_q })).1
 
--- the arena to whose place a word belongs
+-- the arena that has a word
 record InArenas (arenas : List ArenaLeft) (which k x : ℕ) : Type 0 where
   pub n : ℕ
   pub arena : ArenaLeft
@@ -283,7 +283,7 @@ there_arena (a ∷ others) which k (suc n) arena j is belongs = by (word_in a.ru
     by (Some y) later = (y, refl)
     by None later = later
 
--- the room for the arenas after one
+-- the room for the remaining arenas
 rooms_after : (arena : ArenaLeft) (arenas : List ArenaLeft) (rows : List (List ℕ)) → All (HasRoom rows) (arena ∷ arenas) → All (HasRoom (put_runs arena.run arena.words arena.places rows)) arenas
 rooms_after a others rows has =
     let first = All-head (HasRoom rows) a others has in
@@ -326,7 +326,7 @@ arenas_cell (a ∷ others) rows which k has apart =
         rest ∙ ap (λ old. unwrap_or (arena_word others which k) old) (here ∙ ap (λ o. unwrap_or o (cell rows which k)) eq)
         ∙ sym (ap (λ o. unwrap_or (or_word o (arena_word others which k)) (cell rows which k)) eq)
 
--- ---- what leave_all promises
+-- ---- the clauses of leave_all
 
 same_word : (a b : ArenaLeft) (i j which k : ℕ) (p : BelongsTo a i which k) (q : BelongsTo b j which k) → a ≡ b → i ≡ j
     → get_or a.words (a.run * i + (k - p.place.address / 8)) 0 ≡ get_or b.words (b.run * j + (k - q.place.address / 8)) 0
@@ -369,7 +369,7 @@ module _ (arenas : List ArenaLeft) (left : Images) (has : All (HasRoom left.cont
       arenas_cell arenas left.contents which k has apart ∙ ap (λ o. unwrap_or o (cell left.contents which k)) there.1
       ∙ found.value ∙ same_word found.arena arena found.j j which k found.belongs belongs an_arena same.1
 
--- ---- the rows that are left have the room that the conditions say
+-- ---- the rows have the required room
 
 each_left : (rows : List Words) (left : List (List ℕ)) → Each IsLeft rows left → (length left ≡ length rows) × ((which : ℕ) → length (row_at left which) ≡ length (row_of rows which).kept)
 each_left [] left each = (ap (λ (l : List (List ℕ)). length l) each, λ which. ap (λ (l : List (List ℕ)). length (row_at l which)) each)

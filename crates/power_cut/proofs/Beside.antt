@@ -1,4 +1,4 @@
--- The words that stand beside a namespace.
+-- The words that lie beside a namespace.
 use Rattle.std.proofs.Common.{◌≡◌, ◌≢◌, ◌⊎◌, ℕ, zero, suc, ◌*◌, ◌/◌, ◌<◌, Bool, true, false, cond, List, [], ◌∷◌, length, map, get_or, Option, Some, None, refl, sym, ap, ◌∙◌, arith, inl, inr}
 use Rattle.std.specs.Prelude.{◌==◌}
 use Rattle.std.specs.List.{range_with_len}
@@ -13,7 +13,7 @@ use Rattle.power_cut.specs.Namespace.{Namespace, AreAll, AreSameOutside, HasRows
 use Rattle.power_cut.proofs.Places.{inside_word, lies_inside}
 use Rattle.power_cut.proofs.Spread.{IsStep, IsWordOf, at_range, blank, changed, differ, eighth, kept_is, length_range, range_same, row_here, row_other, same_kept, same_stored, store_is, stored_is, stores, keeps, with_row}
 
--- ---- a step doesn't touch them
+-- ---- a step doesn't change them
 
 cases_same : (a b : ℕ) → (a ≡ b) ⊎ (a ≢ b)
 cases_same a b = elim (cases_Bool (a == b)) [ inl same ↦ inl (eqb-true a b same) | inr apart ↦ inr (differ a b apart) ]
@@ -96,7 +96,7 @@ pub beside_same : (n : Namespace) (i which k : ℕ) (whole part : Step) (row : W
 beside_same n i which k whole part row fuse left made laid is step makes =
     ap (λ r. beside_of (with_row n which r)) makes.words ∙ beside_after n i which k whole part fuse laid is step
 
--- ---- the rows stay whole
+-- ---- the rows stay well-formed
 
 stepped_lengths : (n : Namespace) (i which k : ℕ) (whole part : Step) (row : Words) → IsStep n i which k whole part
     → (length (stepped row part).kept ≡ length row.kept) × (length (stepped row part).stored ≡ length row.stored)
@@ -142,7 +142,7 @@ unfolding beside_of
 same_count set offset raw modules modules' same =
     sym (length_range (row_beside (over set offset raw modules)) (length modules)) ∙ ap length same ∙ length_range (row_beside (over set offset raw modules')) (length modules')
 
--- equal rows beside
+-- two equal rows beside
 pub record AreBeside (set : List Mapping) (offset raw : ℕ) (modules modules' : List Words) (which : ℕ) : Type 0 where
   pub long_kept : length (row_of modules which).kept ≡ length (row_of modules' which).kept
   pub long_stored : length (row_of modules which).stored ≡ length (row_of modules' which).stored
@@ -171,7 +171,7 @@ rows_beside set offset raw modules modules' which same =
     let stored = listed (is_inside (over set offset raw modules) which) (row_of modules which).stored (row_of modules' which).stored None None (ap (λ (r : Words). r.stored) same) in
     record { long_kept = kept.0; long_stored = stored.0; kept = kept.1; stored = stored.1 }
 
--- one law: the words of a namespace and those beside it are all
+-- one law: the words of a namespace and those beside it are all words
 same_rows : (set : List Mapping) (offset raw : ℕ) (modules modules' : List Words) (which : ℕ) → IsLaid (over set offset raw modules) → IsLaid (over set offset raw modules')
     → words_of (over set offset raw modules) ≡ words_of (over set offset raw modules') → AreBeside set offset raw modules modules' which → row_of modules which ≡ row_of modules' which
 same_rows set offset raw modules modules' which laid laid' words beside =
@@ -206,7 +206,7 @@ are_all set offset raw laid modules modules' words beside =
     (λ which lt. same_rows set offset raw modules modules' which (laid modules) (laid modules') words
     (rows_beside set offset raw modules modules' which (row_at set offset raw modules modules' which beside lt)))
 
--- the other: outside the extents of a namespace the words are those beside it
+-- the other law: outside the extents of a namespace the words are those beside it
 pub are_same_outside : (set : List Mapping) (offset raw : ℕ) → AreSameOutside set offset raw
 are_same_outside set offset raw modules modules' beside which address eights outside =
     let e : 8 * (address / 8) ≡ address = omega (arith, eights) in

@@ -1,8 +1,8 @@
--- Parts of which something is left, one after another.
+-- Parts after a crash, one by one.
 use Rattle.std.proofs.Common.{List, [], ◌∷◌, ◌++◌, refl, ap, subst}
 use Rattle.power_cut.specs.Left.{InTurn, Each}
 
--- one part more
+-- one more part
 pub in_turn_more : {C X Y : Type 0} (leaves : X → Y → C → C → Type 0) (parts : List X) (left : List Y) (part : X) (one : Y) (a b c : C) → InTurn leaves parts left a b → leaves part one b c
     → InTurn leaves (parts ++ part ∷ []) (left ++ one ∷ []) a c
 in_turn_more leaves [] left part one a b c done here =

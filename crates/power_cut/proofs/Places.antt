@@ -1,4 +1,4 @@
--- Where the words of a namespace lie.
+-- The places of a namespace's words.
 use Rattle.std.proofs.Common.{◌≡◌, ℕ, zero, suc, ◌+◌, ◌-◌, ◌*◌, ◌/◌, ◌%◌, ◌<◌, ◌≤◌, Bool, true, List, [], ◌∷◌, length, get_or, Option, Some, None, refl, sym, ap, ◌∙◌, subst, arith, inl, inr}
 use Rattle.std.specs.Prelude.{Contains, ◌==◌, ◌&&◌, nat_le, nat_lt, find}
 use Rattle.std.specs.List.{list_any, range_with_len}
@@ -12,7 +12,7 @@ use Rattle.interleave.specs.Places.{LiesAt, LiesBy, region_byte, unit_of}
 use Rattle.interleave.specs.Sound.{HasPlace, span_of}
 use Rattle.power_cut.specs.Namespace.{Namespace, AreApart, IsLaid, byte_at, byte_of, count_of, is_inside, or_place, place_by, place_of}
 
--- ---- looking for the first
+-- ---- finding the first
 
 contains_more : {X : Type 0} (xs : List X) (x y : X) → Contains xs x → Contains (y ∷ xs) x
 contains_more xs x y among = (suc among.0, omega (arith, among.1), among.2)
@@ -137,7 +137,7 @@ sum_unit a b u p q =
     let sum : a + b ≡ (a / u + b / u) * u = omega (arith, a_is, b_is) in
     ap (λ (n : ℕ). n % u) sum ∙ mul-mod_left (a / u + b / u) u
 
--- where a word's first byte stands
+-- the place of a word's first byte
 pub record IsByte (n : Namespace) (y : ℕ) : Type 0 where
   pub whole : y % 8 ≡ 0
   pub from : length n.set * n.offset ≤ y
@@ -160,7 +160,7 @@ byte_is n i laid lt =
 
 -- ---- the words of a namespace
 
--- an address at which a word of the namespace begins
+-- a word of the namespace begins at an address
 pub record IsWordAt (n : Namespace) (i which address : ℕ) : Type 0 where
   pub below : i < count_of n
   pub lies : LiesAt n.set (byte_at n i) which address
@@ -172,7 +172,7 @@ aligned n i which address laid at = (laid.words (byte_at n i) which address (byt
 pub has_address : (n : Namespace) (i : ℕ) → IsLaid n → i < count_of n → HasPlace n.set (byte_at n i)
 has_address n i laid lt = laid.places.has (byte_at n i) (byte_is n i laid lt).in_region
 
--- no two have one
+-- no two words have the same address
 pub one_index : (n : Namespace) (i j which address : ℕ) → IsLaid n → LiesAt n.set (byte_at n i) which address → LiesAt n.set (byte_at n j) which address → i ≡ j
 one_index n i j which address laid lies lies' =
     let same = laid.places.back (byte_at n i) (byte_at n j) which address lies lies' in
@@ -185,7 +185,7 @@ are_apart n laid i j which address address' lt lt' lies lies' same =
     let e : address' ≡ address = omega (arith, a, a', same) in
     one_index n i j which address laid lies (subst (λ x. LiesAt n.set (byte_at n j) which x) e lies')
 
--- a byte at an aligned address is the first of a word
+-- a byte at an aligned address begins a word
 byte_whole : (n : Namespace) (y which address : ℕ) → IsLaid n → address % 8 ≡ 0 → LiesAt n.set y which address → y % 8 ≡ 0
 byte_whole n y which address laid eights lies =
     let first : ℕ = y - y % 8 in

@@ -1,4 +1,4 @@
--- Worked rows, computed on the definitions.
+-- Worked examples, computed on the definitions.
 use Rattle.std.proofs.Common.{◌≡◌, ℕ, Bool, true, false, List, [], ◌∷◌, Some, None, refl, arith}
 use Rattle.nfit_reader.specs.declared.table.Mapping.{Mapping}
 use Rattle.cut_words.specs.Words.{Words}
@@ -26,7 +26,7 @@ two = striped 1 0 0 ∷ striped 0 8 8 ∷ []
 places : (place_of two 0 ≡ Some (1, 0)) × (place_of two 8 ≡ Some (0, 8)) × (place_of two 16 ≡ Some (1, 8)) × (place_of two 31 ≡ Some (0, 23)) × (place_of two 32 ≡ None)
 places = (refl, refl, refl, refl, refl)
 
--- three words of module 0 and two of module 1; one of each has a value stored since
+-- three words of module 0 and two of module 1; one of each is pending
 abbrev modules : List Words
 modules = record { kept = 10 ∷ 11 ∷ 12 ∷ []; stored = Some 5 ∷ None ∷ Some 7 ∷ [] } ∷ record { kept = 20 ∷ 21 ∷ []; stored = None ∷ None ∷ [] } ∷ []
 
@@ -47,12 +47,12 @@ beside_second : beside_of second ≡ record { kept = 10 ∷ 11 ∷ 0 ∷ []; sto
 unfolding beside_of
 beside_second = refl
 
--- ---- what a cut leaves, under a chooser that gives a list of answers in turn
+-- ---- after a crash, with a chooser that returns a list of answers
 
 abbrev picks : List Bool → ℕ → Bool → List Bool → Type 0
 picks before word answer after = before ≡ answer ∷ after
 
--- a label area that isn't there asks nothing, the next asks for its one pending word
+-- for a missing label area nothing is asked, for the next one its only pending word
 areas : InTurn (LeavesOption picks) (None ∷ Some (record { kept = 1 ∷ 2 ∷ []; stored = None ∷ Some 9 ∷ [] }) ∷ []) (None ∷ Some (1 ∷ 9 ∷ []) ∷ []) (true ∷ false ∷ []) (false ∷ [])
 areas = (
   None,
@@ -91,7 +91,7 @@ with_none : with_arenas [] left ≡ left
 unfolding with_arenas
 with_none = refl
 
--- word 2 of module 1 is the second of a run, words 3 of module 0 and 9 of module 1 have no place
+-- word 2 of module 1 is the second of a run; words 3 of module 0 and 9 of module 1 aren't arena words
 words_at : (arena_word (eights ∷ ones ∷ []) 1 2 ≡ Some 101) × (arena_word (eights ∷ ones ∷ []) 0 3 ≡ None) × (arena_word (eights ∷ ones ∷ []) 1 9 ≡ None)
 words_at = (refl, refl, refl)
 

@@ -1,4 +1,4 @@
--- The words of a namespace over the words of the modules, and a step on one of them.
+-- The words of a namespace as words of the modules, and a step on one of them.
 use Rattle.std.proofs.Common.{◌≡◌, ◌≢◌, ℕ, zero, suc, ◌+◌, ◌*◌, ◌/◌, ◌%◌, ◌^◌, ◌<◌, ◌≤◌, Bool, false, List, [], ◌∷◌, length, map, get_or, Option, Some, None, refl, sym, ap, ◌∙◌, subst, arith, inl, inr}
 use Rattle.std.specs.Prelude.{Contains, ◌==◌, unwrap_or}
 use Rattle.std.specs.List.{range_with_len}
@@ -28,7 +28,7 @@ length_range f count = length-map (range_with_len 0 count) f ∙ length-range_wi
 pub at_range : {X : Type 0} (f : ℕ → X) (count i : ℕ) (d : X) → i < count → get_or (map f (range_with_len 0 count)) i d ≡ f i
 at_range f count i d lt = get_or-map-range_with_len f 0 count i i d lt (omega arith)
 
--- a list whose items are f's but for one place
+-- a list whose items are f's except at one place
 range_set : {X : Type 0} (f g : ℕ → X) (count i : ℕ) (x d : X) → i < count → g i ≡ x → ((j : ℕ) → j < count → j ≢ i → g j ≡ f j)
     → map g (range_with_len 0 count) ≡ set (map f (range_with_len 0 count)) i x
 range_set f g count i x d lt here there =
@@ -105,7 +105,7 @@ row_other modules which other row apart = get_or-set_other modules which other r
 pub row_here : (modules : List Words) (which : ℕ) (row : Words) → which < length modules → row_of (set modules which row) which ≡ row
 row_here modules which row lt = get_or-set_same modules which row blank lt
 
--- a word that isn't the one that is changed
+-- a word other than the changed one
 pub same_kept : (modules : List Words) (which k x other j : ℕ) (o : Option ℕ) → which < length modules → (other ≡ which → j ≢ k)
     → get_or (row_of (set modules which (changed (row_of modules which) k x o)) other).kept j 0 ≡ get_or (row_of modules other).kept j 0
 same_kept modules which k x other j o lt apart = elim (cases_Bool (other == which)) [
@@ -128,7 +128,7 @@ same_stored modules which k x other j o lt apart = elim (cases_Bool (other == wh
   | inr different ↦ ap (λ (r : Words). get_or r.stored j None) (row_other modules which other (changed (row_of modules which) k x o) (differ other which different))
 ]
 
--- where a step is made
+-- the place of a step
 pub record IsWordOf (n : Namespace) (i which k : ℕ) : Type 0 where
   pub at : IsWordAt n i which (8 * k)
   pub there : which < length n.modules
@@ -138,7 +138,7 @@ pub record IsWordOf (n : Namespace) (i which k : ℕ) : Type 0 where
 pub eighth : (k : ℕ) → 8 * k / 8 ≡ k
 eighth k = omega arith
 
--- words of the namespace that aren't this one lie elsewhere
+-- the other words of the namespace lie elsewhere
 elsewhere : (n : Namespace) (i j which k other address : ℕ) → IsLaid n → IsWordOf n i which k → j < count_of n → LiesAt n.set (byte_at n j) other address → j ≢ i → other ≡ which → address / 8 ≢ k
 elsewhere n i j which k other address laid is lt lies apart same eq =
     let whole = aligned n j other address laid (record { below = lt; lies = lies }) in
@@ -209,7 +209,7 @@ after_words n i which k whole part (Some zero) laid is step = same_row n which
 after_words n i which k whole part (Some (suc zero)) laid is step = stepped_words n i which k whole part laid is step
 after_words n i which k whole part (Some (suc (suc m))) laid is step = stepped_words n i which k whole part laid is step
 
--- what became of the namespace's words by a step on a module's word
+-- the effect of a step on a module's word on the namespace's words
 pub makes_words : (n : Namespace) (i which k : ℕ) (whole part : Step) (row : Words) (fuse left : Option ℕ) (made : Bool) → IsLaid n → IsWordOf n i which k → IsStep n i which k whole part
     → Makes (row_of n.modules which) row fuse left (part ∷ []) made → Makes (words_of n) (words_of (with_row n which row)) fuse left (whole ∷ []) made
 makes_words n i which k whole part row fuse left made laid is step makes = record {
@@ -218,7 +218,7 @@ makes_words n i which k whole part row fuse left made laid is step makes = recor
   all_made = makes.all_made;
 }
 
--- ---- as the methods see it
+-- ---- in terms of the methods
 
 pub word_of_rows : (n : Namespace) (i which k : ℕ) → HasRows n.set n.modules → i < count_of n → LiesAt n.set (byte_at n i) which (8 * k) → which < length n.modules
     → k < length (row_of n.modules which).kept → IsWordOf n i which k
@@ -232,7 +232,7 @@ word_of_rows n i which k rows lt lies there inside = record {
 pub row_read : (modules : List Words) (which : ℕ) (row : Words) → which < length modules → row ≡ get_or modules which row → row ≡ row_of modules which
 row_read modules which row lt is = get_or_read modules which row lt is blank
 
--- a namespace lies as it did whatever the words are
+-- the place of a namespace doesn't depend on the words
 pub laid_any : (n : Namespace) (modules : List Words) → IsLaid n → IsLaid (record { set = n.set; offset = n.offset; raw = n.raw; modules = modules })
 laid_any n modules laid = record {
   places = laid.places;
@@ -247,7 +247,7 @@ laid_any n modules laid = record {
   inside = laid.inside;
 }
 
--- as the calls on the set say it
+-- in terms of the set's methods
 pub laid_of : (ms : List Mapping) (offset raw span unit : ℕ) (modules : List Words) → offset % unit_of ms ≡ 0 → raw % unit_of ms ≡ 0 → offset + raw ≤ span_of ms
     → unit ≡ unit_of ms → unit % 8 ≡ 0 → PartsAlike ms → span ≡ span_of ms → length ms * span < 2 ^ 64 → ((m : Mapping) → Contains ms m → m.size ≡ span) → sound.AreApart ms
     → IsPlacing ms (length ms * span) → AreWords ms → IsLaid (record { set = ms; offset = offset; raw = raw; modules = modules })

@@ -1,4 +1,4 @@
--- What is told of a place tells it.
+-- An encoded place determines the place.
 use Rattle.std.proofs.Common.{◌≡◌, List, [], ◌∷◌, ◌++◌, length, map, Option, Some, None, refl, ap, arith}
 use Rattle.cut_words.specs.Words.{Words}
 use Rattle.nfit_reader.specs.declared.table.Mapping.{Mapping}
@@ -14,7 +14,7 @@ lines_by (Some l) (Some k) size offsets =
     let sizes : l.size ≡ k.size = (let e = size in cc) in
     λ i. Some (record { size = sizes i; offsets = offsets i })
 
--- a mapping is all that it says
+-- a mapping is determined by its fields
 mapping_by : (m k : Mapping) → mapping_told m ≡ mapping_told k → m ≡ k
 mapping_by m k e =
     let kept = ap (λ (w : Words). w.kept) e in
@@ -41,7 +41,7 @@ mapping_by m k e =
       identity = record { vendor = g i; date = h i; location = j i; serial = l i };
     }
 
--- a list behind as many mappings as another one
+-- a list after as many mappings as another one
 record AreSplit (set set' : List Mapping) (rest rest' : List Words) : Type 0 where
   same : set' ≡ set
   behind : rest' ≡ rest
@@ -68,7 +68,7 @@ placed_stay n n' e =
     let parts = split n.set n'.set (beside_of n) (beside_of n') long others in
     record { set = parts.same; offset = offset; raw = raw; beside = parts.behind }
 
--- other words in the same place, with the same beside them
+-- other words in the same place, with the same words beside them
 pub placed_same : (n : Namespace) (modules : List Words) → beside_of (over n.set n.offset n.raw modules) ≡ beside_of n → beside_and_place (over n.set n.offset n.raw modules) ≡ beside_and_place n
 unfolding beside_and_place
 placed_same n modules e = ap (λ rows. extent_told n ∷ (map mapping_told n.set ++ rows)) e

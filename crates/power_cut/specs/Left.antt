@@ -1,4 +1,4 @@
--- What a power cut leaves of all parts of an image set: this project's model.
+-- All parts of an image set after a crash: this project's model.
 use Rattle.std.specs.Prelude.{◌≡◌, ℕ, ◌+◌, ◌-◌, ◌*◌, ◌/◌, ◌%◌, ◌<◌, ◌≤◌, ◌==◌, nat_le, nat_lt, Bool, ◌&&◌, if◌then◌else◌, List, [], ◌∷◌, length, map, drop, slice_get, slice_index, slice_index_or, Option, Some, None, unwrap_or}
 use Rattle.std.specs.List.{All, range_with_len}
 use Rattle.cut_words.specs.Words.{Words, IsLeft}
@@ -8,37 +8,37 @@ use Rattle.power_cut.specs.declared.leaving.Images.{Images}
 use Rattle.power_cut.specs.declared.leaving.Place.{Place}
 use Rattle.power_cut.specs.Namespace.{HasBytes, row_of}
 
--- ---- in turn
+-- ---- in sequence
 
--- of each part of a list something is left, one part after another; between them stands what became of the chooser
+-- the parts of a list after a crash, one by one; the chooser's state passes from one to the next
 abbrev pub InTurn : {C X Y : Type 0} → (X → Y → C → C → Type 0) → List X → List Y → C → C → Type 0
 InTurn leaves [] left before after = (left ≡ []) × (after ≡ before)
 InTurn {C} {X} {Y} leaves (part ∷ parts) left before after =
     (first : Y) × (rest : List Y) × (between : C) × (left ≡ first ∷ rest) × leaves part first before between × InTurn leaves parts rest between after
 
--- a row of words leaves what the chooser says, from its first word on
+-- a row of words is as the chooser decides, from its first word on
 abbrev pub LeavesWords : {C : Type 0} → (C → ℕ → Bool → C → Type 0) → Words → List ℕ → C → C → Type 0
 LeavesWords picks words left before after = LeavesFrom picks 0 words.kept words.stored left before after
 
--- so does a row that is there; of one that isn't nothing is left, and no question asked
+-- the same for a row that may be missing; then the chooser isn't asked
 abbrev pub LeavesOption : {C : Type 0} → (C → ℕ → Bool → C → Type 0) → Option Words → Option (List ℕ) → C → C → Type 0
 LeavesOption picks None left before after = (left ≡ None) × (after ≡ before)
 LeavesOption picks (Some words) left before after = (row : List ℕ) × (left ≡ Some row) × LeavesWords picks words row before after
 
--- all label areas in order of the modules, and then all contents in order of the modules
+-- all label areas in order of the modules, then all contents in order of the modules
 pub record LeavesAll {C : Type 0} (picks : C → ℕ → Bool → C → Type 0) (areas : List (Option Words)) (rows : List Words) (left : Images) (before after : C) : Type 0 where
   pub between : C
   pub labels : InTurn (LeavesOption picks) areas left.labels before between
   pub contents : InTurn (LeavesWords picks) rows left.contents between after
 
--- ---- whatever is chosen
+-- ---- whatever the chooser decides
 
--- of each part of a list something is left
+-- the same for each part of a list
 abbrev pub Each : {X Y : Type 0} → (X → Y → Type 0) → List X → List Y → Type 0
 Each leaves [] left = left ≡ []
 Each {X} {Y} leaves (part ∷ parts) left = (first : Y) × (rest : List Y) × (left ≡ first ∷ rest) × leaves part first × Each leaves parts rest
 
--- a row that is there leaves, for each word by itself, its kept value or the one that a load gives
+-- each word of a row, if it isn't missing, has independently its kept value or the one that a load returns
 abbrev pub IsLeftOf : Option Words → Option (List ℕ) → Type 0
 IsLeftOf None left = left ≡ None
 IsLeftOf (Some words) left = (row : List ℕ) × (left ≡ Some row) × IsLeft words row
@@ -49,11 +49,11 @@ pub record IsLeftOfAll (areas : List (Option Words)) (rows : List Words) (left :
 
 -- ---- arenas
 
--- word k of a module is one of the run of words that stands from a place on
+-- word k of a module is in the run at a place
 abbrev pub has_word : ℕ → Place → ℕ → ℕ → Bool
 has_word run place which k = (place.«module» == which) && nat_le (place.address / 8) k && nat_lt k (place.address / 8 + run)
 
--- the word, of these that stand in runs at these places, that has its place at word k of a module
+-- the word of these, in runs at these places, that is put at word k of a module
 abbrev pub word_in : ℕ → List ℕ → List Place → ℕ → ℕ → Option ℕ
 word_in run words [] which k = None
 word_in run words (place ∷ places) which k =
@@ -63,26 +63,26 @@ abbrev pub or_word : Option ℕ → Option ℕ → Option ℕ
 or_word (Some word) other = Some word
 or_word None other = other
 
--- the word of an arena that has its place at word k of a module
+-- the word of an arena that is put at word k of a module
 abbrev pub arena_word : List ArenaLeft → ℕ → ℕ → Option ℕ
 arena_word [] which k = None
 arena_word (arena ∷ arenas) which k = or_word (word_in arena.run arena.words arena.places which k) (arena_word arenas which k)
 
--- what stands at word k of a module: the word of the arena that has its place here, else what was left
+-- word k of a module: the arena's word if there is one, else the word after the crash
 abbrev pub word_with : List ArenaLeft → ℕ → ℕ → ℕ → ℕ
 word_with arenas which k left = unwrap_or (arena_word arenas which k) left
 
 abbrev pub row_with : List ArenaLeft → ℕ → List ℕ → List ℕ
 row_with arenas which left = map (λ k. word_with arenas which k (slice_index left k)) (range_with_len 0 (length left))
 
--- what was left, with the words of arenas at their places in the contents
+-- the images after the crash, with the words of arenas at their places in the contents
 unfoldable pub with_arenas : List ArenaLeft → Images → Images
 with_arenas arenas left = record {
   labels = left.labels;
   contents = map (λ which. row_with arenas which (slice_index_or left.contents which [])) (range_with_len 0 (length left.contents));
 }
 
--- Parts of which something is left, in whose contents the words of arenas then stand at their places.
+-- The parts after a crash, with the words of arenas at their places in the contents.
 pub record LeavesWith {C : Type 0} (picks : C → ℕ → Bool → C → Type 0) (areas : List (Option Words)) (rows : List Words) (arenas : List ArenaLeft) (images : Images) (before after : C) : Type 0 where
   pub left : Images
   pub asked : LeavesAll picks areas rows left before after
@@ -91,19 +91,19 @@ pub record LeavesWith {C : Type 0} (picks : C → ℕ → Bool → C → Type 0)
 
 -- ---- conditions on arenas
 
--- word k of a module belongs to a place
+-- word k of a module is in the run at a place
 pub record IsInRun (run : ℕ) (place : Place) (which k : ℕ) : Type 0 where
   pub here : place.«module» ≡ which
   pub from : place.address / 8 ≤ k
   pub to : k < place.address / 8 + run
 
--- it belongs to place j of an arena
+-- it is in the run at place j of an arena
 pub record BelongsTo (arena : ArenaLeft) (j which k : ℕ) : Type 0 where
   pub place : Place
   pub is : slice_get arena.places j ≡ Some place
   pub inside : IsInRun arena.run place which k
 
--- no word belongs to two places, of one arena or of two
+-- no word is in the runs of two places, of one arena or of two
 abbrev pub AreRunsApart : List ArenaLeft → Type 0
 AreRunsApart arenas = (m n : ℕ) (a b : ArenaLeft) (i j which k : ℕ) → slice_get arenas m ≡ Some a → slice_get arenas n ≡ Some b → BelongsTo a i which k → BelongsTo b j which k → (m ≡ n) × (i ≡ j)
 
@@ -111,20 +111,20 @@ AreRunsApart arenas = (m n : ℕ) (a b : ArenaLeft) (i j which k : ℕ) → slic
 abbrev pub IsKept : List Words → ℕ → Place → Type 0
 IsKept rows run place = (k : ℕ) → IsInRun run place place.«module» k → slice_index_or (row_of rows place.«module»).stored k None ≡ None
 
--- the conditions on one arena, by the contents of the modules
+-- the requirements on one arena, for the contents of the modules
 pub record IsPlaced (rows : List Words) (arena : ArenaLeft) : Type 0 where
-  -- a run has a word
+  -- a run has at least one word
   pub runs : 1 ≤ arena.run
   -- there is one place for each run of words
   pub counts : length arena.words ≡ arena.run * length arena.places
   -- a place is the address of a word
   pub eights : All (λ place. place.address % 8 ≡ 0) arena.places
-  -- its words lie in the contents of a module that is there
+  -- its words lie in the contents of an existing module
   pub inside : All (λ place. HasBytes rows place.«module» place.address (8 * arena.run)) arena.places
-  -- no value was stored into them since the last keep
+  -- none of them is pending
   pub kept : All (IsKept rows arena.run) arena.places
 
--- the words of the arenas stand at their places: that of place j in order of its run
+-- the words of the arenas are at their places: those of place j are the run j, in order
 abbrev pub AreAtPlaces : List ArenaLeft → List (List ℕ) → Type 0
 AreAtPlaces arenas contents = (n : ℕ) (arena : ArenaLeft) (j which k : ℕ) → slice_get arenas n ≡ Some arena → (belongs : BelongsTo arena j which k)
     → slice_index (slice_index_or contents which []) k ≡ slice_index arena.words (arena.run * j + (k - belongs.place.address / 8))

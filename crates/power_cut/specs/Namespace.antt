@@ -1,4 +1,5 @@
--- The words of a namespace over the words of the modules: ACPI 6.5, section 5.2.25.4, by the formula of the places of an interleave set.
+-- The words of a namespace as words of the modules: ACPI 6.5, section 5.2.25.4, by the formula of the places of an interleave
+-- set.
 use Rattle.std.specs.Prelude.{◌≡◌, ℕ, ◌+◌, ◌*◌, ◌/◌, ◌%◌, ◌^◌, ◌<◌, ◌≤◌, ◌==◌, nat_le, nat_lt, Bool, false, ◌&&◌, if◌then◌else◌, List, [], ◌∷◌, length, map, find, slice_index, slice_index_or, Contains, Option, Some, None}
 use Rattle.std.specs.List.{All, list_any, range_with_len}
 use Rattle.cut_words.specs.Words.{Words}
@@ -7,13 +8,13 @@ use Rattle.interleave.specs.Places.{LiesAt, region_byte, unit_of}
 use Rattle.interleave.specs.Sound.{AreWords, IsPlacing, PartsAlike, span_of}
 use Rattle.interleave.specs.Sound as set
 
--- ---- where a byte of a region lies
+-- ---- the place of a byte of a region
 
--- the first byte of a mapping that the formula sends to byte y of a region
+-- the first byte of a mapping that the formula maps to byte y of a region
 abbrev pub byte_of : ℕ → Mapping → ℕ → Option ℕ
 byte_of ways m y = find (λ x. region_byte ways m x == y) (range_with_len 0 m.size)
 
--- the module and the device address of a mapping's byte, else those of another
+-- the module and the device address of a mapping's byte, if there is one, else the other
 abbrev pub or_place : Mapping → Option ℕ → Option (ℕ × ℕ) → Option (ℕ × ℕ)
 or_place m (Some x) other = Some (m.«module», m.start + x)
 or_place m None other = other
@@ -28,7 +29,7 @@ place_of set y = place_by (length set) y set
 
 -- ---- words of modules
 
--- the words of a module, none past the last one
+-- the words of a module, an empty row past the last one
 abbrev pub row_of : List Words → ℕ → Words
 row_of modules which = slice_index_or modules which (record { kept = []; stored = [] })
 
@@ -41,19 +42,19 @@ stored_at modules which address = slice_index_or (row_of modules which).stored (
 
 -- ---- a namespace
 
--- A set's mappings by position; the address of a namespace in each mapping, relative to its start, and its bytes in each; and the
--- words of all modules by number.
+-- A set's mappings in order of position; the namespace's address in each mapping, relative to the mapping's start, and its size
+-- there in bytes; and the words of all modules by number.
 pub record Namespace : Type 0 where
   pub set : List Mapping
   pub offset : ℕ
   pub raw : ℕ
   pub modules : List Words
 
--- how many words it has
+-- the number of its words
 abbrev pub count_of : Namespace → ℕ
 count_of n = length n.set * n.raw / 8
 
--- the byte of the region with which word i begins
+-- the byte of the region at which word i begins
 abbrev pub byte_at : Namespace → ℕ → ℕ
 byte_at n i = length n.set * n.offset + 8 * i
 
@@ -65,7 +66,7 @@ abbrev pub stored_by : List Words → Option (ℕ × ℕ) → Option ℕ
 stored_by modules None = None
 stored_by modules (Some place) = stored_at modules place.0 place.1
 
--- its words, each where the formula sends its byte
+-- its words, each from the place of its first byte
 unfoldable pub words_of : Namespace → Words
 words_of n = record {
   kept = map (λ i. kept_by n.modules (place_of n.set (byte_at n i))) (range_with_len 0 (count_of n));
@@ -76,24 +77,24 @@ words_of n = record {
 abbrev pub is_inside : Namespace → ℕ → ℕ → Bool
 is_inside n which address = list_any (λ m. (m.«module» == which) && nat_le (m.start + n.offset) address && nat_lt address (m.start + n.offset + n.raw)) n.set
 
--- the words of a module without those of the namespace, in whose place stand words of 0
+-- the words of a module, with 0 in place of the namespace's words
 abbrev pub row_beside : Namespace → ℕ → Words
 row_beside n which = record {
   kept = map (λ k. if is_inside n which (8 * k) then 0 else slice_index (row_of n.modules which).kept k) (range_with_len 0 (length (row_of n.modules which).kept));
   stored = map (λ k. if is_inside n which (8 * k) then None else slice_index_or (row_of n.modules which).stored k None) (range_with_len 0 (length (row_of n.modules which).stored));
 }
 
--- the words that are no words of the namespace, module by module
+-- the words that aren't the namespace's, module by module
 unfoldable pub beside_of : Namespace → List Words
 beside_of n = map (row_beside n) (range_with_len 0 (length n.modules))
 
 -- ---- conditions and laws
 
--- a row of words has as many values stored since as words, as every CutWords has
+-- a row has a slot for a stored value for each word, as every CutWords has
 abbrev pub IsRow : Words → Type 0
 IsRow words = length words.stored ≡ length words.kept
 
--- a module has the words of so many bytes from a device address on
+-- a module has the words of `bytes` bytes from a device address on
 pub record HasBytes (modules : List Words) (which start bytes : ℕ) : Type 0 where
   pub there : which < length modules
   pub reaches : start + bytes ≤ 8 * length (row_of modules which).kept
@@ -102,7 +103,7 @@ pub record HasBytes (modules : List Words) (which start bytes : ℕ) : Type 0 wh
 abbrev pub ReachEnds : List Mapping → List Words → Type 0
 ReachEnds set modules = (m : Mapping) → Contains set m → HasBytes modules m.«module» m.start m.size
 
--- what the set says of its places, for the bytes of a namespace
+-- what a namespace needs of the places of its set
 pub record IsLaid (n : Namespace) : Type 0 where
   pub places : IsPlacing n.set (length n.set * span_of n.set)
   pub words : AreWords n.set
@@ -120,18 +121,18 @@ pub record HasRows (set : List Mapping) (modules : List Words) : Type 0 where
   pub rows : All IsRow modules
   pub reach : ReachEnds set modules
 
--- Each word of the namespace is the word of the module at which the formula of the places puts it.
+-- Each word of the namespace is the word of the module at its place.
 pub record IsOver (n : Namespace) (modules : List Words) (words : Words) : Type 0 where
   pub count : length words.kept ≡ count_of n
   pub kept : (i which address : ℕ) → i < count_of n → LiesAt n.set (byte_at n i) which address → slice_index words.kept i ≡ kept_at modules which address
   pub stored : (i which address : ℕ) → i < count_of n → LiesAt n.set (byte_at n i) which address → slice_index_or words.stored i None ≡ stored_at modules which address
 
--- no two words of the namespace lie on one word of a module
+-- no two words of the namespace lie at the same word of a module
 abbrev pub AreApart : Namespace → Type 0
 AreApart n = (i j which address address' : ℕ) → i < count_of n → j < count_of n → LiesAt n.set (byte_at n i) which address → LiesAt n.set (byte_at n j) which address'
     → address / 8 ≡ address' / 8 → i ≡ j
 
--- the namespace that lies so, over these modules
+-- the namespace with this extent, over these modules
 abbrev pub over : List Mapping → ℕ → ℕ → List Words → Namespace
 over set offset raw modules = record { set = set; offset = offset; raw = raw; modules = modules }
 
@@ -140,7 +141,7 @@ abbrev pub AreAll : List Mapping → ℕ → ℕ → Type 0
 AreAll set offset raw = (modules modules' : List Words) → words_of (over set offset raw modules) ≡ words_of (over set offset raw modules')
     → beside_of (over set offset raw modules) ≡ beside_of (over set offset raw modules') → modules ≡ modules'
 
--- where the words beside a namespace are the same, so are all words outside its extents
+-- if the words beside a namespace are the same, so are all words outside its extents
 abbrev pub AreSameOutside : List Mapping → ℕ → ℕ → Type 0
 AreSameOutside set offset raw = (modules modules' : List Words) → beside_of (over set offset raw modules) ≡ beside_of (over set offset raw modules')
     → (which address : ℕ) → address % 8 ≡ 0 → is_inside (over set offset raw modules) which address ≡ false

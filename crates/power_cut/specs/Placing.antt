@@ -1,4 +1,4 @@
--- The words of arenas are put into rows of words, one run after another: what this crate's own steps do.
+-- Putting the words of arenas into rows of words, one run after another, as the code does it.
 use Rattle.std.specs.Prelude.{◌≡◌, ℕ, ◌+◌, ◌*◌, ◌/◌, ◌<◌, ◌≤◌, List, [], ◌∷◌, length, take, drop, slice_index_or, slice_set}
 use Rattle.std.specs.List.{All}
 use Rattle.cut_words.specs.WordBytes.{put_at}
@@ -16,7 +16,7 @@ abbrev pub put_arenas : List ArenaLeft → List (List ℕ) → List (List ℕ)
 put_arenas [] rows = rows
 put_arenas (arena ∷ arenas) rows = put_arenas arenas (put_runs arena.run arena.words arena.places rows)
 
--- so many words from a place on lie in a row that is there
+-- `run` words from a place on lie in an existing row
 pub record IsRoom (rows : List (List ℕ)) (run : ℕ) (place : Place) : Type 0 where
   pub there : place.«module» < length rows
   pub reaches : place.address / 8 + run ≤ length (slice_index_or rows place.«module» [])

@@ -1,4 +1,4 @@
-//! What a cut leaves of label areas and contents.
+//! Label areas and contents after a crash.
 ghost use Rattle.std.specs.Prelude.{◌≡◌, [], IfOk};
 ghost use Rattle.std.specs.List.{All};
 ghost use Rattle.cut_words.specs.Words.{IsLeft};
@@ -10,8 +10,7 @@ use nvd_media::Chooser;
 use nvd_words::Items;
 use std::alloc::{AllocError, Global};
 
-/// What is left of an image set's parts, by the numbers of the modules: words of 8 bytes, the low byte
-/// first.
+/// The parts of an image set after a crash, by module number: words of 8 bytes, the low byte first.
 #[derive(Debug, Drop)]
 pub struct Images {
     /// The label area of each module that has one, from its byte 0.
@@ -27,18 +26,18 @@ pub struct Place {
     pub address: u64,
 }
 
-/// What a cut leaves of the words of an arena, and where they stand in the contents.
+/// The words of an arena after a crash, and their places in the contents.
 #[derive(Debug, Drop)]
 pub struct ArenaLeft {
     /// The arena's words, in order.
     pub words: Items<u64>,
-    /// Where each run of them stands: the place of its first word.
+    /// The place of each run of words: that of its first word.
     pub places: Items<Place>,
     /// How many words a run has.
     pub run: u32,
 }
 
-/// What is left of a row of words. It takes no memory.
+/// Returns a row of words after a crash. It takes no memory.
 fn leave_words<C: Chooser>(words: CutWords, choose: &mut C) -> Items<u64>
     ensures asked { LeavesWords C.picks words result choose.old choose.new }
     ensures left { IsLeft words result }
@@ -46,7 +45,7 @@ fn leave_words<C: Chooser>(words: CutWords, choose: &mut C) -> Items<u64>
     Items::from_vec(words.leave(choose))
 }
 
-/// What is left of a label area, where there is one.
+/// Returns a label area after a crash, if there is one.
 fn leave_area<C: Chooser>(area: Option<CutWords>, choose: &mut C) -> Option<Items<u64>>
     ensures asked { LeavesOption C.picks area result choose.old choose.new }
     ensures left { IsLeftOf area result }
@@ -57,7 +56,7 @@ fn leave_area<C: Chooser>(area: Option<CutWords>, choose: &mut C) -> Option<Item
     }
 }
 
-/// What is left of all label areas, in order of the modules.
+/// Returns all label areas after a crash, in order of the modules.
 fn leave_areas<C: Chooser>(
     alloc: Global,
     areas: Items<Option<CutWords>>,
@@ -73,7 +72,7 @@ fn leave_areas<C: Chooser>(
     Ok(left)
 }
 
-/// What is left of all contents, in order of the modules.
+/// Returns all contents after a crash, in order of the modules.
 fn leave_contents<C: Chooser>(
     alloc: Global,
     contents: Items<CutWords>,
@@ -89,26 +88,26 @@ fn leave_contents<C: Chooser>(
     Ok(left)
 }
 
-/// What a power cut leaves of the label areas and the contents of all modules, with the words of arenas,
-/// of which a cut has already left what it leaves, in place of those that stand at their places.
+/// Returns the label areas and the contents of all modules after a crash, with the words of arenas
+/// at their places. These are already the arenas' words after the crash.
 ///
-/// Conditions: each arena has one place for each `run` of its words, and `run` is at least 1 (`runs`,
-/// `counts`). A place is a multiple of 8 bytes (`eights`), and the run that begins there lies in the
-/// contents of a module that is there (`inside`). No value was stored into these words of the contents
-/// since the last keep (`kept`): whoever holds the words of an arena alone stores into them. No word of the
-/// contents belongs to two places, of one arena or of two (`apart`).
+/// Each arena must have one place for each `run` of its words, and `run` must be at least 1
+/// (`runs`, `counts`). A place must be a multiple of 8 bytes (`eights`), and its run must lie in
+/// the contents of an existing module (`inside`). None of these words of the contents may be
+/// pending (`kept`): only the holder of an arena stores into its words. No word of the contents may
+/// belong to two places, of one arena or of two (`apart`).
 ///
-/// - `asked`: the chooser is asked for the label areas in order of the modules, then for the contents in
-///   order of the modules, once for each word of a row that has a value stored since, in rising order;
-///   its answers are what is left. At each word of the contents then stands the word of the arena that has
-///   its place there, else what was left.
-/// - `each`, in the same clause: what is left of each part is, for each word by itself, its kept value or
-///   the one that a load gives, and nothing is left of a label area that isn't there.
-/// - `at_places`: word by word, each arena stands at its places.
-/// - `alone`: without arenas the images are what was left.
+/// - `asked`: the chooser is asked for the label areas in order of the modules, then for the
+///   contents in order of the modules, once for each pending word of a row, in ascending order; its
+///   answers decide. Then each word of the contents that is an arena's place has the arena's word.
+/// - `each`, in the same clause: before the arenas are put there, each word of a part has,
+///   independently, its kept value or the one that a load returns. A missing label area stays
+///   missing.
+/// - `at_places`: word by word, each arena is at its places.
+/// - `alone`: without arenas, the chooser's answers alone decide the images.
 ///
-/// The one error is want of memory, of a few bytes for each module: the words stay where they are. After it
-/// nothing is left.
+/// The call fails only if memory runs out; it allocates a few bytes for each module and doesn't
+/// move the words. Then nothing is returned.
 pub fn leave_all<C: Chooser>(
     alloc: Global,
     labels: Items<Option<CutWords>>,

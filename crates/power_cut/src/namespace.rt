@@ -1,4 +1,4 @@
-//! The words of a namespace, which lie spread over the modules of an interleave set.
+//! The words of a namespace, spread over the modules of an interleave set.
 ghost use Rattle.std.specs.Prelude.{◌≡◌, ℕ, ◌+◌, ◌*◌, ◌/◌, ◌%◌, ◌^◌, ◌<◌, ◌≤◌, true, None, is_some, length, slice_index_or};
 ghost use Rattle.std.specs.List.{All};
 ghost use Rattle.interleave.specs.Places.{LiesAt, unit_of};
@@ -10,10 +10,10 @@ use cut_words::{CutWords, Fuse, PowerCut, WordSpace};
 use interleave::InterleaveSet;
 use std::marker::Model;
 
-/// How many bytes a word has.
+/// The size of a word, in bytes.
 const WORD: u64 = 8;
 
-/// Whether a module has the words of its bytes from a device address on.
+/// Returns whether a module has the words of `bytes` bytes from a device address on.
 fn has_words(modules: &[CutWords], module: u32, start: u64, bytes: u64) -> bool
     ensures yes { result ≡ true → HasBytes modules.now «module» start bytes }
     ensures no { HasBytes modules.now «module» start bytes → result ≡ true }
@@ -26,8 +26,8 @@ fn has_words(modules: &[CutWords], module: u32, start: u64, bytes: u64) -> bool
     }
 }
 
-/// Whether these modules, by number, have the words of the set's modules up to the end of each mapping:
-/// what [`SetWords::of`] asks of them.
+/// Returns whether these modules, by number, have the words of the set's modules up to the end of
+/// each mapping, as [`SetWords::of`] requires.
 pub fn reach_ends(set: &InterleaveSet, modules: &[CutWords]) -> bool
     ensures yes { result ≡ true → ReachEnds set.now modules.now }
     ensures no { ReachEnds set.now modules.now → result ≡ true }
@@ -41,26 +41,26 @@ pub fn reach_ends(set: &InterleaveSet, modules: &[CutWords]) -> bool
     true
 }
 
-/// The words of a namespace on an interleave set. It owns the words of all modules, and borrows the set.
-/// Contracts see the set, the namespace's extent and the modules' words.
+/// The words of a namespace on an interleave set. It owns the words of all modules and borrows the
+/// set. Contracts see the set, the namespace's extent and the modules' words.
 ///
-/// A call that is generic over rows of words ([`WordSpace`]) says nothing of a row but its words and what
-/// stands beside them, and the modules' other words don't tell where the row lies:
+/// The contract of a call that is generic over rows of words ([`WordSpace`]) mentions only the
+/// row's words and what lies beside them. The modules' other words alone don't determine where the
+/// row lies:
 ///
 /// ```text
 /// before   module 0  | .. a a a a .. 0 0 0 0 .. |      words a, the others 0 0 0 0
 /// after    module 0  | .. 0 0 0 0 .. b b b b .. |      words b, the others 0 0 0 0: a was lost
 /// ```
 ///
-/// So with the other words there stands beside it also its place (`beside_and_place` of
-/// `specs/Placed.antt`): what leaves `beside` as it was leaves the row where it lies
-/// ([`beside_tells_the_place`]).
+/// Therefore `beside` also includes the row's place (`beside_and_place` of `specs/Placed.antt`): a
+/// call that doesn't change `beside` doesn't move the row ([`beside_tells_the_place`]).
 #[derive(Drop)]
 pub struct SetWords<'a> {
     set: &'a InterleaveSet,
-    /// The namespace's address in each mapping, relative to the mapping's start, in bytes.
+    /// The namespace's address in each mapping, in bytes from the mapping's start.
     offset: u64,
-    /// Its bytes in each mapping.
+    /// Its size in each mapping, in bytes.
     raw: u64,
     /// The words of all modules, by number.
     modules: Vec<CutWords>,
@@ -77,12 +77,13 @@ impl<'a> Model for SetWords<'a> {
 }
 
 impl<'a> SetWords<'a> {
-    /// The words of the namespace that has `raw` bytes from the relative address `offset` on in each
-    /// mapping of the set.
+    /// Makes the words of the namespace that has `raw` bytes from the relative address `offset` on
+    /// in each mapping of the set.
     ///
-    /// Both are multiples of the set's unit, and the namespace ends inside the mappings. `modules` has the
-    /// words of all modules by number, those of the set's modules at least up to the end of the mapping.
-    /// It takes no memory. No two words of the namespace lie on one word of a module (`apart`).
+    /// Both must be multiples of the set's unit, and the namespace must end inside the mappings.
+    /// `modules` must have the words of all modules by number, at least up to the end of each of
+    /// the set's mappings. The call takes no memory. No two words of the namespace lie at the same
+    /// word of a module (`apart`).
     pub fn of(set: &'a InterleaveSet, offset: u64, raw: u64, modules: Vec<CutWords>) -> SetWords<'a>
         requires from { offset % unit_of set.now ≡ 0 }
         requires to { raw % unit_of set.now ≡ 0 }
@@ -103,8 +104,8 @@ impl<'a> SetWords<'a> {
         }
     }
 
-    /// The words of the modules, in which each word of the namespace is where `InterleaveSet::place` says.
-    /// It takes no memory.
+    /// Returns the words of the modules. Each word of the namespace is where `InterleaveSet::place`
+    /// says. The call takes no memory.
     pub fn into_modules(self) -> Vec<CutWords>
         ensures modules { result.items ≡ self.entry.modules }
         ensures over { IsOver self.entry result.items (words_of self.entry) }
@@ -114,8 +115,8 @@ impl<'a> SetWords<'a> {
         modules
     }
 
-    /// Whether a word of the namespace has a value stored since its last keep, also where that equals the
-    /// kept one. The word is there.
+    /// Returns whether a word of the namespace was stored since its last flush, even with an equal
+    /// value. The word must exist.
     pub fn pending(&self, i: u64) -> bool
         requires { i < length (words_of self.now).kept }
         ensures { result ≡ is_some (slice_index_or (words_of self.now).stored i None) }
@@ -124,7 +125,7 @@ impl<'a> SetWords<'a> {
         self.modules[module].pending(word)
     }
 
-    /// The module of a word of the namespace, and which word of it that is.
+    /// Returns the module of a word of the namespace, and the word's number there.
     fn locate(&self, i: u64) -> (usize, u64)
         requires { i < count_of self.now }
         ensures there { LiesAt self.now.set (byte_at self.now i) result.0 (8 * result.1) }
@@ -162,10 +163,9 @@ impl<'a> WordSpace for SetWords<'a> {
     }
 }
 
-/// A law: the words of a namespace and those that stand beside it are all words of the modules (`all`),
-/// and where the words beside it are the same, so is every word outside its extents (`outside`). So what
-/// leaves `beside` as it was changed words of the namespace alone ([`beside_tells_the_place`] gives from it
-/// the words beside).
+/// A law: the words of a namespace and those beside it are all words of the modules (`all`). If the
+/// words beside it are the same, so is every word outside its extents (`outside`). So a call that
+/// doesn't change `beside` has changed only words of the namespace (by [`beside_tells_the_place`]).
 ///
 /// `offset` and `raw` are as in [`SetWords::of`].
 pub fn words_and_beside_are_all(set: &InterleaveSet, offset: u64, raw: u64)
@@ -179,8 +179,8 @@ pub fn words_and_beside_are_all(set: &InterleaveSet, offset: u64, raw: u64)
     let _span = set.span();
 }
 
-/// A law: rows beside which the same stands (`beside` of [`SetWords`]) lie in the same place of the same set,
-/// and beside them stand the same words.
+/// A law: if two rows have the same `beside` (that of [`SetWords`]), they lie in the same place of
+/// the same set, and the same words lie beside them.
 pub fn beside_tells_the_place()
     ensures { PlacedStay }
 {}

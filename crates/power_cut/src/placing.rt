@@ -1,4 +1,4 @@
-//! The words of arenas are put at their places in contents.
+//! Putting the words of arenas at their places in the contents.
 ghost use Rattle.std.specs.Prelude.{◌≡◌, length};
 ghost use Rattle.std.specs.List.{All};
 ghost use Rattle.power_cut.specs.Placing.{HasRoom, IsRoom, put_arenas as put_all, put_run as put_at_place, put_runs};
@@ -34,7 +34,7 @@ fn put_arena(alloc: Global, rows: &mut Vec<Items<u64>>, arena: ArenaLeft)
     }
 }
 
-/// The rows of the modules with the words of arenas at their places.
+/// Returns the rows of the modules with the words of arenas at their places.
 pub fn put_arenas(
     alloc: Global,
     rows: Items<Items<u64>>,

@@ -1,4 +1,4 @@
--- The least pair that clashes.
+-- The first two extents that clash.
 use Rattle.std.proofs.Common.{◌≡◌, ℕ, zero, suc, ◌+◌, ◌-◌, ◌<◌, Bool, true, false, cond, not, ◌&&◌, ◌||◌, List, [], ◌∷◌, get_or, length, take, drop, Option, Some, None, refl, sym, ◌∙◌, subst, arith}
 use Rattle.std.specs.Prelude.{nat_lt, ◌==◌, find, position}
 use Rattle.std.specs.Option.{option_map}
@@ -40,7 +40,7 @@ by_parts true false s t = refl
 by_parts false true s t = and_back s t
 by_parts false false s t = refl
 
--- an extent clashes with those of other owners on its module that start before its end and end past its start
+-- an extent clashes with the extents of other owners on its module that start before its end and end past its start
 pub clash_parts : (e x : Extent) → (starts_before e.«module» (end_of e) x && passes_beside e.owner e.start x) ≡ clash e x
 clash_parts e x =
     rw (bytes_eq_back e.owner x.owner, eqb_back e.«module» x.«module») (by_parts (bytes_eq x.owner e.owner) (x.«module» == e.«module») (nat_lt x.start (end_of e)) (nat_lt e.start (end_of x)))
@@ -97,7 +97,7 @@ skip_first : (x : Extent) (xs : List Extent) → list_any (clash x) xs ≡ false
 unfolding overlap_of first_fault
 skip_first x xs none = rw (find_none (clash x) xs none) (only (overlap_of xs))
 
--- where none clashes with another there is no overlap
+-- if none clashes with another, there is no overlap
 pub overlap_none : (xs : List Extent) → ((k : ℕ) (d : Extent) → k < length xs → list_any (clash (get_or xs k d)) xs ≡ false) → overlap_of xs ≡ None
 unfolding overlap_of
 overlap_none [] none = refl
@@ -105,7 +105,7 @@ overlap_none (x ∷ xs) none =
     let first : list_any (clash x) xs ≡ false = head_none x xs (none 0 x (omega arith)) in
     skip_first x xs first ∙ overlap_none xs (λ k d lt. (or_parts (clash (get_or xs k d) x) (list_any (clash (get_or xs k d)) xs) (none (suc k) d (omega arith))).1)
 
--- the first extent that clashes with another is the first of the least pair
+-- the first extent that clashes with another is the first of the pair
 pub overlap_at : (xs : List Extent) (i : ℕ) (d : Extent) → i < length xs → list_any (clash (get_or xs i d)) xs ≡ true
     → ((k : ℕ) (b : Extent) → k < i → list_any (clash (get_or xs k b)) xs ≡ false) → overlap_of xs ≡ partner_of (get_or xs i d) (drop (suc i) xs)
 unfolding overlap_of
@@ -119,7 +119,7 @@ overlap_at (x ∷ xs) (suc i) d lt some none =
     skip_first x xs first
     ∙ overlap_at xs i d (omega arith) here (λ k b lt'. (or_parts (clash (get_or xs k b) x) (list_any (clash (get_or xs k b)) xs) (none (suc k) b (omega arith))).1)
 
--- ---- what a search for a place says
+-- ---- what a search for a place means
 
 none_by : {X : Type 0} (p : X → Bool) (x : X) (xs : List X) (n : ℕ) (b : Bool) → p x ≡ b → cond b (Some n) (position_from p (n + 1) xs) ≡ None
     → (position_from p (n + 1) xs ≡ None → (k : ℕ) (d : X) → k < length xs → p (get_or xs k d) ≡ false) → (k : ℕ) (d : X) → k < length (x ∷ xs) → p (get_or (x ∷ xs) k d) ≡ false
@@ -131,7 +131,7 @@ position_from_none : {X : Type 0} (p : X → Bool) (xs : List X) (n : ℕ) → p
 position_from_none p [] n none k d lt = absurd (omega arith)
 position_from_none p (x ∷ xs) n none k d lt = none_by p x xs n (p x) refl none (λ on. position_from_none p xs (n + 1) on) k d lt
 
--- where no place is found each element fails
+-- if no place is found, the test fails for each element
 pub position_none : {X : Type 0} (p : X → Bool) (xs : List X) → position p xs ≡ None → (k : ℕ) (d : X) → k < length xs → p (get_or xs k d) ≡ false
 position_none p xs none = position_from_none p xs 0 (sym (position_from-zero p xs) ∙ none)
 

@@ -4,11 +4,11 @@ use Rattle.std.specs.Prelude.{filter}
 use Rattle.std.specs.List.{list_any}
 use Rattle.std.proofs.lemmas.List.Elements.{filter-append}
 
--- a filter of a list with one more at its end, which passes
+-- a filter of a list with one more element that passes
 pub filter_one_more : {X : Type 0} (p : X → Bool) (xs : List X) (x : X) → p x ≡ true → filter p (xs ++ x ∷ []) ≡ filter p xs ++ x ∷ []
 filter_one_more p xs x passes = filter-append p xs (x ∷ []) ∙ rw passes refl
 
--- none of the elements from some place on passes, and those before it pass as by another test
+-- no element from some place on passes, and those before it pass as by another test
 pub filter_part : {X : Type 0} (p q : X → Bool) (xs : List X) (n : ℕ) → ((k : ℕ) (d : X) → k < n → k < length xs → p (get_or xs k d) ≡ q (get_or xs k d))
     → ((k : ℕ) (d : X) → n ≤ k → k < length xs → p (get_or xs k d) ≡ false) → filter p xs ≡ filter q (take n xs)
 filter_part p q [] zero same none = refl

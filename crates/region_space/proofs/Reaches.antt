@@ -1,4 +1,4 @@
--- The reach of one extent more.
+-- The reach with one more extent.
 use Rattle.std.proofs.Common.{◌≡◌, ◌≢◌, ℕ, ◌<◌, ◌≤◌, max, Bool, true, false, cond, not, ◌&&◌, ◌||◌, List, [], ◌∷◌, ◌++◌, refl, sym, ◌∙◌, arith}
 use Rattle.std.specs.Prelude.{nat_lt}
 use Rattle.std.specs.List.{list_any}
@@ -14,7 +14,7 @@ or-false : (b : Bool) → (b || false) ≡ b
 or-false true = refl
 or-false false = refl
 
--- whether an element of a list with one more at its end passes
+-- whether an element of a list with one more passes
 any_more : {X : Type 0} (p : X → Bool) (xs : List X) (x : X) (a : Bool) → list_any p xs ≡ a → list_any p (xs ++ x ∷ []) ≡ (a || p x)
 any_more p xs x a e = list_any-append p xs (x ∷ []) ∙ rw (e, or-false (p x)) refl
 
@@ -49,7 +49,7 @@ by_nearer true false a others end e apart near = or-false (nat_lt a end)
 by_nearer false true a others end e apart near = lt_max a others e
 by_nearer false false a others end e apart near = lt_left a end e near
 
--- an extent of the owner of the greatest end
+-- an extent of the owner with the greatest end
 pub with_same : (r : Reach) (e : Extent) → e.owner ≡ r.owner → (xs : List Extent) → IsReach xs r
     → IsReach (xs ++ e ∷ []) (record { end = max r.end (end_of e); owner = r.owner; others = r.others })
 with_same r e same xs h = record {

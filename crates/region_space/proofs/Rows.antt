@@ -1,4 +1,4 @@
--- Worked rows, computed: overlaps of lists, and offsets in two mappings of eight units.
+-- Worked examples, computed on the definitions: overlaps of lists, and offsets in two mappings of eight units.
 use Rattle.std.proofs.Common.{◌≡◌, ℕ, List, [], ◌∷◌, Some, None, true, false, replicate, refl}
 use Rattle.nvd_words.specs.Checks.{first_fault}
 use Rattle.nfit_reader.specs.declared.table.Mapping.{Mapping}
@@ -34,7 +34,7 @@ pub two_modules : overlap_of (extent 1 0 0 8192 ∷ extent 2 1 4096 8192 ∷ [])
 unfolding overlap_of first_fault
 two_modules = refl
 
--- the first extent has its partner last; the other two meet as well
+-- the first extent has its partner last; the other two overlap as well
 pub least : overlap_of (extent 1 0 0 4096 ∷ extent 2 0 8192 4096 ∷ extent 3 0 0 16384 ∷ []) ≡ Some (Overlap (owner 1) (owner 3))
 unfolding overlap_of first_fault
 least = refl
@@ -44,7 +44,7 @@ pub first_partner : overlap_of (extent 1 0 0 16384 ∷ extent 2 0 8192 4096 ∷ 
 unfolding overlap_of first_fault
 first_partner = refl
 
--- no byte: it meets what it lies inside, and nothing at whose start it stands
+-- no bytes: it overlaps the extent it lies strictly inside, but not one at whose start it is
 pub no_byte_inside : overlap_of (extent 1 0 4096 0 ∷ extent 2 0 0 8192 ∷ []) ≡ Some (Overlap (owner 1) (owner 2))
 unfolding overlap_of first_fault
 no_byte_inside = refl
@@ -53,7 +53,7 @@ pub no_byte_at_a_start : overlap_of (extent 1 0 4096 0 ∷ extent 2 0 4096 8192 
 unfolding overlap_of first_fault
 no_byte_at_a_start = refl
 
--- ---- what fits
+-- ---- offsets that fit
 
 abbrev mapping : ℕ → ℕ → Mapping
 mapping number start = record {

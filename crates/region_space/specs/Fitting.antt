@@ -1,4 +1,4 @@
--- What the searches for overlaps and for room find on their way.
+-- Intermediate results of the searches for overlaps and for room.
 use Rattle.std.specs.Prelude.{◌≡◌, ℕ, ◌+◌, ◌%◌, ◌<◌, ◌≤◌, ◌==◌, Bool, true, ◌&&◌, List, find, Option}
 use Rattle.std.specs.Option.{option_map}
 use Rattle.std.specs.List.{list_any}
@@ -12,7 +12,7 @@ use Rattle.region_space.specs.Space.{clash, ranges_meet}
 abbrev pub partner_of : Extent → List Extent → Option SpaceFault
 partner_of e es = option_map (λ f. Overlap e.owner f.owner) (find (clash e) es)
 
--- an extent is in the way of so many bytes at an offset of a mapping
+-- an extent overlaps `raw` bytes at an offset of a mapping
 abbrev pub is_met : List Extent → ℕ → ℕ → Mapping → Bool
 is_met extents raw offset m = list_any (λ e. (e.«module» == m.«module») && ranges_meet (m.start + offset) raw e.start e.length) extents
 
@@ -23,7 +23,7 @@ pub record IsMultipleFrom (bytes unit n : ℕ) : Type 0 where
   pub near : n < bytes + unit
   pub least : (k : ℕ) → k % unit ≡ 0 → bytes ≤ k → n ≤ k
 
--- from an offset up to another one extents are in the way
+-- at all offsets from one up to another, extents overlap
 pub record LeadsPast (set : List Mapping) (extents : List Extent) (raw offset past : ℕ) : Type 0 where
   pub above : offset < past
   pub met : (k : ℕ) → offset ≤ k → k < past → list_any (is_met extents raw k) set ≡ true

@@ -9,7 +9,7 @@ use Rattle.region_space.specs.declared.extent.Extent.{Extent}
 use Rattle.region_space.specs.declared.extent.SpaceFault.{SpaceFault}
 use Rattle.region_space.specs.declared.extent.SpaceFault.TheVariants.{Overlap}
 
--- the ranges from a to a + m and from b to b + n meet
+-- the ranges from a to a + m and from b to b + n overlap
 abbrev pub ranges_meet : ℕ → ℕ → ℕ → ℕ → Bool
 ranges_meet a m b n = nat_lt a (b + n) && nat_lt b (a + m)
 
@@ -19,12 +19,12 @@ extents_meet e f = (e.«module» == f.«module») && ranges_meet e.start e.lengt
 abbrev pub clash : Extent → Extent → Bool
 clash e f = not (bytes_eq e.owner f.owner) && extents_meet e f
 
--- the least pair by place of extents of different owners that meet
+-- the first two extents of different owners that overlap
 unfoldable pub overlap_of : List Extent → Option SpaceFault
 overlap_of [] = None
 overlap_of (e ∷ es) = first_fault (option_map (λ f. Overlap e.owner f.owner) (find (clash e) es) ∷ overlap_of es ∷ [])
 
--- so many bytes at an offset of each module's mapping lie inside it and meet no extent
+-- `raw` bytes at an offset of each module's mapping lie inside it and overlap no extent
 abbrev pub is_clear : List Extent → ℕ → ℕ → Mapping → Bool
 is_clear extents raw offset m =
     nat_le (offset + raw) m.size
@@ -39,7 +39,7 @@ pub record IsFirstFit (set : List Mapping) (extents : List Extent) (unit raw off
   pub here : IsTrue (fits set extents raw offset)
   pub first : (k : ℕ) → k < offset → k % unit ≡ 0 → fits set extents raw k ≡ false
 
--- the answer of a search for the first fit
+-- the result of a search for the first fit
 abbrev pub IsFirstFitAnswer : List Mapping → List Extent → ℕ → ℕ → Option ℕ → Type 0
 IsFirstFitAnswer set extents unit raw None = (k : ℕ) → k % unit ≡ 0 → fits set extents raw k ≡ false
 IsFirstFitAnswer set extents unit raw (Some offset) = IsFirstFit set extents unit raw offset

@@ -10,33 +10,33 @@ use uuid::Uuid;
 pub struct Extent {
     /// The label's UUID.
     pub owner: Uuid,
-    /// The module's number.
+    /// The number of the module.
     pub module: u32,
     /// The device address of the first byte.
     pub start: u64,
-    /// How many bytes; from `start` on they may pass 2^64.
+    /// The size in bytes; `start` plus `length` may exceed 2^64.
     pub length: u64,
 }
 
-/// Why extents make no space.
+/// Why extents are refused.
 #[derive(Clone, Copy, Debug, PartialEq, Eq)]
 pub enum SpaceFault {
-    /// An extent of `a` and a later one of `b` on one module have bytes in common: of all such pairs
-    /// the one whose first extent stands first, and of those the one whose second does.
+    /// An extent of `a` and a later one of `b` overlap on one module. Of all such pairs it is the
+    /// one whose first extent comes first, and among those the one whose second does.
     Overlap { a: Uuid, b: Uuid },
     /// Memory ran out.
     OutOfMemory,
 }
 
 impl Extent {
-    /// The address after its last byte.
+    /// Returns the address after its last byte.
     pub(crate) fn end(&self) -> u128
         ensures { result ≡ end_of self.now }
     {
         u128::from(self.start) + u128::from(self.length)
     }
 
-    /// Whether it and an extent of another owner meet.
+    /// Returns whether it overlaps an extent of another owner on the same module.
     pub(crate) fn clashes(&self, other: &Extent) -> bool
         ensures { result ≡ clash self.now other.now }
     {

@@ -5,7 +5,7 @@ ghost use Rattle.region_space.specs.Fitting.{IsMultipleFrom, is_met, LeadsPast};
 use crate::space::Space;
 use interleave::InterleaveSet;
 
-/// The least multiple of a unit that is no less than a number.
+/// Returns the least multiple of a unit that isn't less than a number.
 pub fn multiple_from(bytes: u128, unit: u64) -> u128
     requires positive { 0 < unit }
     requires fits { bytes < 2 ^ 64 }
@@ -15,8 +15,8 @@ pub fn multiple_from(bytes: u128, unit: u64) -> u128
     (bytes + (unit - 1)) / unit * unit
 }
 
-/// Where `raw` bytes at an offset of each mapping meet an extent: an offset up to which they meet it
-/// too.
+/// Returns, if `raw` bytes at an offset of each mapping overlap an extent, an offset below which
+/// they all do.
 pub fn offset_past(space: &Space, set: &InterleaveSet, raw: u64, offset: u128) -> Option<u128>
     requires { offset < 2 ^ 64 }
     ensures free { IfNone result (list_any (is_met space.now raw offset) set.now ≡ false) }

@@ -5,19 +5,19 @@ ghost use Rattle.region_space.specs.Reach.{reach_beside, IsReach};
 use crate::extent::Extent;
 use uuid::Uuid;
 
-/// How far extents reach, and how far those of each owner's others do.
+/// How far extents reach: their greatest end, and the greatest end of other owners' extents.
 #[derive(Clone, Copy, Debug)]
 pub struct Reach {
-    /// The greatest end; 0 where there is no extent.
+    /// The greatest end; 0 if there is no extent.
     pub end: u128,
     /// The owner of an extent with this end.
     pub owner: Uuid,
-    /// The greatest end of the extents of other owners; 0 where there is none.
+    /// The greatest end of the extents of other owners; 0 if there is none.
     pub others: u128,
 }
 
 impl Reach {
-    /// The reach of no extents.
+    /// Returns the reach of no extents.
     pub fn none() -> Reach
         ensures { IsReach [] result }
     {
@@ -28,7 +28,7 @@ impl Reach {
         }
     }
 
-    /// The reach of one extent more.
+    /// Returns the reach with one more extent.
     pub fn with(&self, extent: &Extent) -> Reach
         ensures { (extents : List Extent) → IsReach extents self.now →
             IsReach (extents ++ extent.now ∷ []) result }
@@ -53,7 +53,7 @@ impl Reach {
         }
     }
 
-    /// How far the extents of all owners but one reach.
+    /// Returns the greatest end of the extents of all owners but one.
     pub fn beside(&self, owner: &Uuid) -> u128
         ensures { result ≡ reach_beside self.now owner.now }
     {

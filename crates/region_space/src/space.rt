@@ -14,8 +14,8 @@ use nvd_words::Items;
 use std::alloc::{AllocError, Global};
 use std::marker::Model;
 
-/// What is reserved: extents of which, made by [`Space::of`], no two of different owners on one module
-/// meet. Contracts see it as their list.
+/// The reserved extents. If [`Space::of`] made it, no two of different owners overlap. Contracts
+/// see it as a list of extents.
 #[derive(Debug, Drop)]
 pub struct Space {
     extents: Items<Extent>,
@@ -33,7 +33,7 @@ impl Model for Space {
     ghost invariant = { λ s. IsPermutation s.extents s.ordered };
 }
 
-/// The fault of an extent and the first of those after it with which it clashes.
+/// Returns the fault of an extent and the first of the later ones that it clashes with.
 fn partner(extent: &Extent, later: &[Extent]) -> Option<SpaceFault>
     ensures { result ≡ partner_of extent.now later.now }
 {
@@ -45,11 +45,11 @@ fn partner(extent: &Extent, later: &[Extent]) -> Option<SpaceFault>
 }
 
 impl Space {
-    /// The space that extents leave, in whatever order they stand, or the fault `Overlap`.
+    /// Makes a space of extents in any order, or returns the fault `Overlap`.
     ///
-    /// Two extents meet where each starts before the other's end. Extents of one owner may meet.
-    /// `OutOfMemory` may come in place of any other answer, where memory was refused. Of n extents it
-    /// takes time in proportion to n log n. (This project's rule.)
+    /// Two extents overlap if each starts before the other's end. Extents of one owner may overlap.
+    /// `OutOfMemory` may replace any other result. For n extents the time is proportional to n log
+    /// n. (This project's rule.)
     pub fn of(alloc: Global, extents: &[Extent]) -> Result<Space, SpaceFault>
         ensures { Answers SpaceFault.OutOfMemory result
             (value_unless extents.now (overlap_of extents.now)) }
@@ -61,9 +61,9 @@ impl Space {
         }
     }
 
-    /// The space that extents leave, whether they meet or not, in whatever order they stand.
+    /// Makes a space of extents in any order, whether they overlap or not.
     ///
-    /// The one error is want of memory. Of n extents it takes time in proportion to n log n.
+    /// It fails only if memory runs out. For n extents the time is proportional to n log n.
     pub fn gather(alloc: Global, extents: &[Extent]) -> Result<Space, AllocError>
         ensures { IfOk result (λ space. space ≡ extents.now) }
     {
@@ -74,7 +74,7 @@ impl Space {
         })
     }
 
-    /// Whether an extent clashes with one of the space.
+    /// Returns whether an extent clashes with one of the space.
     fn has_clash(&self, extent: &Extent) -> bool
         ensures { result ≡ list_any (clash extent.now) self.now }
     {
@@ -82,7 +82,7 @@ impl Space {
         reach.beside(&extent.owner) > u128::from(extent.start)
     }
 
-    /// The place of the first extent that clashes with another.
+    /// Returns the place of the first extent that clashes with another.
     fn first_clash(&self) -> Option<usize>
         ensures { result ≡ position (λ e. list_any (clash e) self.now) self.now }
     {
@@ -92,8 +92,8 @@ impl Space {
             .position(|e| self.has_clash(e))
     }
 
-    /// The least pair of the extents that clashes. The first extent that clashes with any other is the
-    /// first of that pair, since its partner can't stand before it.
+    /// Returns the fault of the first clash. The first extent that clashes with any other is the
+    /// first of the pair, since its partner can't come before it.
     fn overlap(&self) -> Option<SpaceFault>
         ensures { result ≡ overlap_of self.now }
     {
@@ -102,7 +102,8 @@ impl Space {
         partner(&extents[first], &extents[first + 1..])
     }
 
-    /// How far the extents of a module that start before an address reach, whoever owns them.
+    /// Returns the greatest end of the extents of a module that start before an address, whoever
+    /// owns them.
     pub(crate) fn reach(&self, module: u32, address: u128) -> u128
         ensures { (past : ℕ) → list_any (λ e. starts_before «module» address e && passes past e)
             self.now ≡ nat_lt past result }
@@ -110,13 +111,14 @@ impl Space {
         self.ordered.reach(module, address).end
     }
 
-    /// The least multiple of the set's unit at which `raw` bytes of each module, counted from the
-    /// start of its mapping, lie inside the mapping and meet no extent; None where there is none.
+    /// Returns the least multiple of the set's unit at which `raw` bytes of each module, from the
+    /// start of its mapping, lie inside the mapping and overlap no extent. It returns `None` if
+    /// there is none.
     ///
-    /// `raw` is in bytes, a positive multiple of the unit as labels have it, though any number will
-    /// do. All extents of the space count, whatever label they came from. It takes no memory. It looks
-    /// at each module of the set once for each extent that it passes, at most, and finds what is in
-    /// the way on a module by one binary search. (This project's rule.)
+    /// `raw` is in bytes; a label's size is a positive multiple of the unit, but the call takes any
+    /// number. All extents of the space count. The call takes no memory. It examines each module of
+    /// the set at most once for each extent that it passes, by one binary search. (This project's
+    /// rule.)
     pub fn first_fit(&self, set: &InterleaveSet, raw: u64) -> Option<u64>
         ensures { IsFirstFitAnswer set.now self.now (unit_of set.now) raw result }
     {

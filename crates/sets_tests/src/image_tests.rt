@@ -8,8 +8,9 @@ use nvd_words::Items;
 use power_cut::Images;
 use std::alloc::{AllocError, Global};
 
-/// Mappings of 8,192 bytes of module 0 from 0 on, and of 4,096 of module 1 from 4,096 on. The second
-/// handle is less than the first, so that a module's number isn't its place among the sorted ones.
+/// Mappings of 8,192 bytes of module 0 from 0 on, and of 4,096 of module 1 from 4,096 on. The
+/// second handle is less than the first, so a module's number isn't its rank among the sorted
+/// handles.
 fn firmware(alloc: Global) -> Result<Vec<u8>, AllocError> {
     let map = |handle, range, start, size| Map {
         handle,
@@ -28,7 +29,7 @@ fn firmware(alloc: Global) -> Result<Vec<u8>, AllocError> {
     )
 }
 
-/// Bytes that differ from place to place, and from object to object.
+/// Returns bytes that differ from place to place, and from object to object.
 fn pattern(alloc: Global, count: usize, seed: u8) -> Result<Vec<u8>, AllocError> {
     let mut bytes = Vec::with_capacity(alloc, count)?;
     let mut byte = seed;
@@ -39,7 +40,7 @@ fn pattern(alloc: Global, count: usize, seed: u8) -> Result<Vec<u8>, AllocError>
     Ok(bytes)
 }
 
-/// The objects of a sound image set of two modules.
+/// Returns the objects of a valid image set of two modules.
 fn sound_set(alloc: Global) -> Result<Vec<Stored>, AllocError> {
     let mut objects = Vec::new(alloc);
     for (object, bytes) in [
@@ -84,7 +85,7 @@ fn a_set_is_loaded(rt: HostRuntime) -> Result<(), AllocError> {
     Ok(())
 }
 
-/// Stores 7 into the words 0 and 2, where they are there.
+/// Stores 7 into the words 0 and 2, if they exist.
 fn change(area: &mut CutWords) {
     for word in [0, 2] {
         if word < area.count() && !area.pending(word) {
@@ -93,9 +94,9 @@ fn change(area: &mut CutWords) {
     }
 }
 
-/// What copying a set comes to after a change of a module's label area, and the sink: `None` where the
-/// module has no label area, or the set isn't loaded. The source's call and the sink's with these
-/// numbers fail.
+/// The result of copying a set after a change of a module's label area, and the sink: `None` if the
+/// module has no label area, or the set isn't loaded. The source's call and the sink's call with
+/// these numbers fail.
 fn copied(
     alloc: Global,
     module: u32,
@@ -123,7 +124,7 @@ fn copied(
     Ok(Some((copied, out)))
 }
 
-/// Of the two words that were stored the second stays, and all other objects are as they were.
+/// Of the two stored words the second survives, and all other objects are unchanged.
 #[test]
 fn one_area_is_changed(rt: HostRuntime) -> Result<(), AllocError> {
     let alloc = rt.alloc();
@@ -147,8 +148,9 @@ fn one_area_is_changed(rt: HostRuntime) -> Result<(), AllocError> {
     Ok(())
 }
 
-/// Each of the calls while the set is copied fails in turn, and then it isn't finished: the source's
-/// calls 11 and 12, for the contents of two modules, and the sink's for five objects and the mark.
+/// Each of the calls while the set is copied fails in turn, and then the set isn't finished: the
+/// source's calls 11 and 12, for the contents of two modules, and the sink's for five objects and
+/// the mark.
 #[test]
 fn copying_fails_with_each_call(rt: HostRuntime) -> Result<(), AllocError> {
     let alloc = rt.alloc();
@@ -167,7 +169,7 @@ fn copying_fails_with_each_call(rt: HostRuntime) -> Result<(), AllocError> {
     Ok(())
 }
 
-/// The firmware's table; `save` doesn't look into it.
+/// The firmware's table; `save` doesn't decode it.
 const TABLE: [u8; 3] = [7, 8, 9];
 
 /// Module 0 has no label area and an empty list of bad ranges, module 1 has all three objects.
@@ -184,7 +186,7 @@ fn two_modules(alloc: Global) -> Result<Images, AllocError>
     })
 }
 
-/// Saves it into a sink of which these calls fail.
+/// Saves the set into a sink of which these calls fail.
 fn saved(alloc: Global, failing: u64) -> Result<(MemImages, Result<(), SaveFault>), AllocError> {
     let images = two_modules(alloc)?;
     let ranges = Items::from_vec(vec![in alloc; 5, 6]?);
@@ -194,7 +196,7 @@ fn saved(alloc: Global, failing: u64) -> Result<(MemImages, Result<(), SaveFault
     Ok((out, result))
 }
 
-/// Table, contents, bad ranges, label area, contents, bad ranges, mark: seven calls, of which each
+/// Table, contents, bad ranges, label area, contents, bad ranges, mark: seven calls, each of which
 /// fails in turn.
 #[test]
 fn each_object_is_saved(rt: HostRuntime) -> Result<(), AllocError> {

@@ -1,8 +1,8 @@
-//! Tests of interleave sets, of the space in a region, of a namespace's words on a set, and of image
-//! sets.
+//! Tests of interleave sets, of the space in a region, of a namespace's words on a set, and of
+//! image sets.
 //!
-//! The contracts say what each call answers, and each refusal. Here stand a set that Linux took, sets
-//! with bytes and room worked out by hand, and each call on the outside that fails in turn.
+//! The contracts state every result and refusal. These tests use a set that Linux accepted and sets
+//! computed by hand, and let each call on the outside fail in turn.
 #![tactic(auto)]
 
 #[cfg(test)]

@@ -11,7 +11,7 @@ use power_cut::{SetWords, leave_all, reach_ends};
 use std::alloc::{AllocError, Global};
 use std::test::Fail;
 
-/// Two words from a number on, into which 10 more are stored.
+/// Two words from a number on, with 10 more stored into each.
 fn row(alloc: Global, first: u64) -> Result<CutWords, AllocError> {
     let next = first.saturating_add(10);
     let mut words = CutWords::new(alloc, vec![in alloc; first, first]?)?;
@@ -55,7 +55,7 @@ fn numbered(alloc: Global, first: u64, count: u64) -> Result<CutWords, AllocErro
     CutWords::new(alloc, words)
 }
 
-/// Stores a value into a word of a namespace and keeps it.
+/// Stores a value into a word of a namespace and flushes it.
 fn write(words: &mut SetWords<'_>, i: u64, v: u64) -> Result<(), PowerCut> {
     if i < words.count() && !words.pending(i) {
         words.store(&mut Fuse::none(), i, v)?;
@@ -66,7 +66,7 @@ fn write(words: &mut SetWords<'_>, i: u64, v: u64) -> Result<(), PowerCut> {
     Ok(())
 }
 
-/// The second half of each module as a namespace, into whose first word of each 1 and 2 are written.
+/// The second half of each module as a namespace; 1 and 2 are written into its first word on each.
 fn written(set: &InterleaveSet, modules: Vec<CutWords>) -> Option<Vec<CutWords>>
     requires { All IsRow modules.items }
 {
@@ -83,7 +83,7 @@ fn written(set: &InterleaveSet, modules: Vec<CutWords>) -> Option<Vec<CutWords>>
     Some(words.into_modules())
 }
 
-/// Two lines of 4,096 bytes of each of two modules in turn.
+/// Two lines of 4,096 bytes of each of two modules, alternating.
 #[test]
 fn words_lie_where_the_set_puts_them(rt: HostRuntime) -> Result<(), Fail> {
     let alloc = rt.alloc();

@@ -5,7 +5,8 @@ use std::alloc::{AllocError, Global};
 use std::test::Fail;
 use uuid::Uuid;
 
-/// A table with one range over two modules, lines of 4,096 bytes in turn, that Linux 6.1 took.
+/// A table with one range over two modules, with alternating lines of 4,096 bytes, that Linux 6.1
+/// accepted.
 const TWO_WAY: &[u8; 296] = &[
     0x4e, 0x46, 0x49, 0x54, 0x28, 0x01, 0x00, 0x00, 0x01, 0xc6, 0x4f, 0x57, 0x4e, 0x4d, 0x41, 0x44,
     0x48, 0x41, 0x52, 0x4e, 0x45, 0x53, 0x53, 0x20, 0x01, 0x00, 0x00, 0x00, 0x48, 0x52, 0x4e, 0x53,
@@ -28,7 +29,7 @@ const TWO_WAY: &[u8; 296] = &[
     0x02, 0x00, 0x00, 0x00, 0x01, 0x03, 0x00, 0x00,
 ];
 
-/// Whether a byte lies at a place, and the place is that byte's.
+/// Returns whether a byte lies at a place, and the place holds that byte.
 fn lies(set: &InterleaveSet, offset: u64, module: u32, at: u64) -> bool {
     if offset >= u64::from(set.ways()) * set.span() {
         return false;
@@ -68,7 +69,7 @@ fn extents_of(alloc: Global, rows: &[Row]) -> Result<Vec<Extent>, AllocError> {
     Ok(extents)
 }
 
-/// Three extents, and the first two of them that meet.
+/// Three extents, and the first two that overlap.
 #[test]
 fn overlaps(rt: HostRuntime) -> Result<(), AllocError> {
     let far = (9, 7, 0, 1);
@@ -91,7 +92,7 @@ fn overlaps(rt: HostRuntime) -> Result<(), AllocError> {
     Ok(())
 }
 
-/// Two extents on modules of 8 units of 8,192 bytes, and the least place of so many bytes beside them.
+/// Two extents on modules of 8 units of 8,192 bytes, and the least offset at which `raw` bytes fit.
 #[test]
 fn first_fits(rt: HostRuntime) -> Result<(), Fail> {
     let set = two_modules(rt.alloc(), 0x10000)?;

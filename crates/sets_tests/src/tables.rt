@@ -1,9 +1,9 @@
-//! Firmware tables that are made for the tests (ACPI 6.5, section 5.2.25).
+//! Firmware tables made for the tests (ACPI 6.5, section 5.2.25).
 use interleave::{InterleaveSet, SetFault, interleave_set};
 use nfit_reader::read_nfit;
 use std::alloc::{AllocError, Global};
 
-/// A mapping of a module into a range, and its lines of a stripe: none where `line` is 0, else two.
+/// A mapping of a module into a range, and its lines of a stripe: none if `line` is 0, else two.
 #[derive(Clone, Copy)]
 pub struct Map {
     /// The device handle.
@@ -13,13 +13,13 @@ pub struct Map {
     pub start: u64,
     pub size: u64,
     pub ways: u64,
-    /// The Region Offset and the bytes of a line, and the offsets of the lines in bytes of a line.
+    /// The Region Offset and the Line Size in bytes, and the offsets of the lines in lines.
     pub offset: u64,
     pub line: u64,
     pub lines: [u64; 2],
 }
 
-/// Adds numbers of so many bytes each, the low byte first.
+/// Appends numbers, each with its width in bytes, the low byte first.
 fn add(bytes: &mut Vec<u8>, numbers: &[(u64, u8)]) -> Result<(), AllocError> {
     for (value, count) in numbers {
         let mut left = *value;
@@ -38,7 +38,7 @@ fn add_range(bytes: &mut Vec<u8>, index: u64, length: u64) -> Result<(), AllocEr
     add(bytes, &[(index << 32, 8), (length, 8), (0, 8)])
 }
 
-/// A mapping, its lines, and the module's control region.
+/// Appends a mapping, its lines, and the module's control region.
 fn add_mapping(bytes: &mut Vec<u8>, index: u64, map: &Map) -> Result<(), AllocError> {
     let lines = if map.line == 0 { 0 } else { index };
     add(
@@ -70,7 +70,7 @@ fn add_mapping(bytes: &mut Vec<u8>, index: u64, map: &Map) -> Result<(), AllocEr
     add(bytes, &[(32 << 16 | 4, 4), (index, 28)])
 }
 
-/// Makes the sum of a table's bytes 0 by its Checksum.
+/// Sets Checksum so that the table's bytes add up to 0.
 fn sealed(mut bytes: Vec<u8>) -> Vec<u8> {
     let mut sum = 0u8;
     for byte in &bytes {
@@ -82,7 +82,7 @@ fn sealed(mut bytes: Vec<u8>) -> Vec<u8> {
     bytes
 }
 
-/// A table of ranges of these lengths, and of mappings into them.
+/// Returns a table of ranges of these lengths, and of mappings into them.
 pub fn table(alloc: Global, ranges: &[u64], maps: &[Map]) -> Result<Vec<u8>, AllocError> {
     let mut body = Vec::new(alloc);
     for (index, length) in ranges.iter().enumerate() {
@@ -100,7 +100,7 @@ pub fn table(alloc: Global, ranges: &[u64], maps: &[Map]) -> Result<Vec<u8>, All
     Ok(sealed(bytes))
 }
 
-/// The set of the first region of a table.
+/// Returns the set of the first region of a table.
 pub fn first_set(alloc: Global, bytes: &[u8]) -> Result<InterleaveSet, SetFault> {
     let Ok(nfit) = read_nfit(alloc, bytes) else {
         return Err(SetFault::OutOfMemory);
@@ -111,8 +111,8 @@ pub fn first_set(alloc: Global, bytes: &[u8]) -> Result<InterleaveSet, SetFault>
     interleave_set(alloc, &nfit, 0)
 }
 
-/// A set of two modules with two lines of 4,096 bytes each in turn. The mappings have so many bytes,
-/// from address 0 on.
+/// Returns a set of two modules with two alternating lines of 4,096 bytes each. The mappings have
+/// `size` bytes each, from address 0 on.
 pub fn two_modules(alloc: Global, size: u64) -> Result<InterleaveSet, SetFault> {
     let one = Map {
         handle: 1,

@@ -1,4 +1,4 @@
--- From the set that was loaded to a namespace's arenas.
+-- From the loaded set to a namespace's arenas.
 use Rattle.std.proofs.Common.{◌≡◌, ℕ, suc, List, [], ◌∷◌, map, Option, Some, None, Ok, Err, refl, sym, ap, ◌∙◌}
 use Rattle.std.specs.List.{All}
 use Rattle.std.specs.Option.{option_map}
@@ -39,7 +39,7 @@ rows_back (w ∷ contents) sound =
     let one : settled (words_in (bytes_of w.kept)) ≡ w = ap settled (words_back w.kept here.fit) ∙ sym here.kept in
     λ i. one i ∷ rows_back contents (All-tail IsContents w contents sound) i
 
--- ---- a registry that was opened
+-- ---- an open registry
 
 pub record IsOpened (nfit : Nfit) (areas : List Area) (registry : Opened) : Type 0 where
   pub none : registry_fault nfit (labels_of areas) ≡ None
@@ -62,7 +62,7 @@ pub fault_is : (nfit : Nfit) (areas : List Area) (fault : OpenFault) → Err fau
 unfolding opening
 fault_is nfit areas fault e = fault_by (record { sets = sets_of nfit; areas = areas }) (registry_fault nfit (labels_of areas)) fault e
 
--- ---- what a command comes to
+-- ---- the outcome of a command
 
 module _ (loaded : Loaded) (uuid : List ℕ) (areas : List Area) (shown : map shown_in areas ≡ map shown_by (map (option_map bytes_kept) loaded.labels)) where
   labels_are : placed_of (map shown_by (map (option_map bytes_kept) loaded.labels)) ≡ labels_of areas

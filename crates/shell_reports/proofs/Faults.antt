@@ -1,4 +1,4 @@
--- What is said of an area that is refused.
+-- The answer on an area that is refused.
 use Rattle.std.proofs.Common.{◌≡◌, ◌≢◌, ℕ, List, Result, Ok, Err, sym, ap, ◌∙◌}
 use Rattle.std.specs.Prelude.{IfOk}
 use Rattle.label_index.specs.declared.index.IndexBlock.{IndexBlock}

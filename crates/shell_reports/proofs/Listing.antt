@@ -1,4 +1,4 @@
--- What `list` answers, by the registry.
+-- The answer of `list`, from the registry.
 use Rattle.std.proofs.Common.{◌≡◌, ◌≢◌, List, [], ◌∷◌, Option, Some, None, Result, Ok, Err, map, sym, ap, ◌∙◌}
 use Rattle.std.specs.Prelude.{IfOk}
 use Rattle.nvd_words.specs.Checks.{first_fault, value_unless}
@@ -34,12 +34,12 @@ module _ (nfit : Nfit) (areas : List Area) where
   refuses_by None f is = absurd (let e = is in cc)
   refuses_by (Some g) f is = ap (λ (x : OpenFault). Err x) (let e = is in cc)
 
-  -- a registry that is open lists what the labels make
+  -- an open registry lists the namespaces of the labels
   pub lists : (r : Opened) → Ok r ≡ opening nfit areas → listed_by nfit (labels_of areas) ≡ Ok (listing r)
   unfolding opening
   lists r is = lists_by fault r is
 
-  -- one that isn't is refused for the same fault
+  -- a registry that isn't opened is refused for the same fault
   pub refuses : (f : OpenFault) → Err f ≡ opening nfit areas → listed_by nfit (labels_of areas) ≡ Err f
   unfolding opening
   refuses f is = refuses_by fault f is

@@ -9,7 +9,7 @@ use Rattle.interleave.specs.declared.set.SetFault.{SetFault}
 use Rattle.interleave.specs.declared.set.SetFault.TheVariants.{OutOfMemory}
 use Rattle.shell_reports.specs.Nfit.{members_text, reading_text}
 
--- a mapping that stands for none
+-- a placeholder for a mapping
 pub none : Mapping
 none = record { «module» = 0; size = 0; offset = 0; start = 0; ways = 0; lines = None; identity = record { vendor = 0; date = 0; location = 0; serial = 0 } }
 
@@ -22,7 +22,7 @@ member_more set p number text more text' whole inside is said pushed so_far =
     let step : members_text (drop p set) ≡ more ++ rest = at_drop_more members_text set p none inside ∙ ap (λ (x : List ℕ). x ++ rest) (sym said') in
     ap (λ (x : List ℕ). x ++ rest) pushed ∙ append_assoc text more rest ∙ ap (λ (x : List ℕ). text ++ x) (sym step) ∙ so_far
 
--- what was said of a region by an answer is what is due
+-- the text that was made for a region is the one that is due
 region_said : {U E : Type 0} (r : Result U E) (before start middle after : List ℕ) (region : Region) (answer reading : Result (List Mapping) SetFault)
     → middle ≡ before ++ start → (answer ≢ Err OutOfMemory → answer ≡ reading) → OnOk r (after ≡ middle ++ reading_text region answer) → OnOk r (answer ≢ Err OutOfMemory)
     → OnOk r (after ≡ before ++ (start ++ reading_text region reading))
@@ -39,7 +39,7 @@ if_ok : {U E : Type 0} (P Q : Type 0) (r : Result U E) → (P → Q) → OnOk r 
 if_ok P Q (Ok u) f p = f p
 if_ok P Q (Err e) f p = tt
 
--- of a region that is a set
+-- for a region that is a set
 pub set_said : {U E : Type 0} (r : Result U E) (before start middle after : List ℕ) (region : Region) (set : List Mapping) (answer reading : Result (List Mapping) SetFault)
     → answer ≡ Ok set → middle ≡ before ++ start → (answer ≢ Err OutOfMemory → answer ≡ reading) → OnOk r (after ≡ middle ++ reading_text region (Ok set))
     → OnOk r (after ≡ before ++ (start ++ reading_text region reading))
@@ -48,7 +48,7 @@ set_said r before start middle after region set answer reading is begun told sai
     (subst (λ (a : Result (List Mapping) SetFault). OnOk r (after ≡ middle ++ reading_text region a)) (sym is) said)
     (on_ok (answer ≢ Err OutOfMemory) r (λ wanting. (let e = sym is ∙ wanting in cc)))
 
--- of one that is none
+-- for one that isn't
 pub none_said : {U E : Type 0} (r : Result U E) (before start middle after : List ℕ) (region : Region) (fault : SetFault) (answer reading : Result (List Mapping) SetFault)
     → answer ≡ Err fault → middle ≡ before ++ start → (answer ≢ Err OutOfMemory → answer ≡ reading) → OnOk r (after ≡ middle ++ reading_text region (Err fault)) → OnOk r (fault ≢ OutOfMemory)
     → OnOk r (after ≡ before ++ (start ++ reading_text region reading))

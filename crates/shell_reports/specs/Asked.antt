@@ -1,4 +1,4 @@
--- What the commands on the arenas of a namespace ask of them.
+-- The question of a command about the arenas of a namespace.
 use Rattle.std.specs.Prelude.{List}
 use Rattle.arena_open.specs.declared.state.ArenaState.{ArenaState}
 use Rattle.shell_reports.specs.Outcome.{Outcome, printed}

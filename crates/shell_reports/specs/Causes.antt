@@ -1,4 +1,4 @@
--- Why a command on the arenas of a namespace ends as it does: this project's rules.
+-- Why a command on the arenas of a namespace ends with its status: this project's rules.
 use Rattle.std.specs.Prelude.{◌≡◌, ◌⊎◌, ℕ, nat_lt, Bool, true, false, not, List, Option, Some, None, Result, Ok, Err}
 use Rattle.arena_open.specs.declared.state.ArenaState.{ArenaState}
 use Rattle.arena_open.specs.declared.chain_refused.ChainRefused.{ChainRefused}
@@ -14,7 +14,7 @@ use Rattle.sector_namespaces.specs.View.{rows_of, view_words, opened_view}
 use Rattle.shell_reports.specs.List.{labels_in_set}
 use Rattle.shell_reports.specs.Sectors.{registry_fault}
 
--- a region that is no interleave set, or labels whose extents meet
+-- a region that isn't an interleave set, or labels with overlapping extents
 abbrev pub fault_in : ImageSet → Option OpenFault
 fault_in loaded = registry_fault loaded.nfit (labels_in_set loaded)
 
@@ -26,7 +26,8 @@ found_in loaded uuid = found_of (sets_of loaded.nfit) (entry_at (sets_of loaded.
 abbrev pub opened_in : ImageSet → List ℕ → Found → Result (List ArenaState) ChainRefused
 opened_in loaded uuid found = opened_view (view_words (sets_of loaded.nfit) found (rows_of loaded.contents)) uuid
 
--- the images are refused: the table or the labels have a fault, or the namespace is found and one of its arenas breaks the format
+-- the images are refused: the table or the labels have a fault, or the namespace is found and one of its arenas violates the
+-- format
 abbrev pub IsBroken : ImageSet → List ℕ → Type 0
 IsBroken loaded uuid =
     ((fault : OpenFault) × (fault_in loaded ≡ Some fault))

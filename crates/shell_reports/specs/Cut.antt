@@ -1,4 +1,4 @@
--- What a command says that was carried out, or that power was cut in.
+-- The text of a command that was completed, or in which power was cut.
 use Rattle.std.specs.Prelude.{ℕ, List, [], ◌++◌, Option, Some, None, codes}
 use Rattle.std.specs.Fmt.{decimal}
 use Rattle.shell_reports.specs.Outcome.{lf}

@@ -1,4 +1,4 @@
--- What is said of an arena that isn't opened, and of a command that is refused: this project's rules.
+-- The texts for an arena that isn't opened, and for a command that is refused: this project's rules.
 use Rattle.std.specs.Prelude.{ℕ, List, [], ◌∷◌, ◌++◌, None, codes}
 use Rattle.std.specs.Fmt.{decimal}
 use Rattle.arena_layout.specs.declared.layout.LayoutField.{LayoutField}
@@ -42,14 +42,14 @@ flog_text lane flog.Padding = codes "Flog " ++ (decimal lane ++ codes " Padding"
 flog_text lane (flog.Sequences a b) = codes "Flog " ++ (decimal lane ++ (codes " Sequences " ++ (decimal a ++ (codes " " ++ decimal b))))
 flog_text lane (flog.Range value) = codes "Flog " ++ (decimal lane ++ (codes " Range " ++ decimal value))
 
--- want of memory is no finding and has no text
+-- out of memory isn't a finding and has no text
 abbrev pub block_text : BlockFault → List ℕ
 block_text (block.Range number) = codes "Block Range " ++ decimal number
 block_text (block.Twice number) = codes "Block Twice " ++ decimal number
 block_text (block.Count said had) = codes "Block Count " ++ (decimal said ++ (codes " " ++ decimal had))
 block_text block.OutOfMemory = []
 
--- the commands open arenas with power that stays on, so no cut is told
+-- the commands open arenas without a power cut, so it has no text
 abbrev pub open_refused_text : OpenRefused → List ℕ
 open_refused_text (open_refused.Info fault) = info_text fault
 open_refused_text (open_refused.Flog lane fault) = flog_text lane fault
@@ -68,7 +68,7 @@ arena_outcome uuid fault =
 abbrev pub refused_outcome : List ℕ → Outcome
 refused_outcome refusal = record { ending = ending.Refused; text = joined (codes "refused " ∷ refusal ∷ lf ∷ []); saved = None }
 
--- why a namespace isn't found; nothing else refuses to find one
+-- why a namespace isn't found; there are no other reasons
 abbrev pub find_refusal : OpRefused → List ℕ
 find_refusal op.NoSuch = codes "NoSuch"
 find_refusal op.NotComplete = codes "NotComplete"

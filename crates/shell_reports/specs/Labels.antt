@@ -44,12 +44,12 @@ label_line slot label =
 abbrev pub bad_line : ℕ → LabelFault → List ℕ
 bad_line slot fault = joined (codes "bad " ∷ decimal slot ∷ codes " " ∷ label_fault_text fault ∷ lf ∷ [])
 
--- the line of what a used slot is read as
+-- the line of a decoded used slot
 abbrev pub reading_line : ℕ → Result Label LabelFault → List ℕ
 reading_line slot (Ok label) = label_line slot label
 reading_line slot (Err fault) = bad_line slot fault
 
--- the line of a used slot of an area, for index blocks of a size
+-- the line of a used slot of an area, for index blocks of this size
 abbrev pub used_line : List ℕ → ℕ → ℕ → List ℕ
 used_line area size slot = reading_line slot (label_reading (slot_bytes area size slot) slot)
 
@@ -57,21 +57,21 @@ used_line area size slot = reading_line slot (label_reading (slot_bytes area siz
 abbrev pub slot_line : List ℕ → ℕ → ℕ → Bool → List ℕ
 slot_line area size slot free = if free then [] else used_line area size slot
 
--- the lines of the slots from one on, rising
+-- the lines of the slots from one on, in ascending order
 abbrev pub lines_from : List ℕ → ℕ → ℕ → List Bool → List ℕ
 lines_from area size slot [] = []
 lines_from area size slot (free ∷ others) = slot_line area size slot free ++ lines_from area size (slot + 1) others
 
--- what is said of an area with a current block
+-- the outcome for an area with a current block
 abbrev pub block_outcome : List ℕ → IndexBlock → Outcome
 block_outcome area block = printed (index_line block ++ lines_from area block.size 0 block.free)
 
--- what is said of an area without one
+-- the outcome for an area without one
 abbrev pub fault_outcome : ℕ → AreaFault → Outcome
 fault_outcome m (Unsupported major minor) = image_fault (codes "labels " ∷ decimal m ∷ codes " Unsupported " ∷ decimal major ∷ codes " " ∷ decimal minor ∷ lf ∷ [])
 fault_outcome m other = image_fault (codes "labels " ∷ decimal m ∷ codes " NoIndex" ∷ lf ∷ [])
 
--- what is said of an area by its current block, or why there is none
+-- the outcome for an area, from its current block, or why there is none
 abbrev pub found_outcome : ℕ → List ℕ → Result IndexBlock AreaFault → Outcome
 found_outcome m area (Ok block) = block_outcome area block
 found_outcome m area (Err fault) = fault_outcome m fault
@@ -79,11 +79,11 @@ found_outcome m area (Err fault) = fault_outcome m fault
 abbrev pub area_outcome : ℕ → List ℕ → Outcome
 area_outcome m area = found_outcome m area (block_in area)
 
--- what is said of a module's label area; there is none where the table doesn't name the module, or it has no area
+-- the outcome for a module's label area; there is none if the table doesn't name the module, or it has no area
 abbrev pub module_outcome : ℕ → Option (List ℕ) → Outcome
 module_outcome m None = image_fault (codes "labels " ∷ decimal m ∷ codes " Missing" ∷ lf ∷ [])
 module_outcome m (Some area) = area_outcome m area
 
--- what `labels M` comes to on a set that is loaded, whose label areas have a label area's size
+-- the outcome of `labels M` on a loaded set, whose label areas have valid sizes
 abbrev pub labels_outcome : ℕ → ImageSet → Outcome
 labels_outcome m loaded = module_outcome m (area_of loaded m)

@@ -1,4 +1,4 @@
--- The command `list`: the namespaces that the labels of all modules make.
+-- The command `list`: the namespaces in the labels of all modules.
 use Rattle.std.specs.Prelude.{ℕ, true, false, List, [], ◌∷◌, ◌++◌, map, sum_by, Option, Some, None, Result, Ok, Err, codes}
 use Rattle.std.specs.Option.{option_map}
 use Rattle.std.specs.Result.{result_ok}
@@ -25,18 +25,19 @@ use Rattle.shell_reports.specs.Outcome.{Outcome, image_fault, printed, joined, l
 use Rattle.shell_reports.specs.Texts.{name_text, uuid_text, mode_text}
 use Rattle.shell_reports.specs.Nfit.{set_fault_text}
 
--- ---- what is listed
+-- ---- the namespaces to list
 
--- the labels of a module's area, by slot; None where there is none, or it isn't one that is read
+-- the labels of a module's area, by slot; None if there is no area, or it isn't valid
 abbrev pub shown_by : Option (List ℕ) → Option (List (Option Label))
 shown_by None = None
 shown_by (Some area) = option_map labels_in (result_ok (slots_in area))
 
--- the labels of all modules, rising by module and slot
+-- the labels of all modules, ordered by module and slot
 abbrev pub labels_in_set : ImageSet → List Placed
 labels_in_set loaded = placed_of (map shown_by loaded.labels)
 
--- the namespaces of labels under a table, or the first fault: a region that is no interleave set; extents of two UUIDs that meet
+-- the namespaces of labels under a table, or the first fault: a region that isn't an interleave set; overlapping extents of two
+-- UUIDs
 abbrev pub listed_by : Nfit → List Placed → Result (List Namespace) OpenFault
 listed_by nfit labels =
     value_unless (map (λ e. namespace_of e 0) (entries_of (sets_of nfit) labels)) (first_fault (set_fault_from 0 nfit.regions ∷ overlap_fault labels ∷ []))
@@ -75,7 +76,7 @@ abbrev pub region_text : Option ℕ → List ℕ
 region_text None = codes "-"
 region_text (Some number) = decimal number
 
--- the bytes of all extents
+-- the size of all extents together
 abbrev pub size_in : List Extent → ℕ
 size_in extents = sum_by (λ e. e.length) extents
 
@@ -104,9 +105,9 @@ abbrev pub list_text : List Namespace → List ℕ
 list_text [] = []
 list_text (ns ∷ namespaces) = namespace_lines ns ++ list_text namespaces
 
--- ---- what the command comes to
+-- ---- the outcome of the command
 
--- why nothing is listed; want of memory is no finding and has no text
+-- why nothing is listed; out of memory isn't a finding and has no text
 abbrev pub open_fault_text : OpenFault → List ℕ
 open_fault_text (fault.Set region f) = codes "region " ++ (decimal region ++ (codes " " ++ set_fault_text f))
 open_fault_text (fault.Overlap a b) = codes "labels Overlap " ++ (uuid_text a ++ (codes " " ++ uuid_text b))
@@ -119,6 +120,6 @@ abbrev pub listed_outcome : Result (List Namespace) OpenFault → Outcome
 listed_outcome (Ok namespaces) = printed (list_text namespaces)
 listed_outcome (Err f) = open_outcome f
 
--- what `list` comes to on a set that is loaded
+-- the outcome of `list` on a loaded set
 abbrev pub list_outcome : ImageSet → Outcome
 list_outcome loaded = listed_outcome (listed_of loaded)

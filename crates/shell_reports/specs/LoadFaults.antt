@@ -1,4 +1,4 @@
--- What is said of an image set that isn't loaded.
+-- The texts for an image set that isn't loaded.
 use Rattle.std.specs.Prelude.{ℕ, List, [], ◌∷◌, ◌++◌, codes}
 use Rattle.std.specs.Fmt.{decimal}
 use Rattle.nvd_media.specs.declared.object.Object.{Object}
@@ -17,7 +17,7 @@ object_text (object.Labels m) = codes "labels " ++ decimal m
 object_text (object.Contents m) = codes "contents " ++ decimal m
 object_text (object.BadRanges m) = codes "badranges " ++ decimal m
 
--- what is wrong with a firmware table; want of memory is no finding and has no text
+-- the fault of a firmware table; out of memory isn't a finding and has no text
 abbrev pub nfit_fault_text : NfitFault → List ℕ
 nfit_fault_text nfit.Signature = codes "Signature"
 nfit_fault_text (nfit.Length said had) = codes "Length " ++ (decimal said ++ (codes " " ++ decimal had))
@@ -29,7 +29,7 @@ nfit_fault_text (nfit.TooLarge modules) = codes "TooLarge " ++ decimal modules
 nfit_fault_text (nfit.Alias «module» a b) = codes "Alias " ++ (decimal «module» ++ (codes " " ++ (decimal a ++ (codes " " ++ decimal b))))
 nfit_fault_text nfit.OutOfMemory = []
 
--- why an image set isn't loaded; a source that fails and want of memory are no findings and have no text
+-- why an image set isn't loaded; read faults and out of memory aren't findings and have no text
 abbrev pub load_fault_text : LoadFault → List ℕ
 load_fault_text (fault.Missing object) = object_text object ++ codes " Missing"
 load_fault_text (fault.Size object bytes) = object_text object ++ (codes " Size " ++ decimal bytes)
@@ -37,6 +37,6 @@ load_fault_text (fault.Nfit table) = codes "nfit " ++ nfit_fault_text table
 load_fault_text fault.ReadFault = []
 load_fault_text fault.OutOfMemory = []
 
--- what is said of a set that isn't loaded
+-- the outcome for a set that isn't loaded
 abbrev pub load_outcome : LoadFault → Outcome
 load_outcome fault = image_fault (load_fault_text fault ∷ lf ∷ [])

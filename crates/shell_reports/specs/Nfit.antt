@@ -22,7 +22,7 @@ abbrev pub module_lines : ℕ → List ℕ → List ℕ
 module_lines number [] = []
 module_lines number (handle ∷ handles) = module_line number handle ++ module_lines (number + 1) handles
 
--- why a region is no interleave set; want of memory is no finding and has no text
+-- why a region isn't an interleave set; out of memory isn't a finding and has no text
 abbrev pub set_fault_text : SetFault → List ℕ
 set_fault_text (Ways said had) = codes "Ways " ++ (decimal said ++ (codes " " ++ decimal had))
 set_fault_text (Twice «module») = codes "Twice " ++ decimal «module»
@@ -46,7 +46,7 @@ range_text region = joined (codes " base " ∷ decimal region.base ∷ codes " l
 abbrev pub set_text : List Mapping → List ℕ
 set_text set = joined (codes " cookie " ∷ encode_lower (to_be_bytes w64 (cookie_of set)) ∷ codes " unit " ∷ decimal (unit_of set) ∷ lf ∷ [])
 
--- what a region's line says of its set, or of why it is none
+-- the part of a region's line about its set, or why it isn't one
 abbrev pub reading_text : Region → Result (List Mapping) SetFault → List ℕ
 reading_text region (Ok set) = range_text region ++ members_text set ++ set_text set
 reading_text region (Err fault) = joined (codes " fault " ∷ set_fault_text fault ∷ lf ∷ [])
@@ -55,7 +55,8 @@ reading_text region (Err fault) = joined (codes " fault " ∷ set_fault_text fau
 abbrev pub region_start : ℕ → ℕ → List ℕ
 region_start number index = codes "region " ++ (decimal number ++ (codes " index " ++ decimal index))
 
--- region I index X base B length L modules M0 M1 .. cookie C unit U, with the modules by position; or region I index X fault FAULT
+-- region I index X base B length L modules M0 M1 .. cookie C unit U, with the modules in order of position; or region I index X
+-- fault FAULT
 abbrev pub region_line : ℕ → Region → List ℕ
 region_line number region = region_start number region.index ++ reading_text region (set_reading region)
 
@@ -68,6 +69,6 @@ region_lines number (region ∷ regions) = region_line number region ++ region_l
 abbrev pub nfit_text : Nfit → List ℕ
 nfit_text nfit = module_lines 0 nfit.modules ++ region_lines 0 nfit.regions
 
--- what `nfit` comes to on a set that is loaded
+-- the outcome of `nfit` on a loaded set
 abbrev pub nfit_outcome : ImageSet → Outcome
 nfit_outcome loaded = printed (nfit_text loaded.nfit)

@@ -1,4 +1,4 @@
--- What a run comes to.
+-- The outcome of a run.
 use Rattle.std.specs.Prelude.{ℕ, List, [], ◌∷◌, ◌++◌, Option, None, codes}
 use Rattle.nvd_media.specs.Images.{Images}
 use Rattle.shell_reports.specs.declared.status.Status.{Status}
@@ -12,7 +12,7 @@ pub record Outcome : Type 0 where
   pub text : List ℕ
   pub saved : Option Images
 
--- pieces of a text, one after another
+-- pieces of a text, concatenated
 abbrev pub joined : List (List ℕ) → List ℕ
 joined [] = []
 joined (piece ∷ pieces) = piece ++ joined pieces
@@ -25,7 +25,7 @@ lf = 10 ∷ []
 abbrev pub usage : Outcome
 usage = record { ending = ending.Usage; text = codes "usage" ++ lf; saved = None }
 
--- the images show a fault
+-- the images have a fault
 abbrev pub image_fault : List (List ℕ) → Outcome
 image_fault pieces = record { ending = ending.Image; text = joined (codes "image " ∷ pieces); saved = None }
 
@@ -33,7 +33,7 @@ image_fault pieces = record { ending = ending.Image; text = joined (codes "image
 abbrev pub printed : List ℕ → Outcome
 printed text = record { ending = ending.Done; text = text; saved = None }
 
--- the status of a run where nothing outside failed and memory was found
+-- the status of a run if nothing outside failed and memory was found
 abbrev pub status_of : Ending → Status
 status_of ending.Done = status.Ok
 status_of ending.Usage = status.Usage

@@ -29,16 +29,16 @@ use Rattle.shell_reports.specs.Faults.{arena_outcome, find_refusal, refused_outc
 
 -- ---- opening a namespace
 
--- a region that is no interleave set, or labels whose extents meet
+-- a region that isn't an interleave set, or labels with overlapping extents
 abbrev pub registry_fault : Nfit → List Placed → Option OpenFault
 registry_fault nfit labels = first_fault (set_fault_from 0 nfit.regions ∷ overlap_fault labels ∷ [])
 
--- with the arenas, or why they aren't opened
+-- continues with the arenas, or answers why they aren't opened
 abbrev pub on_arenas : List ℕ → (List ArenaState → Outcome) → Result (List ArenaState) ChainRefused → Outcome
 on_arenas uuid f (Ok states) = f states
 on_arenas uuid f (Err fault) = arena_outcome uuid fault
 
--- with the namespace, or why it isn't found
+-- continues with the namespace, or answers why it isn't found
 abbrev pub on_found : List ℕ → (List ArenaState → Outcome) → List (List Mapping) → List (List ℕ) → Result Found OpRefused → Outcome
 on_found uuid f sets contents (Ok found) = on_arenas uuid f (opened_view (view_words sets found (rows_of contents)) uuid)
 on_found uuid f sets contents (Err refusal) = refused_outcome (find_refusal refusal)
@@ -47,8 +47,8 @@ abbrev pub unless_fault : Option OpenFault → Outcome → Outcome
 unless_fault (Some fault) outcome = open_outcome fault
 unless_fault None outcome = outcome
 
--- what a command on the arenas of a namespace comes to: the table and the labels are looked at first, then the namespace is found, and
--- then all of its arenas are opened
+-- the outcome of a command on the arenas of a namespace: first the table and the labels are checked, then the namespace is found,
+-- and then all of its arenas are opened
 unfoldable pub on_sectors : (List ArenaState → Outcome) → ImageSet → List ℕ → Outcome
 on_sectors f loaded uuid =
     unless_fault (registry_fault loaded.nfit (labels_in_set loaded))
@@ -78,7 +78,7 @@ info_outcome uuid loaded = on_sectors (λ states. printed (arena_lines 0 states)
 abbrev pub is_fill : ℕ → List ℕ → Bool
 is_fill byte bytes = list_all (λ b. b == byte) bytes
 
--- a value: the one byte that it has throughout, or all of its bytes
+-- a value: its one repeated byte, or all of its bytes
 abbrev pub value_text : List ℕ → List ℕ
 value_text [] = codes "hex:"
 value_text (byte ∷ bytes) = if is_fill byte bytes then codes "fill:" ++ encode_lower (byte ∷ []) else codes "hex:" ++ encode_lower (byte ∷ bytes)
@@ -87,7 +87,7 @@ abbrev pub cell_text : Cell → List ℕ
 cell_text (cell.Bytes words) = joined (codes "ok " ∷ value_text (bytes_of words) ∷ lf ∷ [])
 cell_text cell.Bad = codes "bad" ++ lf
 
--- the cell of a sector, where the namespace has it
+-- the cell of a sector, if the namespace has it
 abbrev pub sector_outcome : ℕ → List ArenaState → Outcome
 sector_outcome sector states =
     if nat_lt sector (sectors_of states) then printed (cell_text (slice_index_or (contents_of states) sector cell.Bad))

@@ -11,7 +11,7 @@ use Rattle.label_codec.specs.declared.label.SizeField.TheVariants.{Dpa, RawSize}
 use Rattle.label_codec.specs.declared.mode.Mode.{Mode}
 use Rattle.label_codec.specs.declared.mode.Mode.TheVariants.{Raw, Sector, Sector1, Other}
 
--- a byte that is no control character: those are U+0000 to U+001F and U+007F, each of one byte in UTF-8
+-- a byte that isn't a control character: those are U+0000 to U+001F and U+007F, each of one byte in UTF-8
 abbrev pub is_plain : ℕ → Bool
 is_plain byte = nat_le 32 byte && not (byte == 127)
 
@@ -24,7 +24,7 @@ abbrev pub escaped : List ℕ → List ℕ
 escaped [] = []
 escaped (byte ∷ bytes) = if (byte == 34) || (byte == 92) then 92 ∷ byte ∷ escaped bytes else byte ∷ escaped bytes
 
--- a name in quotation marks, or in hexadecimal digits where it isn't printable
+-- a name in quotation marks, or in hexadecimal digits if it isn't printable
 abbrev pub name_text : List ℕ → List ℕ
 name_text name = if is_printable name then 34 ∷ escaped name ++ 34 ∷ [] else codes "hex:" ++ encode_lower name
 

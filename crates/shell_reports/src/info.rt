@@ -16,7 +16,7 @@ use image_set::Loaded;
 use std::alloc::{AllocError, Global};
 use uuid::Uuid;
 
-/// What an arena's line says after its number.
+/// Returns the text of an arena's line after its number.
 fn arena_facts(alloc: Global, layout: &Layout, moves: u32) -> Result<String, AllocError>
     ensures { IfOk result (λ text. string_bytes text ≡ arena_facts layout.now moves) }
 {
@@ -26,7 +26,7 @@ fn arena_facts(alloc: Global, layout: &Layout, moves: u32) -> Result<String, All
     )
 }
 
-/// The line of arena k.
+/// Returns the line of arena k.
 fn arena_line(alloc: Global, k: usize, layout: &Layout, moves: u32) -> Result<String, AllocError>
     ensures { IfOk result (λ text. string_bytes text ≡ joined (codes "arena " ∷ decimal k ∷ codes " " ∷ arena_facts layout.now moves ∷ lf ∷ [])) }
 {
@@ -34,7 +34,7 @@ fn arena_line(alloc: Global, k: usize, layout: &Layout, moves: u32) -> Result<St
     format!(in alloc; "arena {} {}\n", k, facts)
 }
 
-/// The lines of arenas.
+/// Returns the lines of arenas.
 fn arena_lines<W: WordSpace>(alloc: Global, chain: &ReadChain<W>) -> Result<Vec<u8>, AllocError>
     ensures { IfOk result (λ text. text.items ≡ arena_lines 0 chain.now) }
 {
@@ -46,7 +46,7 @@ fn arena_lines<W: WordSpace>(alloc: Global, chain: &ReadChain<W>) -> Result<Vec<
     Ok(text)
 }
 
-/// The answer on the arenas of a namespace: a line for each.
+/// Answers with a line for each arena of a namespace.
 pub(crate) fn lines_answer<W: WordSpace>(
     alloc: Global,
     chain: &ReadChain<W>,
@@ -56,9 +56,10 @@ pub(crate) fn lines_answer<W: WordSpace>(
     Ok(printed_answer(arena_lines(alloc, chain)?))
 }
 
-/// The answer of `info` on an image set: a line for each arena of a sector namespace, in order; or the first region that is
-/// no interleave set, or the first two UUIDs of which extents meet; or why the namespace isn't found; or the first of its
-/// arenas that breaks the format. Pending moves are made good in memory alone: no image set is written.
+/// Answers `info` on an image set: a line for each arena of a sector namespace, in order; or the
+/// first region that isn't an interleave set, or the first two UUIDs with overlapping extents; or
+/// why the namespace isn't found; or the first of its arenas that violates the format. Pending
+/// moves are completed only in memory: no image set is written.
 pub fn info_answer(alloc: Global, uuid: &Uuid, loaded: Loaded) -> Result<Report, AllocError>
     requires { IsSound loaded }
     ensures { IfOk result (λ answer. outcome_of answer ≡ info_outcome uuid.now (image_set_in loaded)) }

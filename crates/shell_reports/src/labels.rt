@@ -79,7 +79,7 @@ fn used_line(alloc: Global, area: &[u8], size: u64, slot: u32) -> Result<Vec<u8>
     }
 }
 
-/// The line of a slot, none where it is free.
+/// Returns the line of a slot, nothing if it is free.
 fn slot_line(
     alloc: Global,
     area: &[u8],
@@ -97,7 +97,7 @@ fn slot_line(
     }
 }
 
-/// Adds the lines of an area's slots to a text.
+/// Appends the lines of an area's slots to a text.
 fn add_lines(
     alloc: Global,
     area: &[u8],
@@ -115,7 +115,7 @@ fn add_lines(
     Ok(())
 }
 
-/// The answer on an area with a current block.
+/// Answers on an area with a current block.
 fn block_answer(alloc: Global, area: &[u8], block: &IndexBlock) -> Result<Report, AllocError>
     requires fits { 2 * block.now.size + 256 * length block.now.free ≤ length area.now }
     requires small { length area.now ≤ 1048576 }
@@ -126,7 +126,7 @@ fn block_answer(alloc: Global, area: &[u8], block: &IndexBlock) -> Result<Report
     Ok(printed_answer(text))
 }
 
-/// The answer on an area without a current block.
+/// Answers on an area without a current block.
 pub fn fault_answer(alloc: Global, module: u32, fault: AreaFault) -> Result<Report, AllocError>
     ensures text { IfOk result (λ answer. outcome_of answer ≡ fault_outcome «module» fault) }
     ensures finding { IfOk result (λ _. fault ≢ AreaFault.OutOfMemory) }
@@ -137,14 +137,14 @@ pub fn fault_answer(alloc: Global, module: u32, fault: AreaFault) -> Result<Repo
             module, major, minor
         )?)),
         AreaFault::OutOfMemory => Err(AllocError),
-        // No area that is only read is refused for one of the last two.
+        // Reading an area never returns the last two.
         AreaFault::NoIndex | AreaFault::AlreadyInitialised { .. } | AreaFault::PowerCut => Ok(
             image_answer(format!(in alloc; "image labels {} NoIndex\n", module)?),
         ),
     }
 }
 
-/// The answer on a whole area.
+/// Answers on a whole area.
 fn area_answer(alloc: Global, module: u32, area: &[u8]) -> Result<Report, AllocError>
     requires { IsAreaSize (length area.now) }
     ensures { IfOk result (λ answer. outcome_of answer ≡ area_outcome «module» area.now) }
@@ -155,14 +155,14 @@ fn area_answer(alloc: Global, module: u32, area: &[u8]) -> Result<Report, AllocE
     }
 }
 
-/// The answer where there is no such area.
+/// Answers for an area that doesn't exist.
 pub fn missing_answer(alloc: Global, module: u32) -> Result<Report, AllocError>
     ensures { IfOk result (λ answer. outcome_of answer ≡ module_outcome «module» None) }
 {
     Ok(image_answer(format!(in alloc; "image labels {} Missing\n", module)?))
 }
 
-/// The answer on a module's label area, if it has one.
+/// Answers on a module's label area, if it has one.
 fn module_answer(alloc: Global, module: u32, area: Option<Vec<u8>>) -> Result<Report, AllocError>
     requires { IfSome area (λ bytes. IsAreaSize (length bytes.items)) }
     ensures { IfOk result (λ answer. outcome_of answer ≡ module_outcome «module» (option_map (λ bytes. bytes.items) area)) }
@@ -173,8 +173,8 @@ fn module_answer(alloc: Global, module: u32, area: Option<Vec<u8>>) -> Result<Re
     }
 }
 
-/// The answer of `labels` on an image set: the module's current index block and its labels. The set was
-/// loaded but for its contents, so each of its label areas has a label area's size.
+/// Answers `labels` on an image set: the module's current index block and its labels. The set was
+/// loaded without its contents, so each label area has a valid size.
 pub fn labels_answer(alloc: Global, module: u32, outline: &Outline) -> Result<Report, AllocError>
     requires { IsOutlined outline.now }
     ensures { IfOk result (λ answer. (contents : List (List ℕ)) → outcome_of answer ≡ labels_outcome «module» (image_set_with outline.now contents)) }

@@ -1,17 +1,17 @@
-//! What a command of `nvdimm_shell` comes to, and the texts that all commands share.
+//! The outcome of a command of `nvdimm_shell`, and the texts that all commands share.
 //!
-//! A command that only prints makes a [`Report`] from the set that was loaded: how it ends, and the bytes of its text. It
-//! knows no source, no sink and no exit status:
+//! A command that only prints makes a [`Report`] from the loaded set: how it ends, and the bytes of
+//! its text. It knows no source, no sink and no exit status:
 //!
 //! ```text
 //! ending   Done      Usage   Image                 Refused            PowerCut
 //! text     ..        usage   image OBJECT FAULT    refused REFUSAL    cut N
 //! ```
 //!
-//! `specs/Outcome.antt` has what contracts see of what a command comes to (`Outcome`, `status_of`, `exit_status_of`),
-//! `specs/Saved.antt` the sets that are saved (`IsSaving`), `specs/Texts.antt` the texts of names, UUIDs and modes,
-//! `specs/LoadFaults.antt` what is said of a set that isn't loaded, `specs/Cut.antt` what is said where power is cut. All
-//! are this project's rules.
+//! `specs/Outcome.antt` defines the outcome of a command, as contracts see it (`Outcome`,
+//! `status_of`, `exit_status_of`); `specs/Saved.antt` the sets that are saved (`IsSaving`);
+//! `specs/Texts.antt` the texts of names, UUIDs and modes; `specs/LoadFaults.antt` the texts for a
+//! set that isn't loaded; `specs/Cut.antt` the text for a power cut. All are this project's rules.
 //!
 //! # Listings
 //!
@@ -23,10 +23,11 @@
 //!            └─► all label areas ─► registry ► list: a namespace for each UUID, with its extents
 //! ```
 //!
-//! They work on an outline, a set that was loaded but for its contents. Each has a handler from the outline to a report,
-//! whose one clause is the command's outcome, whatever the contents are: `labels_outcome`
-//! of `specs/Labels.antt`, `nfit_outcome` of `specs/Nfit.antt`, `list_outcome` of `specs/List.antt`. The lines are this
-//! project's; what they say stands in UEFI 2.10, section 13.19, and ACPI 6.5, section 5.2.25.
+//! They work on an outline, a set that was loaded without its contents. Each has a handler that
+//! makes a report from the outline. Its only clause is the command's outcome, whatever the contents
+//! are: `labels_outcome` of `specs/Labels.antt`, `nfit_outcome` of `specs/Nfit.antt`,
+//! `list_outcome` of `specs/List.antt`. The lines are this project's; their values are those of
+//! UEFI 2.10, section 13.19, and ACPI 6.5, section 5.2.25.
 //!
 //! # Sectors
 //!
@@ -39,10 +40,11 @@
 //!                image labels ..     refused ..
 //! ```
 //!
-//! What both share is one definition, `on_sectors` of `specs/Sectors.antt`: the order in which faults and refusals are looked
-//! for, up to the arenas. `info_outcome` and `read_outcome` are that with what each command does with the arenas.
-//! `specs/Faults.antt` has what is said of an arena that breaks the format. Pending moves are made good in memory alone, and
-//! no image set is written. All are this project's rules over UEFI 2.10, chapter 6.
+//! Both share the definition `on_sectors` of `specs/Sectors.antt`: the order of faults and
+//! refusals, up to the arenas. `info_outcome` and `read_outcome` add what each command does with
+//! the arenas. `specs/Faults.antt` has the texts for an arena that violates the format. Pending
+//! moves are completed only in memory, and no image set is written. All are this project's rules
+//! over UEFI 2.10, chapter 6.
 #![tactic(auto)]
 
 mod info;

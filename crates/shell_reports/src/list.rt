@@ -1,4 +1,4 @@
-//! The command `list`: the namespaces that the labels of all modules make.
+//! The command `list`: the namespaces in the labels of all modules.
 ghost use Rattle.std.specs.Prelude.{◌≡◌, ◌≢◌, ◌*◌, ◌++◌, ◌≤◌, ◌<◌, ◌^◌, ℕ, List, IfOk, OnOk, Result, Ok, Err, length, map, string_bytes};
 ghost use Rattle.std.specs.Option.{option_map};
 ghost use Rattle.std.specs.List.{All};
@@ -27,7 +27,7 @@ use nvd_words::Items;
 use region_space::Extent;
 use std::alloc::{AllocError, Global};
 
-/// An area that isn't open: want of memory is no finding about it.
+/// Returns an area that isn't open. Out of memory isn't a finding about it.
 fn refused_area(refused: AreaRefused) -> Result<Area, AllocError>
     ensures same { IfOk result (λ area. area ≡ Area.Refused refused) }
     ensures finding { IfOk result (λ _. refused.fault ≢ AreaFault.OutOfMemory) }
@@ -63,8 +63,9 @@ fn area_of(alloc: Global, area: Option<CutWords>) -> Result<Area, AllocError>
     }
 }
 
-/// The label areas of all modules of a set that was loaded, so that each has a label area's size and no word of it is
-/// pending. An area that has no valid index block is refused, and its words stay with it. The one error is want of memory.
+/// Opens the label areas of all modules of a loaded set. Each has a valid size, and no word of it
+/// is pending. An area without a valid index block is refused and keeps its words. The call fails
+/// only if memory runs out.
 pub fn areas_of(alloc: Global, labels: Items<Option<CutWords>>) -> Result<Items<Area>, AllocError>
     requires { All IsArea labels }
     ensures shown { IfOk result (λ areas. map shown_in areas ≡ map shown_by (map (option_map bytes_kept) labels)) }
@@ -91,7 +92,7 @@ fn field_text(field: Field) -> &'static str
     }
 }
 
-/// Why labels make no namespace.
+/// Returns the text of why labels make up no namespace.
 fn why_text(alloc: Global, why: Why) -> Result<String, AllocError>
     ensures { IfOk result (λ text. string_bytes text ≡ why_text why) }
 {
@@ -106,7 +107,7 @@ fn why_text(alloc: Global, why: Why) -> Result<String, AllocError>
     }
 }
 
-/// Labels that make no namespace.
+/// Returns the text of labels that make up no namespace.
 fn incomplete_text(alloc: Global, why: Why) -> Result<String, AllocError>
     ensures { IfOk result (λ text. string_bytes text ≡ status_text (SetStatus.Incomplete why)) }
 {
@@ -114,7 +115,7 @@ fn incomplete_text(alloc: Global, why: Why) -> Result<String, AllocError>
     format!(in alloc; "incomplete {}", why)
 }
 
-/// What labels make.
+/// Returns the text of the status of labels.
 fn status_text(alloc: Global, status: &SetStatus) -> Result<String, AllocError>
     ensures { IfOk result (λ text. string_bytes text ≡ status_text status.now) }
 {
@@ -127,7 +128,7 @@ fn status_text(alloc: Global, status: &SetStatus) -> Result<String, AllocError>
     }
 }
 
-/// The number of a region, or `-` where there is none.
+/// Returns the number of a region, or `-` if there is none.
 fn region_text(alloc: Global, region: Option<u32>) -> Result<String, AllocError>
     ensures { IfOk result (λ text. string_bytes text ≡ region_text region) }
 {
@@ -137,7 +138,7 @@ fn region_text(alloc: Global, region: Option<u32>) -> Result<String, AllocError>
     }
 }
 
-/// The bytes of all extents.
+/// Returns the size of all extents together, in bytes.
 fn size_in(extents: &[Extent]) -> u128
     requires { length extents.now < 2 ^ 63 }
     ensures { result ≡ size_in extents.now }
@@ -149,7 +150,7 @@ fn size_in(extents: &[Extent]) -> u128
     size
 }
 
-/// What a namespace's line says after its name.
+/// Returns the text of a namespace's line after its name.
 fn facts(alloc: Global, namespace: &Namespace) -> Result<String, AllocError>
     ensures { IfOk result (λ text. string_bytes text ≡ facts_text namespace.now) }
 {
@@ -183,7 +184,7 @@ fn extent_line(alloc: Global, extent: &Extent) -> Result<String, AllocError>
     )
 }
 
-/// Adds the lines of extents.
+/// Appends the lines of extents.
 fn add_extents(alloc: Global, extents: &[Extent], text: &mut Vec<u8>) -> Result<(), AllocError>
     ensures { OnOk result (text.new.items ≡ text.old.items ++ extent_lines extents.now) }
 {
@@ -193,7 +194,7 @@ fn add_extents(alloc: Global, extents: &[Extent], text: &mut Vec<u8>) -> Result<
     Ok(())
 }
 
-/// Adds the lines of a namespace.
+/// Appends the lines of a namespace.
 fn add_namespace(alloc: Global, namespace: &Namespace, text: &mut Vec<u8>) -> Result<(), AllocError>
     ensures { OnOk result (text.new.items ≡ text.old.items ++ namespace_lines namespace.now) }
 {
@@ -212,7 +213,7 @@ fn list_text(alloc: Global, namespaces: &[Namespace]) -> Result<Vec<u8>, AllocEr
     Ok(text)
 }
 
-/// The answer on a registry that is open.
+/// Answers on an open registry.
 fn open_answer(alloc: Global, registry: &Registry) -> Result<Report, AllocError>
     ensures { IfOk result (λ answer. outcome_of answer ≡ printed (list_text (listing registry.now))) }
 {
@@ -220,7 +221,7 @@ fn open_answer(alloc: Global, registry: &Registry) -> Result<Report, AllocError>
     Ok(printed_answer(list_text(alloc, namespaces.as_slice())?))
 }
 
-/// A region that is no interleave set.
+/// Returns the text for a region that isn't an interleave set.
 fn set_text(alloc: Global, region: u32, fault: SetFault) -> Result<String, AllocError>
     ensures { IfOk result (λ text. string_bytes text ≡ open_fault_text (OpenFault.Set region fault)) }
 {
@@ -228,7 +229,7 @@ fn set_text(alloc: Global, region: u32, fault: SetFault) -> Result<String, Alloc
     format!(in alloc; "region {} {}", region, fault)
 }
 
-/// Why a registry isn't opened.
+/// Returns the text of why a registry isn't opened.
 fn open_fault_text(alloc: Global, fault: OpenFault) -> Result<String, AllocError>
     ensures text { IfOk result (λ text. string_bytes text ≡ open_fault_text fault) }
     ensures finding { IfOk result (λ _. fault ≢ OpenFault.OutOfMemory) }
@@ -240,8 +241,8 @@ fn open_fault_text(alloc: Global, fault: OpenFault) -> Result<String, AllocError
     }
 }
 
-/// The answer on a registry that isn't opened: the first region that is no interleave set with its fault, or the least two
-/// UUIDs of which extents meet.
+/// Answers on a registry that isn't opened: the first region that isn't an interleave set, with its
+/// fault, or the first two UUIDs with overlapping extents.
 pub fn open_fault_answer(alloc: Global, fault: OpenFault) -> Result<Report, AllocError>
     ensures text { IfOk result (λ answer. outcome_of answer ≡ open_outcome fault) }
     ensures finding { IfOk result (λ _. fault ≢ OpenFault.OutOfMemory) }
@@ -250,10 +251,11 @@ pub fn open_fault_answer(alloc: Global, fault: OpenFault) -> Result<Report, Allo
     Ok(image_answer(format!(in alloc; "image {}\n", fault)?))
 }
 
-/// The answer of `list` on an image set: a line for each UUID that a label names, rising by the bytes of
-/// the UUIDs, with the lines of its extents; or the first region that is no interleave set, or the first two
-/// UUIDs of which extents meet. A label area that has no valid index block has no labels. The set was
-/// loaded but for its contents, so each of its label areas has a label area's size. (UEFI 2.10, section 13.19.)
+/// Answers `list` on an image set: a line for each UUID that a label names, in ascending order of
+/// the UUIDs' bytes, with the lines of its extents; or the first region that isn't an interleave
+/// set, or the first two UUIDs with overlapping extents. A label area without a valid index block
+/// has no labels. The set was loaded without its contents, so each label area has a valid size.
+/// (UEFI 2.10, section 13.19.)
 pub fn list_answer(alloc: Global, outline: Outline) -> Result<Report, AllocError>
     requires { IsOutlined outline }
     ensures { IfOk result (λ answer. (contents : List (List ℕ)) → outcome_of answer ≡ list_outcome (image_set_with outline contents)) }

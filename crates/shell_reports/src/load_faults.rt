@@ -1,4 +1,4 @@
-//! What is said of an image set that isn't loaded.
+//! The texts for an image set that isn't loaded.
 ghost use Rattle.std.specs.Prelude.{◌≡◌, ◌≢◌, IfOk, string_bytes};
 ghost use Rattle.shell_reports.specs.LoadFaults.{object_text, nfit_fault_text, load_fault_text, load_outcome};
 ghost use Rattle.shell_reports.specs.Saved.{outcome_of};
@@ -22,7 +22,7 @@ fn object_text(alloc: Global, object: Object) -> Result<String, AllocError>
     }
 }
 
-/// What is wrong with a firmware table.
+/// Returns the text of a firmware table's fault.
 fn nfit_fault_text(alloc: Global, fault: NfitFault) -> Result<String, AllocError>
     ensures text { IfOk result (λ text. string_bytes text ≡ nfit_fault_text fault) }
     ensures finding { IfOk result (λ _. fault ≢ NfitFault.OutOfMemory) }
@@ -42,7 +42,7 @@ fn nfit_fault_text(alloc: Global, fault: NfitFault) -> Result<String, AllocError
     }
 }
 
-/// The text of an object that isn't there.
+/// Returns the text for a missing object.
 fn missing_text(alloc: Global, object: Object) -> Result<String, AllocError>
     ensures { IfOk result (λ text. string_bytes text ≡ load_fault_text (LoadFault.Missing object)) }
 {
@@ -50,7 +50,7 @@ fn missing_text(alloc: Global, object: Object) -> Result<String, AllocError>
     format!(in alloc; "{} Missing", object)
 }
 
-/// The text of an object whose size is outside its limits.
+/// Returns the text for an object whose size is outside its limits.
 fn size_text(alloc: Global, object: Object, bytes: u64) -> Result<String, AllocError>
     ensures { IfOk result (λ text. string_bytes text ≡ load_fault_text (LoadFault.Size object bytes)) }
 {
@@ -58,7 +58,7 @@ fn size_text(alloc: Global, object: Object, bytes: u64) -> Result<String, AllocE
     format!(in alloc; "{} Size {}", object, bytes)
 }
 
-/// The text of a table that isn't read.
+/// Returns the text for a table that is refused.
 fn table_text(alloc: Global, fault: NfitFault) -> Result<String, AllocError>
     ensures { IfOk result (λ text. string_bytes text ≡ load_fault_text (LoadFault.Nfit fault)) }
 {
@@ -66,7 +66,7 @@ fn table_text(alloc: Global, fault: NfitFault) -> Result<String, AllocError>
     format!(in alloc; "nfit {}", fault)
 }
 
-/// Why an image set isn't loaded. A source that fails and want of memory have no text.
+/// Returns the text of why an image set isn't loaded. Read faults and out of memory have no text.
 fn load_fault_text(alloc: Global, fault: LoadFault) -> Result<String, AllocError>
     ensures text { IfOk result (λ text. string_bytes text ≡ load_fault_text fault) }
     ensures source { IfOk result (λ _. fault ≢ LoadFault.ReadFault) }
@@ -81,7 +81,7 @@ fn load_fault_text(alloc: Global, fault: LoadFault) -> Result<String, AllocError
     }
 }
 
-/// The answer on an image set that isn't loaded, by a fault that is a finding about its objects.
+/// Answers on an image set that isn't loaded because of a fault of its objects.
 pub fn load_answer(alloc: Global, fault: LoadFault) -> Result<Report, AllocError>
     ensures text { IfOk result (λ answer. outcome_of answer ≡ load_outcome fault) }
     ensures source { IfOk result (λ _. fault ≢ LoadFault.ReadFault) }

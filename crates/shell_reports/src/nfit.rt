@@ -18,7 +18,7 @@ fn module_line(alloc: Global, number: usize, handle: u32) -> Result<String, Allo
     format!(in alloc; "module {} handle {}\n", number, handle)
 }
 
-/// Adds the lines of modules, by their handles.
+/// Appends the lines of modules, from their handles.
 fn add_modules(alloc: Global, handles: &[u32], text: &mut String) -> Result<(), AllocError>
     ensures { OnOk result (string_bytes text.new ≡ string_bytes text.old ++ module_lines 0 handles.now) }
 {
@@ -28,7 +28,7 @@ fn add_modules(alloc: Global, handles: &[u32], text: &mut String) -> Result<(), 
     Ok(())
 }
 
-/// Why a region is no interleave set.
+/// Returns the text of why a region isn't an interleave set.
 pub fn set_fault_text(alloc: Global, fault: SetFault) -> Result<String, AllocError>
     ensures text { IfOk result (λ text. string_bytes text ≡ set_fault_text fault) }
     ensures finding { IfOk result (λ _. fault ≢ SetFault.OutOfMemory) }
@@ -45,7 +45,7 @@ pub fn set_fault_text(alloc: Global, fault: SetFault) -> Result<String, AllocErr
     }
 }
 
-/// Adds a set's modules by position.
+/// Appends a set's modules in order of position.
 fn add_members(alloc: Global, set: &InterleaveSet, text: &mut String) -> Result<(), AllocError>
     ensures { OnOk result (string_bytes text.new ≡ string_bytes text.old ++ members_text set.now) }
 {
@@ -55,14 +55,14 @@ fn add_members(alloc: Global, set: &InterleaveSet, text: &mut String) -> Result<
     Ok(())
 }
 
-/// The start of what is said of a region that is a set.
+/// Returns the first part of the text for a region that is a set.
 fn range_text(alloc: Global, region: &Region) -> Result<String, AllocError>
     ensures { IfOk result (λ text. string_bytes text ≡ range_text region.now) }
 {
     format!(in alloc; " base {} length {} modules", region.base, region.length)
 }
 
-/// The end of what is said of a set.
+/// Returns the last part of the text for a set.
 fn set_text(alloc: Global, set: &InterleaveSet) -> Result<String, AllocError>
     ensures { IfOk result (λ text. string_bytes text ≡ set_text set.now) }
 {
@@ -70,7 +70,7 @@ fn set_text(alloc: Global, set: &InterleaveSet) -> Result<String, AllocError>
     format!(in alloc; " cookie {} unit {}\n", cookie, set.unit())
 }
 
-/// Adds what is said of a region that is a set.
+/// Appends the text for a region that is a set.
 fn add_set(
     alloc: Global,
     region: &Region,
@@ -84,7 +84,7 @@ fn add_set(
     text.push_str(set_text(alloc, set)?.as_str())
 }
 
-/// Adds what is said of a region that is no set.
+/// Appends the text for a region that isn't a set.
 fn add_fault(alloc: Global, fault: SetFault, text: &mut String) -> Result<(), AllocError>
     ensures text { (region : Region) → OnOk result (string_bytes text.new ≡ string_bytes text.old ++ reading_text region (Err fault)) }
     ensures finding { OnOk result (fault ≢ SetFault.OutOfMemory) }
@@ -93,14 +93,14 @@ fn add_fault(alloc: Global, fault: SetFault, text: &mut String) -> Result<(), Al
     text.push_str(format!(in alloc; " fault {}\n", fault)?.as_str())
 }
 
-/// The start of the line of a region.
+/// Returns the start of a region's line.
 fn region_start(alloc: Global, number: u32, index: u16) -> Result<String, AllocError>
     ensures { IfOk result (λ text. string_bytes text ≡ region_start number index) }
 {
     format!(in alloc; "region {} index {}", number, index)
 }
 
-/// Adds the line of a region, which is the one of this number.
+/// Appends the line of the region with this number.
 fn add_region(
     alloc: Global,
     nfit: &Nfit,
@@ -120,7 +120,7 @@ fn add_region(
     }
 }
 
-/// Adds the lines of a table's regions.
+/// Appends the lines of a table's regions.
 fn add_regions(alloc: Global, nfit: &Nfit, text: &mut String) -> Result<(), AllocError>
     requires counted { AreCounted nfit.now }
     requires few { length nfit.now.regions < 2 ^ 32 }
@@ -144,8 +144,8 @@ fn nfit_text(alloc: Global, nfit: &Nfit) -> Result<String, AllocError>
     Ok(text)
 }
 
-/// The answer of `nfit` on a firmware table: a line for each module and each region. A region that is no
-/// interleave set has a line that says why. (The table: ACPI 6.5, section 5.2.25.)
+/// Answers `nfit` on a firmware table: a line for each module and each region. The line of a region
+/// that isn't an interleave set has the reason. (The table: ACPI 6.5, section 5.2.25.)
 pub fn nfit_answer(alloc: Global, nfit: &Nfit) -> Result<Report, AllocError>
     requires counted { AreCounted nfit.now }
     requires few { length nfit.now.regions < 2 ^ 32 }

@@ -1,4 +1,4 @@
-//! A namespace's arenas, read in the set that was loaded, and what a command answers with them.
+//! The arenas of a namespace, read in the loaded set, and the answers of commands on them.
 ghost use Rattle.std.specs.Prelude.{◌≡◌, IfOk, map};
 ghost use Rattle.std.specs.List.{All};
 ghost use Rattle.image_set.specs.Load.{bytes_kept, image_set_in};
@@ -25,10 +25,10 @@ use sector_namespaces::open_sectors;
 use std::alloc::{AllocError, Global};
 use uuid::Uuid;
 
-/// What is asked of the arenas of a namespace.
+/// The question of a command about the arenas of a namespace.
 #[derive(Clone, Copy, Debug)]
 pub(crate) enum Ask {
-    /// What each of them is.
+    /// The layout of each.
     Arenas,
     /// The cell of a sector of the namespace.
     Sector(u64),

@@ -1,4 +1,4 @@
-//! What a command that saves nothing answers.
+//! The answer of a command that saves nothing.
 ghost use Rattle.std.specs.Prelude.{◌≡◌, IfOk, None, string_bytes};
 ghost use Rattle.shell_reports.specs.Outcome.{printed, usage};
 ghost use Rattle.shell_reports.specs.Saved.{outcome_of};
@@ -23,7 +23,7 @@ pub fn usage_answer(alloc: Global) -> Result<Report, AllocError>
     })
 }
 
-/// An answer that names a fault of the images.
+/// Makes an answer that names a fault of the images.
 pub fn image_answer(text: String) -> Report
     ensures { outcome_of result ≡ record { ending = Ending.Image; text = string_bytes text; saved = None } }
 {

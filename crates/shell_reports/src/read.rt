@@ -19,7 +19,7 @@ use image_set::Loaded;
 use std::alloc::{AllocError, Global};
 use uuid::Uuid;
 
-/// The bytes of words, the low byte of each first.
+/// Returns the bytes of words, the low byte of each first.
 fn bytes_of(alloc: Global, words: &[u64]) -> Result<Vec<u8>, AllocError>
     ensures { IfOk result (λ bytes. bytes.items ≡ bytes_of words.now) }
 {
@@ -30,14 +30,14 @@ fn bytes_of(alloc: Global, words: &[u64]) -> Result<Vec<u8>, AllocError>
     Ok(bytes)
 }
 
-/// Whether all of these bytes are this one.
+/// Returns whether all of these bytes are this one.
 fn is_fill(byte: u8, bytes: &[u8]) -> bool
     ensures { result ≡ is_fill byte bytes.now }
 {
     bytes.iter().all(|other| *other == byte)
 }
 
-/// The text of a value that has one byte throughout.
+/// Returns the text of a value that consists of one repeated byte.
 fn fill_text(alloc: Global, byte: u8) -> Result<String, AllocError>
     ensures { IfOk result (λ text. string_bytes text ≡ codes "fill:" ++ encode_lower (byte ∷ [])) }
 {
@@ -45,7 +45,7 @@ fn fill_text(alloc: Global, byte: u8) -> Result<String, AllocError>
     format!(in alloc; "fill:{}", digits)
 }
 
-/// The text of a value by its bytes.
+/// Returns the text of a value as its bytes.
 fn hex_text(alloc: Global, value: &[u8]) -> Result<String, AllocError>
     ensures { IfOk result (λ text. string_bytes text ≡ codes "hex:" ++ encode_lower value.now) }
 {
@@ -53,7 +53,7 @@ fn hex_text(alloc: Global, value: &[u8]) -> Result<String, AllocError>
     format!(in alloc; "hex:{}", digits)
 }
 
-/// The text of a value: the one byte that it has throughout, or all of its bytes.
+/// Returns the text of a value: its one repeated byte, or all of its bytes.
 fn value_text(alloc: Global, value: &[u8]) -> Result<String, AllocError>
     ensures { IfOk result (λ text. string_bytes text ≡ value_text value.now) }
 {
@@ -78,7 +78,7 @@ fn words_line(alloc: Global, words: &[u64]) -> Result<String, AllocError>
     format!(in alloc; "ok {}\n", value)
 }
 
-/// The line of a sector that is there.
+/// Returns the line of an existing sector.
 fn cell_line<W: WordSpace>(
     alloc: Global,
     chain: &ReadChain<W>,
@@ -110,10 +110,11 @@ pub(crate) fn sector_answer<W: WordSpace>(
     refused_answer(alloc, &format!(in alloc; "Range {}", sectors)?)
 }
 
-/// The answer of `read` on an image set: the value of a sector of a namespace, or that it is bad; or the first region that
-/// is no interleave set, or the first two UUIDs of which extents meet; or why the namespace isn't found; or the first of its
-/// arenas that breaks the format; or `Range` with the number of sectors of all its arenas, where it has no such sector. All
-/// arenas are opened before the sector is looked at. No image set is written.
+/// Answers `read` on an image set: the value of a sector of a namespace, or that it is bad; or the
+/// first region that isn't an interleave set, or the first two UUIDs with overlapping extents; or
+/// why the namespace isn't found; or the first of its arenas that violates the format; or `Range`
+/// with the number of sectors of all its arenas, if it has no such sector. All arenas are opened
+/// before the sector is read. No image set is written.
 pub fn read_answer(
     alloc: Global,
     uuid: &Uuid,

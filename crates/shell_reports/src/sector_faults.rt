@@ -1,4 +1,4 @@
-//! The texts of why an arena isn't opened, and of why a namespace isn't found.
+//! The texts of why an arena isn't opened, and why a namespace isn't found.
 ghost use Rattle.std.specs.Prelude.{◌≡◌, ◌≢◌, ◌∷◌, [], IfOk, None, codes, string_bytes};
 ghost use Rattle.shell_reports.specs.Outcome.{joined, lf};
 ghost use Rattle.shell_reports.specs.Saved.{outcome_of};
@@ -28,7 +28,7 @@ fn field_text(field: LayoutField) -> &'static str
     }
 }
 
-/// What is wrong with an info block.
+/// Returns the text of an info block's fault.
 fn info_text(alloc: Global, fault: InfoFault) -> Result<String, AllocError>
     ensures { IfOk result (λ text. string_bytes text ≡ info_text fault) }
 {
@@ -44,7 +44,7 @@ fn info_text(alloc: Global, fault: InfoFault) -> Result<String, AllocError>
     }
 }
 
-/// What is wrong with a lane's log group.
+/// Returns the text of a log group's fault.
 fn flog_text(alloc: Global, lane: u32, fault: FlogFault) -> Result<String, AllocError>
     ensures { IfOk result (λ text. string_bytes text ≡ flog_text lane fault) }
 {
@@ -55,7 +55,7 @@ fn flog_text(alloc: Global, lane: u32, fault: FlogFault) -> Result<String, Alloc
     }
 }
 
-/// What is wrong with the blocks; want of memory is no finding.
+/// Returns the text of a fault of the blocks. Out of memory isn't a finding.
 fn block_text(alloc: Global, fault: BlockFault) -> Result<String, AllocError>
     ensures { IfOk result (λ text. string_bytes text ≡ block_text fault) }
 {
@@ -67,7 +67,7 @@ fn block_text(alloc: Global, fault: BlockFault) -> Result<String, AllocError>
     }
 }
 
-/// Why an arena isn't opened; want of memory is no finding.
+/// Returns the text of why an arena isn't opened. Out of memory isn't a finding.
 fn open_refused_text(alloc: Global, refused: OpenRefused) -> Result<String, AllocError>
     ensures text { IfOk result (λ text. string_bytes text ≡ open_refused_text refused) }
     ensures finding { IfOk result (λ _. refused ≢ OpenRefused.OutOfMemory) }

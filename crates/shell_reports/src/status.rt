@@ -1,11 +1,11 @@
 /// How a run ends; its number is the program's exit status.
 #[derive(Clone, Copy, Debug, PartialEq, Eq)]
 pub enum Status {
-    /// 0: the command did what it says.
+    /// 0: the command succeeded.
     Ok,
     /// 2: the words aren't a command line.
     Usage,
-    /// 3: the images show a fault, which the text names with its object and place.
+    /// 3: the images have a fault; the text names it with its object and place.
     Image,
     /// 4: the command is refused, and the text says why.
     Refused,
@@ -13,13 +13,13 @@ pub enum Status {
     ReadFault,
     /// 6: writing the image set or the text failed.
     WriteFault,
-    /// 7: memory was wanting.
+    /// 7: memory ran out.
     OutOfMemory,
     /// 8: power was cut, as the command line asked.
     PowerCut,
 }
 
-/// How a run ends where nothing outside fails and memory is found.
+/// How a run ends if nothing outside fails and memory is found.
 #[derive(Clone, Copy, Debug, PartialEq, Eq)]
 pub enum Ending {
     Done,
@@ -29,7 +29,7 @@ pub enum Ending {
     PowerCut,
 }
 
-/// Why a run stops before it has an answer.
+/// Why a run stops without an answer.
 #[derive(Clone, Copy, Debug, PartialEq, Eq)]
 pub enum Stop {
     ReadFault,
@@ -61,7 +61,7 @@ impl Ending {
     ghost use Rattle.std.specs.Prelude.{◌≡◌};
     ghost use Rattle.shell_reports.specs.Outcome.{status_of};
 
-    /// The status of a run that ends so.
+    /// Returns the status of a run with this ending.
     pub fn status(self) -> Status
         ensures { result ≡ status_of self }
     {

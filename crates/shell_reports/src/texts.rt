@@ -1,4 +1,4 @@
-//! The texts of values that stand in lines.
+//! The texts of values in lines.
 ghost use Rattle.std.specs.Prelude.{◌≡◌, ◌++◌, ◌∷◌, [], IfOk, string_bytes, codes};
 ghost use Rattle.std.specs.Str.{is_utf8};
 ghost use Rattle.std.specs.List.{list_all};
@@ -8,7 +8,7 @@ ghost use Rattle.shell_reports.specs.Texts.{is_plain, is_printable, escaped, nam
 use label_codec::{LabelFault, Mode, SizeField};
 use std::alloc::{AllocError, Global};
 
-/// Whether bytes are UTF-8.
+/// Returns whether bytes are UTF-8.
 fn is_text(bytes: &[u8]) -> bool
     ensures { result ≡ is_utf8 bytes.now }
 {
@@ -18,7 +18,7 @@ fn is_text(bytes: &[u8]) -> bool
     }
 }
 
-/// Whether a byte isn't a control character of ASCII.
+/// Returns whether a byte isn't a control character of ASCII.
 fn is_plain(byte: u8) -> bool
     ensures { result ≡ is_plain byte }
 {
@@ -31,14 +31,14 @@ fn all_plain(bytes: &[u8]) -> bool
     bytes.iter().all(|byte| is_plain(*byte))
 }
 
-/// Whether a name is UTF-8 without control characters.
+/// Returns whether a name is UTF-8 without control characters.
 fn is_printable(name: &[u8]) -> bool
     ensures { result ≡ is_printable name.now }
 {
     is_text(name) && all_plain(name)
 }
 
-/// A text with a backslash before each quotation mark and each backslash.
+/// Returns a text with a backslash before each quotation mark and each backslash.
 fn escaped(alloc: Global, text: &[u8]) -> Result<Vec<u8>, AllocError>
     ensures { IfOk result (λ bytes. bytes.items ≡ escaped text.now) }
 {
@@ -54,7 +54,7 @@ fn escaped(alloc: Global, text: &[u8]) -> Result<Vec<u8>, AllocError>
     Ok(bytes)
 }
 
-/// A name in quotation marks, or in hexadecimal digits where it isn't printable.
+/// Returns a name in quotation marks, or in hexadecimal digits if it isn't printable.
 pub fn name_text(alloc: Global, name: &[u8]) -> Result<Vec<u8>, AllocError>
     ensures { IfOk result (λ bytes. bytes.items ≡ name_text name.now) }
 {
@@ -94,7 +94,7 @@ pub fn mode_text(alloc: Global, mode: Mode) -> Result<String, AllocError>
     }
 }
 
-/// The text of why a slot has no valid label.
+/// Returns the text of why a slot has no valid label.
 pub fn label_fault_text(alloc: Global, fault: LabelFault) -> Result<String, AllocError>
     ensures { IfOk result (λ text. string_bytes text ≡ label_fault_text fault) }
 {

@@ -1,4 +1,4 @@
--- What the sessions kept, beside the register at the end.
+-- The sessions and the register at the end.
 use Rattle.std.proofs.Common.{◌≡◌, ℕ, ◌<◌, List, length, get_or, map, Option, Some, None, sym, ap, ◌∙◌, subst, arith}
 use Rattle.std.specs.Prelude.{Vec, All, Any}
 use Rattle.std.proofs.lemmas.List.{length-map}

@@ -1,4 +1,4 @@
--- Sessions that get a pass more, and that give one back.
+-- Sessions that get one more pass, and that return one.
 use Rattle.std.proofs.Common.{◌≡◌, ℕ, ◌<◌, ◌≤◌, List, [], ◌∷◌, ◌++◌, length, length-append, get_or, map, Option, Some, None, refl, sym, ap, ◌∙◌, subst, arith, le_refl}
 use Rattle.std.specs.Prelude.{Vec, vec_len, vec_capacity, All, Any}
 use Rattle.atomic_table.specs.Seated.{TableId}

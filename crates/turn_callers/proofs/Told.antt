@@ -1,4 +1,4 @@
--- A caller was told that power is off: some caller stopped it.
+-- If a caller was told that power is off, some caller stopped it.
 use Rattle.std.proofs.Common.{◌≡◌, ℕ, ◌<◌, ◌≤◌, List, length, get_or, true, false, Some, sym, ap, ◌∙◌, subst, lt_of_not-le}
 use Rattle.std.specs.Prelude.{All, IsSomeAnd}
 use mathlib.Core.Logic.{dite}

@@ -8,10 +8,10 @@ use Rattle.turn_callers.specs.declared.tally.Quota.{Quota}
 use Rattle.turn_callers.specs.declared.tally.Tally.{Tally}
 
 module _ {g : Ghosts Tally Quota} where
-  -- the pass of the caller q, outside, which has so many turns left
+  -- a pass of caller q, outside, with n turns left
   abbrev pub HasLeft : TableId → ℕ → ℕ → TurnPass Tally Quota g → Type 0
   HasLeft lock n q p = (lock_of p ≡ lock) × (number_of p ≡ q) × (out_of p ≡ None) × IsSomeAnd (part_of p) (λ s. s.left ≡ n)
 
-  -- pass q is that of caller q, and has so many turns left
+  -- pass q is that of caller q, and has n turns left
   abbrev pub HaveLeft : TableId → ℕ → List (TurnPass Tally Quota g) → Type 0
   HaveLeft lock n ps = (q : ℕ) (p : TurnPass Tally Quota g) → q < length ps → HasLeft lock n q (slice_index_or ps q p)

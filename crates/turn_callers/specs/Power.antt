@@ -1,4 +1,4 @@
--- Whether power is off, and what each caller did and was told.
+-- Whether power is off, what each caller did and what it was told.
 use Rattle.std.specs.Prelude.{ℕ, List, [], ◌∷◌, length, Bool, false, ◌||◌, ◌&&◌, not, nat_lt, slice_index_or}
 use Rattle.turn_callers.specs.declared.desk.Mine.{Mine}
 
@@ -7,7 +7,7 @@ abbrev pub any_of : List Bool → Bool
 any_of [] = false
 any_of (b ∷ bs) = b || any_of bs
 
--- a caller was told that power is off only where it is
+-- callers were told that power is off only if it is
 abbrev pub told_only : Bool → List Bool → Bool
 told_only off told = off || not (any_of told)
 

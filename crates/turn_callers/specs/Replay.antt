@@ -1,4 +1,4 @@
--- The register of one thread, and a journal of its calls.
+-- The register of a single thread, and a journal of its calls.
 use Rattle.std.specs.Prelude.{◌≡◌, ℕ, ◌<◌, ◌≤◌, List, [], ◌∷◌, length, Bool, true, ◌&&◌, ◌==◌, filter, Vec}
 use Rattle.turn_lock.specs.Rows.{items_at}
 use Rattle.turn_callers.specs.declared.register.Call.{Call}
@@ -19,7 +19,7 @@ abbrev pub value_of : ℕ → List Entry → ℕ
 value_of v [] = v
 value_of v (e ∷ es) = value_of (value_after v e.call) es
 
--- each call replied what the register of one thread replies there, from the value v on
+-- each reply is the one that a single thread would get, starting from the value v
 abbrev pub is_legal : ℕ → List Entry → Bool
 is_legal v [] = true
 is_legal v (e ∷ es) = (e.reply == reply_of v e.call) && is_legal (value_after v e.call) es
@@ -31,13 +31,13 @@ entry q c r = record { by = q; call = c; reply = r }
 abbrev pub entries_by : ℕ → List Entry → List Entry
 entries_by q es = filter (λ (e : Entry). e.by == q) es
 
--- the entries of the caller q, where it made these calls and got these replies
+-- the entries of caller q, if it made these calls and got these replies
 abbrev pub made : ℕ → List Call → List ℕ → List Entry
 made q [] rs = []
 made q (c ∷ cs) [] = []
 made q (c ∷ cs) (r ∷ rs) = entry q c r ∷ made q cs rs
 
--- the journal has no entry of a number that is no caller's, where there are n
+-- with n callers, the journal has no entry of another number
 abbrev pub HasNoOther : ℕ → List Entry → Type 0
 HasNoOther n es = (q : ℕ) → n ≤ q → entries_by q es ≡ []
 

@@ -1,4 +1,4 @@
--- What a session at one register is before and after its calls.
+-- A session at one register, before and after its calls.
 use Rattle.std.specs.Prelude.{◌≡◌, ℕ, ◌<◌, ◌≤◌, List, [], length, Some, None, map, slice_index_or, vec_len, vec_capacity, Vec}
 use Rattle.atomic_table.specs.Seated.{TableId}
 use Rattle.turn_lock.specs.Passes.{lock_of, number_of, part_of, out_of}
@@ -9,17 +9,17 @@ use Rattle.turn_lock.specs.Rows.{items_at}
 use Rattle.turn_callers.specs.Replay.{made}
 use Rattle.turn_callers.specs.Shares.{share}
 
--- a register that no call was made of, with room for the calls of these scripts
+-- a register without calls yet, with room for the calls of these scripts
 abbrev pub IsNewFor : {X Z : Type 0} → List (Vec X Z) → Register → Type 0
 IsNewFor scripts r = (r.journal.items ≡ []) × (r.rooms.items ≡ map vec_len scripts)
 
--- the session q of this lock has made no call, and there is room for those of its script
+-- session q of this lock has made no call, and has room for those of its script
 abbrev pub IsReady : TableId → List Call → ℕ → Session → Type 0
 IsReady lock calls q s =
     (lock_of s.pass ≡ lock) × (number_of s.pass ≡ q) × (out_of s.pass ≡ None) × (part_of s.pass ≡ Some (share [] (length calls)))
     × (s.replies.items ≡ []) × (length calls ≤ vec_capacity s.replies)
 
--- it has made the calls of its script, and its replies are those of its entries
+-- it has made the calls of its script, and its replies are those in its entries
 abbrev pub IsDone : TableId → List Call → ℕ → Session → Type 0
 IsDone lock calls q s =
     (lock_of s.pass ≡ lock) × (number_of s.pass ≡ q) × (out_of s.pass ≡ None) × (part_of s.pass ≡ Some (share (made q calls s.replies.items) 0))

@@ -14,7 +14,7 @@ use Rattle.turn_callers.specs.Orders.{entry_at}
 abbrev pub Has : List Entry → ℕ → Share → Type 0
 Has es n s = (s.entries ≡ es) × (n ≤ s.room)
 
--- a pass of each register for the caller q, which has the entries es j at the j-th, and room for n more at each
+-- a pass of each register for caller q, with the entries es j at the j-th, and room for n more at each
 abbrev pub Seats : {g : Ghosts Register Share} → List TableId → ℕ → (ℕ → List Entry) → ℕ → List (TurnPass Register Share g) → Type 0
 Seats locks q es n ps = ArePassesOf locks q (λ j. Has (es j) n) ps
 
@@ -22,6 +22,6 @@ Seats locks q es n ps = ArePassesOf locks q (λ j. Has (es j) n) ps
 abbrev pub HasSeats : {g : Ghosts Register Share} → List TableId → List (TurnPass Register Share g) → Type 0
 HasSeats locks ps = (q : ℕ) × (es : ℕ → List Entry) × (n : ℕ) × Seats locks q es (n + 1) ps
 
--- the caller of ps made this order, with this reply: its register has one entry of it more
+-- the caller of ps made this order and got this reply: its register has one more entry of it
 abbrev pub Ordered : {g : Ghosts Register Share} → List TableId → Order → ℕ → List (TurnPass Register Share g) → List (TurnPass Register Share g) → Type 0
 Ordered locks o r ps ps' = (q : ℕ) (es : ℕ → List Entry) (n : ℕ) → Seats locks q es (n + 1) ps → Seats locks q (λ j. es j ++ entry_at q j o r) n ps'

@@ -1,4 +1,4 @@
--- What a session at several registers is before and after its orders.
+-- A session at several registers, before and after its orders.
 use Rattle.std.specs.Prelude.{◌≡◌, ℕ, ◌<◌, ◌≤◌, List, [], ◌∷◌, ◌++◌, length, true, Vec, vec_capacity, slice_index_or}
 use Rattle.atomic_table.specs.Seated.{TableId}
 use Rattle.turn_callers.specs.contracts.register.RegisterParted.TheImpl.{ghosts}
@@ -19,7 +19,7 @@ use Rattle.turn_callers.specs.Seats.{Seats}
 abbrev pub IsReady : List TableId → List Order → Session → Type 0
 IsReady locks orders s = Seats locks s.number (λ j. []) (length orders) s.passes.items × (s.replies.items ≡ []) × (length orders ≤ vec_capacity s.replies)
 
--- all orders are made, and the replies are those of the entries at each register
+-- all orders are made, and the replies are those in the entries at each register
 abbrev pub IsDone : List TableId → List Order → Session → Type 0
 IsDone locks orders s = Seats locks s.number (λ j. made_at s.number j orders s.replies.items) 0 s.passes.items × (length s.replies.items ≡ length orders)
 
@@ -29,21 +29,21 @@ AreReady locks scripts ss = (q : ℕ) (d : Session) → q < length ss → ((slic
 abbrev pub AreDone : {Z : Type 0} → List TableId → List (Vec Order Z) → List Session → Type 0
 AreDone locks scripts ss = (q : ℕ) (d : Session) → q < length ss → ((slice_index_or ss q d).number ≡ q) × IsDone locks (items_at scripts q) (slice_index_or ss q d)
 
--- a lock for this many callers, round a register that no call was made of
+-- a lock for this many callers, around a register without calls yet
 abbrev pub IsNew : ℕ → Turn Register Share → Type 0
 IsNew callers t = (callers_of t ≡ callers) × ((first_of t).journal.items ≡ [])
 
--- the journal of the register j: that of one thread, in which each caller's entries are its orders there, with its replies
+-- the journal of register j: legal, and each caller's entries are its orders there, with its replies
 pub record IsJournal {Z : Type 0} (scripts : List (Vec Order Z)) (ss : List Session) (j : ℕ) (es : List Entry) : Type 0 where
   pub legal : is_legal 0 es ≡ true
   pub tied : (q : ℕ) (d : Session) → q < length ss → entries_by q es ≡ made_at q j (items_at scripts q) (slice_index_or ss q d).replies.items
   pub no_other : HasNoOther (length ss) es
 
--- that of each of the n registers
+-- the same for each of the n registers
 abbrev pub AreJournals : {Y Z : Type 0} → List (Vec Order Y) → List Session → ℕ → List (Vec Entry Z) → Type 0
 AreJournals scripts ss n js = (j : ℕ) → j < n → IsJournal scripts ss j (items_at js j)
 
--- ---- passes that are handed out and taken back
+-- ---- handing passes out and taking them back
 
 -- the same numbers and replies
 abbrev pub KeepRest : List Session → List Session → Type 0
@@ -53,11 +53,11 @@ KeepRest ss ss' = (q : ℕ) (d : Session) → q < length ss → ((slice_index_or
 abbrev pub KeepReplies : List Session → List Session → Type 0
 KeepReplies ss ss' = (q : ℕ) (d : Session) → q < length ss → (slice_index_or ss' q d).replies ≡ (slice_index_or ss q d).replies
 
--- each session has one pass more, which is that of ps at its place
+-- each session has one more pass, the one of ps at its place
 abbrev pub HaveOneMore : List Session → List (TurnPass Register Share ghosts) → List Session → Type 0
 HaveOneMore ss ps ss' = (q : ℕ) (d : Session) (e : TurnPass Register Share ghosts) → q < length ss → (slice_index_or ss' q d).passes.items ≡ (slice_index_or ss q d).passes.items ++ slice_index_or ps q e ∷ []
 
--- each session had one pass more, which is that of ps at its place
+-- each session had one more pass, the one of ps at its place
 abbrev pub HadOneMore : List Session → List (TurnPass Register Share ghosts) → List Session → Type 0
 HadOneMore ss ps ss' = (q : ℕ) (d : Session) (e : TurnPass Register Share ghosts) → q < length ss → (slice_index_or ss q d).passes.items ≡ (slice_index_or ss' q d).passes.items ++ slice_index_or ps q e ∷ []
 

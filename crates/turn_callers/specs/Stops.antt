@@ -1,4 +1,4 @@
--- What the passes of a desk say of its callers.
+-- What the passes of a desk say about its callers.
 use Rattle.std.specs.Prelude.{◌≡◌, ℕ, ◌≤◌, List, true, false, Any, IsSomeAnd, slice_index_or}
 use Rattle.turn_lock.specs.declared.parted.Parted.{Ghosts}
 use Rattle.turn_lock.specs.declared.pass.TurnPass.{TurnPass}

@@ -10,7 +10,7 @@ use std::thread;
 use std::thread::Threads;
 use turn_lock::{Turn, TurnPass};
 
-// So many turns of one caller, and it lets others run.
+// After this many turns, a caller lets others run.
 const RUN: u64 = 1024;
 
 /// Takes all turns that the caller has left.
@@ -70,8 +70,8 @@ fn count_each<R: Threads + Wait + Sync>(
     passes
 }
 
-/// Callers that take so many turns each, in at most as many threads as there are workers: every
-/// turn is counted, once.
+/// Lets `callers` callers take `each` turns each, in at most `workers` threads. The tally has
+/// counted every turn once.
 pub fn count_turns<R: Threads + Wait + Sync>(
     rt: &R,
     alloc: Global,

@@ -6,7 +6,7 @@ use std::alloc::{AllocError, Global};
 use turn_lock::Parted;
 
 /// A caller's part of the desk: whether it stopped the power, and whether it was told that power is
-/// off. No value of it is made.
+/// off. It never exists at run time.
 pub struct Mine {
     /// Whether the desk has a place for the caller.
     pub placed: bool,
@@ -14,15 +14,15 @@ pub struct Mine {
     pub told: bool,
 }
 
-/// A power switch, with what each caller did and was told. Power is off exactly where a caller
-/// stopped it, and a caller was told so only where it is.
+/// A power switch, with what each caller did and was told. Power is off exactly if a caller stopped
+/// it, and a caller was told so only if it is off.
 ///
-/// The fact is one of several callers, so it can't stand in a part. It is a test over the lists of
-/// all, which the type keeps.
+/// This fact is about several callers, so it can't be in a part. It is a test over the lists of all
+/// callers, an invariant of the type.
 #[derive(Drop)]
 pub struct Desk {
     off: bool,
-    // Of each caller, whether it stopped the power, and whether it was told that power is off.
+    // For each caller, whether it stopped the power, and whether it was told that power is off.
     stopped: Vec<bool>,
     told: Vec<bool>,
     ghost stopped_by_one: { off ≡ any_of stopped.items },
@@ -51,7 +51,8 @@ impl Desk {
         })
     }
 
-    /// Switches power off for caller `q`. False, and nothing changes, if there is no place for it.
+    /// Switches power off for caller `q`. It returns false, and nothing changes, if there is no
+    /// place for the caller.
     pub fn stop(&mut self, q: usize) -> bool
         ensures yes { IsTrue result → (q < length self.old.stopped.items) × (self.new.stopped.items ≡ slice_set self.old.stopped.items q true) }
         ensures no { result ≡ false → self.new.stopped.items ≡ self.old.stopped.items }
@@ -66,8 +67,8 @@ impl Desk {
         true
     }
 
-    /// Says whether power is off, and notes that caller `q` was told so. `None`, and nothing
-    /// changes, if there is no place for it.
+    /// Returns whether power is off, and records that caller `q` was told so. It returns `None`,
+    /// and nothing changes, if there is no place for the caller.
     pub fn ask(&mut self, q: usize) -> Option<bool>
         ensures stopped { self.new.stopped.items ≡ self.old.stopped.items }
         ensures yes { result ≡ Some true → (q < length self.old.told.items) × (self.new.told.items ≡ slice_set self.old.told.items q true) }
@@ -85,7 +86,7 @@ impl Desk {
     }
 }
 
-// No caller yet did or was told anything.
+// No caller has done anything or been told anything yet.
 fn silent(alloc: Global, callers: u32) -> Result<Vec<bool>, AllocError>
     ensures { IfOk result (λ v. v.items ≡ replicate callers false) }
 {

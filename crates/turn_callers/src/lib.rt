@@ -1,24 +1,28 @@
-//! Callers of the turn lock, which show that its contract is enough.
+//! Clients of the turn lock. They show that its contract suffices.
 //!
-//! Each module is a small client of `turn_lock`, proved from its public contract alone: what many
-//! callers do at once, in threads that nobody orders, comes out as a fact about what each of them
-//! did. All of them go one way, which a larger client can go too.
+//! Each module is a small client of `turn_lock`, proved from its public contract alone: whatever
+//! the threads do, the result is a fact about what each caller did. All of them have one structure,
+//! which a larger client can copy.
 //!
-//! 1. The value behind the lock keeps, as facts of its type, what is so of all callers together. 2.
-//! Its part for a caller is what this caller did: its own entries of a journal, its turns left. 3.
-//! One function makes one turn: `enter`, a change, `leave`. It says how the part changes. 4. A
-//! session makes many turns, and its loop says what the part is by then. 5. When the threads have
-//! ended, `close` gives a value whose parts are what the passes know.
+//! 1. The value behind the lock holds, as an invariant of its type, what is true of all callers
+//!    together.
+//! 2. Its part for a caller is what this caller did: its own entries of a journal, its turns left.
+//! 3. One function makes one turn: `enter`, a change, `leave`. Its contract says how the part
+//!    changes.
+//! 4. A session makes many turns, and its loop's invariant says what the part is by then.
+//! 5. When the threads have ended, `close` returns a value whose parts the passes know.
 //!
-//! | module | what is shared | what is known at the end |
-//! |---|---|---|
-//! | `tally`, `counting` | a count of turns | every turn was counted, once |
-//! | `register`, `turns`, `script` | a register with a journal of its calls | the journal is one that a single thread could have made (`is_legal`), and the entries of each caller are its calls, in order, with its replies (`AreOwnEntries`) |
-//! | `order`, `orders`, `session`, `seats`, `shelf` | many such registers, a lock round each | the same of each of them (`AreOwnEntriesAt`) |
-//! | `desk`, `switch` | a switch that any caller may turn off | where a caller was told that it is off, some caller turned it off (`OneTold`, `OneStopped`) |
+//! - `tally`, `counting` share a count of turns. At the end every turn was counted, once.
+//! - `register`, `turns`, `script` share a register with a journal of its calls. A single thread
+//!   could have made the journal (`is_legal`), and the entries of each caller are its calls, in
+//!   order, with its replies (`AreOwnEntries`).
+//! - `order`, `orders`, `session`, `seats`, `shelf` share many such registers, with a lock around
+//!   each. The same holds for each of them (`AreOwnEntriesAt`).
+//! - `desk`, `switch` share a switch that any caller may turn off. If a caller was told that it is
+//!   off, some caller turned it off (`OneTold`, `OneStopped`).
 //!
-//! No caller allocates while it has the turn: room for all calls is kept from the start, and how
-//! much of it is left to a caller stands in its part.
+//! No caller allocates while it has the turn: room for all calls is reserved at the start, and a
+//! caller's part says how much of it the caller has left.
 #![tactic(auto)]
 
 mod counting;

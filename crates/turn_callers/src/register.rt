@@ -6,15 +6,15 @@ use std::alloc::{AllocError, Global};
 use std::collections::LinkedList;
 use turn_lock::Parted;
 
-/// A call of a register. Each replies the value that was there before it.
+/// A call of a register. It replies the value before the call.
 #[derive(Clone, Copy)]
 pub enum Call {
     Read,
-    /// Puts this value there.
+    /// Stores this value.
     Write(u64),
 }
 
-/// A call that was made, by whom, and what it replied.
+/// A call that was made, its caller, and its reply.
 #[derive(Clone, Copy)]
 pub struct Entry {
     pub by: u32,
@@ -22,16 +22,16 @@ pub struct Entry {
     pub reply: u64,
 }
 
-/// A caller's part of a register: its own entries, and the room that was kept for more of them. No
-/// value of it is made.
+/// A caller's part of a register: its own entries, and the room reserved for more of them. It never
+/// exists at run time.
 pub struct Share {
     pub entries: LinkedList<Entry>,
     pub room: u64,
 }
 
-/// A register with the journal of its calls, which is one that a single thread could have made.
+/// A register with the journal of its calls. A single thread could have made the journal.
 ///
-/// Room for all calls of all callers is kept from the start, so no call meets want of memory while
+/// Room for all calls of all callers is reserved at the start, so no call runs out of memory while
 /// its caller has the turn.
 #[derive(Drop)]
 pub struct Register {
@@ -75,7 +75,7 @@ impl Register {
         })
     }
 
-    /// The journal, which is legal.
+    /// Returns the journal, which is legal.
     pub fn into_journal(self) -> Vec<Entry>
         ensures same { result ≡ self.journal }
         ensures legal { is_legal 0 result.items ≡ true }
@@ -84,7 +84,7 @@ impl Register {
         journal
     }
 
-    /// Makes a call, for which room was kept.
+    /// Makes a call for which room was reserved, and returns its reply.
     pub fn make(&mut self, by: u32, call: Call) -> u64
         requires { 0 < slice_index self.old.rooms.items by }
         ensures journal { self.new.journal.items ≡ self.old.journal.items ++ entry by call result ∷ [] }
@@ -100,7 +100,7 @@ impl Register {
     }
 }
 
-// The value after a call.
+// Returns the value after a call.
 fn after(value: u64, call: Call) -> u64
     ensures { result ≡ value_after value call }
 {

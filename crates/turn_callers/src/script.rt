@@ -27,11 +27,11 @@ pub struct Ran {
     pub replies: Vec<Vec<u64>>,
 }
 
-/// Runs all scripts at once, script `q` as caller `q` of one register, in at most as many threads
-/// as there are workers.
+/// Runs all scripts concurrently, script `q` as caller `q` of one register, in at most `workers`
+/// threads.
 ///
-/// The journal is one that a single thread could have made (`legal`), and what each caller did in
-/// it are its calls, in order, with its replies (`replies`). Nothing else is in it (`no_other`).
+/// A single thread could have made the journal (`legal`). The entries of each caller are its calls,
+/// in order, with its replies (`replies`), and there are no other entries (`no_other`).
 pub fn run_scripts<R: Threads + Wait + Sync>(
     rt: &R,
     alloc: Global,

@@ -8,7 +8,7 @@ use crate::session::Session;
 use std::alloc::{AllocError, Global};
 use turn_lock::TurnPass;
 
-// A session for each script, which has no pass yet.
+// Makes a session for each script, without a pass.
 pub(crate) fn stools(alloc: Global, scripts: &[Vec<Order>]) -> Result<Vec<Session>, AllocError>
     requires { length scripts.now < 2 ^ 32 }
     ensures count { IfOk result (λ v. length v.items ≡ length scripts.now) }
@@ -26,7 +26,7 @@ pub(crate) fn stools(alloc: Global, scripts: &[Vec<Order>]) -> Result<Vec<Sessio
     Ok(sessions)
 }
 
-// Gives the session a pass more.
+// Gives a pass to the session.
 fn add(session: &mut Session, pass: TurnPass<Register>) -> Result<(), AllocError>
     ensures passes { OnOk result (session.new.passes.items ≡ session.old.passes.items ++ pass ∷ []) }
     ensures number { session.new.number ≡ session.old.number }

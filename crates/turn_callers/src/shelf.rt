@@ -19,7 +19,7 @@ use std::thread;
 use std::thread::Threads;
 use turn_lock::Turn;
 
-// A register behind a lock of its own for each place, of which each session gets a pass.
+// Makes `places` registers, a lock around each, and gives each session a pass of each.
 fn shelve(
     alloc: Global,
     scripts: &[Vec<Order>],
@@ -60,7 +60,7 @@ fn run_at<R: Wait>(
     run_session(rt, turns, scripts[i].as_slice(), session);
 }
 
-// Makes all orders of all sessions, in as many threads as there are workers.
+// Makes all orders of all sessions, in at most `workers` threads.
 fn run_all<R: Threads + Wait + Sync>(
     rt: &R,
     turns: &[Turn<Register>],
@@ -178,12 +178,12 @@ fn closed(
     Ok((journals, sessions))
 }
 
-/// Runs all scripts at once, script `q` as caller `q` of registers that lie behind a lock each, in
-/// at most as many threads as there are workers.
+/// Runs all scripts concurrently, script `q` as caller `q` of registers with a lock around each, in
+/// at most `workers` threads.
 ///
-/// Each register's journal is one that a single thread could have made (`legal`), and what each
-/// caller did there are its orders for this register, in order, with its replies (`replies`). No
-/// fact ties the order of one journal to that of another.
+/// A single thread could have made each register's journal (`legal`). The entries of each caller
+/// there are its orders for this register, in order, with its replies (`replies`). The journals of
+/// two registers aren't ordered against each other.
 pub fn run_shelf<R: Threads + Wait + Sync>(
     rt: &R,
     alloc: Global,

@@ -1,4 +1,4 @@
-//! The power switch behind a lock: turns at it, a wait for a condition, and a fact over several
+//! The power switch behind a lock: turns at it, waiting for a condition, and a fact about several
 //! callers.
 ghost use Rattle.std.specs.Prelude.{◌≡◌, ◌≢◌, true, false, length, Some, None, IsTrue, IsSomeAnd, All};
 ghost use Rattle.turn_lock.specs.Passes.{lock_id, callers_of, first_of, part_of, out_of};
@@ -11,7 +11,7 @@ use std::sync::Wait;
 use std::thread;
 use turn_lock::{Turn, TurnPass};
 
-/// Switches power off. False if the desk has no place for the caller.
+/// Switches power off. It returns false if the desk has no place for the caller.
 pub fn stop_in_turn<R: Wait>(rt: &R, turn: &Turn<Desk>, pass: &mut TurnPass<Desk>) -> bool
     requires outside { IsOutside (lock_id turn.now) pass.old }
     ensures pass { IsSamePass pass.old pass.new }
@@ -26,8 +26,8 @@ pub fn stop_in_turn<R: Wait>(rt: &R, turn: &Turn<Desk>, pass: &mut TurnPass<Desk
     stopped
 }
 
-/// Asks whether power is off. `None` if the desk has no place for the caller. One that stopped the
-/// power itself doesn't hear that it is on.
+/// Returns whether power is off, or `None` if the desk has no place for the caller. A caller that
+/// stopped the power itself is never told that it is on.
 #[tactic(auto, using(crate::proofs::Any::any_at))]
 pub fn ask_in_turn<R: Wait>(rt: &R, turn: &Turn<Desk>, pass: &mut TurnPass<Desk>) -> Option<bool>
     requires outside { IsOutside (lock_id turn.now) pass.old }
@@ -45,10 +45,10 @@ pub fn ask_in_turn<R: Wait>(rt: &R, turn: &Turn<Desk>, pass: &mut TurnPass<Desk>
     answer
 }
 
-/// Asks until power is off. False if the desk has no place for the caller.
+/// Asks until power is off. It returns false if the desk has no place for the caller.
 ///
-/// A turn is no condition variable, so a wait for a condition is one turn after another, and others
-/// have theirs in between.
+/// A turn is no condition variable: a wait for a condition is one turn after another, and others
+/// take theirs in between.
 pub fn wait_for_off<R: Wait>(rt: &R, turn: &Turn<Desk>, pass: &mut TurnPass<Desk>) -> bool
     requires outside { IsOutside (lock_id turn.now) pass.old }
     ensures pass { IsSamePass pass.old pass.new }
@@ -66,11 +66,11 @@ pub fn wait_for_off<R: Wait>(rt: &R, turn: &Turn<Desk>, pass: &mut TurnPass<Desk
     unreachable!()
 }
 
-/// Closes the lock. Where a pass says that its caller was told that power is off, some pass says
+/// Closes the lock. If some pass says that its caller was told that power is off, some pass says
 /// that its caller stopped it.
 ///
-/// The passes stand in the order of their callers, and when the lock was made no one but its
-/// callers had stopped the power.
+/// The passes must be in the order of their callers. When the lock was made, nobody but its callers
+/// may have stopped the power.
 pub fn finish(turn: Turn<Desk>, passes: Vec<TurnPass<Desk>>) -> Desk
     requires passes { All (λ p. IsOutside (lock_id turn) p) passes.items }
     requires count { length passes.items ≡ callers_of turn }

@@ -1,26 +1,26 @@
-//! Turns that are counted: the least that callers can share.
+//! Counting turns: the least that callers can share.
 ghost use Rattle.std.specs.Prelude.{◌≡◌, ◌+◌, sum};
 
 use std::alloc::{AllocError, Global};
 use turn_lock::Parted;
 
-/// A caller's part of a tally: how many turns it has left, and how many there are in all. No value
-/// of it is made.
+/// A caller's part of a tally: how many turns it has left, and how many there are in all. It never
+/// exists at run time.
 ///
-/// What all callers share may stand in a part where it never changes.
+/// What all callers share may be in a part if it never changes.
 pub struct Quota {
     pub left: u64,
     pub all: u64,
 }
 
-/// How many turns were taken.
+/// Counts the turns that were taken.
 #[derive(Drop)]
 pub struct Tally {
     turns: u64,
     // How often the turn went from one caller to another.
     changes: u64,
     last: usize,
-    // The turns that each caller has left, and the turns of all when none was taken.
+    // The turns that each caller has left, and the number of all turns at the start.
     left: Vec<u64>,
     all: u64,
     ghost counted: { turns + sum left.items ≡ all },
@@ -37,7 +37,7 @@ impl Parted for Tally {
 impl Tally {
     ghost use Rattle.std.specs.Prelude.{◌≡◌, ◌+◌, ◌*◌, ◌-◌, ◌^◌, ◌<◌, ◌==◌, if◌then◌else◌, min, IfOk, replicate, slice_index, slice_set};
 
-    /// A tally of no turns yet, with so many left to each caller.
+    /// Makes a tally of no turns yet, with `each` turns left to each caller.
     pub fn new(alloc: Global, callers: u32, each: u64) -> Result<Tally, AllocError>
         requires { callers * each < 2 ^ 64 }
         ensures left { IfOk result (λ t. t.left.items ≡ replicate callers each) }
@@ -70,14 +70,14 @@ impl Tally {
         }
     }
 
-    /// How many turns were taken.
+    /// Returns how many turns were taken.
     pub fn turns(&self) -> u64
         ensures { result ≡ self.now.turns }
     {
         self.turns
     }
 
-    /// How often the turn went from one caller to another.
+    /// Returns how often the turn went from one caller to another.
     pub fn changes(&self) -> u64
         ensures { result ≡ self.now.changes }
     {

@@ -9,8 +9,8 @@ use crate::register::{Call, Register};
 use std::sync::Wait;
 use turn_lock::{Turn, TurnPass};
 
-/// Makes a call in the caller's turn. Its reply is that of one entry more, and the room is one
-/// less, whatever others did.
+/// Makes a call in the caller's turn. Whatever others did, the caller's part has one entry more,
+/// this call with its reply, and room for one less.
 pub fn make_in_turn<R: Wait>(
     rt: &R,
     turn: &Turn<Register>,

@@ -1,4 +1,4 @@
--- A pass's seat, from what its type keeps.
+-- The seat of a pass, from the invariant of its type.
 use Rattle.std.proofs.Common.{◌≡◌, ℕ, true, Option, Some, None, refl, ap, ◌∙◌}
 use Rattle.std.specs.Prelude.{IsSomeAnd}
 use Rattle.atomic_table.specs.Table.{Me}
@@ -17,7 +17,7 @@ module _ {T D : Type 0} where
       → (d : D) × (me ≡ (Caller k d o, carried o)) × (part_in me.0 ≡ Some d)
   seat_is me k o is n slot out = let r = role_is me.0 k o is n out in (r.0, (λ i. (r.1 i, (slot ∙ ap carried out) i)), r.2)
 
-  -- what a view that is a caller's says
+  -- what the view of a caller says
   pub says : (r : Role T D) (k : ℕ) (d : D) (o : Option T) → r ≡ Caller k d o → (is_caller r ≡ true) × (number_in r ≡ k) × (part_in r ≡ Some d) × (out_in r ≡ o)
   says r k d o is = (ap is_caller is, ap number_in is, ap part_in is, ap out_in is)
 

@@ -1,4 +1,4 @@
--- The value that lies in the slot once each pass is handed in.
+-- The value in the slot once each pass is handed in.
 use Rattle.std.proofs.Common.{◌≡◌, ℕ, ◌<◌, ◌≤◌, List, [], Option, Some, None, sym, ap, ◌∙◌, subst}
 use Rattle.std.specs.Prelude.{All, Any, slice_index_or}
 use mathlib.Core.Option.{some, some-injective}

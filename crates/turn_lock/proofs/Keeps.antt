@@ -1,4 +1,4 @@
--- Each step of the lock keeps its rule.
+-- Each step of the lock preserves its rule.
 use Rattle.std.proofs.Common.{◌≡◌, ◌≢◌, ◌⊎◌, ℕ, zero, suc, ◌+◌, ◌<◌, ◌≤◌, eqb, List, [], ◌∷◌, ◌++◌, length, get_or, set, Bool, true, false, cond, Option, Some, None, refl, sym, ap, ◌∙◌, subst, ⊎_elim, inl, inr, arith, eq-eqb, ne_eqb}
 use mathlib.Core.Logic.{dite}
 use mathlib.Core.Option.{some, none, some-ne-none, some-injective}
@@ -22,7 +22,7 @@ module _ {T D : Type 0} (part : T → ℕ → D) (callers : ℕ) (first : T) whe
   abbrev Rule : St → Type 0
   Rule = Turning part callers first
 
-  -- what the rule says of each view, once one of them was changed
+  -- the rule for each view after one of them changed
   fits_set : (K : ℕ → R → Type 0) (views : List R) (me : ℕ) (w : R) → ((j : ℕ) (u : R) → j ≢ me → get_elem? views j ≡ some u → K j u) → K me w → (j : ℕ) (u : R) → get_elem? (set views me w) j ≡ some u → K j u
   fits_set K views me w others mine j u e =
       ⊎_elim
@@ -49,7 +49,7 @@ module _ {T D : Type 0} (part : T → ℕ → D) (callers : ℕ) (first : T) whe
       alone zero w e = subst (Fits part free first first (λ _. none) 0 0) (some-injective _ _ e) (refl, refl, refl)
       alone (suc id) w e = absurd (some-ne-none w (sym e))
 
-  -- what another view knows stays so
+  -- the other views still hold
   others_fit : (at at' : Place) (x x' : T) (seat seat' : ℕ → maybe.Option ℕ) (made made' j : ℕ)
       → (j ≡ 0 → made ≡ made')
       → ((q : ℕ) → seat q ≡ some j → (seat' q ≡ some j) × (part x q ≡ part x' q) × (out_at at q x ≡ out_at at' q x'))
@@ -60,7 +60,7 @@ module _ {T D : Type 0} (part : T → ℕ → D) (callers : ℕ) (first : T) whe
   others_fit at at' x x' seat seat' made made' j deal call keep (Caller q d o) f = let c = call q f.0 in (c.0, f.1 ∙ c.1, f.2 ∙ c.2)
   others_fit at at' x x' seat seat' made made' j deal call keep (Keeper known) f = λ k e is. let g = f k e is in let h = keep e.0 g.0 g.1 in (h.0, h.1, g.2 ∙ h.2)
 
-  -- the seats of the callers, where the next one is at n
+  -- the seats of the callers, with the next one at n
   abbrev with_next : (ℕ → maybe.Option ℕ) → ℕ → ℕ → ℕ → maybe.Option ℕ
   with_next seat made n q = cond (eqb q made) (some n) (seat q)
 
@@ -80,7 +80,7 @@ module _ {T D : Type 0} (part : T → ℕ → D) (callers : ℕ) (first : T) whe
   same : {A : Type 0} (p : ℕ) (a b : A) → cond (eqb p p) a b ≡ a
   same p a b = rw (eq-eqb p p refl) refl
 
-  -- who has no pass has not the value in hand
+  -- whoever has no pass doesn't have the value
   no_turn : (at : Place) (seat : ℕ → maybe.Option ℕ) (made : ℕ) (x : T) → IsHeld seat at → ((q j : ℕ) → seat q ≡ some j → q < made) → None ≡ out_at at made x
   no_turn free seat made x h below = refl
   no_turn (taken p) seat made x h below = let b = below p h.0 h.1 in sym (apart p made (Some x) None (λ e. omega arith))
@@ -128,7 +128,7 @@ module _ {T D : Type 0} (part : T → ℕ → D) (callers : ℕ) (first : T) whe
   some_none : (x : T) → None ≡ Some x → ⊥
   some_none x e = cc
 
-  -- a caller that has the value in hand is the one who has the turn
+  -- a caller with the value in hand has the turn
   has_turn : (at : Place) (q : ℕ) (x y : T) → Some x ≡ out_at at q y → (at ≡ taken q) × (x ≡ y)
   has_turn free q x y e = absurd (some_none x (sym e))
   has_turn (taken p) q x y e = dite (ℕ_discrete p q)
@@ -200,7 +200,7 @@ module _ {T D : Type 0} (part : T → ℕ → D) (callers : ℕ) (first : T) whe
   caller_part z (Caller q d o) = d
   caller_part z r = z
 
-  -- what the steps tell does not depend on the step's operands
+  -- the effects of the steps don't depend on a step's operands
   abbrev any_step : Step (Option T)
   any_step = step 0 0 0 0 none
 
@@ -334,7 +334,7 @@ module _ {T D : Type 0} (part : T → ℕ → D) (callers : ℕ) (first : T) whe
   abbrev pub AllKnown : List (ℕ × D) → Type 0
   AllKnown known = (q : ℕ) → q < callers → (k : ℕ) × (e : ℕ × D) × (get_elem? known k ≡ some e) × (e.0 ≡ q)
 
-  -- where each pass was handed in, the value lies in the slot, and its part for each caller is what the caller's pass knew
+  -- if every pass was handed in, the value is in the slot, and each caller's pass knew its part of it
   pub ends : (id : ℕ) (known : List (ℕ × D)) (v : R) (ws : List ℕ) (xs : List (Option T)) → v ≡ Keeper known → Final (Seen Rule id v) ws xs → AllKnown known
       → (x : T) × (get_elem? xs 0 ≡ some (Some x)) × ((k : ℕ) (e : ℕ × D) → get_elem? known k ≡ some e → e.1 ≡ part x e.0) × ((q : ℕ) → callers ≤ q → part x q ≡ part first q)
   ends id known v ws xs is f all =
@@ -352,14 +352,14 @@ module _ {T D : Type 0} (part : T → ℕ → D) (callers : ℕ) (first : T) whe
       at_home free h never = refl
       at_home (taken q) h never = absurd (never q h.0 h.1)
 
-  -- where the word was free the caller has the value, and else nothing changed
+  -- if the word was free, the caller has the value; otherwise nothing changed
   pub took : (q : ℕ) (d : D) (me m' : Me (Option T) R) (n : ℕ) → Takes part any_step me n m' → me ≡ (Caller q d None, []) → n ≡ 0 → TookIf part q d true m'
   took q d me m' n told is zero_word = subst (λ (b : Bool). TookIf part q d b m') (eq-eqb n 0 zero_word) (told q d is)
 
   pub waits : (q : ℕ) (d : D) (me m' : Me (Option T) R) (n : ℕ) → Takes part any_step me n m' → me ≡ (Caller q d None, []) → n ≢ 0 → m' ≡ me
   waits q d me m' n told is other = let same_as : TookIf part q d false m' = subst (λ (b : Bool). TookIf part q d b m') (ne_eqb n 0 other) (told q d is) in same_as ∙ sym is
 
-  -- who took the turn finds the value in the slot
+  -- a caller that takes the turn finds the value in the slot
   pub finds : (q : ℕ) (d : D) (me m : Me (Option T) R) (n : ℕ) (r : Option T) → Takes part any_step me n m → me ≡ (Caller q d None, []) → n ≡ 0 → m.1 ≡ (0, r) ∷ rest m.1
       → (x : T) × (r ≡ Some x) × (m ≡ (Caller q d (Some x), (0, Some x) ∷ [])) × (d ≡ part x q)
   finds q d me m n r told is zero_word slot =

@@ -8,7 +8,7 @@ use Rattle.std.proofs.Math.ListN.{get_or-append}
 use Rattle.std.proofs.Math.Seq.{get_or-append_seam}
 use Rattle.turn_lock.specs.Rows.{items_at}
 
--- the element at i, whatever stands for one that isn't there
+-- the element at i, for any default
 pub there : {A : Type 0} (xs : List A) (i : ℕ) → i < length xs → (x : A) × (get_or xs i x ≡ x)
 there [] i h = absurd (omega arith)
 there (x ∷ xs) zero h = (x, refl)
@@ -18,15 +18,15 @@ there (x ∷ xs) (suc i) h = there xs i (omega arith)
 pub mapped : {A B : Type 0} (f : A → B) (xs : List A) (i : ℕ) (x : A) (d : B) → i < length xs → get_or xs i x ≡ x → get_or (map f xs) i d ≡ f x
 mapped f xs i x d h is = get_or-map f xs i x d h ∙ ap f is
 
--- the element behind ys
+-- the element after ys
 pub at_seam : {A : Type 0} (xs ys zs : List A) (x d : A) → ys ++ x ∷ zs ≡ xs → (length ys < length xs) × (get_or xs (length ys) d ≡ x)
 at_seam xs ys zs x d is = (omega (arith, ap length is, length-append ys (x ∷ zs)), ap (λ l. get_or l (length ys) d) (sym is) ∙ get_or-append_seam ys x zs d)
 
--- what holds of each element holds of the one behind ys
+-- a property of each element holds of the one after ys
 pub all_at_seam : {A : Type 0} (P : A → Type 0) (xs ys zs : List A) (x : A) → ys ++ x ∷ zs ≡ xs → All P xs → P x
 all_at_seam P xs ys zs x is all = let at = at_seam xs ys zs x x is in subst P at.1 (all (length ys) x at.0)
 
--- what holds of each element at its place holds so with one more
+-- a property of each element at its place still holds with one more
 pub each_push : {A : Type 0} (P : ℕ → A → Type 0) (xs : List A) (x : A) → ((k : ℕ) (d : A) → k < length xs → P k (get_or xs k d)) → P (length xs) x → (k : ℕ) (d : A) → k < length (xs ++ x ∷ []) → P k (get_or (xs ++ x ∷ []) k d)
 each_push P xs x front last k d h = dite (ℕ_discrete k (length xs))
     (λ is. subst (λ (n : ℕ). P n (get_or (xs ++ x ∷ []) n d)) (sym is) (subst (P (length xs)) (sym (get_or-append_seam xs x [] d)) last))

@@ -18,7 +18,7 @@ pub lock_at : {T D : Type 0} (turns : List (Turn T D)) (j : ℕ) (t : Turn T D) 
 lock_at turns j t e h is = get_or-map lock_id turns j t e h ∙ ap lock_id (sym is)
 
 module _ {T D : Type 0} {g : Ghosts T D} where
-  -- passes that stand by their numbers are those of each caller
+  -- passes in the order of their numbers are those of each caller
   pub has_each : (ps : List (TurnPass T D g)) → AreInOrder ps → HasEach (length ps) ps
   has_each ps order q h = let p = there ps q h in (q, p.0, h, p.1, ap (λ x. number_of x) (sym p.1) ∙ order q p.0 h)
 
@@ -30,7 +30,7 @@ module _ {T D : Type 0} {g : Ghosts T D} where
   weaker : (lock : TableId) (q : ℕ) (K K' : D → Type 0) (p : TurnPass T D g) → ((d : D) → K d → K' d) → IsPassOf lock q K p → IsPassOf lock q K' p
   weaker lock q K K' p less s = (s.0, s.1, s.2, (s.3.0, s.3.1, less s.3.0 s.3.2))
 
-  -- what each knows is said in another way
+  -- the same passes with an equivalent property
   pub row_same : (locks : List TableId) (q : ℕ) (K K' : ℕ → D → Type 0) (ps : List (TurnPass T D g)) → ((j : ℕ) (d : D) → K j d → K' j d) → ArePassesOf locks q K ps → ArePassesOf locks q K' ps
   row_same locks q K K' ps less row = record { count = row.count; each = λ j p e h. weaker (get_or locks j e) q (K j) (K' j) (get_or ps j p) (less j) (row.each j p e h) }
 
@@ -69,7 +69,7 @@ module _ {T D : Type 0} {g : Ghosts T D} where
         (subst (λ l. IsPassOf l q (K j) (get_or ps j d)) (sym (get_or-append locks (lock ∷ []) e j inside)) (row.each j d e inside)));
   }
 
-  -- the same back
+  -- the same in reverse
   pub row_pop : (locks : List TableId) (q : ℕ) (K : ℕ → D → Type 0) (ps : List (TurnPass T D g)) (lock : TableId) (p : TurnPass T D g)
       → ArePassesOf (locks ++ lock ∷ []) q K (ps ++ p ∷ []) → ArePassesOf locks q K ps × IsPassOf lock q (K (length locks)) p
   row_pop locks q K ps lock p row =

@@ -29,17 +29,18 @@ module _ {T : Type 0} where
   home_at free x = some (Some x)
   home_at (taken q) x = none
 
-  -- what the caller q has in hand
+  -- the value that caller q has in hand
   abbrev pub out_at : Place → ℕ → T → Option T
   out_at free q x = None
   out_at (taken p) q x = cond (eqb p q) (Some x) None
 
--- who has the value is a caller whose pass was not handed in
+-- if a caller has the value, its pass wasn't handed in
 abbrev pub IsHeld : (ℕ → maybe.Option ℕ) → Place → Type 0
 IsHeld seat free = Unit {0}
 IsHeld seat (taken q) = (id : ℕ) × (seat q ≡ some id)
 
--- what is so of the seat id with this view, where `at` says who has the value x, `seat q` is the seat of the caller q, and `made` passes were made
+-- what holds of seat id with this view; `at` says who has the value x, `seat q` is the seat of caller q, and `made` passes were
+-- made
 module _ {T D : Type 0} (part : T → ℕ → D) (at : Place) (first x : T) (seat : ℕ → maybe.Option ℕ) (made : ℕ) (id : ℕ) where
   abbrev pub Fits : Role T D → Type 0
   Fits Spent = Unit {0}
@@ -47,7 +48,8 @@ module _ {T D : Type 0} (part : T → ℕ → D) (at : Place) (first x : T) (sea
   Fits (Caller q d o) = (seat q ≡ some id) × (d ≡ part x q) × (o ≡ out_at at q x)
   Fits (Keeper known) = (k : ℕ) (e : ℕ × D) → get_elem? known k ≡ some e → (seat e.0 ≡ none) × (e.0 < made) × (e.1 ≡ part x e.0)
 
--- The rule. There is one value, in the slot or in a caller's hand. Each pass knows its part of it, and so does who took the pass in. The part for a number that has no pass is that of the first value
+-- The rule. There is one value, in the slot or in a caller's hand. Each pass knows its part of it, and so does the seat that took
+-- the pass in. The part for a number without a pass is that of the first value.
 pub record Turning {T D : Type 0} (part : T → ℕ → D) (callers : ℕ) (first : T) (s : State (Option T) (Role T D)) : Type 0 where
   -- who has the value
   pub at : Place
@@ -89,20 +91,20 @@ abbrev pub carried : {T : Type 0} → Option T → List (ℕ × Option T)
 carried (Some x) = (0, None) ∷ []
 carried None = []
 
--- a seat: its view, and the slots that it has
+-- a seat: its view, and the slots it holds
 abbrev Sat : Type 0 → Type 0 → Type 0
 Sat T D = Me (Option T) (Role T D)
 
 module _ {T D : Type 0} where
-  -- the seat of the caller q with the part d, which doesn't have the turn
+  -- the seat of caller q with the part d, without the turn
   abbrev pub outside : ℕ → D → Sat T D
   outside q d = (Caller q d None, [])
 
-  -- and which has it, and the value x in hand
+  -- the same with the turn, and the value x in hand
   abbrev pub inside : ℕ → D → T → Sat T D
   inside q d x = (Caller q d (Some x), (0, None) ∷ [])
 
-  -- this seat comes inside with x, its part of which is the one that it had
+  -- this seat comes inside with x, and its part of x is the one it had
   abbrev pub ComesInside : (T → ℕ → D) → ℕ → Sat T D → Sat T D → T → Type 0
   ComesInside part q m m' x = (d : D) → m ≡ outside q d → (m' ≡ inside q d x) × (d ≡ part x q)
 
@@ -110,7 +112,7 @@ module _ {T D : Type 0} where
 abbrev pub KeepsOthers : {T D : Type 0} → (T → ℕ → D) → ℕ → T → T → Type 0
 KeepsOthers part q x y = (p : ℕ) → p ≢ q → part y p ≡ part x p
 
--- this seat is inside, and y has the part of the value that it has in hand for every caller but q
+-- this seat is inside, and y has, for every caller but q, the same part as the value in hand
 abbrev pub HasKept : {T D : Type 0} → (T → ℕ → D) → ℕ → Sat T D → T → Type 0
 HasKept {T} {D} part q m y = (d : D) × (x : T) × (m ≡ inside q d x) × KeepsOthers part q x y
 
@@ -126,7 +128,7 @@ module _ {T D : Type 0} (part : T → ℕ → D) where
   next_pass (Dealer m y) = Caller m (part y m) None
   next_pass r = Spent
 
--- TurnTake: a caller with the part d has the value where the word was 0, and its part of it is d; else nothing changed
+-- TurnTake: if the word was 0, the caller with the part d has the value, and its part of it is d; otherwise nothing changed
 module _ {T D : Type 0} (part : T → ℕ → D) (q : ℕ) (d : D) where
   abbrev pub TookIf : Bool → Sat T D → Type 0
   TookIf true m' = (x : T) × (m' ≡ (Caller q d (Some x), (0, Some x) ∷ [])) × (d ≡ part x q)
@@ -135,7 +137,7 @@ module _ {T D : Type 0} (part : T → ℕ → D) (q : ℕ) (d : D) where
 abbrev pub Takes : {T D : Type 0} → (T → ℕ → D) → Step (Option T) → Sat T D → ℕ → Sat T D → Type 0
 Takes {T} {D} part st m found m' = (q : ℕ) (d : D) → m ≡ outside q d → TookIf part q d (eqb found 0) m'
 
--- TurnFree: the value that is given back is in the slot, and the caller knows its part of it
+-- TurnFree: the returned value is in the slot, and the caller knows its part of it
 abbrev pub Frees : {T D : Type 0} → (T → ℕ → D) → Step (Option T) → Sat T D → ℕ → Sat T D → Type 0
 Frees {T} {D} part st m found m' = (q : ℕ) (d : D) (x y : T) → m ≡ (Caller q d (Some x), (0, Some y) ∷ []) → m' ≡ outside q (part y q)
 

@@ -12,7 +12,7 @@ use atomic_table::Table;
 use std::alloc::{AllocError, Global};
 use std::snapshot::Snapshot;
 
-// The table, with the value in its slot, and the seat that makes the passes.
+// Makes the table, with the value in its slot, and the seat that makes the passes.
 pub(crate) fn lay<T: Parted + Drop>(
     alloc: Global,
     value: T,
@@ -34,7 +34,7 @@ pub(crate) fn lay<T: Parted + Drop>(
     }
 }
 
-// The passes of all callers, in their order.
+// Makes the passes of all callers, in their order.
 pub(crate) fn deal<T: Parted>(
     alloc: Global,
     shared: &Shares<T>,

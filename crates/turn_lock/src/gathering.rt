@@ -9,7 +9,7 @@ use crate::parted::Parted;
 use crate::pass::TurnPass;
 use crate::table::{Seated, Shares};
 
-// A seat that knows what the passes knew.
+// Hands in the passes, and returns a seat that knows what they knew.
 pub(crate) fn gather<T: Parted>(shared: &Shares<T>, passes: Vec<TurnPass<T>>) -> Seated<T>
     requires table { IsTurnTable shared.now.table_id }
     requires passes { All (λ p. IsOutside shared.now.table_id p) passes.items }

@@ -1,36 +1,36 @@
-//! A lock round a value of which each caller knows its own part.
+//! A lock around a value of which each caller knows its own part.
 //!
-//! Under a `Mutex` a caller knows of the value only what holds of every value of its type: what it
-//! left there in an earlier turn is forgotten. Here it isn't. Whatever others did in between, the
-//! part that the value has for a caller is what that caller's pass knows.
+//! Under a `Mutex`, a caller knows of the value only the type's invariant; what it left there in an
+//! earlier turn is forgotten. Here it isn't. Whatever the others did in between, the caller's pass
+//! knows the caller's part of the value.
 //!
 //! # Terms
 //!
 //! - **Caller**: one of those who share the value, named by a number below `callers`.
-//! - **Part** of the value for a number: plain data that `Parted` gives, in contracts alone.
-//!   Nothing of it is ever made.
+//! - **Part** of the value for a number: plain data that `Parted` defines, in contracts alone. It
+//!   never exists at run time.
 //! - **Turn**: from `enter`, which hands the value out, to `leave`, which puts one back. One caller
 //!   at a time has the turn.
 //! - **Pass** (`TurnPass`): the right of one caller to take turns. It knows the caller's part.
-//!   While its caller has the turn it is inside, and knows the value that was handed out as well.
+//!   While its caller has the turn it is inside, and also knows the value that was handed out.
 //!
-//! A caller that has the turn may change the value as it likes, but for the parts of the others:
-//! `leave` asks for that. So no turn of another changes what a pass knows.
+//! A caller that has the turn may change the value, but not the parts of the others: `leave`
+//! requires that. So no turn of another caller changes what a pass knows.
 //!
 //! # The table
 //!
-//! The lock is a table (of the crate `atomic_table`) of one word and one slot.
+//! The lock is a table (of the crate `atomic_table`) with one word and one slot.
 //!
 //! ```text
 //!     word     slot        who has the value
 //!     0        the value   no one: the turn is free
-//!     q + 1    empty       caller q, in its hand
+//!     q + 1    empty       caller q
 //! ```
 //!
-//! Each pass is a seat at this table. A seat has a view, what it knows (`Role`), and a rule
-//! (`Turning` of specs/Turns.antt) ties the word, the slot and all views together: a caller's view
-//! has the part that the one value has for it, wherever the value is. Only five kinds of step are
-//! made at the table, and each keeps the rule (`proofs/Keeps.antt`).
+//! Each pass is a seat at this table. A seat has a view, what it knows (`Role`). A rule (`Turning`
+//! of specs/Turns.antt) ties the word, the slot and all views together: a caller's view has its
+//! part of the one value, wherever the value is. Only five kinds of step are made at the table, and
+//! each preserves the rule (`proofs/Keeps.antt`).
 //!
 //! | kind | word | when |
 //! |---|---|---|
@@ -40,22 +40,22 @@
 //! | KeeperComes | unchanged | `close`: a seat that collects what the passes know |
 //! | JoinSeat | unchanged | `close`: one pass is handed in |
 //!
-//! A caller that finds the turn taken looks for a while, and then sleeps. A release wakes one of
-//! those that sleep, and without them it costs no call of the system. How many sleep is counted in
-//! a `Bell` beside the table, on which no proof rests.
+//! A caller that finds the turn taken spins for a while and then sleeps. A release wakes one
+//! sleeper; if there is none, it makes no system call. A `Bell` beside the table counts the
+//! sleepers. No proof rests on it.
 //!
 //! # The promises
 //!
-//! Words of specs/Passes.antt and specs/Turns.antt. `Knows x p`: the pass p knows its part of x.
-//! `AreFresh lock x ps`: pass q of ps is that of caller q, outside, and knows its part of x.
-//! `KeepsOthers part q x y`: y has the part of x for every caller but q. `HasEach n ps`: for each
-//! number below n, the pass of this number is among ps.
+//! The terms are defined in specs/Passes.antt and specs/Turns.antt. `Knows x p`: the pass p knows
+//! its part of x. `AreFresh lock x ps`: pass q of ps is that of caller q, outside, and knows its
+//! part of x. `KeepsOthers part q x y`: y has the part of x for every caller but q. `HasEach n ps`:
+//! for each number below n, the pass with this number is among ps.
 //!
 //! - `Turn::of`: the passes `AreFresh`, for the value given.
 //! - `enter`: the pass `Knows` the value that comes out (clause `part`).
-//! - `leave`: wants `KeepsOthers` of the value that goes in, and the pass `Knows` it.
-//! - `close`: every pass `Knows` the value that comes out (`callers`), and a number that is no
-//!   caller's has its first part (`strangers`).
+//! - `leave`: requires `KeepsOthers` of the value that goes in, and the pass `Knows` it.
+//! - `close`: every pass `Knows` the value that comes out (`callers`). For a number that isn't a
+//!   caller's, the part is that of the first value (`strangers`).
 #![tactic(auto)]
 
 mod bell;

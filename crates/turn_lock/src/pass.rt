@@ -8,8 +8,8 @@ use atomic_table::Seat;
 
 /// The right of one caller to take turns at one lock. It knows the caller's part of the value.
 ///
-/// In contracts: `lock_of` says which lock it is of, `number_of` which caller's it is, `part_of`
-/// what it knows, and `out_of` the value that was handed out, while the caller has the turn.
+/// In contracts, `lock_of` is its lock, `number_of` its caller, `part_of` what it knows, and
+/// `out_of` the value that was handed out, while the caller has the turn.
 #[derive(Drop)]
 pub struct TurnPass<T: Parted> {
     pub(crate) seat: Seat<Option<T>, Role<T, T::Part>>,
@@ -33,7 +33,7 @@ impl<T: Parted> TurnPass<T> {
         TurnPass { seat, number }
     }
 
-    /// The caller's number.
+    /// Returns the caller's number.
     pub fn number(&self) -> u32
         ensures { result ≡ number_of self.now }
     {

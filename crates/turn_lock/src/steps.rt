@@ -6,7 +6,7 @@ use crate::kinds::{TurnFree, TurnTake};
 use crate::parted::Parted;
 use crate::table::{Seated, Shares};
 
-// TurnTake: where the turn is free, takes it and the value. Else it says what the word is.
+// TurnTake: takes the turn and the value if the turn is free. Otherwise it returns the word.
 pub(crate) fn turn_take<T: Parted>(
     shared: &Shares<T>,
     seat: &mut Seated<T>,
@@ -28,7 +28,7 @@ pub(crate) fn turn_take<T: Parted>(
     }
 }
 
-// TurnFree: puts a value into the slot, and lets the turn go.
+// TurnFree: puts a value into the slot and frees the turn.
 pub(crate) fn turn_free<T: Parted>(shared: &Shares<T>, seat: &mut Seated<T>, number: u32, value: T)
     requires table { (seat.old.table_id ≡ shared.now.table_id) × IsTurnTable shared.now.table_id }
     requires inside { HasKept T.part number seat.old.me value }

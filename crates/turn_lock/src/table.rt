@@ -1,4 +1,4 @@
-//! The table that the lock is: one word, one slot, and a seat for each pass.
+//! The table that implements the lock: one word, one slot, and a seat for each pass.
 ghost use Rattle.std.specs.Prelude.{ℕ};
 
 use crate::parted::Parted;
@@ -7,7 +7,7 @@ use std::alloc::Global;
 use std::collections::LinkedList;
 use std::snapshot::Snapshot;
 
-/// What a seat at the table knows. No value of it is ever made.
+/// What a seat at the table knows. It never exists at run time.
 pub enum Role<T, D> {
     /// Nothing: its pass was handed in.
     Spent,
@@ -19,14 +19,14 @@ pub enum Role<T, D> {
     Keeper(LinkedList<(u64, D)>),
 }
 
-/// What the table is told when it is made: the first value, and how many callers there are.
+/// The data the table is made with: the first value, and the number of callers.
 #[derive(Drop)]
 pub struct Start<T> {
     pub value: Snapshot<T>,
     pub callers: u32,
 }
 
-/// The rule that every step keeps: `Turning` of specs/Turns.antt.
+/// The rule that every step preserves: `Turning` of specs/Turns.antt.
 pub struct Law;
 
 impl<T: Parted> TableRule<Option<T>, Role<T, T::Part>, Start<T>> for Law {

@@ -13,14 +13,14 @@ use crate::waiting::wait;
 use std::alloc::{AllocError, Global};
 use std::sync::Wait;
 
-/// A lock round a value with a part for each caller. It may be shared by reference between threads.
+/// A lock around a value with a part for each caller. Threads may share it by reference.
 ///
-/// In contracts: `lock_id` says which lock it is, `callers_of` how many callers it has, and
-/// `first_of` the value that it began with.
+/// In contracts, `lock_id` identifies the lock, `callers_of` is its number of callers, and
+/// `first_of` its first value.
 #[derive(Drop)]
 pub struct Turn<T: Parted> {
     table: TurnTable<T>,
-    // On which the waiters sleep.
+    // The waiters sleep on it.
     bell: Bell,
     ghost one_of_each: { IsTurnTable table.shared.table_id },
 }
@@ -30,8 +30,8 @@ impl<T: Parted> Turn<T> {
     ghost use Rattle.turn_lock.specs.Turns.{KeepsOthers};
     ghost use Rattle.turn_lock.specs.Passes.{lock_id, callers_of, first_of, lock_of, number_of, part_of, out_of, IsSamePass, IsOutside, Knows, AreFresh, HasEach};
 
-    /// Puts a lock round a value, and makes a pass for each caller: pass `q` of the list is that of
-    /// caller `q`. There may be no callers. Where memory runs out the value is dropped.
+    /// Puts a lock around a value, and makes a pass for each caller: pass `q` of the list is that
+    /// of caller `q`. There may be no callers. If memory runs out, the value is dropped.
     pub fn of(
         alloc: Global,
         value: T,
@@ -54,11 +54,11 @@ impl<T: Parted> Turn<T> {
         ))
     }
 
-    /// Waits for the turn, and hands the value out. Its part for the caller is what the pass knows.
+    /// Waits for the turn, and hands the value out. The pass knows the caller's part of it.
     ///
-    /// The pass is one of this lock's, and outside. While one caller has the turn all others wait.
-    /// A thread that enters with a second pass of the same lock before it left with the first waits
-    /// for ever.
+    /// The pass must be one of this lock's, and outside. While one caller has the turn, all others
+    /// wait. A thread that enters with a second pass of the same lock before it leaves with the
+    /// first waits forever.
     pub fn enter<R: Wait>(&self, rt: &R, pass: &mut TurnPass<T>) -> T
         requires lock { lock_of pass.old ≡ lock_id self.now }
         requires outside { out_of pass.old ≡ None }
@@ -76,11 +76,12 @@ impl<T: Parted> Turn<T> {
         )
     }
 
-    /// Gives a value back, lets the turn go, and wakes one of those that sleep. The pass then knows
-    /// its part of this value.
+    /// Takes a value back, frees the turn, and wakes one sleeper. The pass then knows its part of
+    /// this value.
     ///
-    /// The pass is inside, and for every other caller the value has the part that it had when it
-    /// was handed out. It need not be the same value. Nothing is allocated, and nothing waits.
+    /// The pass must be inside. For every other caller, the value must have the same part as the
+    /// value that was handed out; it need not be the same value. The call neither allocates nor
+    /// waits.
     pub fn leave(&self, pass: &mut TurnPass<T>, value: T)
         requires lock { lock_of pass.old ≡ lock_id self.now }
         requires inside { IsSomeAnd (out_of pass.old) (λ x. KeepsOthers T.part (number_of pass.old) x value) }
@@ -92,11 +93,11 @@ impl<T: Parted> Turn<T> {
         self.bell.ring();
     }
 
-    /// The value. Its part for each caller is what this caller's pass knows, and for a number that
-    /// is no caller's it is that of the first value.
+    /// Returns the value. Each pass knows its caller's part of it. For a number that isn't a
+    /// caller's, the part is that of the first value.
     ///
-    /// Every pass is handed in, in any order, and none is inside. Nothing is allocated, and nothing
-    /// waits.
+    /// Every pass must be handed in, in any order, and none may be inside. The call neither
+    /// allocates nor waits.
     pub fn close(self, passes: Vec<TurnPass<T>>) -> T
         requires passes { All (λ p. IsOutside (lock_id self) p) passes.items }
         requires every { HasEach (callers_of self) passes.items }

@@ -12,7 +12,8 @@ use std::sync::Wait;
 // How often a waiter looks at the word before it sleeps.
 const LOOKS: u32 = 100;
 
-// Takes the turn once it is free: looks for a while, and then sleeps until a release wakes it.
+// Waits until the turn is free and takes it: spins for a while, then sleeps until a release wakes
+// it.
 pub(crate) fn wait<T: Parted, R: Wait>(
     rt: &R,
     shared: &Shares<T>,
@@ -40,7 +41,7 @@ pub(crate) fn wait<T: Parted, R: Wait>(
     unreachable!()
 }
 
-// Whether the turn was free at one of many looks.
+// Returns whether the turn was free at one of many looks.
 fn is_free_soon<T: Parted>(shared: &Shares<T>) -> bool
     requires { 0 < shared.now.table_id.words }
 {

@@ -1,5 +1,5 @@
-//! What no clause says: that threads run at the same time, that each wait ends, and each public
-//! function once.
+//! Facts that no clause states: threads run at the same time, each wait ends. Each public function
+//! is called once.
 use std::test::Fail;
 use turn_callers::{
     Call, Desk, Order, ask_in_turn, count_turns, finish, run_scripts, run_shelf, stop_in_turn,
@@ -7,7 +7,7 @@ use turn_callers::{
 };
 use turn_lock::Turn;
 
-// In one run for each thread the turn would change hands 3 times.
+// If each thread ran through at once, the turn would change hands 3 times.
 #[test]
 fn turns_of_four_threads_interleave(rt: HostRuntime) -> Result<(), Fail> {
     let tally = count_turns(&rt, rt.alloc(), 4, 100_000, 4)?;
@@ -47,7 +47,7 @@ fn two_callers_at_two_registers(rt: HostRuntime) -> Result<(), Fail> {
     Ok(())
 }
 
-// Caller 0 hears that power is on, caller 1 stops it, and caller 0 waits until it hears so.
+// Caller 0 is told that power is on, caller 1 stops it, and caller 0 waits until it is told so.
 #[test]
 fn one_stops_and_another_hears(rt: HostRuntime) -> Result<(), Fail> {
     let desk = Desk::new(rt.alloc(), 2)?;

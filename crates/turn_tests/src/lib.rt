@@ -1,4 +1,5 @@
-//! Tests of `turn_lock` and `turn_callers`: what no clause says of threads, and each public function once.
+//! Tests of `turn_lock` and `turn_callers`: facts about threads that no clause states, and one call
+//! of each public function.
 #![tactic(auto)]
 
 #[cfg(test)]

@@ -5,7 +5,7 @@ use Rattle.arena_open.specs.Moves.{move_writes, shifted}
 use Rattle.arena_open.proofs.Turns.{so_far}
 use Rattle.arena_open.proofs.open.make_good.Given as goal
 
--- the moves so far are made, in the space and in the copy
+-- the moves so far are completed, in the space and in the copy
 abbrev pub invariant-loop-half : goal.invariant-loop-half
 invariant-loop-half g l = record {
   made : Makes (g.W.WordSpace.words l.initial.space) (g.W.WordSpace.words l.space) l.initial.fuse l.fuse

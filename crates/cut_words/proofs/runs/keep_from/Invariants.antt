@@ -4,7 +4,7 @@ use Rattle.cut_words.specs.Runs.{keeps_from}
 use Rattle.cut_words.specs.Fuses.{Makes}
 use Rattle.cut_words.proofs.runs.keep_from.Given as goal
 
--- whatever becomes of the rest, that becomes of all
+-- the effect on the rest is the effect on the whole
 abbrev pub invariant-loop-place : goal.invariant-loop-place
 invariant-loop-place g l = record {
   inside : l.base + l.count ≤ length (g.W.WordSpace.words l.words).kept;

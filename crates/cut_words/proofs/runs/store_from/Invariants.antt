@@ -4,7 +4,7 @@ use Rattle.cut_words.specs.Runs.{stores_from, NonePending}
 use Rattle.cut_words.specs.Fuses.{Makes}
 use Rattle.cut_words.proofs.runs.store_from.Given as goal
 
--- whatever becomes of the rest, that becomes of all
+-- the effect on the rest is the effect on the whole
 abbrev pub invariant-loop-index : goal.invariant-loop-index
 invariant-loop-index g l = record {
   at : l.place ≡ l.base + l.index;

@@ -4,7 +4,7 @@ use Rattle.nvd_words.specs.Bytes.{AreBytes}
 use Rattle.nvd_words.proofs.ByteLists.{take_bytes}
 use Rattle.label_codec.proofs.known.know_writable.Goals as goal
 
--- what fills a field with zeros after it is bytes, of the field's length at most
+-- a name that is followed by zeros in its field is bytes, at most as many as the field
 front_bytes : (name zeros : List ℕ) → AreBytes (name ++ zeros) → AreBytes name
 front_bytes name zeros all = subst AreBytes (take_at name zeros (length name) refl) (take_bytes (length name) (name ++ zeros) all)
 
