@@ -2,10 +2,8 @@ use Rattle.std.proofs.Common.{◌≡◌, ◌∙◌, ℕ, List, Result, ap, inl, 
 use Rattle.std.specs.Prelude.{is_ok, map}
 use Rattle.std.proofs.lemmas.List.{length-map}
 use Rattle.cut_words.specs.declared.fuse.PowerCut.{PowerCut}
-use Rattle.namespace_map.specs.declared.refused.OpRefused.{OpRefused}
 use Rattle.namespace_areas.specs.Seen.{words_of}
 use Rattle.namespace_areas.specs.Went.{size_of}
-use Rattle.namespace_areas.specs.declared.area.Area.{Area}
 use Rattle.namespace_ops.specs.declared.holding.Holding.{Holding}
 use Rattle.shell_reports.proofs.More.{if_more}
 use Rattle.shell_changes.specs.declared.answer.Answer.{Answer}

@@ -1,4 +1,4 @@
-use Rattle.std.proofs.Common.{◌≡◌, ℕ, List, subst}
+use Rattle.std.proofs.Common.{ℕ, List, subst}
 use Rattle.std.specs.Prelude.{IfOk}
 use Rattle.nfit_reader.specs.declared.table.Mapping.{Mapping}
 use Rattle.namespace_areas.specs.declared.area.Area.{Area}

@@ -1,4 +1,4 @@
-use Rattle.std.proofs.Common.{◌≡◌, ◌∙◌, true, false, refl, sym, ap, subst}
+use Rattle.std.proofs.Common.{◌∙◌, refl, sym, ap, subst}
 use Rattle.std.specs.Prelude.{IsTrue}
 use Rattle.shell_changes.specs.declared.answer.Answer.{Answer}
 use Rattle.shell_changes.specs.Answers.{HasSizes}
@@ -9,7 +9,7 @@ use Rattle.shell_run.specs.declared.words.Command.TheVariants.{Labels, Nfit, Ini
 use Rattle.shell_run.specs.declared.words.Command.TheVariants as command
 use Rattle.shell_run.specs.Run.{copies, needs_contents}
 use Rattle.shell_run.specs.Words.{GivesGoodName}
-use Rattle.shell_run.proofs.Comes.{copies_by_it, if_then, needs_it, none_copied, outlined_by}
+use Rattle.shell_run.proofs.Comes.{copies_by_it, if_then, none_copied, outlined_by}
 use Rattle.shell_run.proofs.top.outlined_answer.Goals as goal
 
 pub returns-in-Labels-clause-comes : goal.returns-in-Labels-clause-comes
