@@ -2,11 +2,13 @@
 use Rattle.std.proofs.Common.{◌≡◌, ℕ, zero, suc, ◌*◌, List, [], ◌∷◌, length, map, get_or, Option, Some, None, Result, Ok, Err, refl, sym, ap, ◌∙◌, subst}
 use Rattle.std.specs.Prelude.{slice_index_or}
 use Rattle.std.specs.Option.{option_map}
+use Rattle.std.specs.List.{All}
 use Rattle.std.proofs.lemmas.Option.{none-some}
+use Rattle.std.proofs.lemmas.List.Elements.{All-head, All-tail}
 use Rattle.nvd_media.specs.declared.object.Object.TheVariants as object
 use Rattle.nvd_media.specs.Images.{Images, IsSameSet}
 use Rattle.cut_words.specs.Words.{Words, IsLeft, settled}
-use Rattle.cut_words.specs.WordBytes.{bytes_of}
+use Rattle.cut_words.specs.WordBytes.{bytes_of, words_in}
 use Rattle.cut_words.proofs.Bytes.{length_bytes}
 use Rattle.label_index.specs.declared.index.IndexBlock.{IndexBlock}
 use Rattle.label_area.specs.declared.fault.AreaFault.{AreaFault}
@@ -17,6 +19,7 @@ use Rattle.namespace_areas.specs.declared.area.Area.{Area}
 use Rattle.namespace_areas.specs.declared.area.Area.TheVariants.{Absent, Refused, Ready}
 use Rattle.namespace_areas.specs.Seen.{areas_seen, area_shown, areas_shown, shown_by, words_of, AreLeft}
 use Rattle.namespace_areas.specs.Opening.{as_area, opened_as}
+use Rattle.namespace_areas.specs.Steps.{rows_of}
 use Rattle.namespace_areas.specs.Went.{unready, size_of}
 use Rattle.namespace_areas.proofs.Seen.{left_kept}
 use Rattle.namespace_areas.proofs.Opening.{row_of, seen_all}
@@ -25,10 +28,12 @@ use Rattle.image_set.specs.Changed.{objects_of}
 use Rattle.image_set.specs.declared.changing.OutlineRest.{OutlineRest}
 use Rattle.image_set.specs.declared.outline.Outline.{Outline}
 use Rattle.image_set.specs.Outline.{image_set_with}
+use Rattle.image_set.specs.Sound.{IsArea}
+use Rattle.shell_reports.proofs.Arenas.{words_back}
 use Rattle.image_set.specs.declared.loading.Loaded.{Loaded}
 use Rattle.shell_changes.specs.declared.saving.Rest.{Rest}
 use Rattle.image_set.specs.Load.{ImageSet}
-use Rattle.shell_changes.specs.Areas.{area_by, area_in, areas_in, with_labels, HasAreas, HasRows}
+use Rattle.shell_changes.specs.Areas.{area_by, area_in, areas_in, rows_in, with_labels, HasAreas, HasRows}
 use Rattle.shell_changes.specs.Rest.{objects_by, objects_with}
 
 -- ---- what areas show, by their bytes
@@ -41,9 +46,9 @@ row_in : (row : Option (List ℕ)) → area_in (option_map bytes_of row) ≡ are
 row_in None = refl
 row_in (Some values) = by_block values (block_in (bytes_of values))
 
-pub rows_in : (rows : List (Option (List ℕ))) → areas_in (map (option_map bytes_of) rows) ≡ areas_shown rows
-rows_in [] = refl
-rows_in (row ∷ rows) = rw (row_in row, rows_in rows) refl
+pub rows_shown : (rows : List (Option (List ℕ))) → areas_in (map (option_map bytes_of) rows) ≡ areas_shown rows
+rows_shown [] = refl
+rows_shown (row ∷ rows) = rw (row_in row, rows_shown rows) refl
 
 kept_bytes : (words : Option Words) → option_map bytes_kept words ≡ option_map bytes_of (row_of words)
 kept_bytes None = refl
@@ -55,7 +60,36 @@ all_kept (words ∷ labels) = rw (kept_bytes words, all_kept labels) refl
 
 -- areas that were opened show what the bytes that were loaded show
 pub opened_in : (labels : List (Option Words)) → areas_seen (map opened_as labels) ≡ areas_in (map (option_map bytes_kept) labels)
-opened_in labels = seen_all labels ∙ sym (ap areas_in (all_kept labels) ∙ rows_in (map row_of labels))
+opened_in labels = seen_all labels ∙ sym (ap areas_in (all_kept labels) ∙ rows_shown (map row_of labels))
+
+-- ---- the words of areas
+
+row_back : (words : Option Words) → IsArea words → option_map words_in (option_map bytes_kept words) ≡ row_of words
+row_back None area = refl
+row_back (Some w) area = ap (λ (v : List ℕ). Some v) (words_back w.kept (area.fit w refl))
+
+rows_back : (labels : List (Option Words)) → All IsArea labels → map (option_map words_in) (map (option_map bytes_kept) labels) ≡ map row_of labels
+rows_back [] all = refl
+rows_back (w ∷ labels) all =
+    ap (λ row. row ∷ map (option_map words_in) (map (option_map bytes_kept) labels)) (row_back w (All-head IsArea w labels all))
+    ∙ ap (λ rows. row_of w ∷ rows) (rows_back labels (All-tail IsArea w labels all))
+
+-- the words of a loaded set's areas are those that its bytes spell
+pub rows_are : (set : ImageSet) (labels : List (Option Words)) → set.labels ≡ map (option_map bytes_kept) labels → All IsArea labels → rows_in set ≡ map row_of labels
+rows_are set labels is all = ap (map (option_map words_in)) is ∙ rows_back labels all
+
+opened_row : (values : List ℕ) (b : Result IndexBlock AreaFault) → option_map (λ w. w.kept) (words_of (as_area (opened_by values b))) ≡ Some values
+opened_row values (Ok block) = refl
+opened_row values (Err fault) = refl
+
+row_opened : (words : Option Words) → option_map (λ w. w.kept) (words_of (opened_as words)) ≡ row_of words
+row_opened None = refl
+row_opened (Some w) = opened_row w.kept (block_in (bytes_of w.kept))
+
+-- areas that were opened have them
+pub rows_opened : (labels : List (Option Words)) → rows_of (map opened_as labels) ≡ map row_of labels
+rows_opened [] = refl
+rows_opened (w ∷ labels) = ap (λ row. row ∷ rows_of (map opened_as labels)) (row_opened w) ∙ ap (λ rows. row_of w ∷ rows) (rows_opened labels)
 
 -- ---- one area after a command
 
@@ -153,7 +187,7 @@ same_objects loaded rows (object.Labels m) = refl
 same_objects loaded rows (object.Contents m) = refl
 same_objects loaded rows (object.BadRanges m) = refl
 
-labels_in : (loaded : Loaded) → (image_set_in loaded).labels ≡ map (option_map bytes_kept) loaded.labels
+pub labels_in : (loaded : Loaded) → (image_set_in loaded).labels ≡ map (option_map bytes_kept) loaded.labels
 unfolding image_set_in
 labels_in loaded = refl
 
@@ -179,7 +213,7 @@ same_outline outline contents rows (object.Labels m) = sym (get_map (option_map 
 same_outline outline contents rows (object.Contents m) = refl
 same_outline outline contents rows (object.BadRanges m) = refl
 
-outline_labels : (outline : Outline) (contents : List (List ℕ)) → (image_set_with outline contents).labels ≡ map (option_map bytes_kept) outline.labels
+pub outline_labels : (outline : Outline) (contents : List (List ℕ)) → (image_set_with outline contents).labels ≡ map (option_map bytes_kept) outline.labels
 unfolding image_set_with
 outline_labels outline contents = refl
 
@@ -201,4 +235,4 @@ module _ (set : ImageSet) (words : List (Option Words)) (objects : List (Option 
       → map size_of news ≡ map size_of (map opened_as words) → AreLeft news rows → IsSameSet saved (objects rows) → HasAreas set (areas_shown rows) saved
   has_areas news rows saved same sizes left all =
       let has = has_rows news rows saved same sizes left all in
-      record { labels = map (option_map bytes_of) rows; shown = rows_in rows; unread = has.unread; sizes = has.sizes; objects = has.objects }
+      record { labels = map (option_map bytes_of) rows; shown = rows_shown rows; unread = has.unread; sizes = has.sizes; objects = has.objects }

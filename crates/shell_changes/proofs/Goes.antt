@@ -17,7 +17,7 @@ use Rattle.namespace_areas.specs.Seen.{areas_seen}
 use Rattle.namespace_areas.specs.Opening.{opened_as, AreWhole}
 use Rattle.namespace_areas.specs.Went.{Went}
 use Rattle.namespace_areas.proofs.Seen.{seen_labels}
-use Rattle.namespace_areas.proofs.Opening.{held_all}
+use Rattle.namespace_areas.proofs.Opening.{held_all, row_of}
 use Rattle.namespace_ops.specs.declared.registry.OpenFault.{OpenFault}
 use Rattle.namespace_ops.specs.Opening.{Opened, opening, overlap_fault, set_fault_from, sets_of}
 use Rattle.namespace_areas.specs.Refusals.{shown}
@@ -29,15 +29,15 @@ use Rattle.image_set.specs.Sound.{IsArea}
 use Rattle.shell_reports.specs.declared.power.Power.{Power}
 use Rattle.shell_reports.specs.Outcome.{Outcome}
 use Rattle.shell_reports.specs.List.{open_outcome}
-use Rattle.shell_changes.specs.Areas.{areas_in}
+use Rattle.shell_changes.specs.Areas.{areas_in, rows_in}
 use Rattle.shell_changes.specs.Going.{GoesOn, GoesThen, GoesFrom}
 use Rattle.shell_changes.specs.Namespaces.{sets_in, refusal_in, changes_by, changes_in, Goes, OnSets, CommandComes}
 use Rattle.shell_changes.specs.Rest.{objects_by}
-use Rattle.shell_changes.proofs.Areas.{IsSavedAs, opened_in, outline_as, outline_rest}
+use Rattle.shell_changes.proofs.Areas.{IsSavedAs, opened_in, outline_as, outline_labels, outline_rest, rows_are}
 use Rattle.shell_changes.proofs.Ends.{cut_in_recovery, refused_after, done_after, cut_after}
 use Rattle.shell_changes.proofs.Regions.{was_opened}
 
-module _ (leaves : ℕ → List (Option Words) → List (Option (List ℕ)) → Type 0) (set : ImageSet) (words : List (Option Words)) (objects : List (Option (List ℕ)) → Images) (is_set : IsSavedAs set words objects) (power : Power) (sets : List (List Mapping)) (c : Command) (outcome : Outcome) where
+module _ (leaves : ℕ → List (Option Words) → List (Option (List ℕ)) → Type 0) (set : ImageSet) (words : List (Option Words)) (objects : List (Option (List ℕ)) → Images) (is_set : IsSavedAs set words objects) (fit : rows_in set ≡ map row_of words) (power : Power) (sets : List (List Mapping)) (c : Command) (outcome : Outcome) where
   abbrev opened : List Area
   opened = map opened_as words
 
@@ -56,9 +56,9 @@ module _ (leaves : ℕ → List (Option Words) → List (Option (List ℕ)) → 
 
       by : (b : Bool) → on.whole ≡ b → Goes leaves set seen (changes_by sets seen c None) None power outcome
       by true whole =
-          done_after leaves set words objects is_set power sets c mid on.news left on.left on.rows outcome first (subst (λ (b : Bool). Went mid on.news left on.left (own (recovered_areas sets seen)) b) whole went) on.kept (on.done whole)
+          done_after leaves set words objects is_set fit power sets c mid on.news left on.left on.rows outcome first (subst (λ (b : Bool). Went mid on.news left on.left (own (recovered_areas sets seen)) b) whole went) on.kept (on.done whole)
       by false short =
-          cut_after leaves set words objects is_set power sets c mid on.news left on.left on.rows outcome first (subst (λ (b : Bool). Went mid on.news left on.left (own (recovered_areas sets seen)) b) short went) on.kept (on.asked short) (on.cut short)
+          cut_after leaves set words objects is_set fit power sets c mid on.news left on.left on.rows outcome first (subst (λ (b : Bool). Went mid on.news left on.left (own (recovered_areas sets seen)) b) short went) on.kept (on.asked short) (on.cut short)
 
   gone_then : GoesThen leaves objects power sets opened c outcome → (r : Option OpRefused) → refusal_in sets seen c ≡ r → Goes leaves set seen (changes_by sets seen c r) r power outcome
   gone_then g r at_it = by r at_it
@@ -70,11 +70,11 @@ module _ (leaves : ℕ → List (Option Words) → List (Option (List ℕ)) → 
       same = ap (λ (xs : List (Option SeenArea)). refusal_of (namespaces_of sets xs) c) is
 
       by : (r : Option OpRefused) → refusal_in sets seen c ≡ r → Goes leaves set seen (changes_by sets seen c r) r power outcome
-      by (Some f) some = refused_after leaves set words objects is_set power sets c g.mid g.left f outcome g.first (g.refused f (same ∙ some))
+      by (Some f) some = refused_after leaves set words objects is_set fit power sets c g.mid g.left f outcome g.first (g.refused f (same ∙ some))
       by None none = gone_on g.mid g.left g.first is (g.went (same ∙ none))
 
   pub goes : GoesFrom leaves objects power sets opened c outcome → Goes leaves set seen (changes_in sets seen c) (refusal_in sets seen c) power outcome
-  goes (inl s) = cut_in_recovery leaves set words objects is_set power sets c s.news s.left s.rows outcome (refusal_in sets seen c) s.went s.kept s.asked s.cut
+  goes (inl s) = cut_in_recovery leaves set words objects is_set fit power sets c s.news s.left s.rows outcome (refusal_in sets seen c) s.went s.kept s.asked s.cut
   goes (inr g) = gone_then g (refusal_in sets seen c) refl
 
 -- label areas of a set that was loaded
@@ -118,7 +118,10 @@ module _ (set : ImageSet) (words : List (Option Words)) (nfit : Nfit) (labels : 
   pub sets_err : (f : OpenFault) → AreWhole words → Err f ≡ opening nfit (map opened_as words) → sets_in set ≡ Err f
   sets_err f whole is = sets_are whole ∙ read_err nfit (map opened_as words) f is
 
-module _ (leaves : ℕ → List (Option Words) → List (Option (List ℕ)) → Type 0) (outline : Outline) (contents : List (List ℕ)) (power : Power) (c : Command) (outcome : Outcome) (whole : AreWhole outline.labels) where
+module _ (leaves : ℕ → List (Option Words) → List (Option (List ℕ)) → Type 0) (outline : Outline) (contents : List (List ℕ)) (power : Power) (c : Command) (outcome : Outcome) (areas : All IsArea outline.labels) where
+  whole : AreWhole outline.labels
+  whole = are_whole outline.labels areas
+
   abbrev set : ImageSet
   set = image_set_with outline contents
 
@@ -134,7 +137,8 @@ module _ (leaves : ℕ → List (Option Words) → List (Option (List ℕ)) → 
       let sets : sets_in set ≡ Ok registry.sets = sets_ok set outline.labels outline.nfit (outline_as outline contents).labels nfit_is registry whole is in
       let from' : GoesFrom leaves (objects_by (outline_rest outline) contents) power registry.sets (map opened_as outline.labels) c outcome =
       subst (λ (xs : List Area). GoesFrom leaves (objects_by (outline_rest outline) contents) power registry.sets xs c outcome) (sym was.areas_are) from in
-      let it = goes leaves set outline.labels (objects_by (outline_rest outline) contents) (outline_as outline contents) power registry.sets c outcome from' in
+      let it = goes leaves set outline.labels (objects_by (outline_rest outline) contents) (outline_as outline contents)
+      (rows_are set outline.labels (outline_labels outline contents) areas) power registry.sets c outcome from' in
       subst (λ (r : Result (List (List Mapping)) OpenFault). OnSets leaves set c power r outcome) (sym sets)
       (subst (λ (xs : List (Option SeenArea)). Goes leaves set xs (changes_in registry.sets xs c) (refusal_in registry.sets xs c) power outcome)
       (labels_are set outline.labels outline.nfit (outline_as outline contents).labels nfit_is) it)

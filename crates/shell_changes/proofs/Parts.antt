@@ -1,6 +1,6 @@
 -- What `init` answers, by the area that it found.
 use Rattle.std.proofs.Common.{◌≡◌, ◌≢◌, ℕ, zero, suc, ◌<◌, Bool, true, false, List, [], ◌∷◌, Option, Some, None, Result, Ok, Err, length, refl, sym, ◌∙◌, subst, arith}
-use Rattle.std.specs.Prelude.{IfOk, IfSome, slice_index_or}
+use Rattle.std.specs.Prelude.{IfOk, slice_index_or}
 use Rattle.cut_words.specs.Words.{Words, settled}
 use Rattle.cut_words.specs.Fuses.{lasts}
 use Rattle.cut_words.specs.WordBytes.{bytes_of}

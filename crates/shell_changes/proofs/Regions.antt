@@ -17,7 +17,7 @@ use Rattle.namespace_map.specs.Left.{AreRegions}
 use Rattle.namespace_laws.specs.Regions.{AreSetsOf}
 use Rattle.namespace_laws.proofs.TableRegions.{gives_regions}
 
-no_first : {F : Type 0} (o : Option F) (os : List (Option F)) → first_fault (o ∷ os) ≡ None → (o ≡ None) × (first_fault os ≡ None)
+pub no_first : {F : Type 0} (o : Option F) (os : List (Option F)) → first_fault (o ∷ os) ≡ None → (o ≡ None) × (first_fault os ≡ None)
 unfolding first_fault
 no_first None os e = (refl, e)
 no_first (Some f) os e = absurd (none-some f (sym e))
@@ -38,7 +38,7 @@ sets_are (r ∷ rs) number none (suc i) set at_it =
     let here = no_first (result_err (set_or_fault number r)) (set_fault_from (number + 1) rs ∷ []) none in
     sets_are rs (number + 1) (no_first (set_fault_from (number + 1) rs) [] here.1).0 i set at_it
 
-parts_of : {A F : Type 0} (v w : A) (o : Option F) → Ok w ≡ value_unless v o → (o ≡ None) × (v ≡ w)
+pub parts_of : {A F : Type 0} (v w : A) (o : Option F) → Ok w ≡ value_unless v o → (o ≡ None) × (v ≡ w)
 parts_of v w None e = (refl, let e' = e in cc)
 parts_of v w (Some f) e = absurd (let e' = e in cc)
 

@@ -1,10 +1,9 @@
 -- What is saved of what remains of an image set.
-use Rattle.std.proofs.Common.{◌≡◌, ℕ, false, Bool, List, [], ◌∷◌, length, map, Option, Some, None, refl, sym, ap, ◌∙◌, subst}
+use Rattle.std.proofs.Common.{◌≡◌, ℕ, false, Bool, List, [], ◌∷◌, map, Option, Some, None, refl, sym, ap, ◌∙◌, subst}
 use Rattle.std.specs.Prelude.{IfSome}
 use Rattle.std.specs.Option.{option_map}
-use Rattle.std.specs.List.{All}
 use Rattle.nvd_media.specs.Images.{Images as Objects, IsSameSet}
-use Rattle.cut_words.specs.Words.{Words, settled, IsLeft}
+use Rattle.cut_words.specs.Words.{Words}
 use Rattle.cut_words.specs.WordBytes.{bytes_of}
 use Rattle.power_cut.specs.Left.{Each, InTurn, IsLeftOf, LeavesOption, LeavesWords}
 use Rattle.image_set.specs.declared.changing.OutlineLeft.{OutlineLeft}
@@ -13,9 +12,6 @@ use Rattle.image_set.specs.declared.outline.Outline.{Outline}
 use Rattle.image_set.specs.Changed.{objects_of, with_area}
 use Rattle.image_set.specs.Outline as outlined
 use Rattle.image_set.specs.Outline.{image_set_with}
-use Rattle.image_set.specs.Save.{set_of}
-use Rattle.image_set.specs.Sound.{IsContents}
-use Rattle.image_set.proofs.Kept.{kept_row}
 use Rattle.namespace_areas.specs.declared.area.Area.{Area}
 use Rattle.namespace_areas.specs.Seen.{AreLeft, words_of}
 use Rattle.shell_reports.specs.declared.status.Ending.{Ending}
@@ -25,7 +21,6 @@ use Rattle.shell_reports.specs.Cut.{cut_text, done_text}
 use Rattle.shell_reports.specs.Saved.{IsSaving}
 use Rattle.shell_changes.specs.declared.answer.Answer.{Answer}
 use Rattle.shell_changes.specs.declared.answer.Left.{Left}
-use Rattle.shell_changes.specs.declared.answer.Left.TheVariants.{Copied, Whole}
 use Rattle.shell_changes.specs.declared.saving.Remains.TheVariants as kind
 use Rattle.shell_changes.specs.declared.saving.Rest.{Rest}
 use Rattle.shell_changes.specs.Answers.{HasSizes, outcome_with, whole_outcome}

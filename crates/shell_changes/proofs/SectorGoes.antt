@@ -23,7 +23,7 @@ use Rattle.namespace_areas.specs.Went.{Went, size_of, unready}
 use Rattle.namespace_areas.proofs.Seen.{left_kept, left_shown}
 use Rattle.image_set.specs.declared.loading.Loaded.{Loaded}
 use Rattle.image_set.specs.Load.{ImageSet, bytes_kept, image_set_in}
-use Rattle.image_set.specs.Sound.{IsContents}
+use Rattle.image_set.specs.Sound.{IsArea, IsContents}
 use Rattle.namespace_areas.specs.Refusals.{offset_for, shown}
 use Rattle.namespace_ops.specs.declared.registry.OpenFault.{OpenFault}
 use Rattle.namespace_ops.specs.Opening.{Opened, opening}
@@ -42,9 +42,9 @@ use Rattle.shell_changes.specs.Areas.{HasAreas}
 use Rattle.shell_changes.specs.Namespaces.{IsCut}
 use Rattle.shell_changes.specs.Refusals.{refused_outcome}
 use Rattle.shell_changes.specs.Rest.{objects_with}
-use Rattle.shell_changes.proofs.Areas.{has_areas, loaded_as, rest_of}
+use Rattle.shell_changes.proofs.Areas.{has_areas, labels_in, loaded_as, rest_of, rows_are as rows_are_in}
 use Rattle.shell_changes.proofs.Ends.{all_cut}
-use Rattle.shell_changes.proofs.Goes.{labels_are, sets_err, sets_ok}
+use Rattle.shell_changes.proofs.Goes.{are_whole, labels_are, sets_err, sets_ok}
 use Rattle.shell_changes.proofs.Regions.{was_opened}
 use Rattle.shell_reports.proofs.Arenas.{rows_back}
 use Rattle.shell_changes.specs.Parts.{SavesParts, with_contents}
@@ -89,7 +89,7 @@ nfit_is : (loaded : Loaded) → (image_set_in loaded).nfit ≡ loaded.nfit
 unfolding image_set_in
 nfit_is loaded = refl
 
-module _ (leaves : ℕ → List (Option Words) → List (Option (List ℕ)) → Type 0) (loaded : Loaded) (power : Power) (outcome : Outcome) where
+module _ (leaves : ℕ → List (Option Words) → List (Option (List ℕ)) → Type 0) (loaded : Loaded) (are_areas : All IsArea loaded.labels) (power : Power) (outcome : Outcome) where
   abbrev opened : List Area
   opened = map opened_as loaded.labels
 
@@ -232,7 +232,8 @@ module _ (leaves : ℕ → List (Option Words) → List (Option (List ℕ)) → 
     pub goes : GoesFrom leaves (rest_of loaded) power sets opened spec outcome → Goes leaves sets (image_set_in loaded) seen spec power outcome
     goes (inl s) =
         subst (λ (b : Bool). MatchBool b (OnRecovered ns (image_set_in loaded) mid_seen (burnt power.steps (steps_of_all seen (recovery_changes sets seen))) spec power outcome) (IsCut leaves (image_set_in loaded) seen (recovery_changes sets seen) power outcome)) s.went.made
-        (all_cut leaves (image_set_in loaded) loaded.labels (objects_with (rest_of loaded)) (loaded_as loaded) power s.news s.left (recovery_changes sets seen) s.rows outcome s.went s.kept s.asked s.cut)
+        (all_cut leaves (image_set_in loaded) loaded.labels (objects_with (rest_of loaded)) (loaded_as loaded)
+        (rows_are_in (image_set_in loaded) loaded.labels (labels_in loaded) are_areas) power s.news s.left (recovery_changes sets seen) s.rows outcome s.went s.kept s.asked s.cut)
     goes (inr g) =
         subst (λ (b : Bool). MatchBool b (OnRecovered ns (image_set_in loaded) mid_seen (burnt power.steps (steps_of_all seen (recovery_changes sets seen))) spec power outcome) (IsCut leaves (image_set_in loaded) seen (recovery_changes sets seen) power outcome)) g.first.made
         (recovered g)
@@ -240,14 +241,14 @@ module _ (leaves : ℕ → List (Option Words) → List (Option (List ℕ)) → 
 -- ---- the whole command
 
 -- a registry that is opened, and the command on what it holds
-pub comes : (leaves : ℕ → List (Option Words) → List (Option (List ℕ)) → Type 0) (loaded : Loaded) (power : Power) (spec : CreateSpec) (outcome : Outcome) (registry : Opened) → All IsContents loaded.contents → AreWhole loaded.labels
+pub comes : (leaves : ℕ → List (Option Words) → List (Option (List ℕ)) → Type 0) (loaded : Loaded) (power : Power) (spec : CreateSpec) (outcome : Outcome) (registry : Opened) → All IsContents loaded.contents → All IsArea loaded.labels
     → Ok registry ≡ opening loaded.nfit (map opened_as loaded.labels) → GoesFrom leaves (rest_of loaded) power registry.sets registry.areas spec outcome → SectorsCome leaves spec power (image_set_in loaded) outcome
-comes leaves loaded power spec outcome registry sound whole is from =
+comes leaves loaded power spec outcome registry sound are_areas is from =
     let was = was_opened loaded.nfit (map opened_as loaded.labels) registry is in
     let from' : GoesFrom leaves (rest_of loaded) power registry.sets (map opened_as loaded.labels) spec outcome = subst (λ (xs : List Area). GoesFrom leaves (rest_of loaded) power registry.sets xs spec outcome) (sym was.areas_are) from in
-    subst (λ (r : Result (List (List Mapping)) OpenFault). OnSets leaves (image_set_in loaded) spec power r outcome) (sym (sets_ok (image_set_in loaded) loaded.labels loaded.nfit (loaded_as loaded).labels (nfit_is loaded) registry whole is))
+    subst (λ (r : Result (List (List Mapping)) OpenFault). OnSets leaves (image_set_in loaded) spec power r outcome) (sym (sets_ok (image_set_in loaded) loaded.labels loaded.nfit (loaded_as loaded).labels (nfit_is loaded) registry (are_whole loaded.labels are_areas) is))
     (subst (λ (xs : List (Option SeenArea)). Goes leaves registry.sets (image_set_in loaded) xs spec power outcome) (labels_are (image_set_in loaded) loaded.labels loaded.nfit (loaded_as loaded).labels (nfit_is loaded))
-    (goes leaves loaded power outcome registry.sets spec sound from'))
+    (goes leaves loaded are_areas power outcome registry.sets spec sound from'))
 
 -- one that isn't
 pub comes_not : (leaves : ℕ → List (Option Words) → List (Option (List ℕ)) → Type 0) (loaded : Loaded) (power : Power) (spec : CreateSpec) (outcome : Outcome) (f : OpenFault) → AreWhole loaded.labels → Err f ≡ opening loaded.nfit (map opened_as loaded.labels)

@@ -1,9 +1,8 @@
 -- What a cut leaves of a set of which the label areas alone may have words that are pending.
-use Rattle.std.proofs.Common.{◌≡◌, ℕ, zero, suc, ◌<◌, ◌^◌, Bool, List, [], ◌∷◌, length, map, get_or, Option, None, refl, sym, ap, ◌∙◌, subst}
+use Rattle.std.proofs.Common.{◌≡◌, ℕ, zero, suc, Bool, List, [], ◌∷◌, map, get_or, Option, None, refl, sym, ap, ◌∙◌}
 use Rattle.std.specs.Prelude.{slice_get}
 use Rattle.std.specs.Option.{option_map}
 use Rattle.std.specs.List.{All}
-use Rattle.std.proofs.lemmas.List.{length-map}
 use Rattle.std.proofs.lemmas.List.Elements.{All-nil, All-cons, All-head, All-tail}
 use Rattle.std.proofs.lemmas.Simd.{map-map}
 use Rattle.std.proofs.lemmas.Option.{slice_get-map}
@@ -12,11 +11,10 @@ use Rattle.nvd_media.specs.Images.{IsSameSet}
 use Rattle.cut_words.specs.Words.{Words}
 use Rattle.cut_words.specs.WordBytes.{bytes_of}
 use Rattle.power_cut.specs.declared.leaving.Images.{Images as Left}
-use Rattle.power_cut.specs.Left.{LeavesAll, IsLeftOf, IsLeftOfAll}
+use Rattle.power_cut.specs.Left.{LeavesAll, IsLeftOfAll}
 use Rattle.image_set.specs.Save.{set_of}
-use Rattle.image_set.specs.Changed.{IsSavable}
 use Rattle.image_set.specs.Sound.{IsContents}
-use Rattle.image_set.proofs.Kept.{IsSettled, kept_in, kept_rows, each_length}
+use Rattle.image_set.proofs.Kept.{IsSettled, kept_in, kept_rows}
 use Rattle.shell_changes.specs.declared.saving.Rest.{Rest}
 use Rattle.shell_changes.specs.Rest.{IsRest, objects_with}
 

@@ -2,7 +2,7 @@
 use Rattle.std.specs.Prelude.{◌≡◌, ℕ, List, map, length, slice_index_or, Option, Some, None, Result, Ok, Err}
 use Rattle.std.specs.Option.{option_map}
 use Rattle.nvd_media.specs.Images.{Images, IsSameSet}
-use Rattle.cut_words.specs.WordBytes.{bytes_of}
+use Rattle.cut_words.specs.WordBytes.{bytes_of, words_in}
 use Rattle.label_index.specs.declared.index.IndexBlock.{IndexBlock}
 use Rattle.label_area.specs.declared.fault.AreaFault.{AreaFault}
 use Rattle.label_area.specs.Area.{block_in, slots_by}
@@ -22,6 +22,10 @@ area_in (Some bytes) = area_by bytes (block_in bytes)
 
 abbrev pub areas_in : List (Option (List ℕ)) → List (Option Area)
 areas_in labels = map area_in labels
+
+-- the words of all label areas, none where a module has none
+abbrev pub rows_in : ImageSet → List (Option (List ℕ))
+rows_in set = map (option_map words_in) set.labels
 
 -- an image set with other label areas
 abbrev pub with_labels : ImageSet → List (Option (List ℕ)) → ImageSet

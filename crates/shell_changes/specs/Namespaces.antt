@@ -7,6 +7,7 @@ use Rattle.cut_words.specs.Words.{Words}
 use Rattle.cut_words.specs.Fuses.{lasts}
 use Rattle.power_cut.specs.Left.{Each, IsLeftOf}
 use Rattle.namespace_areas.specs.Seen.{areas_shown}
+use Rattle.namespace_areas.specs.Steps.{all_rows, words_after}
 use Rattle.namespace_map.specs.declared.commands.Command.{Command}
 use Rattle.namespace_map.specs.declared.refused.OpRefused.{OpRefused}
 use Rattle.namespace_map.specs.Areas.{Area, Change, all_changed, steps_of_all, IsLeftBy}
@@ -21,7 +22,7 @@ use Rattle.shell_reports.specs.Outcome.{Outcome}
 use Rattle.shell_reports.specs.Saved.{IsSaving}
 use Rattle.shell_reports.specs.Cut.{cut_text, done_text}
 use Rattle.shell_reports.specs.List.{open_outcome}
-use Rattle.shell_changes.specs.Areas.{areas_in, HasRows}
+use Rattle.shell_changes.specs.Areas.{areas_in, rows_in, HasRows}
 use Rattle.shell_changes.specs.Refusals.{refused_outcome}
 
 -- the interleave sets of a set whose namespaces can be told, or the first fault: a region that is no interleave set; extents of two
@@ -29,25 +30,25 @@ use Rattle.shell_changes.specs.Refusals.{refused_outcome}
 abbrev pub sets_in : ImageSet → Result (List (List Mapping)) OpenFault
 sets_in loaded = value_unless (sets_of loaded.nfit) (first_fault (set_fault_from 0 loaded.nfit.regions ∷ overlap_fault (placed_in_all (areas_in loaded.labels)) ∷ []))
 
--- all changes are made: the set is saved with areas that show what they make
+-- all changes are made: the set is saved with the words of its label areas after their last store and keep
 pub record IsDone (loaded : ImageSet) (areas : List (Option Area)) (changes : List Change) (outcome : Outcome) : Type 0 where
-  pub rows : List (Option (List ℕ))
-  pub shown : areas_shown rows ≡ all_changed areas changes
+  -- these show what the changes make of the areas
+  pub shown : areas_shown (all_rows (rows_in loaded) changes) ≡ all_changed areas changes
   pub set : Images
-  pub has : HasRows loaded rows set
+  pub has : HasRows loaded (all_rows (rows_in loaded) changes) set
   pub saves : IsSaving ending.Done done_text set outcome
 
--- power is cut within changes: the set is saved with what the chooser leaves of the areas' words
+-- power is cut within changes: the set is saved with what the chooser leaves of the words of its label areas, as the first stores
+-- and keeps of the changes have left them
 pub record IsCut (leaves : ℕ → List (Option Words) → List (Option (List ℕ)) → Type 0) (loaded : ImageSet) (areas : List (Option Area)) (changes : List Change) (power : Power) (outcome : Outcome) : Type 0 where
   pub steps : ℕ
   pub given : power.steps ≡ Some steps
-  -- the areas' words then, of which whatever a cut leaves shows what a cut after so many steps leaves of the changes
-  pub words : List (Option Words)
-  pub leave : (rows : List (Option (List ℕ))) → Each IsLeftOf words rows → IsLeftBy areas changes steps (areas_shown rows)
+  -- whatever the cut leaves of these words shows what it leaves of the changes
+  pub leave : (rows : List (Option (List ℕ))) → Each IsLeftOf (words_after (rows_in loaded) changes steps) rows → IsLeftBy areas changes steps (areas_shown rows)
   -- what the chooser leaves of them
   pub rows : List (Option (List ℕ))
-  pub asked : leaves power.seed words rows
-  pub left_of : Each IsLeftOf words rows
+  pub asked : leaves power.seed (words_after (rows_in loaded) changes steps) rows
+  pub left_of : Each IsLeftOf (words_after (rows_in loaded) changes steps) rows
   pub set : Images
   pub has : HasRows loaded rows set
   pub saves : IsSaving ending.PowerCut (cut_text power.steps) set outcome

@@ -20,6 +20,17 @@
 //! | what one comes to that makes no sectors, whatever contents the set has | [`change_answer`] | `CommandComes` of `specs/Namespaces.antt` |
 //! | the commands that words say | [`create_in`], [`delete_in`], [`rename_in`] | `specs/Words.antt` |
 //! | what is printed of a refusal | `refusing_answer` | `refused_outcome` of `specs/Refusals.antt` |
+//! | the words of the label areas that are saved, to the byte | [`change_answer`] | `IsDone`, `IsCut` of `specs/Namespaces.antt` |
+//!
+//! Laws say what that means for the map of namespaces (`map_of` of `specs/Maps.antt`), whoever makes the answer:
+//!
+//! | what | law |
+//! |---|---|
+//! | no two namespaces of images that are accepted have extents that meet | [`accepted_is_apart`] |
+//! | recovery, a command and a crash in a command keep it so | [`changes_keep_apart`] |
+//! | after `ok` the map is the command applied to the map after recovery | [`done_is_the_command`] |
+//! | after a crash it is that of a cut in recovery, or in the command behind it | [`crash_is_in_either`] |
+//! | recovered, it is the map before or after the command | [`crash_recovers`] |
 //!
 //! Recovery and command burn one fuse, in this order. A refused command saves nothing, what recovery made neither.
 //!
@@ -57,6 +68,7 @@ mod answer;
 mod answering;
 mod changing;
 mod init;
+mod laws;
 mod refusals;
 mod saving;
 mod words;
@@ -65,4 +77,7 @@ pub use answer::{Answer, Left, SavedSet, without_set};
 pub use answering::sectors_answer;
 pub use changing::change_answer;
 pub use init::init_answer;
+pub use laws::{
+    accepted_is_apart, changes_keep_apart, crash_is_in_either, crash_recovers, done_is_the_command,
+};
 pub use words::{create_in, delete_in, makes_sectors, rename_in};

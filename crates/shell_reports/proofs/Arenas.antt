@@ -27,7 +27,7 @@ use Rattle.shell_reports.specs.Sectors.{on_found, on_sectors, registry_fault, un
 
 -- ---- words of contents, and back
 
-words_back : (words : List ℕ) → AreWords words → words_in (bytes_of words) ≡ words
+pub words_back : (words : List ℕ) → AreWords words → words_in (bytes_of words) ≡ words
 words_back [] fit = refl
 words_back (w ∷ words) fit =
     λ i. from_le_bytes-to_le_bytes_8 w (fit.each 0) i ∷ words_back words (record { each = λ k. fit.each (suc k) }) i

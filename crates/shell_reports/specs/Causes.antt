@@ -1,5 +1,5 @@
 -- Why a command on the arenas of a namespace ends with its status: this project's rules.
-use Rattle.std.specs.Prelude.{◌≡◌, ◌⊎◌, ℕ, nat_lt, Bool, true, false, not, List, Option, Some, None, Result, Ok, Err}
+use Rattle.std.specs.Prelude.{ℕ, nat_lt, Bool, true, false, ◌||◌, not, List, Option, is_some, Result, Ok, Err, is_err}
 use Rattle.arena_open.specs.declared.state.ArenaState.{ArenaState}
 use Rattle.arena_open.specs.declared.chain_refused.ChainRefused.{ChainRefused}
 use Rattle.arena_open.specs.ChainCells.{sectors_of}
@@ -26,19 +26,13 @@ found_in loaded uuid = found_of (sets_of loaded.nfit) (entry_at (sets_of loaded.
 abbrev pub opened_in : ImageSet → List ℕ → Found → Result (List ArenaState) ChainRefused
 opened_in loaded uuid found = opened_view (view_words (sets_of loaded.nfit) found (rows_of loaded.contents)) uuid
 
--- the images are refused: the table or the labels have a fault, or the namespace is found and one of its arenas violates the
--- format
-abbrev pub IsBroken : ImageSet → List ℕ → Type 0
-IsBroken loaded uuid =
-    ((fault : OpenFault) × (fault_in loaded ≡ Some fault))
-    ⊎ ((found : Found) × (found_in loaded uuid ≡ Ok found) × ((fault : ChainRefused) × (opened_in loaded uuid found ≡ Err fault)))
+abbrev pub breaks : ImageSet → List ℕ → Result Found OpRefused → Bool
+breaks loaded uuid (Ok found) = is_err (opened_in loaded uuid found)
+breaks loaded uuid (Err refusal) = false
 
--- the images are accepted: they have no such fault, and the namespace isn't found, or all of its arenas open
-abbrev pub IsReadable : ImageSet → List ℕ → Type 0
-IsReadable loaded uuid =
-    (fault_in loaded ≡ None)
-    × (((refusal : OpRefused) × (found_in loaded uuid ≡ Err refusal))
-    ⊎ ((found : Found) × (found_in loaded uuid ≡ Ok found) × ((states : List ArenaState) × (opened_in loaded uuid found ≡ Ok states))))
+-- the images are refused: the table or the labels have a fault, or the namespace is found and one of its arenas breaks the format
+abbrev pub is_broken : ImageSet → List ℕ → Bool
+is_broken loaded uuid = is_some (fault_in loaded) || breaks loaded uuid (found_in loaded uuid)
 
 -- ---- refusals
 

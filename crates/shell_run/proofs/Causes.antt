@@ -1,6 +1,6 @@
--- Each status has its cause.
+-- The status is the one that is due.
 use Rattle.std.proofs.Common.{◌≡◌, ℕ, ◌/◌, Bool, true, false, List, [], length, Option, Some, None, Result, Ok, Err, refl, sym, ap, ◌∙◌, subst, inl, inr, arith}
-use Rattle.std.specs.Prelude.{◌⊎◌, not, nat_lt, is_some, MatchBool, MatchOption, if◌then◌else◌}
+use Rattle.std.specs.Prelude.{◌⊎◌, ◌||◌, not, nat_lt, is_some, is_err, MatchBool, MatchOption, if◌then◌else◌}
 use Rattle.nvd_media.specs.Images.{Images}
 use Rattle.cut_words.specs.Words.{Words}
 use Rattle.cut_words.specs.Fuses.{lasts}
@@ -18,7 +18,6 @@ use Rattle.image_set.specs.declared.fault.LoadFault.{LoadFault}
 use Rattle.image_set.specs.Load.{ImageSet, area_of, loading}
 use Rattle.shell_reports.specs.declared.status.Ending.{Ending}
 use Rattle.shell_reports.specs.declared.status.Ending.TheVariants as ending
-use Rattle.shell_reports.specs.declared.status.Status.{Status}
 use Rattle.shell_reports.specs.declared.status.Status.TheVariants as status
 use Rattle.shell_run.specs.declared.words.Command.{Command}
 use Rattle.shell_run.specs.declared.words.Command.TheVariants.{Labels, Nfit, Init, Change, Info, Read}
@@ -45,25 +44,27 @@ use Rattle.shell_reports.specs.Outcome.{Outcome, usage, printed, status_of}
 use Rattle.shell_reports.specs.Labels.{module_outcome, found_outcome, fault_outcome}
 use Rattle.shell_changes.specs.Init.{InitArea, InitModule, not_initialised}
 use Rattle.shell_reports.specs.List.{listed_of, listed_outcome, open_outcome}
+use Rattle.arena_open.specs.declared.chain_refused.ChainRefused.{ChainRefused}
 use Rattle.arena_open.specs.declared.state.ArenaState.{ArenaState}
 use Rattle.arena_open.specs.ChainCells.{sectors_of}
 use Rattle.namespace_areas.specs.declared.found.Found.{Found}
 use Rattle.shell_reports.specs.Faults.{arena_outcome, find_refusal, refused_outcome as sector_refusal}
 use Rattle.shell_reports.specs.Sectors.{arena_lines, sector_outcome}
-use Rattle.shell_reports.specs.Causes.{IsBroken, IsReadable, found_in, opened_in, is_unfound, lacks, lacks_found}
+use Rattle.shell_reports.specs.Causes.{breaks, fault_in, found_in, is_broken, is_unfound, lacks, lacks_found, opened_in}
 use Rattle.shell_reports.proofs.Causes.{SectorsCase, faulty, unfound, broken, opened, sectors_case}
-use Rattle.shell_run.specs.Run.{LoadedComes, OnLoaded, ComesTold, IsDue}
-use Rattle.shell_run.specs.Laws.{IsRefusedArea, IsAcceptedArea, IsKeptArea, IsBlankArea, IsRefusedFor, IsAcceptedFor, is_barred, is_cut, is_short, HasTableCause, EachStatusHasItsCause, AcceptedIsOk}
+use Rattle.shell_run.specs.Run.{LoadedComes, OnLoaded, ComesTold}
+use Rattle.shell_run.specs.Statuses.{ending_by, ending_due, ending_with, has_block, is_barred, is_cut, is_short, keeps_area, refuses_area, refuses_images}
+use Rattle.shell_run.specs.Laws.{StatusIsDue}
 
 -- the ways in which a command on images is answered
 data CommandCase (command : Command) (found : Result ImageSet LoadFault) (e : Ending) : Type 0 where
-  is_refused : IsRefusedFor command found → e ≡ ending.Image → CommandCase command found e
-  is_done : IsAcceptedFor command found → is_cut command found ≡ false → is_barred command found ≡ false → e ≡ ending.Done → CommandCase command found e
-  is_turned_down : IsAcceptedFor command found → is_cut command found ≡ false → is_barred command found ≡ true → e ≡ ending.Refused → CommandCase command found e
-  is_cut_short : IsAcceptedFor command found → is_cut command found ≡ true → e ≡ ending.PowerCut → CommandCase command found e
+  is_refused : refuses_images command found ≡ true → e ≡ ending.Image → CommandCase command found e
+  is_done : refuses_images command found ≡ false → is_cut command found ≡ false → is_barred command found ≡ false → e ≡ ending.Done → CommandCase command found e
+  is_turned_down : refuses_images command found ≡ false → is_cut command found ≡ false → is_barred command found ≡ true → e ≡ ending.Refused → CommandCase command found e
+  is_cut_short : refuses_images command found ≡ false → is_cut command found ≡ true → e ≡ ending.PowerCut → CommandCase command found e
 
 abbrev AreaCase : Option (List ℕ) → Ending → Type 0
-AreaCase found e = (IsRefusedArea found × (e ≡ ending.Image)) ⊎ (IsAcceptedArea found × (e ≡ ending.Done))
+AreaCase found e = ((refuses_area found ≡ true) × (e ≡ ending.Image)) ⊎ ((refuses_area found ≡ false) × (e ≡ ending.Done))
 
 fault_ending : (m : ℕ) (fault : AreaFault) → (fault_outcome m fault).ending ≡ ending.Image
 fault_ending m (Unsupported major minor) = refl
@@ -80,11 +81,11 @@ kept_ending m (AlreadyInitialised seq) = refl
 kept_ending m PowerCut = refl
 
 area_case : (m : ℕ) (area : List ℕ) (found : Result IndexBlock AreaFault) → block_in area ≡ found → AreaCase (Some area) (found_outcome m area found).ending
-area_case m area (Ok block) is = inr ((area, refl, (block, is)), refl)
-area_case m area (Err fault) is = inl (inr (area, refl, (fault, is)), fault_ending m fault)
+area_case m area (Ok block) is = inr (ap (λ r. is_err r) is, refl)
+area_case m area (Err fault) is = inl (ap (λ r. is_err r) is, fault_ending m fault)
 
 module_case : (m : ℕ) (found : Option (List ℕ)) → AreaCase found (module_outcome m found).ending
-module_case m None = inl (inl refl, refl)
+module_case m None = inl (refl, refl)
 module_case m (Some area) = area_case m area (block_in area) refl
 
 labels_case : (m : ℕ) (loaded : ImageSet) (e : Ending) → AreaCase (area_of loaded m) e → CommandCase (Labels m) (Ok loaded) e
@@ -92,8 +93,8 @@ labels_case m loaded e (inl refused) = is_refused refused.0 refused.1
 labels_case m loaded e (inr accepted) = is_done accepted.0 refl refl accepted.1
 
 list_case : (loaded : ImageSet) (found : Result (List Namespace) OpenFault) → listed_of loaded ≡ found → CommandCase command.List (Ok loaded) (listed_outcome found).ending
-list_case loaded (Ok namespaces) is = is_done (namespaces, is) refl refl refl
-list_case loaded (Err fault) is = is_refused (fault, is) refl
+list_case loaded (Ok namespaces) is = is_done (ap (λ r. is_err r) is) refl refl refl
+list_case loaded (Err fault) is = is_refused (ap (λ r. is_err r) is) refl
 
 ending_of : (a b : Outcome) → a ≡ b → a.ending ≡ b.ending
 ending_of a b is = ap (λ (o : Outcome). o.ending) is
@@ -106,31 +107,31 @@ words_in_area values area is = let e = length_bytes values in let f = ap (λ (xs
 
 -- a module's area that has no index block, with power lasting or not
 data InitCase (steps : Option ℕ) (found : Option (List ℕ)) (e : Ending) : Type 0 where
-  is_kept : IsKeptArea found → e ≡ ending.Image → InitCase steps found e
-  is_blank : IsBlankArea found → is_short steps found ≡ false → e ≡ ending.Done → InitCase steps found e
-  is_blank_short : IsBlankArea found → is_short steps found ≡ true → e ≡ ending.PowerCut → InitCase steps found e
+  is_kept : keeps_area found ≡ true → e ≡ ending.Image → InitCase steps found e
+  is_blank : keeps_area found ≡ false → is_short steps found ≡ false → e ≡ ending.Done → InitCase steps found e
+  is_blank_short : keeps_area found ≡ false → is_short steps found ≡ true → e ≡ ending.PowerCut → InitCase steps found e
 
 module _ (leaves : ℕ → List (Option Words) → List (Option (List ℕ)) → Type 0) (m : ℕ) (power : Power) (loaded : ImageSet) (outcome : Outcome) where
   blank_case : (values area : List ℕ) → bytes_of values ≡ area → block_in area ≡ Err NoIndex → (b : Bool) → lasts power.steps (init_count (length values)) ≡ b
       → InitArea leaves m power loaded (initialised_by values power.steps (Err NoIndex)) outcome → InitCase power.steps (Some area) outcome.ending
   blank_case values area is none true long comes =
-      is_blank (area, refl, none) (ap (λ (n : ℕ). not (lasts power.steps (init_count n))) (words_in_area values area is) ∙ ap not long)
+      is_blank (ap has_block none) (ap (λ (n : ℕ). not (lasts power.steps (init_count n))) (words_in_area values area is) ∙ ap not long)
       (let done = rw long at comes in done.ends)
   blank_case values area is none false short comes =
-      is_blank_short (area, refl, none) (ap (λ (n : ℕ). not (lasts power.steps (init_count n))) (words_in_area values area is) ∙ ap not short)
+      is_blank_short (ap has_block none) (ap (λ (n : ℕ). not (lasts power.steps (init_count n))) (words_in_area values area is) ∙ ap not short)
       (let cut = rw short at comes in cut.2.ends)
 
   found_case : (values area : List ℕ) → bytes_of values ≡ area → (found : Result IndexBlock AreaFault) → block_in area ≡ found
       → InitArea leaves m power loaded (initialised_by values power.steps found) outcome → InitCase power.steps (Some area) outcome.ending
-  found_case values area is (Ok block) read comes = is_kept (inr (area, refl, λ none. (let e = sym read ∙ none in cc))) (ending_of outcome _ comes ∙ kept_ending m (AlreadyInitialised block.seq))
+  found_case values area is (Ok block) read comes = is_kept (ap has_block read) (ending_of outcome _ comes ∙ kept_ending m (AlreadyInitialised block.seq))
   found_case values area is (Err NoIndex) read comes = blank_case values area is read (lasts power.steps (init_count (length values))) refl comes
-  found_case values area is (Err (Unsupported major minor)) read comes = is_kept (inr (area, refl, λ none. (let e = sym read ∙ none in cc))) (ending_of outcome _ comes ∙ kept_ending m (Unsupported major minor))
-  found_case values area is (Err OutOfMemory) read comes = is_kept (inr (area, refl, λ none. (let e = sym read ∙ none in cc))) (ending_of outcome _ comes ∙ kept_ending m OutOfMemory)
-  found_case values area is (Err (AlreadyInitialised seq)) read comes = is_kept (inr (area, refl, λ none. (let e = sym read ∙ none in cc))) (ending_of outcome _ comes ∙ kept_ending m (AlreadyInitialised seq))
+  found_case values area is (Err (Unsupported major minor)) read comes = is_kept (ap has_block read) (ending_of outcome _ comes ∙ kept_ending m (Unsupported major minor))
+  found_case values area is (Err OutOfMemory) read comes = is_kept (ap has_block read) (ending_of outcome _ comes ∙ kept_ending m OutOfMemory)
+  found_case values area is (Err (AlreadyInitialised seq)) read comes = is_kept (ap has_block read) (ending_of outcome _ comes ∙ kept_ending m (AlreadyInitialised seq))
   found_case values area is (Err PowerCut) read comes = absurd (read_fault area PowerCut read refl)
 
   init_case : (found : Option (List ℕ)) → InitModule leaves m power loaded found outcome → InitCase power.steps found outcome.ending
-  init_case None comes = is_kept (inl refl) (ending_of outcome _ comes)
+  init_case None comes = is_kept refl (ending_of outcome _ comes)
   init_case (Some area) (values, is, comes) = found_case values area is (block_in area) refl
       (subst (λ (xs : List ℕ). InitArea leaves m power loaded (initialised_by values power.steps (block_in xs)) outcome) is comes)
 
@@ -150,19 +151,19 @@ module _ (leaves : ℕ → List (Option Words) → List (Option (List ℕ)) → 
   whole_case : (sets : List (List Mapping)) → sets_in loaded ≡ Ok sets → (refusal : Option OpRefused) → refusal_in sets seen c ≡ refusal → changes.is_short loaded c power.steps ≡ false
       → namespaces.Ends loaded seen (changes_in sets seen c) refusal outcome → CommandCase (Change c power) (Ok loaded) outcome.ending
   whole_case sets are None none long ends =
-      is_done (sets, are) long (ap (refuses_by seen c) are ∙ ap (λ (o : Option OpRefused). is_some o) none) (ends.saves.ends)
+      is_done (ap (λ r. is_err r) are) long (ap (refuses_by seen c) are ∙ ap (λ (o : Option OpRefused). is_some o) none) (ends.saves.ends)
   whole_case sets are (Some f) some long ends =
-      is_turned_down (sets, are) long (ap (refuses_by seen c) are ∙ ap (λ (o : Option OpRefused). is_some o) some) (ending_of outcome (refused_outcome f) ends)
+      is_turned_down (ap (λ r. is_err r) are) long (ap (refuses_by seen c) are ∙ ap (λ (o : Option OpRefused). is_some o) some) (ending_of outcome (refused_outcome f) ends)
 
   lasting_case : (sets : List (List Mapping)) → sets_in loaded ≡ Ok sets → (b : Bool) → lasts power.steps (steps_of_all seen (changes_in sets seen c)) ≡ b
       → MatchBool b (namespaces.Ends loaded seen (changes_in sets seen c) (refusal_in sets seen c) outcome) (namespaces.IsCut leaves loaded seen (changes_in sets seen c) power outcome)
       → CommandCase (Change c power) (Ok loaded) outcome.ending
   lasting_case sets are true long ends = whole_case sets are (refusal_in sets seen c) refl (plain ∙ ap (namespaces.is_short_by seen c power.steps) are ∙ ap not long) ends
-  lasting_case sets are false short cut = is_cut_short (sets, are) (plain ∙ ap (namespaces.is_short_by seen c power.steps) are ∙ ap not short) (cut.saves.ends)
+  lasting_case sets are false short cut = is_cut_short (ap (λ r. is_err r) are) (plain ∙ ap (namespaces.is_short_by seen c power.steps) are ∙ ap not short) (cut.saves.ends)
 
   change_case : (found : Result (List (List Mapping)) OpenFault) → sets_in loaded ≡ found → namespaces.OnSets leaves loaded c power found outcome → CommandCase (Change c power) (Ok loaded) outcome.ending
   change_case (Ok sets) are comes = lasting_case sets are (lasts power.steps (steps_of_all seen (changes_in sets seen c))) refl comes
-  change_case (Err fault) are comes = is_refused (fault, are) (ending_of outcome (open_outcome fault) comes)
+  change_case (Err fault) are comes = is_refused (ap (λ r. is_err r) are) (ending_of outcome (open_outcome fault) comes)
 
 -- ---- a namespace of sectors that is made
 
@@ -172,10 +173,10 @@ module _ (spec : CreateSpec) (power : Power) (loaded : ImageSet) (outcome : Outc
   short_is = ap (λ (b : Bool). if b then sectors.is_short loaded spec power.steps else namespaces.is_short loaded (Create spec) power.steps) arena
 
   sectors_made : CreateCase spec power loaded outcome → CommandCase (Change (Create spec) power) (Ok loaded) outcome.ending
-  sectors_made (create_faulty fault are e) = is_refused (fault, are) e
-  sectors_made (create_made sets are long allowed e) = is_done (sets, are) (short_is ∙ long) allowed e
-  sectors_made (create_refused sets are long refused e) = is_turned_down (sets, are) (short_is ∙ long) refused e
-  sectors_made (create_cut sets are short e) = is_cut_short (sets, are) (short_is ∙ short) e
+  sectors_made (create_faulty fault are e) = is_refused (ap (λ r. is_err r) are) e
+  sectors_made (create_made sets are long allowed e) = is_done (ap (λ r. is_err r) are) (short_is ∙ long) allowed e
+  sectors_made (create_refused sets are long refused e) = is_turned_down (ap (λ r. is_err r) are) (short_is ∙ long) refused e
+  sectors_made (create_cut sets are short e) = is_cut_short (ap (λ r. is_err r) are) (short_is ∙ short) e
 
 -- ---- any command on namespaces
 
@@ -199,15 +200,36 @@ module _ (leaves : ℕ → List (Option Words) → List (Option (List ℕ)) → 
 
 -- ---- the arenas of a namespace
 
-info_case : (uuid : List ℕ) (loaded : ImageSet) (outcome : Outcome) → SectorsCase (λ states. printed (arena_lines 0 states)) loaded uuid outcome → CommandCase (Info uuid) (Ok loaded) outcome.ending
-info_case uuid loaded outcome (faulty fault is e) = is_refused (inl (fault, is)) (ending_of outcome (open_outcome fault) e)
-info_case uuid loaded outcome (unfound refusal none is e) =
-    is_turned_down (none, inl (refusal, is)) refl (ap is_unfound is) (ending_of outcome (sector_refusal (find_refusal refusal)) e)
-info_case uuid loaded outcome (broken found fault is read e) = is_refused (inr (found, is, (fault, read))) (ending_of outcome (arena_outcome uuid fault) e)
-info_case uuid loaded outcome (opened found states none is read e) =
-    is_done (none, inr (found, is, (states, read))) refl (ap is_unfound is) (ending_of outcome (printed (arena_lines 0 states)) e)
+or_true : (b : Bool) → b || true ≡ true
+or_true true = refl
+or_true false = refl
 
-sector_case : (uuid : List ℕ) (sector : ℕ) (loaded : ImageSet) (outcome : Outcome) (found : Found) (states : List ArenaState) → IsReadable loaded uuid → found_in loaded uuid ≡ Ok found
+module _ (uuid : List ℕ) (loaded : ImageSet) where
+  broken_is : (o : Option OpenFault) (r : Result Found OpRefused) → fault_in loaded ≡ o → found_in loaded uuid ≡ r → is_broken loaded uuid ≡ is_some o || breaks loaded uuid r
+  broken_is o r p q = λ i. is_some (p i) || breaks loaded uuid (q i)
+
+  table_broken : (fault : OpenFault) → fault_in loaded ≡ Some fault → is_broken loaded uuid ≡ true
+  table_broken fault is = broken_is (Some fault) (found_in loaded uuid) is refl
+
+  arena_broken : (found : Found) (fault : ChainRefused) → found_in loaded uuid ≡ Ok found → opened_in loaded uuid found ≡ Err fault → is_broken loaded uuid ≡ true
+  arena_broken found fault is read =
+      broken_is (fault_in loaded) (Ok found) refl is ∙ ap (λ (r : Result (List ArenaState) ChainRefused). is_some (fault_in loaded) || is_err r) read ∙ or_true (is_some (fault_in loaded))
+
+  unfound_reads : (refusal : OpRefused) → fault_in loaded ≡ None → found_in loaded uuid ≡ Err refusal → is_broken loaded uuid ≡ false
+  unfound_reads refusal none is = broken_is None (Err refusal) none is
+
+  opened_reads : (found : Found) (states : List ArenaState) → fault_in loaded ≡ None → found_in loaded uuid ≡ Ok found → opened_in loaded uuid found ≡ Ok states → is_broken loaded uuid ≡ false
+  opened_reads found states none is read = broken_is None (Ok found) none is ∙ ap (λ (r : Result (List ArenaState) ChainRefused). is_err r) read
+
+info_case : (uuid : List ℕ) (loaded : ImageSet) (outcome : Outcome) → SectorsCase (λ states. printed (arena_lines 0 states)) loaded uuid outcome → CommandCase (Info uuid) (Ok loaded) outcome.ending
+info_case uuid loaded outcome (faulty fault is e) = is_refused (table_broken uuid loaded fault is) (ending_of outcome (open_outcome fault) e)
+info_case uuid loaded outcome (unfound refusal none is e) =
+    is_turned_down (unfound_reads uuid loaded refusal none is) refl (ap is_unfound is) (ending_of outcome (sector_refusal (find_refusal refusal)) e)
+info_case uuid loaded outcome (broken found fault is read e) = is_refused (arena_broken uuid loaded found fault is read) (ending_of outcome (arena_outcome uuid fault) e)
+info_case uuid loaded outcome (opened found states none is read e) =
+    is_done (opened_reads uuid loaded found states none is read) refl (ap is_unfound is) (ending_of outcome (printed (arena_lines 0 states)) e)
+
+sector_case : (uuid : List ℕ) (sector : ℕ) (loaded : ImageSet) (outcome : Outcome) (found : Found) (states : List ArenaState) → is_broken loaded uuid ≡ false → found_in loaded uuid ≡ Ok found
     → opened_in loaded uuid found ≡ Ok states → outcome ≡ sector_outcome sector states → (b : Bool) → nat_lt sector (sectors_of states) ≡ b → CommandCase (Read uuid sector) (Ok loaded) outcome.ending
 sector_case uuid sector loaded outcome found states readable is read e true there =
     is_done readable refl (ap (lacks_found loaded uuid sector) is ∙ ap (lacks sector) read ∙ ap not there)
@@ -217,30 +239,21 @@ sector_case uuid sector loaded outcome found states readable is read e false pas
     (ending_of outcome (sector_outcome sector states) e ∙ rw past refl)
 
 read_case : (uuid : List ℕ) (sector : ℕ) (loaded : ImageSet) (outcome : Outcome) → SectorsCase (sector_outcome sector) loaded uuid outcome → CommandCase (Read uuid sector) (Ok loaded) outcome.ending
-read_case uuid sector loaded outcome (faulty fault is e) = is_refused (inl (fault, is)) (ending_of outcome (open_outcome fault) e)
+read_case uuid sector loaded outcome (faulty fault is e) = is_refused (table_broken uuid loaded fault is) (ending_of outcome (open_outcome fault) e)
 read_case uuid sector loaded outcome (unfound refusal none is e) =
-    is_turned_down (none, inl (refusal, is)) refl (ap (lacks_found loaded uuid sector) is) (ending_of outcome (sector_refusal (find_refusal refusal)) e)
-read_case uuid sector loaded outcome (broken found fault is read e) = is_refused (inr (found, is, (fault, read))) (ending_of outcome (arena_outcome uuid fault) e)
+    is_turned_down (unfound_reads uuid loaded refusal none is) refl (ap (lacks_found loaded uuid sector) is) (ending_of outcome (sector_refusal (find_refusal refusal)) e)
+read_case uuid sector loaded outcome (broken found fault is read e) = is_refused (arena_broken uuid loaded found fault is read) (ending_of outcome (arena_outcome uuid fault) e)
 read_case uuid sector loaded outcome (opened found states none is read e) =
-    sector_case uuid sector loaded outcome found states (none, inr (found, is, (states, read))) is read e (nat_lt sector (sectors_of states)) refl
-
--- images that are refused aren't accepted
-not_both_sectors : (uuid : List ℕ) (loaded : ImageSet) → IsBroken loaded uuid → IsReadable loaded uuid → ⊥
-not_both_sectors uuid loaded (inl (fault, is)) (none, found) = let e = sym is ∙ none in cc
-not_both_sectors uuid loaded (inr (found, is, (fault, read))) (none, inl (refusal, unfound')) = let e = sym is ∙ unfound' in cc
-not_both_sectors uuid loaded (inr (found, is, (fault, read))) (none, inr (also, is', (states, read'))) =
-    let same : found ≡ also = (let e = sym is ∙ is' in cc) in
-    let both : Err fault ≡ Ok states = sym read ∙ ap (opened_in loaded uuid) same ∙ read' in
-    (let e = both in cc)
+    sector_case uuid sector loaded outcome found states (opened_reads uuid loaded found states none is read) is read e (nat_lt sector (sectors_of states)) refl
 
 -- ---- any command
 
 module _ (leaves : ℕ → List (Option Words) → List (Option (List ℕ)) → Type 0) where
   command_case : (command : Command) (found : Result ImageSet LoadFault) (outcome : Outcome) → OnLoaded (LoadedComes leaves command) found outcome → CommandCase command found outcome.ending
-  command_case command (Err fault) outcome comes = is_refused tt (ending_of outcome _ comes)
+  command_case command (Err fault) outcome comes = is_refused refl (ending_of outcome _ comes)
   command_case (Labels m) (Ok loaded) outcome comes =
       subst (λ (e : Ending). CommandCase (Labels m) (Ok loaded) e) (sym (ending_of outcome _ comes)) (labels_case m loaded (module_outcome m (area_of loaded m)).ending (module_case m (area_of loaded m)))
-  command_case Nfit (Ok loaded) outcome comes = is_done tt refl refl (ending_of outcome _ comes)
+  command_case Nfit (Ok loaded) outcome comes = is_done refl refl refl (ending_of outcome _ comes)
   command_case command.List (Ok loaded) outcome comes =
       subst (λ (e : Ending). CommandCase command.List (Ok loaded) e) (sym (ending_of outcome _ comes)) (list_case loaded (listed_of loaded) refl)
   command_case (Init m power) (Ok loaded) outcome comes = init_command m power loaded outcome.ending (init_case leaves m power loaded outcome (area_of loaded m) comes)
@@ -259,78 +272,27 @@ module _ (leaves : ℕ → List (Option Words) → List (Option (List ℕ)) → 
   command_due (Info uuid) set left outcome comes = comes set [] refl (λ reads. absurd (let e = reads in cc))
   command_due (Read uuid sector) set left outcome comes = comes set [] refl (λ reads. absurd (let e = reads in cc))
 
-  -- the ways in which an outcome is due
-  abbrev DueCase : List (List ℕ) → Images → Outcome → Type 0
-  DueCase words set outcome =
-      ((command_of words ≡ None) × (outcome.ending ≡ ending.Usage))
-      ⊎ ((command : Command) × (command_of words ≡ Some command) × CommandCase command (loading set) outcome.ending)
+  -- ---- the ending that is due
+
+  by_three : (command : Command) (found : Result ImageSet LoadFault) (a b c : Bool) → refuses_images command found ≡ a → is_cut command found ≡ b → is_barred command found ≡ c
+      → ending_with (Some command) found ≡ ending_by a b c
+  by_three command found a b c p q r = λ i. ending_by (p i) (q i) (r i)
+
+  case_ending : (command : Command) (found : Result ImageSet LoadFault) (e : Ending) → CommandCase command found e → e ≡ ending_with (Some command) found
+  case_ending command found e (is_refused refused image) = image ∙ sym (by_three command found true (is_cut command found) (is_barred command found) refused refl refl)
+  case_ending command found e (is_done accepted long allowed done) = done ∙ sym (by_three command found false false false accepted long allowed)
+  case_ending command found e (is_turned_down accepted long barred refused) = refused ∙ sym (by_three command found false false true accepted long barred)
+  case_ending command found e (is_cut_short accepted short cut) = cut ∙ sym (by_three command found false true (is_barred command found) accepted short refl)
 
   due_by : (words : List (List ℕ)) (set : Images) (left : Option (List ℕ)) (outcome : Outcome) (found : Option Command) → command_of words ≡ found
-      → MatchOption found (outcome ≡ usage) (λ command. ComesTold leaves command (Some set) left outcome) → DueCase words set outcome
-  due_by words set left outcome None is due = inl (is, ending_of outcome _ due)
-  due_by words set left outcome (Some command) is due = inr (command, is, command_case command (loading set) outcome (command_due command set left outcome due))
+      → MatchOption found (outcome ≡ usage) (λ command. ComesTold leaves command (Some set) left outcome) → outcome.ending ≡ ending_due words set
+  due_by words set left outcome None is due = ending_of outcome _ due ∙ sym (ap (λ (o : Option Command). ending_with o (loading set)) is)
+  due_by words set left outcome (Some command) is due =
+      case_ending command (loading set) outcome.ending (command_case command (loading set) outcome (command_due command set left outcome due))
+      ∙ sym (ap (λ (o : Option Command). ending_with o (loading set)) is)
 
-  by_command : (words : List (List ℕ)) (set : Images) (command : Command) (e : Ending) (s : Status) → command_of words ≡ Some command → CommandCase command (loading set) e → status_of e ≡ s
-      → HasTableCause words set s
-  by_command words set command e s said (is_refused refused image) is = subst (HasTableCause words set) (sym (ap status_of image) ∙ is) (command, said, refused)
-  by_command words set command e s said (is_done accepted long allowed done) is = subst (HasTableCause words set) (sym (ap status_of done) ∙ is) (command, said, accepted, long, allowed)
-  by_command words set command e s said (is_turned_down accepted long barred refused) is = subst (HasTableCause words set) (sym (ap status_of refused) ∙ is) (command, said, accepted, long, barred)
-  by_command words set command e s said (is_cut_short accepted short cut) is = subst (HasTableCause words set) (sym (ap status_of cut) ∙ is) (command, said, accepted, short)
-
-  status_case : (words : List (List ℕ)) (set : Images) (outcome : Outcome) (s : Status) → DueCase words set outcome → status_of outcome.ending ≡ s → HasTableCause words set s
-  status_case words set outcome s (inl u) is = subst (HasTableCause words set) (sym (ap status_of u.1) ∙ is) u.0
-  status_case words set outcome s (inr (command, said, answered)) is = by_command words set command outcome.ending s said answered is
-
-  pub each_status : EachStatusHasItsCause leaves
-  each_status words set left made made' text text' status.ReadFault ends = tt
-  each_status words set left made made' text text' status.WriteFault ends = tt
-  each_status words set left made made' text text' status.OutOfMemory ends = tt
-  each_status words set left made made' text text' other ends =
-      status_case words set ends.0 other (due_by words set left ends.0 (command_of words) refl ends.1) ends.2
-
-  -- ---- completeness
-
-  not_both : (found : Option (List ℕ)) → IsRefusedArea found → IsAcceptedArea found → ⊥
-  not_both found (inl none) (area, is, block) = let e = sym none ∙ is in cc
-  not_both found (inr (refused, at_refused, (fault, read))) (area, is, (block, reads)) =
-      let same : Some refused ≡ Some area = sym at_refused ∙ is in
-      let one : refused ≡ area = (let e = same in cc) in
-      let both : Err fault ≡ Ok block = sym read ∙ ap block_in one ∙ reads in
-      (let e = both in cc)
-
-  not_both_blank : (found : Option (List ℕ)) → IsKeptArea found → IsBlankArea found → ⊥
-  not_both_blank found (inl none) (area, is, blank) = let e = sym none ∙ is in cc
-  not_both_blank found (inr (kept, at_kept, read)) (area, is, blank) =
-      let same : Some kept ≡ Some area = sym at_kept ∙ is in
-      let one : kept ≡ area = (let e = same in cc) in
-      read (ap block_in one ∙ blank)
-
-  apart : (command : Command) (found : Result ImageSet LoadFault) → IsRefusedFor command found → IsAcceptedFor command found → ⊥
-  apart command (Err fault) refused accepted = accepted
-  apart (Labels m) (Ok loaded) refused accepted = not_both (area_of loaded m) refused accepted
-  apart Nfit (Ok loaded) refused accepted = refused
-  apart command.List (Ok loaded) (fault, refused) (namespaces, accepted) = let e = sym refused ∙ accepted in cc
-  apart (Init m power) (Ok loaded) refused accepted = not_both_blank (area_of loaded m) refused accepted
-  apart (Change c power) (Ok loaded) (fault, refused) (sets, accepted) = let e = sym refused ∙ accepted in cc
-  apart (Info uuid) (Ok loaded) refused accepted = not_both_sectors uuid loaded refused accepted
-  apart (Read uuid sector) (Ok loaded) refused accepted = not_both_sectors uuid loaded refused accepted
-
-  done_case : (command : Command) (found : Result ImageSet LoadFault) (e : Ending) → CommandCase command found e → IsAcceptedFor command found → is_cut command found ≡ false → is_barred command found ≡ false → e ≡ ending.Done
-  done_case command found e (is_refused refused image) accepted long allowed = absurd (apart command found refused accepted)
-  done_case command found e (is_done also long' allowed' done) accepted long allowed = done
-  done_case command found e (is_turned_down also long' barred refused) accepted long allowed = absurd (let b = sym barred ∙ allowed in cc)
-  done_case command found e (is_cut_short also short cut) accepted long allowed = absurd (let b = sym short ∙ long in cc)
-
-  due_ending : (words : List (List ℕ)) (command : Command) (set : Images) (left : Option (List ℕ)) (outcome : Outcome) → command_of words ≡ Some command
-      → IsAcceptedFor command (loading set) → is_cut command (loading set) ≡ false → is_barred command (loading set) ≡ false → IsDue leaves words (Some set) left outcome → outcome.ending ≡ ending.Done
-  due_ending words command set left outcome said accepted long allowed due =
-      let comes : ComesTold leaves command (Some set) left outcome =
-      subst (λ (o : Option Command). MatchOption o (outcome ≡ usage) (λ c. ComesTold leaves c (Some set) left outcome)) said due in
-      done_case command (loading set) outcome.ending (command_case command (loading set) outcome (command_due command set left outcome comes)) accepted long allowed
-
-  pub accepted : AcceptedIsOk leaves
-  accepted words command set left made made' text text' status.ReadFault said images long allowed ends = inr tt
-  accepted words command set left made made' text text' status.WriteFault said images long allowed ends = inr tt
-  accepted words command set left made made' text text' status.OutOfMemory said images long allowed ends = inr tt
-  accepted words command set left made made' text text' other said images long allowed ends =
-      inl (sym ends.2 ∙ ap status_of (due_ending words command set left ends.0 said images long allowed ends.1))
+  pub status_due : StatusIsDue leaves
+  status_due words set left made made' text text' before now status.ReadFault ends = inr tt
+  status_due words set left made made' text text' before now status.WriteFault ends = inr tt
+  status_due words set left made made' text text' before now status.OutOfMemory ends = inr tt
+  status_due words set left made made' text text' before now other ends = inl (sym ends.2 ∙ ap status_of (due_by words set left ends.0 (command_of words) refl ends.1))

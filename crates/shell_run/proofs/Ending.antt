@@ -1,5 +1,5 @@
 -- How a run ends.
-use Rattle.std.proofs.Common.{◌≡◌, ◌≢◌, ℕ, Bool, true, List, ◌++◌, Option, Some, None, refl, sym, ap, subst, inl, inr, codes}
+use Rattle.std.proofs.Common.{◌≡◌, ◌≢◌, ℕ, Bool, List, ◌++◌, Option, Some, None, refl, sym, ap, subst, inl, inr, codes}
 use Rattle.std.specs.Prelude.{◌⊎◌, IsSome, IsTrue}
 use Rattle.std.specs.Io.KnownBytes.{Keeps, Appends}
 use Rattle.nvd_media.specs.Images.{Images, Becomes, IsUnfinished}
@@ -19,45 +19,47 @@ failed_more : (copying copying' : Bool) (due wider : Outcome → Type 0) (made m
 failed_more copying copying' due wider made made' may more (inl same) = inl same
 failed_more copying copying' due wider made made' may more (inr h) = inr (may h.0, (h.1.0, more h.1.0 h.1.1, h.1.2, h.1.3))
 
-pub ends_more : (copying copying' : Bool) (due wider : Outcome → Type 0) (made made' : Option Images) (text text' : Option (List ℕ)) (s : Status)
-    → (IsTrue copying → IsTrue copying') → ((outcome : Outcome) → due outcome → wider outcome) → Ends copying due made made' text text' s → Ends copying' wider made made' text text' s
-ends_more copying copying' due wider made made' text text' status.ReadFault may more h = (failed_more copying copying' due wider made made' may more h.0, h.1)
-ends_more copying copying' due wider made made' text text' status.OutOfMemory may more h = h
-ends_more copying copying' due wider made made' text text' status.WriteFault may more (inl h) = inl (h.0, more h.0 h.1, h.2, h.3, h.4)
-ends_more copying copying' due wider made made' text text' status.WriteFault may more (inr (inl h)) = inr (inl (h.0, more h.0 h.1, h.2, h.3))
-ends_more copying copying' due wider made made' text text' status.WriteFault may more (inr (inr h)) = inr (inr (failed_more copying copying' due wider made made' may more h.0, h.1))
-ends_more copying copying' due wider made made' text text' other may more h = (h.0, more h.0 h.1, h.2, h.3, h.4)
+pub ends_more : (faulted faulted' : Type 0) (copying copying' : Bool) (due wider : Outcome → Type 0) (made made' : Option Images) (text text' : Option (List ℕ)) (s : Status)
+    → (faulted → faulted') → (IsTrue copying → IsTrue copying') → ((outcome : Outcome) → due outcome → wider outcome)
+    → Ends faulted copying due made made' text text' s → Ends faulted' copying' wider made made' text text' s
+ends_more faulted faulted' copying copying' due wider made made' text text' status.ReadFault rose may more h = (rose h.0, failed_more copying copying' due wider made made' may more h.1, h.2)
+ends_more faulted faulted' copying copying' due wider made made' text text' status.OutOfMemory rose may more h = h
+ends_more faulted faulted' copying copying' due wider made made' text text' status.WriteFault rose may more (inl h) = inl (h.0, more h.0 h.1, h.2, h.3, h.4)
+ends_more faulted faulted' copying copying' due wider made made' text text' status.WriteFault rose may more (inr (inl h)) = inr (inl (h.0, more h.0 h.1, h.2, h.3))
+ends_more faulted faulted' copying copying' due wider made made' text text' status.WriteFault rose may more (inr (inr h)) =
+    inr (inr (rose h.0, failed_more copying copying' due wider made made' may more h.1, h.2))
+ends_more faulted faulted' copying copying' due wider made made' text text' other rose may more h = (h.0, more h.0 h.1, h.2, h.3, h.4)
 
 pub keeps_here : (text : Option (List ℕ)) → Keeps text text
 keeps_here None = tt
 keeps_here (Some xs) = refl
 
-pub ends_memory : (copying : Bool) (due : Outcome → Type 0) (made : Option Images) (text text' : Option (List ℕ)) (s : Status)
-    → s ≡ status.OutOfMemory → text' ≡ text → Ends copying due made made text text' s
-ends_memory copying due made text text' s is same = rw (is, same) (refl, keeps_here text)
+pub ends_memory : (faulted : Type 0) (copying : Bool) (due : Outcome → Type 0) (made : Option Images) (text text' : Option (List ℕ)) (s : Status)
+    → s ≡ status.OutOfMemory → text' ≡ text → Ends faulted copying due made made text text' s
+ends_memory faulted copying due made text text' s is same = rw (is, same) (refl, keeps_here text)
 
 -- reading failed and nothing was written
-pub ends_read : (copying : Bool) (due : Outcome → Type 0) (made : Option Images) (text text' : Option (List ℕ)) (s : Status)
+pub ends_read : (faulted : Type 0) (copying : Bool) (due : Outcome → Type 0) (made : Option Images) (text text' : Option (List ℕ)) (s : Status) → faulted
     → ((s ≡ status.WriteFault) × AppendsPart text text' (codes "read fault" ++ lf)) ⊎ ((s ≡ status.ReadFault) × Appends text text' (codes "read fault" ++ lf))
-    → Ends copying due made made text text' s
-ends_read copying due made text text' s (inl w) = rw w.0 (inr (inr (inl refl, w.1)))
-ends_read copying due made text text' s (inr r) = rw r.0 (inl refl, r.1)
+    → Ends faulted copying due made made text text' s
+ends_read faulted copying due made text text' s rose (inl w) = rw w.0 (inr (inr (rose, inl refl, w.1)))
+ends_read faulted copying due made text text' s rose (inr r) = rw r.0 (rose, inl refl, r.1)
 
 -- a run that has no answer
-pub ends_stopped : (copying : Bool) (due : Outcome → Type 0) (made : Option Images) (text text' : Option (List ℕ)) (s : Status) (why : Stop)
-    → (why ≡ stop.OutOfMemory → (s ≡ status.OutOfMemory) × (text' ≡ text))
+pub ends_stopped : (faulted : Type 0) (copying : Bool) (due : Outcome → Type 0) (made : Option Images) (text text' : Option (List ℕ)) (s : Status) (why : Stop)
+    → (why ≡ stop.ReadFault → faulted) → (why ≡ stop.OutOfMemory → (s ≡ status.OutOfMemory) × (text' ≡ text))
     → (why ≡ stop.ReadFault → ((s ≡ status.WriteFault) × AppendsPart text text' (codes "read fault" ++ lf)) ⊎ ((s ≡ status.ReadFault) × Appends text text' (codes "read fault" ++ lf)))
-    → Ends copying due made made text text' s
-ends_stopped copying due made text text' s stop.OutOfMemory memory read = ends_memory copying due made text text' s (memory refl).0 (memory refl).1
-ends_stopped copying due made text text' s stop.ReadFault memory read = ends_read copying due made text text' s (read refl)
+    → Ends faulted copying due made made text text' s
+ends_stopped faulted copying due made text text' s stop.OutOfMemory rose memory read = ends_memory faulted copying due made text text' s (memory refl).0 (memory refl).1
+ends_stopped faulted copying due made text text' s stop.ReadFault rose memory read = ends_read faulted copying due made text text' s (rose refl) (read refl)
 
 -- reading failed while contents were copied
-pub ends_unread : (copying : Bool) (due : Outcome → Type 0) (made made' : Option Images) (text text' : Option (List ℕ)) (s : Status) (outcome : Outcome)
-    → IsTrue copying → due outcome → IsSome outcome.saved → Becomes made made' IsUnfinished
+pub ends_unread : (faulted : Type 0) (copying : Bool) (due : Outcome → Type 0) (made made' : Option Images) (text text' : Option (List ℕ)) (s : Status) (outcome : Outcome)
+    → faulted → IsTrue copying → due outcome → IsSome outcome.saved → Becomes made made' IsUnfinished
     → ((s ≡ status.WriteFault) × AppendsPart text text' (codes "read fault" ++ lf)) ⊎ ((s ≡ status.ReadFault) × Appends text text' (codes "read fault" ++ lf))
-    → Ends copying due made made' text text' s
-ends_unread copying due made made' text text' s outcome does is some unfinished (inl w) = rw w.0 (inr (inr (inr (does, (outcome, is, some, unfinished)), w.1)))
-ends_unread copying due made made' text text' s outcome does is some unfinished (inr r) = rw r.0 (inr (does, (outcome, is, some, unfinished)), r.1)
+    → Ends faulted copying due made made' text text' s
+ends_unread faulted copying due made made' text text' s outcome rose does is some unfinished (inl w) = rw w.0 (inr (inr (rose, inr (does, (outcome, is, some, unfinished)), w.1)))
+ends_unread faulted copying due made made' text text' s outcome rose does is some unfinished (inr r) = rw r.0 (rose, inr (does, (outcome, is, some, unfinished)), r.1)
 
 -- ---- a text that is printed
 
@@ -104,9 +106,9 @@ same_or_other status.PowerCut ending.Image = inr (λ is. (let h = is in cc))
 same_or_other status.PowerCut ending.Refused = inr (λ is. (let h = is in cc))
 same_or_other status.PowerCut ending.PowerCut = inl refl
 
-module _ (copying : Bool) (due : Outcome → Type 0) (made made' : Option Images) (text text' : Option (List ℕ)) (outcome : Outcome) (is : due outcome) (saves : Saves outcome.saved made made') where
+module _ (faulted : Type 0) (copying : Bool) (due : Outcome → Type 0) (made made' : Option Images) (text text' : Option (List ℕ)) (outcome : Outcome) (is : due outcome) (saves : Saves outcome.saved made made') where
   -- all of it
-  ends_whole : (e : Ending) → outcome.ending ≡ e → Appends text text' outcome.text → Ends copying due made made' text text' (status_of e)
+  ends_whole : (e : Ending) → outcome.ending ≡ e → Appends text text' outcome.text → Ends faulted copying due made made' text text' (status_of e)
   ends_whole ending.Done so says = (outcome, is, ap status_of so, saves, says)
   ends_whole ending.Usage so says = (outcome, is, ap status_of so, saves, says)
   ends_whole ending.Image so says = (outcome, is, ap status_of so, saves, says)
@@ -114,13 +116,13 @@ module _ (copying : Bool) (due : Outcome → Type 0) (made made' : Option Images
   ends_whole ending.PowerCut so says = (outcome, is, ap status_of so, saves, says)
 
   ends_by : (s : Status) → (s ≡ status_of outcome.ending) ⊎ (s ≢ status_of outcome.ending) → (s ≡ status_of outcome.ending → Appends text text' outcome.text)
-      → (s ≢ status_of outcome.ending → (s ≡ status.WriteFault) × AppendsPart text text' outcome.text) → Ends copying due made made' text text' s
-  ends_by s (inl same) all part = subst (λ (t : Status). Ends copying due made made' text text' t) (sym same) (ends_whole outcome.ending refl (all same))
-  ends_by s (inr other) all part = subst (λ (t : Status). Ends copying due made made' text text' t) (sym (part other).0) (inr (inl (outcome, is, saves, (part other).1)))
+      → (s ≢ status_of outcome.ending → (s ≡ status.WriteFault) × AppendsPart text text' outcome.text) → Ends faulted copying due made made' text text' s
+  ends_by s (inl same) all part = subst (λ (t : Status). Ends faulted copying due made made' text text' t) (sym same) (ends_whole outcome.ending refl (all same))
+  ends_by s (inr other) all part = subst (λ (t : Status). Ends faulted copying due made made' text text' t) (sym (part other).0) (inr (inl (outcome, is, saves, (part other).1)))
 
   -- all of it, or a front
   pub ends_printed : (s : Status) → (s ≡ status_of outcome.ending → Appends text text' outcome.text)
-      → (s ≢ status_of outcome.ending → (s ≡ status.WriteFault) × AppendsPart text text' outcome.text) → Ends copying due made made' text text' s
+      → (s ≢ status_of outcome.ending → (s ≡ status.WriteFault) × AppendsPart text text' outcome.text) → Ends faulted copying due made made' text text' s
   ends_printed s all part = ends_by s (same_or_other s outcome.ending) all part
 
 pub ruleset endings = (ends_more, ends_memory, ends_read)

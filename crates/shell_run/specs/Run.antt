@@ -108,16 +108,17 @@ FailedToRead copying due made made' =
     (made' ≡ made) ⊎ (IsTrue copying × ((outcome : Outcome) × due outcome × IsSome outcome.saved × Becomes made made' IsUnfinished))
 
 -- after a write fault an outcome was due and its set wasn't finished and nothing was printed; or an outcome was due and
--- printing stopped before its end; or printing `read fault` did
-abbrev pub FailedToWrite : Bool → (Outcome → Type 0) → Option Images → Option Images → Option (List ℕ) → Option (List ℕ) → Type 0
-FailedToWrite copying due made made' text text' =
+-- printing stopped before its end; or reading had failed, and printing `read fault` stopped
+abbrev pub FailedToWrite : Type 0 → Bool → (Outcome → Type 0) → Option Images → Option Images → Option (List ℕ) → Option (List ℕ) → Type 0
+FailedToWrite faulted copying due made made' text text' =
     ((outcome : Outcome) × due outcome × IsSome outcome.saved × Becomes made made' IsUnfinished × Keeps text text')
     ⊎ ((outcome : Outcome) × due outcome × Saves outcome.saved made made' × AppendsPart text text' outcome.text)
-    ⊎ (FailedToRead copying due made made' × AppendsPart text text' (codes "read fault" ++ lf))
+    ⊎ (faulted × FailedToRead copying due made made' × AppendsPart text text' (codes "read fault" ++ lf))
 
--- what stands outside after a status, of a command that copies contents as it saves or doesn't
-abbrev pub Ends : Bool → (Outcome → Type 0) → Option Images → Option Images → Option (List ℕ) → Option (List ℕ) → Status → Type 0
-Ends copying due made made' text text' status.ReadFault = FailedToRead copying due made made' × Appends text text' (codes "read fault" ++ lf)
-Ends copying due made made' text text' status.WriteFault = FailedToWrite copying due made made' text text'
-Ends copying due made made' text text' status.OutOfMemory = (made' ≡ made) × Keeps text text'
-Ends copying due made made' text text' other = (outcome : Outcome) × due outcome × (status_of outcome.ending ≡ other) × Saves outcome.saved made made' × Appends text text' outcome.text
+-- what stands outside after a status, of a command that copies contents as it saves or doesn't; `faulted` says that the images had a
+-- fault of reading
+abbrev pub Ends : Type 0 → Bool → (Outcome → Type 0) → Option Images → Option Images → Option (List ℕ) → Option (List ℕ) → Status → Type 0
+Ends faulted copying due made made' text text' status.ReadFault = faulted × FailedToRead copying due made made' × Appends text text' (codes "read fault" ++ lf)
+Ends faulted copying due made made' text text' status.WriteFault = FailedToWrite faulted copying due made made' text text'
+Ends faulted copying due made made' text text' status.OutOfMemory = (made' ≡ made) × Keeps text text'
+Ends faulted copying due made made' text text' other = (outcome : Outcome) × due outcome × (status_of outcome.ending ≡ other) × Saves outcome.saved made made' × Appends text text' outcome.text

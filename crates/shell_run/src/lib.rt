@@ -23,5 +23,5 @@ mod laws;
 mod top;
 mod words;
 
-pub use laws::{accepted_is_ok, each_status_has_its_cause, init_leaves_whole};
+pub use laws::{init_leaves_whole, status_is_due};
 pub use top::run;

@@ -357,7 +357,7 @@ fn conclude<S: ImageSource, K: ImageSink, O: TextSink>(
 ) -> Status
     requires empty { ForSome (K.made out.old) IsEmptySet }
     requires there { HasContentsOf (S.held images.old) answer.saved }
-    ensures ends { Ends (copies_contents answer.saved) (ComesFrom (S.held images.old) answer) (K.made out.old) (K.made out.new) (O.written text.old) (O.written text.new) result }
+    ensures ends { Ends (Rose (S.faults images.old) (S.faults images.new)) (copies_contents answer.saved) (ComesFrom (S.held images.old) answer) (K.made out.old) (K.made out.new) (O.written text.old) (O.written text.new) result }
     ensures read { result ≡ Status.ReadFault → Rose (S.faults images.old) (S.faults images.new) }
     ensures failed { result ≡ Status.WriteFault → Rose (K.faults out.old) (K.faults out.new) ⊎ Rose (O.faults text.old) (O.faults text.new) }
     ensures same { S.held images.new ≡ S.held images.old }
@@ -384,7 +384,7 @@ fn conclude<S: ImageSource, K: ImageSink, O: TextSink>(
 ///   as they are told (`specs/Run.antt`). Status 2 is due exactly where the words aren't a command line,
 ///   3 where the images show a fault, 0 else; after 5 the text is `read fault`, and nothing was written, or, of
 ///   `init`, `create --mode raw`, `delete` and `rename`, which copy contents as they save (`copies`), a set that isn't
-///   finished; 7 is the one status that is free, and prints nothing. Where power is cut the chooser is begun once, and
+///   finished; 6 with a front of that text comes only if reading failed; 7 is the one status that is free, and prints nothing. Where power is cut the chooser is begun once, and
 ///   what is left is what it picks.
 /// - `read_fault`, `write_fault`: status 5 comes only where the count of faults of the images rose in this
 ///   call, 6 only where that of `out` or of the text did.
@@ -410,7 +410,7 @@ pub fn run<
     _gate: &G,
 ) -> Status
     requires { ForSome (K.made out.old) IsEmptySet }
-    ensures ends { Ends (copies_by (map string_bytes words.now)) (IsDue (LeavesBy C.begins C.picks choose.old) (map string_bytes words.now) (S.held images.old) (T.left script.old))
+    ensures ends { Ends (Rose (S.faults images.old) (S.faults images.new)) (copies_by (map string_bytes words.now)) (IsDue (LeavesBy C.begins C.picks choose.old) (map string_bytes words.now) (S.held images.old) (T.left script.old))
         (K.made out.old) (K.made out.new) (O.written text.old) (O.written text.new) result }
     ensures read_fault { result ≡ Status.ReadFault → Rose (S.faults images.old) (S.faults images.new) }
     ensures write_fault { result ≡ Status.WriteFault → Rose (K.faults out.old) (K.faults out.new) ⊎ Rose (O.faults text.old) (O.faults text.new) }

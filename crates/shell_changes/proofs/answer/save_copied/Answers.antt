@@ -1,4 +1,3 @@
-use Rattle.std.proofs.Common.{Err, subst}
 use Rattle.image_set.specs.declared.fault.CopyFault.TheVariants.{ReadFault, WriteFault}
 use Rattle.shell_changes.proofs.Copies.{copied_saves, copied_unfinished}
 use Rattle.shell_changes.proofs.answer.save_copied.Goals as goal

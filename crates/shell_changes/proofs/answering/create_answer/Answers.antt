@@ -59,7 +59,7 @@ returns-in-Ok-clause-comes g c =
     let is : Ok c.in-Ok.registry ≡ opening c.args.loaded.nfit c.in_ok-areas.areas = sym c.in-Ok.is ∙ c.open_all.ensures (λ e. absurd (let both = sym c.in-Ok.is ∙ e in cc)) in
     let is' : Ok c.in-Ok.registry ≡ opening c.args.loaded.nfit (map opened_as c.args.loaded.labels) = is ∙ ap (opening c.args.loaded.nfit) c.in_ok-areas.ensures in
     if_more _ _ c.opened_answer.result
-    (λ answer from. comes leaves c.args.loaded c.args.power c.args.spec.now (whole_outcome answer) c.in-Ok.registry c.requires.sound.words (are_whole c.args.loaded.labels c.requires.sound.areas) is' from)
+    (λ answer from. comes leaves c.args.loaded c.args.power c.args.spec.now (whole_outcome answer) c.in-Ok.registry c.requires.sound.words c.requires.sound.areas is' from)
     c.opened_answer.ensures.comes
 
 pub returns-in-Err-clause-comes : goal.returns-in-Err-clause-comes

@@ -1,8 +1,6 @@
-use Rattle.std.proofs.Common.{◌≡◌, ◌≢◌, ◌∙◌, false, List, [], Option, Result, Ok, Err, length, ap, sym}
+use Rattle.std.proofs.Common.{◌≡◌, ◌∙◌, false, [], Ok, Err, length, ap, sym}
 use Rattle.std.specs.Prelude.{map}
 use Rattle.std.proofs.lemmas.List.{length-map}
-use Rattle.cut_words.specs.Words.{Words}
-use Rattle.namespace_map.specs.declared.refused.OpRefused.{OpRefused}
 use Rattle.namespace_map.specs.declared.refused.OpRefused.TheVariants.{OutOfMemory, PowerCut}
 use Rattle.namespace_areas.specs.Seen.{words_of}
 use Rattle.shell_reports.specs.declared.status.Ending.TheVariants as ending

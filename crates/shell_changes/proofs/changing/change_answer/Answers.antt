@@ -54,7 +54,7 @@ returns-in-Ok-clause-comes g c =
     if_more _ (λ (answer : Answer). (contents : List (List ℕ)) → ChangeComes leaves c.args.change.now c.args.power (image_set_with c.args.outline contents) (outcome_with answer contents)) c.opened_answer.result
     (λ answer from contents.
     change_plain leaves c.args.power (image_set_with c.args.outline contents) (outcome_with answer contents) c.args.change.now c.requires.plain
-    (comes leaves c.args.outline contents c.args.power c.args.change.now (outcome_with answer contents) (are_whole c.args.outline.labels c.requires.sound.areas) c.in-Ok.registry is' (from contents)))
+    (comes leaves c.args.outline contents c.args.power c.args.change.now (outcome_with answer contents) c.requires.sound.areas c.in-Ok.registry is' (from contents)))
     c.opened_answer.ensures.comes
 
 pub returns-in-Err-clause-comes : goal.returns-in-Err-clause-comes
@@ -65,7 +65,7 @@ returns-in-Err-clause-comes g c =
     (λ answer said finding contents.
     let is : Err c.in-Err.fault ≡ opening c.args.outline.nfit c.in_ok-areas.areas = sym c.in-Err.is ∙ c.open_all.ensures (λ e. finding (let both = sym c.in-Err.is ∙ e in cc)) in
     change_plain leaves c.args.power (image_set_with c.args.outline contents) (outcome_with answer contents) c.args.change.now c.requires.plain
-    (comes_not leaves c.args.outline contents c.args.power c.args.change.now (outcome_with answer contents) (are_whole c.args.outline.labels c.requires.sound.areas) c.in-Err.fault (is ∙ ap (opening c.args.outline.nfit) c.in_ok-areas.ensures) (said contents)))
+    (comes_not leaves c.args.outline contents c.args.power c.args.change.now (outcome_with answer contents) c.requires.sound.areas c.in-Err.fault (is ∙ ap (opening c.args.outline.nfit) c.in_ok-areas.ensures) (said contents)))
     c.faulty_answer.ensures.text c.faulty_answer.ensures.memory
 
 pub returns-in-Err-clause-sizes : goal.returns-in-Err-clause-sizes

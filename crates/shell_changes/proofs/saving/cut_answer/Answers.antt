@@ -1,6 +1,5 @@
 use Rattle.std.proofs.Common.{ℕ, List, Vec, Global, ◌∙◌, ap, subst}
 use Rattle.shell_reports.specs.declared.status.Ending.TheVariants as ending
-use Rattle.shell_reports.specs.Cut.{cut_text}
 use Rattle.shell_reports.proofs.More.{if_more}
 use Rattle.shell_changes.specs.declared.answer.Answer.{Answer}
 use Rattle.shell_changes.specs.Remains.{AnswersCut, SavesLeft}

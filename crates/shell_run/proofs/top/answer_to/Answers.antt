@@ -1,5 +1,4 @@
 use Rattle.std.specs.Prelude.{IsTrue, map, string_bytes}
-use Rattle.nvd_media.specs.Images.{Images}
 use Rattle.shell_reports.specs.Outcome.{Outcome}
 use Rattle.shell_changes.specs.declared.answer.Answer.{Answer}
 use Rattle.shell_changes.specs.Answers.{ComesFrom}

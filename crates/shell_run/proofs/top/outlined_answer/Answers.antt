@@ -9,7 +9,7 @@ use Rattle.shell_run.specs.declared.words.Command.TheVariants.{Labels, Nfit, Ini
 use Rattle.shell_run.specs.declared.words.Command.TheVariants as command
 use Rattle.shell_run.specs.Run.{copies, needs_contents}
 use Rattle.shell_run.specs.Words.{GivesGoodName}
-use Rattle.shell_run.proofs.Comes.{copies_by_it, if_then, needs_it, none_copied, outlined_by}
+use Rattle.shell_run.proofs.Comes.{copies_by_it, if_then, none_copied, outlined_by}
 use Rattle.shell_run.proofs.top.outlined_answer.Goals as goal
 
 pub returns-in-Labels-clause-comes : goal.returns-in-Labels-clause-comes

@@ -1,0 +1,399 @@
+-- What the commands on namespaces make of the namespaces of an image set.
+use Rattle.std.proofs.Common.{◌≡◌, ◌⊎◌, ℕ, zero, suc, ◌+◌, ◌-◌, ◌<◌, ◌≤◌, Bool, true, false, cond, List, [], ◌∷◌, ◌++◌, map, take, Option, Some, None, Result, Ok, Err, refl, sym, ap, ◌∙◌, subst, inl, inr, arith}
+use Rattle.std.specs.Prelude.{MatchBool, slice_get}
+use Rattle.std.specs.Option.{option_map}
+use Rattle.std.specs.List.{AllByRecursion, Contains, flat_map, list_any}
+use Rattle.std.proofs.lemmas.Bool.{cases_lt, leb-false}
+use Rattle.std.proofs.lemmas.Option.{none-some}
+use Rattle.nvd_media.specs.Images.{Images}
+use Rattle.nvd_words.specs.Checks.{first_fault}
+use Rattle.cut_words.specs.Words.{Words}
+use Rattle.cut_words.specs.Fuses.{lasts}
+use Rattle.cut_words.specs.WordBytes.{bytes_of}
+use Rattle.nfit_reader.specs.declared.table.Mapping.{Mapping}
+use Rattle.label_codec.specs.declared.label.Label.{Label}
+use Rattle.label_codec.specs.Label.{label_reading}
+use Rattle.label_codec.specs.Grammar.{StandsFor}
+use Rattle.label_codec.proofs.Grammar.{reads_grammar}
+use Rattle.label_index.specs.declared.index.IndexBlock.{IndexBlock}
+use Rattle.label_area.specs.declared.fault.AreaFault.{AreaFault}
+use Rattle.label_area.specs.Area.{block_in, slot_bytes}
+use Rattle.region_space.specs.declared.extent.SpaceFault.{SpaceFault}
+use Rattle.region_space.specs.Space.{overlap_of}
+use Rattle.namespace_map.specs.declared.commands.Command.{Command}
+use Rattle.namespace_map.specs.declared.commands.Command.TheVariants.{Create, Delete, Rename, Claim, Unclaim}
+use Rattle.namespace_map.specs.declared.refused.OpRefused.{OpRefused}
+use Rattle.namespace_map.specs.Namespaces.{Entry, Namespaces, Part, extent_of, lookup}
+use Rattle.namespace_map.specs.Laws.{IsRising}
+use Rattle.namespace_map.specs.Areas.{Area, Change, IsLeftBy, after_steps, all_changed, slots_of, slots_on, steps_of_all}
+use Rattle.namespace_map.specs.Commands.{done, recovered, refusal_of, settled_entry, unfinished_gone}
+use Rattle.namespace_map.specs.Changes.{changes_of, gone_changes, namespaces_of, placed_in_all, recovered_areas, recovery_changes, settling_changes}
+use Rattle.namespace_map.specs.Left.{AreRead, AreRegions}
+use Rattle.namespace_map.proofs.Fronts.{cut_is_front}
+use Rattle.namespace_map.proofs.Rising.{rising_entries}
+use Rattle.namespace_laws.specs.Apart.{EntriesApart, KeepsApart}
+use Rattle.namespace_laws.specs.Recovered.{RecoversToEither}
+use Rattle.namespace_laws.specs.Whole.{Agrees}
+use Rattle.namespace_laws.proofs.Allowed.{area_free}
+use Rattle.namespace_laws.proofs.AgreesCreate.{create_agrees}
+use Rattle.namespace_laws.proofs.Cuts.{recovery_resumes}
+use Rattle.namespace_laws.proofs.Disjoint.{create_apart}
+use Rattle.namespace_laws.proofs.DisjointEntry.{delete_apart, rename_apart}
+use Rattle.namespace_laws.proofs.Fronts.{take_all}
+use Rattle.namespace_laws.proofs.Gone.{GoneAll, append_all, gone_all}
+use Rattle.namespace_laws.proofs.GoneLists.{PutsBytes, read_all}
+use Rattle.namespace_laws.proofs.Recovery.{goes, lookup_gone, lookup_settled}
+use Rattle.namespace_laws.proofs.RecoveryLaw.{recovery_agrees, self_found}
+use Rattle.namespace_laws.proofs.RecoversLaw.{create_recovers, delete_recovers, rename_recovers}
+use Rattle.namespace_laws.proofs.Refusals.{delete_agrees, delete_found, rename_agrees, rename_found}
+use Rattle.namespace_laws.proofs.SettleAll.{SettledAll, settled_all}
+use Rattle.namespace_laws.proofs.TableRegions.{gives_regions}
+use Rattle.namespace_areas.specs.Seen.{areas_shown}
+use Rattle.namespace_areas.specs.Steps.{all_rows}
+use Rattle.namespace_areas.proofs.Slots.{label_read}
+use Rattle.namespace_areas.proofs.Went.{after_both, after_first, changed_both}
+use Rattle.namespace_ops.specs.declared.registry.OpenFault.{OpenFault}
+use Rattle.namespace_ops.specs.Opening.{overlap_as, overlap_fault, set_fault_from, sets_of}
+use Rattle.image_set.specs.Load.{ImageSet}
+use Rattle.shell_reports.specs.declared.status.Ending.{Ending}
+use Rattle.shell_reports.specs.declared.status.Ending.TheVariants as ending
+use Rattle.shell_reports.specs.declared.power.Power.{Power}
+use Rattle.shell_reports.specs.Outcome.{Outcome}
+use Rattle.shell_reports.specs.Saved.{IsSaving}
+use Rattle.shell_changes.specs.Areas.{HasAreas, HasRows, area_by, areas_in, rows_in}
+use Rattle.shell_changes.specs.Maps.{AcceptedIsApart, ChangesKeepApart, ChangesLabels, CrashIsInEither, CrashRecovers, IsSettled, CutInCommand, CutInRecovery, DoneIsTheCommand, HasTable, SavesMap, map_of}
+use Rattle.shell_changes.specs.Namespaces.{Ends, IsCut, IsDone, OnSets, changes_by, changes_in, refusal_in, sets_in}
+use Rattle.shell_changes.specs.Refusals.{refused_outcome}
+use Rattle.shell_changes.proofs.Apart.{labels_apart}
+use Rattle.shell_changes.proofs.Areas.{rows_shown}
+use Rattle.shell_changes.proofs.Regions.{no_first, parts_of, sets_are}
+
+-- ---- images that are accepted
+
+record IsAccepted (loaded : ImageSet) (sets : List (List Mapping)) : Type 0 where
+  sound : set_fault_from 0 loaded.nfit.regions ≡ None
+  clear : overlap_fault (placed_in_all (areas_in loaded.labels)) ≡ None
+  same : sets_of loaded.nfit ≡ sets
+
+accepted : (loaded : ImageSet) (sets : List (List Mapping)) → sets_in loaded ≡ Ok sets → IsAccepted loaded sets
+accepted loaded sets are =
+    let parts = parts_of (sets_of loaded.nfit) sets (first_fault (set_fault_from 0 loaded.nfit.regions ∷ overlap_fault (placed_in_all (areas_in loaded.labels)) ∷ [])) (sym are) in
+    let one = no_first (set_fault_from 0 loaded.nfit.regions) (overlap_fault (placed_in_all (areas_in loaded.labels)) ∷ []) parts.0 in
+    record { sound = one.0; clear = (no_first (overlap_fault (placed_in_all (areas_in loaded.labels))) [] one.1).0; same = parts.1 }
+
+no_overlap : (o : Option SpaceFault) → option_map overlap_as o ≡ None → o ≡ None
+no_overlap None e = refl
+no_overlap (Some f) e = absurd (none-some _ (sym e))
+
+pub accepted_apart : AcceptedIsApart
+accepted_apart loaded sets are =
+    labels_apart sets (areas_in loaded.labels) (no_overlap (overlap_of (map extent_of (placed_in_all (areas_in loaded.labels)))) (accepted loaded sets are).clear)
+
+-- ---- what the laws of namespaces ask
+
+label_bytes : (labels : List (Option (List ℕ))) (m s : ℕ) (l : Label) → slice_get (slots_on (areas_in labels) m) s ≡ Some (Some (Some l)) → (bytes : List ℕ) × (label_reading bytes s ≡ Ok l)
+label_bytes [] m s l e = absurd (none-some (Some (Some l)) e)
+label_bytes (None ∷ labels) zero s l e = absurd (none-some (Some (Some l)) e)
+label_bytes (Some area ∷ labels) zero s l e = by (block_in area) e
+  where
+    by : (b : Result IndexBlock AreaFault) → slice_get (slots_of (area_by area b)) s ≡ Some (Some (Some l)) → (bytes : List ℕ) × (label_reading bytes s ≡ Ok l)
+    by (Err fault) is = absurd (none-some (Some (Some l)) is)
+    by (Ok block) is =
+        let at : 0 + s ≡ s = omega arith in
+        let read : label_reading (slot_bytes area block.size s) s ≡ Ok l =
+        subst (λ (n : ℕ). label_reading (slot_bytes area block.size n) n ≡ Ok l) at (label_read area block.size 0 block.free s l is) in
+        (slot_bytes area block.size s, read)
+label_bytes (area ∷ labels) (suc m) s l e = label_bytes labels m s l e
+
+label_stands : (labels : List (Option (List ℕ))) (m s : ℕ) (l : Label) → slice_get (slots_on (areas_in labels) m) s ≡ Some (Some (Some l)) → (bytes : List ℕ) × StandsFor bytes s l
+label_stands labels m s l e = let (bytes, read) = label_bytes labels m s l e in (bytes, reads_grammar bytes s l read)
+
+-- labels are those that a reader finds valid
+areas_read : (labels : List (Option (List ℕ))) → AreRead (areas_in labels)
+areas_read labels = record {
+  number = λ m s l e. let (bytes, stands) = label_stands labels m s l e in stands.slot ∙ stands.numbered;
+  bytes = λ m s l e. let (bytes, stands) = label_stands labels m s l e in stands.raw_some;
+}
+
+-- they stay so in recovery
+module _ (sets : List (List Mapping)) (areas : List (Option Area)) (regions : AreRegions sets) (read : AreRead areas) where
+  abbrev first : List Change
+  first = flat_map (gone_changes areas) (namespaces_of sets areas).entries
+
+  abbrev left : List (Option Area)
+  left = all_changed areas first
+
+  abbrev second : List Change
+  second = flat_map (settling_changes left) (namespaces_of sets left).entries
+
+  rising : IsRising (namespaces_of sets areas).entries
+  rising = rising_entries sets (placed_in_all areas)
+
+  rising_left : IsRising (namespaces_of sets left).entries
+  rising_left = rising_entries sets (placed_in_all left)
+
+  went : GoneAll sets areas (namespaces_of sets areas).entries first
+  went = gone_all (namespaces_of sets areas).entries sets areas read rising (self_found (namespaces_of sets areas).entries rising)
+
+  settles : SettledAll sets left (namespaces_of sets left) (namespaces_of sets left).entries second
+  settles =
+      settled_all (namespaces_of sets left).entries sets left (namespaces_of sets left) regions (read_all first areas read went.bytes) rising_left
+      (self_found (namespaces_of sets left).entries rising_left) (area_free sets left)
+
+  bytes : AllByRecursion PutsBytes (recovery_changes sets areas)
+  bytes = append_all PutsBytes first second went.bytes settles.bytes
+
+  recovered_read : AreRead (recovered_areas sets areas)
+  recovered_read = read_all (recovery_changes sets areas) areas read bytes
+
+  cut_read : (n : ℕ) (stays : Bool) → AreRead (after_steps areas (recovery_changes sets areas) n stays)
+  cut_read n stays =
+      let front = cut_is_front (recovery_changes sets areas) areas n stays in
+      subst AreRead (sym front.2) (read_all (take front.0 (recovery_changes sets areas)) areas read (take_all PutsBytes front.0 (recovery_changes sets areas) bytes))
+
+  -- a cut within recovery recovers to what recovery makes
+  cut_recovers : (n : ℕ) (stays : Bool) → recovered (namespaces_of sets (after_steps areas (recovery_changes sets areas) n stays)) ≡ recovered (namespaces_of sets areas)
+  cut_recovers n stays =
+      sym (recovery_agrees sets (after_steps areas (recovery_changes sets areas) n stays) regions (cut_read n stays)) ∙ recovery_resumes sets areas regions read n stays
+      ∙ recovery_agrees sets areas regions read
+
+-- a command that isn't refused
+agreed : (sets : List (List Mapping)) (areas : List (Option Area)) (c : Command) → ChangesLabels c → AreRegions sets → AreRead areas → refusal_of (namespaces_of sets areas) c ≡ None → Agrees sets areas c
+agreed sets areas (Create uuid name region size made) changes regions read none = create_agrees sets areas uuid name region size made regions none
+agreed sets areas (Delete uuid) changes regions read none = delete_agrees sets areas uuid regions read none
+agreed sets areas (Rename uuid name) changes regions read none = rename_agrees sets areas uuid name regions read none
+agreed sets areas (Claim uuid) changes regions read none = absurd changes
+agreed sets areas (Unclaim uuid) changes regions read none = absurd changes
+
+-- ---- apart
+
+-- an entry after recovery has the parts that it had
+still_parts : (gone : Namespaces) (b : Bool) (o : Option Entry) (e : Entry) → option_map (settled_entry gone) (cond b None o) ≡ Some e → (x : Entry) × (o ≡ Some x) × (e.parts ≡ x.parts)
+still_parts gone true o e is = absurd (none-some e is)
+still_parts gone false None e is = absurd (none-some e is)
+still_parts gone false (Some x) e is = let same : settled_entry gone x ≡ e = cc in (x, refl, ap (λ (y : Entry). y.parts) (sym same))
+
+found_before : (ns : Namespaces) (u : List ℕ) (e : Entry) → lookup u (recovered ns).entries ≡ Some e → (x : Entry) × (lookup u ns.entries ≡ Some x) × (e.parts ≡ x.parts)
+found_before ns u e is =
+    let gone = unfinished_gone ns ns.entries in
+    still_parts gone (list_any (goes u) ns.entries) (lookup u ns.entries) e
+    (sym (lookup_settled gone gone.entries u ∙ ap (option_map (settled_entry gone)) (lookup_gone ns.entries ns u)) ∙ is)
+
+recovered_apart : (ns : Namespaces) → EntriesApart ns → EntriesApart (recovered ns)
+recovered_apart ns before u v e f differ at_u at_v a b in_e in_f =
+    let (x, x_is, x_parts) = found_before ns u e at_u in
+    let (y, y_is, y_parts) = found_before ns v f at_v in
+    before u v x y differ x_is y_is a b (subst (λ (ps : List Part). Contains ps a) x_parts in_e) (subst (λ (ps : List Part). Contains ps b) y_parts in_f)
+
+keeps : (sets : List (List Mapping)) (areas : List (Option Area)) (c : Command) → ChangesLabels c → AreRegions sets → AreRead areas → refusal_of (namespaces_of sets areas) c ≡ None → KeepsApart sets areas c
+keeps sets areas (Create uuid name region size made) changes regions read none = create_apart sets areas uuid name region size made regions none
+keeps sets areas (Delete uuid) changes regions read none = delete_apart sets areas uuid regions read none
+keeps sets areas (Rename uuid name) changes regions read none = rename_apart sets areas uuid name regions read none
+keeps sets areas (Claim uuid) changes regions read none = absurd changes
+keeps sets areas (Unclaim uuid) changes regions read none = absurd changes
+
+append_nil : {A : Type 0} (xs : List A) → xs ++ [] ≡ xs
+append_nil [] = refl
+append_nil (x ∷ xs) = ap (λ ys. x ∷ ys) (append_nil xs)
+
+-- the areas after all steps
+after_whole : (xs : List Change) (areas : List (Option Area)) → after_steps areas xs (steps_of_all areas xs) true ≡ all_changed areas xs
+unfolding after_steps
+after_whole xs areas =
+    ap (λ (cs : List Change). after_steps areas cs (steps_of_all areas xs) true) (sym (append_nil xs)) ∙ after_both xs [] areas (steps_of_all areas xs) true (omega arith)
+
+regions_of : (loaded : ImageSet) (sets : List (List Mapping)) → HasTable loaded → sets_in loaded ≡ Ok sets → AreRegions sets
+regions_of loaded sets table are =
+    let it = accepted loaded sets are in
+    subst AreRegions it.same (gives_regions loaded.nfit_bytes loaded.nfit (sets_of loaded.nfit) table.read table.counted (sets_are loaded.nfit.regions 0 it.sound))
+
+pub keep_apart : ChangesKeepApart
+keep_apart c loaded sets changes table are =
+    let seen : List (Option Area) = areas_in loaded.labels in
+    let mid : List (Option Area) = recovered_areas sets seen in
+    let regions = regions_of loaded sets table are in
+    let read : AreRead seen = areas_read loaded.labels in
+    let read_mid : AreRead mid = recovered_read sets seen regions read in
+    let map_is : namespaces_of sets mid ≡ recovered (map_of sets loaded) = recovery_agrees sets seen regions read in
+    let first : EntriesApart (recovered (map_of sets loaded)) = recovered_apart (map_of sets loaded) (accepted_apart loaded sets are) in
+    let first_mid : EntriesApart (namespaces_of sets mid) = subst EntriesApart (sym map_is) first in
+    let own : List Change = changes_of (namespaces_of sets mid) mid c in
+    record {
+      after_recovery = first;
+      after_command = λ none.
+          subst EntriesApart (ap (namespaces_of sets) (after_whole own mid) ∙ agreed sets mid c changes regions read_mid none ∙ ap (λ (ns : Namespaces). done ns c) map_is)
+          (keeps sets mid c changes regions read_mid none first_mid (steps_of_all mid own) true);
+      after_crash = λ none n stays. keeps sets mid c changes regions read_mid none first_mid n stays;
+    }
+
+-- ---- recovered again
+
+-- recovery of what recovery has made changes nothing
+recovers_once : (sets : List (List Mapping)) (areas : List (Option Area)) → AreRegions sets → AreRead areas → recovered (recovered (namespaces_of sets areas)) ≡ recovered (namespaces_of sets areas)
+recovers_once sets areas regions read =
+    ap recovered (sym (recovery_agrees sets areas regions read) ∙ ap (namespaces_of sets) (sym (after_whole (recovery_changes sets areas) areas)))
+    ∙ cut_recovers sets areas regions read (steps_of_all areas (recovery_changes sets areas)) true
+
+to_either : (sets : List (List Mapping)) (areas : List (Option Area)) (c : Command) → ChangesLabels c → AreRegions sets → AreRead areas → IsSettled (namespaces_of sets areas) c
+    → refusal_of (namespaces_of sets areas) c ≡ None → RecoversToEither sets areas c
+to_either sets areas (Create uuid name region size made) changes regions read settled none = create_recovers sets areas uuid name region size made regions none
+to_either sets areas (Delete uuid) changes regions read settled none =
+    let f = delete_found sets areas uuid none in
+    delete_recovers sets areas uuid f.entry regions read f.is (settled f.entry f.is) none
+to_either sets areas (Rename uuid name) changes regions read settled none =
+    let f = rename_found sets areas uuid name none in
+    rename_recovers sets areas uuid f.entry regions read f.is (settled f.entry f.is) name none
+to_either sets areas (Claim uuid) changes regions read settled none = absurd changes
+to_either sets areas (Unclaim uuid) changes regions read settled none = absurd changes
+
+-- ---- a set that is saved
+
+-- a saved set is the same as one with these rows
+has_shown : (loaded : ImageSet) (rows : List (Option (List ℕ))) (e : Ending) (text : List ℕ) (set : Images) (outcome : Outcome) → HasRows loaded rows set → (s : IsSaving e text set outcome)
+    → HasAreas loaded (areas_shown rows) s.saved
+has_shown loaded rows e text set outcome has s = record {
+  labels = map (option_map bytes_of) rows;
+  shown = rows_shown rows;
+  unread = has.unread;
+  sizes = has.sizes;
+  objects = λ o. s.same o ∙ has.objects o;
+}
+
+saves_shown : (sets : List (List Mapping)) (loaded : ImageSet) (rows : List (Option (List ℕ))) (ns : Namespaces) (e : Ending) (text : List ℕ) (set : Images) (outcome : Outcome) → HasRows loaded rows set
+    → IsSaving e text set outcome → namespaces_of sets (areas_shown rows) ≡ ns → SavesMap sets loaded ns outcome
+saves_shown sets loaded rows ns e text set outcome has s is = record {
+  set = s.saved;
+  saved = s.saves;
+  areas = areas_shown rows;
+  has = has_shown loaded rows e text set outcome has s;
+  map = is;
+}
+
+-- ---- a command
+
+ending_of : (a b : Outcome) → a ≡ b → a.ending ≡ b.ending
+ending_of a b is = ap (λ (o : Outcome). o.ending) is
+
+module _ (leaves : ℕ → List (Option Words) → List (Option (List ℕ)) → Type 0) (c : Command) (power : Power) (loaded : ImageSet) (sets : List (List Mapping)) (outcome : Outcome) where
+  abbrev seen : List (Option Area)
+  seen = areas_in loaded.labels
+
+  abbrev mid : List (Option Area)
+  mid = recovered_areas sets (areas_in loaded.labels)
+
+  abbrev recovery : List Change
+  recovery = recovery_changes sets (areas_in loaded.labels)
+
+  abbrev own : List Change
+  own = changes_of (namespaces_of sets mid) mid c
+
+  -- ---- to its end
+
+  done_shown : ChangesLabels c → HasTable loaded → sets_in loaded ≡ Ok sets → refusal_in sets seen c ≡ None → IsDone loaded seen (recovery ++ own) outcome
+      → SavesMap sets loaded (done (recovered (map_of sets loaded)) c) outcome
+  done_shown changes table are none d =
+      let regions : AreRegions sets = regions_of loaded sets table are in
+      let read : AreRead seen = areas_read loaded.labels in
+      let agrees : Agrees sets mid c = agreed sets mid c changes regions (recovered_read sets seen regions read) none in
+      saves_shown sets loaded (all_rows (rows_in loaded) (recovery ++ own)) (done (recovered (map_of sets loaded)) c) ending.Done _ d.set outcome d.has d.saves
+      (ap (namespaces_of sets) (d.shown ∙ changed_both recovery own seen) ∙ agrees ∙ ap (λ (ns : Namespaces). done ns c) (recovery_agrees sets seen regions read))
+
+  done_by : ChangesLabels c → HasTable loaded → sets_in loaded ≡ Ok sets → outcome.ending ≡ ending.Done → (r : Option OpRefused) → refusal_in sets seen c ≡ r
+      → Ends loaded seen (changes_by sets seen c r) r outcome → SavesMap sets loaded (done (recovered (map_of sets loaded)) c) outcome
+  done_by changes table are ended None none d = done_shown changes table are none d
+  done_by changes table are ended (Some f) some said = absurd (let e : ending.Refused ≡ ending.Done = sym (ending_of outcome (refused_outcome f) said) ∙ ended in cc)
+
+  done_on : ChangesLabels c → HasTable loaded → sets_in loaded ≡ Ok sets → outcome.ending ≡ ending.Done → (b : Bool)
+      → MatchBool b (Ends loaded seen (changes_in sets seen c) (refusal_in sets seen c) outcome) (IsCut leaves loaded seen (changes_in sets seen c) power outcome)
+      → SavesMap sets loaded (done (recovered (map_of sets loaded)) c) outcome
+  done_on changes table are ended true ends = done_by changes table are ended (refusal_in sets seen c) refl ends
+  done_on changes table are ended false cut = absurd (let e : ending.PowerCut ≡ ending.Done = sym cut.saves.ends ∙ ended in cc)
+
+  -- ---- cut
+
+  abbrev Either : ℕ → Type 0
+  Either n = ((n < steps_of_all seen recovery) × CutInRecovery sets loaded n outcome)
+      ⊎ ((steps_of_all seen recovery ≤ n) × (refusal_in sets seen c ≡ None) × CutInCommand sets loaded c (n - steps_of_all seen recovery) outcome)
+
+  left_as : (changes : List Change) (cut : IsCut leaves loaded seen changes power outcome) (areas : List (Option Area)) → areas_shown cut.rows ≡ areas → SavesMap sets loaded (namespaces_of sets areas) outcome
+  left_as changes cut areas is =
+      saves_shown sets loaded cut.rows (namespaces_of sets areas) ending.PowerCut _ cut.set outcome cut.has cut.saves (ap (namespaces_of sets) is)
+
+  steps_are : (changes : List Change) (cut : IsCut leaves loaded seen changes power outcome) (n : ℕ) → power.steps ≡ Some n → cut.steps ≡ n
+  steps_are changes cut n is = let both : Some cut.steps ≡ Some n = sym cut.given ∙ is in cc
+
+  left_after : (changes : List Change) (cut : IsCut leaves loaded seen changes power outcome) (n : ℕ) → power.steps ≡ Some n → IsLeftBy seen changes n (areas_shown cut.rows)
+  left_after changes cut n is = subst (λ (k : ℕ). IsLeftBy seen changes k (areas_shown cut.rows)) (steps_are changes cut n is) (cut.leave cut.rows cut.left_of)
+
+  -- by what it leaves of each of the two lists
+  in_recovery : (changes : List Change) (cut : IsCut leaves loaded seen changes power outcome) (n : ℕ) → ((stays : Bool) → after_steps seen changes n stays ≡ after_steps seen recovery n stays)
+      → IsLeftBy seen changes n (areas_shown cut.rows) → CutInRecovery sets loaded n outcome
+  in_recovery changes cut n same (inl e) = (true, left_as changes cut (after_steps seen recovery n true) (e ∙ same true))
+  in_recovery changes cut n same (inr e) = (false, left_as changes cut (after_steps seen recovery n false) (e ∙ same false))
+
+  in_command : (cut : IsCut leaves loaded seen (recovery ++ own) power outcome) (n : ℕ) → steps_of_all seen recovery ≤ n → IsLeftBy seen (recovery ++ own) n (areas_shown cut.rows)
+      → CutInCommand sets loaded c (n - steps_of_all seen recovery) outcome
+  in_command cut n le (inl e) = (true, left_as (recovery ++ own) cut (after_steps mid own (n - steps_of_all seen recovery) true) (e ∙ after_both recovery own seen n true le))
+  in_command cut n le (inr e) = (false, left_as (recovery ++ own) cut (after_steps mid own (n - steps_of_all seen recovery) false) (e ∙ after_both recovery own seen n false le))
+
+  cut_by : (n : ℕ) → power.steps ≡ Some n → (r : Option OpRefused) → refusal_in sets seen c ≡ r → lasts power.steps (steps_of_all seen (changes_by sets seen c r)) ≡ false
+      → IsCut leaves loaded seen (changes_by sets seen c r) power outcome → Either n
+  cut_by n is (Some f) some short cut =
+      let lt : n < steps_of_all seen recovery = leb-false (steps_of_all seen recovery) n (ap (λ (p : Option ℕ). lasts p (steps_of_all seen recovery)) (sym is) ∙ short) in
+      inl (lt, in_recovery recovery cut n (λ stays. refl) (left_after recovery cut n is))
+  cut_by n is None none short cut =
+      elim (cases_lt n (steps_of_all seen recovery)) [
+        | inl lt ↦ inl (lt, in_recovery (recovery ++ own) cut n (λ stays. after_first recovery own seen n stays lt) (left_after (recovery ++ own) cut n is))
+        | inr le ↦ inr (le, none, in_command cut n le (left_after (recovery ++ own) cut n is))
+      ]
+
+  not_cut : (r : Option OpRefused) → Ends loaded seen (changes_by sets seen c r) r outcome → outcome.ending ≡ ending.PowerCut → ⊥
+  not_cut None d cut = let e : ending.Done ≡ ending.PowerCut = sym d.saves.ends ∙ cut in cc
+  not_cut (Some f) said cut = let e : ending.Refused ≡ ending.PowerCut = sym (ending_of outcome (refused_outcome f) said) ∙ cut in cc
+
+  -- power was given for so many steps
+  cut_steps : outcome.ending ≡ ending.PowerCut → (b : Bool)
+      → MatchBool b (Ends loaded seen (changes_in sets seen c) (refusal_in sets seen c) outcome) (IsCut leaves loaded seen (changes_in sets seen c) power outcome) → (n : ℕ) × (power.steps ≡ Some n)
+  cut_steps ended true ends = absurd (not_cut (refusal_in sets seen c) ends ended)
+  cut_steps ended false cut = (cut.steps, cut.given)
+
+  cut_on : (n : ℕ) → power.steps ≡ Some n → outcome.ending ≡ ending.PowerCut → (b : Bool) → lasts power.steps (steps_of_all seen (changes_in sets seen c)) ≡ b
+      → MatchBool b (Ends loaded seen (changes_in sets seen c) (refusal_in sets seen c) outcome) (IsCut leaves loaded seen (changes_in sets seen c) power outcome) → Either n
+  cut_on n is ended true long ends = absurd (not_cut (refusal_in sets seen c) ends ended)
+  cut_on n is ended false short cut = cut_by n is (refusal_in sets seen c) refl short cut
+
+  -- ---- recovered again
+
+  recovers_by : (n : ℕ) → ChangesLabels c → HasTable loaded → sets_in loaded ≡ Ok sets → IsSettled (recovered (map_of sets loaded)) c → Either n
+      → (ns : Namespaces) × SavesMap sets loaded ns outcome × ((recovered ns ≡ recovered (map_of sets loaded)) ⊎ (recovered ns ≡ recovered (done (recovered (map_of sets loaded)) c)))
+  recovers_by n changes table are settled (inl (lt, (stays, saves))) =
+      (namespaces_of sets (after_steps seen recovery n stays), saves, inl (cut_recovers sets seen (regions_of loaded sets table are) (areas_read loaded.labels) n stays))
+  recovers_by n changes table are settled (inr (le, none, (stays, saves))) =
+      let regions = regions_of loaded sets table are in
+      let read : AreRead seen = areas_read loaded.labels in
+      let map_is : namespaces_of sets mid ≡ recovered (map_of sets loaded) = recovery_agrees sets seen regions read in
+      let settled_mid : IsSettled (namespaces_of sets mid) c = subst (λ (ns : Namespaces). IsSettled ns c) (sym map_is) settled in
+      let rest : ℕ = n - steps_of_all seen recovery in (
+        namespaces_of sets (after_steps mid own rest stays),
+        saves,
+        elim (to_either sets mid c changes regions (recovered_read sets seen regions read) settled_mid none rest stays) [
+          | inl before ↦ inl (before ∙ ap recovered map_is ∙ recovers_once sets seen regions read)
+          | inr after ↦ inr (after ∙ ap (λ (ns : Namespaces). recovered (done ns c)) map_is)
+        ],
+      )
+
+pub done_is : (leaves : ℕ → List (Option Words) → List (Option (List ℕ)) → Type 0) → DoneIsTheCommand leaves
+done_is leaves c power loaded sets outcome changes table are comes ended =
+    done_on leaves c power loaded sets outcome changes table are ended (lasts power.steps (steps_of_all (areas_in loaded.labels) (changes_in sets (areas_in loaded.labels) c)))
+    (subst (λ (r : Result (List (List Mapping)) OpenFault). OnSets leaves loaded c power r outcome) are comes)
+
+pub crash_is : (leaves : ℕ → List (Option Words) → List (Option (List ℕ)) → Type 0) → CrashIsInEither leaves
+crash_is leaves c power loaded sets outcome n is are comes ended =
+    cut_on leaves c power loaded sets outcome n is ended (lasts power.steps (steps_of_all (areas_in loaded.labels) (changes_in sets (areas_in loaded.labels) c))) refl
+    (subst (λ (r : Result (List (List Mapping)) OpenFault). OnSets leaves loaded c power r outcome) are comes)
+
+pub crash_recovers : (leaves : ℕ → List (Option Words) → List (Option (List ℕ)) → Type 0) → CrashRecovers leaves
+crash_recovers leaves c power loaded sets outcome changes table are settled comes ended =
+    let (n, is) = cut_steps leaves c power loaded sets outcome ended (lasts power.steps (steps_of_all (areas_in loaded.labels) (changes_in sets (areas_in loaded.labels) c)))
+    (subst (λ (r : Result (List (List Mapping)) OpenFault). OnSets leaves loaded c power r outcome) are comes) in
+    recovers_by leaves c power loaded sets outcome n changes table are settled (crash_is leaves c power loaded sets outcome n is are comes ended)

@@ -1,0 +1,104 @@
+-- The namespaces of an image set, and what `create`, `delete` and `rename` make of them: UEFI 2.10, section 13.19, with this project's rules.
+use Rattle.std.specs.Prelude.{◌≡◌, ⊤, ◌⊎◌, ℕ, ◌-◌, ◌<◌, ◌≤◌, Bool, false, List, Option, Some, None, Ok}
+use Rattle.nvd_media.specs.Images.{Images}
+use Rattle.cut_words.specs.Words.{Words}
+use Rattle.nfit_reader.specs.declared.table.Mapping.{Mapping}
+use Rattle.nfit_reader.specs.Table.{nfit_reading}
+use Rattle.nfit_reader.specs.Counted.{AreCounted}
+use Rattle.label_set.specs.declared.placed.SetStatus.TheVariants.{Complete}
+use Rattle.namespace_map.specs.Namespaces.{Entry, Namespaces, lookup}
+use Rattle.namespace_map.specs.declared.commands.Command.{Command}
+use Rattle.namespace_map.specs.declared.commands.Command.TheVariants.{Claim, Delete, Rename, Unclaim}
+use Rattle.namespace_map.specs.Areas.{Area, after_steps, steps_of_all}
+use Rattle.namespace_map.specs.Commands.{done, recovered}
+use Rattle.namespace_map.specs.Changes.{changes_of, namespaces_of, recovered_areas, recovery_changes}
+use Rattle.namespace_laws.specs.Apart.{EntriesApart}
+use Rattle.image_set.specs.Load.{ImageSet}
+use Rattle.shell_reports.specs.declared.status.Ending.TheVariants as ending
+use Rattle.shell_reports.specs.declared.power.Power.{Power}
+use Rattle.shell_reports.specs.Outcome.{Outcome}
+use Rattle.shell_changes.specs.Areas.{HasAreas, areas_in}
+use Rattle.shell_changes.specs.Namespaces.{CommandComes, refusal_in, sets_in}
+
+-- ---- the map of an image set
+
+-- the namespaces that the labels of all its areas make, over the interleave sets of its regions; none of them is claimed
+abbrev pub map_of : List (List Mapping) → ImageSet → Namespaces
+map_of sets loaded = namespaces_of sets (areas_in loaded.labels)
+
+-- A set is saved that has these namespaces, and is the one that was loaded but for its label areas.
+pub record SavesMap (sets : List (List Mapping)) (loaded : ImageSet) (ns : Namespaces) (outcome : Outcome) : Type 0 where
+  pub set : Images
+  pub saved : outcome.saved ≡ Some set
+  pub areas : List (Option Area)
+  pub has : HasAreas loaded areas set
+  pub map : namespaces_of sets areas ≡ ns
+
+-- ---- laws
+
+-- the firmware's table is the one that its bytes spell, with the counts that `read_nfit` promises
+pub record HasTable (loaded : ImageSet) : Type 0 where
+  pub read : nfit_reading loaded.nfit_bytes ≡ Ok loaded.nfit
+  pub counted : AreCounted loaded.nfit
+
+-- a command that changes labels: claims stand in no label
+abbrev pub ChangesLabels : Command → Type 0
+ChangesLabels (Claim uuid) = ⊥
+ChangesLabels (Unclaim uuid) = ⊥
+ChangesLabels c = ⊤
+
+-- a law: of images that are accepted no two namespaces have extents that meet
+abbrev pub AcceptedIsApart : Type 0
+AcceptedIsApart = (loaded : ImageSet) (sets : List (List Mapping)) → sets_in loaded ≡ Ok sets → EntriesApart (map_of sets loaded)
+
+-- what recovery makes of a set, and then a command that isn't refused, to its end or as far as a crash lets it
+pub record StaysApart (sets : List (List Mapping)) (loaded : ImageSet) (c : Command) : Type 0 where
+  pub after_recovery : EntriesApart (recovered (map_of sets loaded))
+  pub after_command : refusal_in sets (areas_in loaded.labels) c ≡ None → EntriesApart (done (recovered (map_of sets loaded)) c)
+  pub after_crash : refusal_in sets (areas_in loaded.labels) c ≡ None → (n : ℕ) (stays : Bool) → let areas = recovered_areas sets (areas_in loaded.labels) in
+      EntriesApart (namespaces_of sets (after_steps areas (changes_of (namespaces_of sets areas) areas c) n stays))
+
+-- a law: they keep the namespaces of accepted images apart
+abbrev pub ChangesKeepApart : Type 0
+ChangesKeepApart = (c : Command) (loaded : ImageSet) (sets : List (List Mapping)) → ChangesLabels c → HasTable loaded → sets_in loaded ≡ Ok sets → StaysApart sets loaded c
+
+-- a law: after a command that was carried out the namespaces are the command applied to those after recovery, and all else is as it was
+abbrev pub DoneIsTheCommand : (ℕ → List (Option Words) → List (Option (List ℕ)) → Type 0) → Type 0
+DoneIsTheCommand leaves = (c : Command) (power : Power) (loaded : ImageSet) (sets : List (List Mapping)) (outcome : Outcome) → ChangesLabels c → HasTable loaded → sets_in loaded ≡ Ok sets
+    → CommandComes leaves c power loaded outcome → outcome.ending ≡ ending.Done → SavesMap sets loaded (done (recovered (map_of sets loaded)) c) outcome
+
+-- ---- after a crash
+
+-- after n steps in recovery; the last of a label's steps counts as made if the chooser says so
+abbrev pub CutInRecovery : List (List Mapping) → ImageSet → ℕ → Outcome → Type 0
+CutInRecovery sets loaded n outcome =
+    let areas = areas_in loaded.labels in
+    (stays : Bool) × SavesMap sets loaded (namespaces_of sets (after_steps areas (recovery_changes sets areas) n stays)) outcome
+
+-- after n steps of a command that isn't refused, on the areas that recovery has made
+abbrev pub CutInCommand : List (List Mapping) → ImageSet → Command → ℕ → Outcome → Type 0
+CutInCommand sets loaded c n outcome =
+    let areas = recovered_areas sets (areas_in loaded.labels) in
+    (stays : Bool) × SavesMap sets loaded (namespaces_of sets (after_steps areas (changes_of (namespaces_of sets areas) areas c) n stays)) outcome
+
+-- a law: a crash comes in recovery, or with recovery made in the command, after the steps that recovery left
+abbrev pub CrashIsInEither : (ℕ → List (Option Words) → List (Option (List ℕ)) → Type 0) → Type 0
+CrashIsInEither leaves = (c : Command) (power : Power) (loaded : ImageSet) (sets : List (List Mapping)) (outcome : Outcome) (n : ℕ) → power.steps ≡ Some n → sets_in loaded ≡ Ok sets
+    → CommandComes leaves c power loaded outcome → outcome.ending ≡ ending.PowerCut
+    → let areas = areas_in loaded.labels in let first = steps_of_all areas (recovery_changes sets areas) in
+    ((n < first) × CutInRecovery sets loaded n outcome)
+    ⊎ ((first ≤ n) × (refusal_in sets areas c ≡ None) × CutInCommand sets loaded c (n - first) outcome)
+
+-- the namespace of a delete or rename isn't pending
+abbrev pub IsSettled : Namespaces → Command → Type 0
+IsSettled ns (Delete uuid) = (e : Entry) → lookup uuid ns.entries ≡ Some e → e.status ≡ Complete e.name false
+IsSettled ns (Rename uuid name) = (e : Entry) → lookup uuid ns.entries ≡ Some e → e.status ≡ Complete e.name false
+IsSettled ns c = ⊤
+
+-- a law: what a crash leaves of a command recovers to the recovery of what was loaded, or to that of the command applied to it; of a
+-- delete or rename, if its namespace isn't pending once recovery is made
+abbrev pub CrashRecovers : (ℕ → List (Option Words) → List (Option (List ℕ)) → Type 0) → Type 0
+CrashRecovers leaves = (c : Command) (power : Power) (loaded : ImageSet) (sets : List (List Mapping)) (outcome : Outcome) → ChangesLabels c → HasTable loaded → sets_in loaded ≡ Ok sets
+    → IsSettled (recovered (map_of sets loaded)) c → CommandComes leaves c power loaded outcome → outcome.ending ≡ ending.PowerCut
+    → let before = recovered (map_of sets loaded) in
+    (ns : Namespaces) × SavesMap sets loaded ns outcome × ((recovered ns ≡ before) ⊎ (recovered ns ≡ recovered (done before c)))

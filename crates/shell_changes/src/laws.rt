@@ -1,0 +1,36 @@
+//! Laws about what the commands on namespaces come to. Each is a function that does nothing; what it ensures is the law.
+ghost use Rattle.shell_changes.specs.Maps.{AcceptedIsApart, ChangesKeepApart, CrashIsInEither, CrashRecovers, DoneIsTheCommand};
+ghost use Rattle.shell_changes.specs.Remains.{LeavesBy};
+
+use nvd_media::Chooser;
+
+/// A law: if the images are accepted, no two of their namespaces have extents that meet.
+pub fn accepted_is_apart()
+    ensures { AcceptedIsApart }
+{}
+
+/// A law: recovery of accepted images keeps the namespaces apart, and so does a command that isn't refused: carried out,
+/// or cut after any number of its steps.
+pub fn changes_keep_apart()
+    ensures { ChangesKeepApart }
+{}
+
+/// A law: after `create`, `delete` or `rename` with status 0 the namespaces of the saved set are the command applied to
+/// those that recovery makes of the set that was loaded (`done`, `recovered`). All else is as it was loaded.
+pub fn done_is_the_command<C: Chooser>(choose: &C)
+    ensures { DoneIsTheCommand (LeavesBy C.begins C.picks choose.now) }
+{}
+
+/// A law: with status 8 the namespaces of the saved set are those after so many steps of recovery's label changes; or,
+/// if power lasted for recovery, of the command's, on what recovery had made. What these leave of each namespace is said
+/// by the laws of `namespace_laws` (`create_is_cut`, `delete_is_cut`, `rename_is_cut`, `cut_recovery_resumes`).
+pub fn crash_is_in_either<C: Chooser>(choose: &C)
+    ensures { CrashIsInEither (LeavesBy C.begins C.picks choose.now) }
+{}
+
+/// A law: with status 8 the saved set recovers to the map that recovery makes of the set that was loaded, or to the
+/// recovery of the command applied to it. Of a delete or rename it asks that its namespace isn't pending once recovery is
+/// made.
+pub fn crash_recovers<C: Chooser>(choose: &C)
+    ensures { CrashRecovers (LeavesBy C.begins C.picks choose.now) }
+{}

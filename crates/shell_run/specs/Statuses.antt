@@ -1,0 +1,92 @@
+-- The table of exit statuses: which one is due for a command line and images. Faults of reading and writing and out of memory stand
+-- outside it. This project's rules.
+use Rattle.std.specs.Prelude.{⊤, ℕ, ◌/◌, Bool, true, false, not, if◌then◌else◌, List, length, Option, Some, None, Result, Ok, Err, is_err}
+use Rattle.nvd_media.specs.Images.{Images}
+use Rattle.cut_words.specs.Fuses.{lasts}
+use Rattle.label_index.specs.declared.index.IndexBlock.{IndexBlock}
+use Rattle.label_area.specs.declared.fault.AreaFault.{AreaFault}
+use Rattle.label_area.specs.declared.fault.AreaFault.TheVariants.{NoIndex}
+use Rattle.label_area.specs.Area.{block_in}
+use Rattle.label_area.specs.Initialise.{init_count}
+use Rattle.image_set.specs.declared.fault.LoadFault.{LoadFault}
+use Rattle.image_set.specs.Load.{ImageSet, area_of, loading}
+use Rattle.shell_reports.specs.declared.status.Ending.{Ending}
+use Rattle.shell_reports.specs.declared.status.Ending.TheVariants as ending
+use Rattle.shell_reports.specs.declared.status.Status.{Status}
+use Rattle.shell_reports.specs.declared.status.Status.TheVariants as status
+use Rattle.shell_reports.specs.List.{listed_of}
+use Rattle.shell_reports.specs.Causes.{is_broken, refuses_info, refuses_read}
+use Rattle.shell_changes.specs.Changes as changes
+use Rattle.shell_changes.specs.Namespaces.{sets_in, refuses}
+use Rattle.shell_run.specs.declared.words.Command.{Command}
+use Rattle.shell_run.specs.declared.words.Command.TheVariants.{Labels, Nfit, Init, Change, Info, Read}
+use Rattle.shell_run.specs.declared.words.Command.TheVariants as command
+use Rattle.shell_run.specs.Words.{command_of}
+
+-- ---- images that are refused for a command
+
+-- `labels`: there is no label area, or it has no valid index block
+abbrev pub refuses_area : Option (List ℕ) → Bool
+refuses_area None = true
+refuses_area (Some area) = is_err (block_in area)
+
+-- `init`: there is none, or it has an index block, valid or of another version
+abbrev pub has_block : Result IndexBlock AreaFault → Bool
+has_block (Err NoIndex) = false
+has_block found = true
+
+abbrev pub keeps_area : Option (List ℕ) → Bool
+keeps_area None = true
+keeps_area (Some area) = has_block (block_in area)
+
+-- the set isn't loaded, or what the command asks of it is refused
+abbrev pub refuses_images : Command → Result ImageSet LoadFault → Bool
+refuses_images command (Err fault) = true
+refuses_images (Labels m) (Ok loaded) = refuses_area (area_of loaded m)
+refuses_images Nfit (Ok loaded) = false
+refuses_images command.List (Ok loaded) = is_err (listed_of loaded)
+refuses_images (Init m power) (Ok loaded) = keeps_area (area_of loaded m)
+refuses_images (Change c power) (Ok loaded) = is_err (sets_in loaded)
+refuses_images (Info uuid) (Ok loaded) = is_broken loaded uuid
+refuses_images (Read uuid sector) (Ok loaded) = is_broken loaded uuid
+
+-- ---- steps and refusals
+
+-- the steps that a label area's first two blocks take are more than power lasts for
+abbrev pub is_short : Option ℕ → Option (List ℕ) → Bool
+is_short steps None = false
+is_short steps (Some area) = not (lasts steps (init_count (length area / 8)))
+
+-- a command takes more steps than power lasts for
+abbrev pub is_cut : Command → Result ImageSet LoadFault → Bool
+is_cut (Init m power) (Ok loaded) = is_short power.steps (area_of loaded m)
+is_cut (Change c power) (Ok loaded) = changes.is_short loaded c power.steps
+is_cut command found = false
+
+-- a command is refused by its own rules
+abbrev pub is_barred : Command → Result ImageSet LoadFault → Bool
+is_barred (Change c power) (Ok loaded) = refuses loaded c
+is_barred (Info uuid) (Ok loaded) = refuses_info loaded uuid
+is_barred (Read uuid sector) (Ok loaded) = refuses_read loaded uuid sector
+is_barred command found = false
+
+-- ---- the table
+
+-- of images that are refused, power that doesn't last, and a refusal by the command's rules, the first that holds decides
+abbrev pub ending_by : Bool → Bool → Bool → Ending
+ending_by refused cut barred = if refused then ending.Image else if cut then ending.PowerCut else if barred then ending.Refused else ending.Done
+
+abbrev pub ending_with : Option Command → Result ImageSet LoadFault → Ending
+ending_with None found = ending.Usage
+ending_with (Some command) found = ending_by (refuses_images command found) (is_cut command found) (is_barred command found)
+
+-- the ending that is due: words that are no command line come first
+abbrev pub ending_due : List (List ℕ) → Images → Ending
+ending_due words set = ending_with (command_of words) (loading set)
+
+-- a status that says that something outside failed, or that memory ran out
+abbrev pub IsFromOutside : Status → Type 0
+IsFromOutside status.ReadFault = ⊤
+IsFromOutside status.WriteFault = ⊤
+IsFromOutside status.OutOfMemory = ⊤
+IsFromOutside other = ⊥
