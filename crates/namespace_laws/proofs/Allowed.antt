@@ -1,4 +1,4 @@
--- What a create that isn't refused has.
+-- What follows if a create isn't refused.
 use Rattle.std.proofs.Common.{◌≡◌, ◌≢◌, ℕ, zero, suc, ◌+◌, ◌*◌, ◌/◌, ◌%◌, ◌<◌, ◌≤◌, Bool, true, false, List, [], ◌∷◌, ◌++◌, length, get_or, Option, Some, None, refl, sym, ap, ◌∙◌, subst, arith, inl, inr, ◌⊎◌}
 use Rattle.std.specs.Prelude.{◌==◌, ◌||◌, not, map, nat_lt, slice_get, unwrap_or, is_some, is_none}
 use Rattle.std.specs.Option.{option_map}
@@ -46,7 +46,7 @@ all_both P Q (x ∷ xs) (p, ps) (q, qs) = ((p, q), all_both P Q xs ps qs)
 
 -- ---- free slots
 
--- the slots that a refusal looks at
+-- the free slots that a refusal compares
 pub area_free : (sets : List (List Mapping)) (areas : List (Option Area)) (m : ℕ) → (area_of (namespaces_of sets areas) m).free ≡ free_in (slots_on areas m)
 area_free sets areas m = ap (λ (o : Option AreaState). (unwrap_or o no_area).free) (slice_get-map area_state areas m) ∙ free_is (slice_get areas m)
   where
@@ -71,7 +71,7 @@ free_there sets areas m wanted some e = by (cases_lt m (length areas))
         let nothing : free_in (slots_on areas m) ≡ 0 = ap (λ (o : Option (Option Area)). free_in (slots_of (unwrap_or o None))) (slice_get_past areas m past) in
         absurd (omega (arith, nothing, enough))
 
--- no module is short of slots
+-- no module has too few slots
 pub not_short : (ns : Namespaces) (wanted : ℕ) (modules : List ℕ) → short_of ns wanted modules ≡ None → AllByRecursion (λ m. nat_lt (area_of ns m).free wanted ≡ false) modules
 not_short ns wanted modules e = least_nothing (λ number. number) (λ number. nat_lt (area_of ns number).free wanted) modules (unmapped (λ number. NoSlot number) (least_where (λ number. number) (λ number. nat_lt (area_of ns number).free wanted) modules) e)
 
@@ -169,7 +169,7 @@ module _ (ns : Namespaces) (uuid : List ℕ) (name : Named) (region size : ℕ) 
   abbrev offset : ℕ
   offset = new_offset ns set raw
 
-  -- what a create that isn't refused has
+  -- what follows if a create isn't refused
   pub record Allowed : Type 0 where
     pub there : slice_get ns.sets region ≡ Some set
     pub absent : lookup uuid ns.entries ≡ None

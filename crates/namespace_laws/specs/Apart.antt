@@ -1,4 +1,4 @@
--- Laws: under every cut other entries stay as they were, and entries stay apart.
+-- Laws: after a crash other entries are as before, and entries stay apart.
 use Rattle.std.specs.Prelude.{◌≡◌, ◌≢◌, ℕ, Bool, false, List, Option, Some, None}
 use Rattle.std.specs.List.{Contains}
 use Rattle.nfit_reader.specs.declared.table.Mapping.{Mapping}
@@ -13,56 +13,56 @@ use Rattle.namespace_map.specs.Commands.{refusal_of}
 use Rattle.namespace_map.specs.Changes.{namespaces_of, changes_of}
 use Rattle.namespace_map.specs.Left.{AreRegions, AreRead}
 
--- no extent of one entry meets one of the other
+-- no extents of the two entries overlap
 abbrev pub AreApart : Entry → Entry → Type 0
 AreApart e f = (a b : Part) → Contains e.parts a → Contains f.parts b → extents_meet a.extent b.extent ≡ false
 
--- no two entries meet
+-- no two entries overlap
 abbrev pub EntriesApart : Namespaces → Type 0
 EntriesApart ns = (u v : List ℕ) (e f : Entry) → u ≢ v → lookup u ns.entries ≡ Some e → lookup v ns.entries ≡ Some f → AreApart e f
 
--- a cut leaves every other entry as it was
+-- after a crash every other entry is as before
 abbrev pub LeavesOthers : List (List Mapping) → List (Option Area) → List ℕ → Command → Type 0
 LeavesOthers sets areas uuid c =
     (steps : ℕ) (stays : Bool) (other : List ℕ) → other ≢ uuid
     → lookup other (namespaces_of sets (after_steps areas (changes_of (namespaces_of sets areas) areas c) steps stays)).entries ≡ lookup other (namespaces_of sets areas).entries
 
--- a law: so a create that isn't refused
+-- a law: for a create that isn't refused
 abbrev pub CreateLeavesOthers : Type 0
 CreateLeavesOthers =
     (sets : List (List Mapping)) (areas : List (Option Area)) (spec : CreateSpec) → AreRegions sets
     → refusal_of (namespaces_of sets areas) (Create spec) ≡ None → LeavesOthers sets areas spec.uuid (Create spec)
 
--- a law: so a delete
+-- a law: for a delete that isn't refused
 abbrev pub DeleteLeavesOthers : Type 0
 DeleteLeavesOthers =
     (sets : List (List Mapping)) (areas : List (Option Area)) (uuid : List ℕ) → AreRegions sets → AreRead areas
     → refusal_of (namespaces_of sets areas) (Delete uuid) ≡ None → LeavesOthers sets areas uuid (Delete uuid)
 
--- a law: so a rename
+-- a law: for a rename that isn't refused
 abbrev pub RenameLeavesOthers : Type 0
 RenameLeavesOthers =
     (sets : List (List Mapping)) (areas : List (Option Area)) (uuid : List ℕ) (name : Named) → AreRegions sets → AreRead areas
     → refusal_of (namespaces_of sets areas) (Rename uuid name) ≡ None → LeavesOthers sets areas uuid (Rename uuid name)
 
--- entries that are apart are so after every cut of a command
+-- entries that are apart stay apart after a crash in a command
 abbrev pub KeepsApart : List (List Mapping) → List (Option Area) → Command → Type 0
 KeepsApart sets areas c =
     EntriesApart (namespaces_of sets areas) → (steps : ℕ) (stays : Bool) → EntriesApart (namespaces_of sets (after_steps areas (changes_of (namespaces_of sets areas) areas c) steps stays))
 
--- a law: a create that isn't refused keeps entries apart
+-- a law: for a create that isn't refused
 abbrev pub CreateKeepsApart : Type 0
 CreateKeepsApart =
     (sets : List (List Mapping)) (areas : List (Option Area)) (spec : CreateSpec) → AreRegions sets
     → refusal_of (namespaces_of sets areas) (Create spec) ≡ None → KeepsApart sets areas (Create spec)
 
--- a law: so does a delete
+-- a law: for a delete that isn't refused
 abbrev pub DeleteKeepsApart : Type 0
 DeleteKeepsApart =
     (sets : List (List Mapping)) (areas : List (Option Area)) (uuid : List ℕ) → AreRegions sets → AreRead areas
     → refusal_of (namespaces_of sets areas) (Delete uuid) ≡ None → KeepsApart sets areas (Delete uuid)
 
--- a law: so does a rename
+-- a law: for a rename that isn't refused
 abbrev pub RenameKeepsApart : Type 0
 RenameKeepsApart =
     (sets : List (List Mapping)) (areas : List (Option Area)) (uuid : List ℕ) (name : Named) → AreRegions sets → AreRead areas

@@ -1,4 +1,4 @@
--- Laws: what a power cut leaves of the commands on namespaces.
+-- Laws: the entry of a command after a crash.
 use Rattle.std.specs.Prelude.{◌≡◌, ◌⊎◌, ℕ, Bool, false, List, length, Option, Some, None}
 use Rattle.nfit_reader.specs.declared.table.Mapping.{Mapping}
 use Rattle.label_set.specs.declared.placed.SetStatus.TheVariants.{Complete}
@@ -21,7 +21,7 @@ CutOfCreate new left = (left ≡ None) ⊎ Left (IsPartOf new) left ⊎ Left (Is
 abbrev pub CutOfCreateAlone : Entry → Option Entry → Type 0
 CutOfCreateAlone new left = (left ≡ None) ⊎ (left ≡ Some new)
 
--- a law: what a cut of a create that isn't refused leaves of its entry, after any number of steps
+-- a law: the entry after a crash in a create that isn't refused, following any number of steps
 abbrev pub CreateIsCut : Type 0
 CreateIsCut =
     (sets : List (List Mapping)) (areas : List (Option Area)) (spec : CreateSpec) → AreRegions sets
@@ -29,7 +29,7 @@ CreateIsCut =
     → CutOfCreate (new_entry (namespaces_of sets areas) spec)
     (lookup spec.uuid (namespaces_of sets (after_steps areas (changes_of (namespaces_of sets areas) areas (Create spec)) steps stays)).entries)
 
--- a law: where the region has one module, nothing is between
+-- a law: if the region has one module, there is nothing in between
 abbrev pub CreateAloneIsCut : Type 0
 CreateAloneIsCut =
     (sets : List (List Mapping)) (areas : List (Option Area)) (spec : CreateSpec) → AreRegions sets
@@ -46,7 +46,7 @@ CutOfDelete e left = (left ≡ Some e) ⊎ Left (IsPending e.name e) left ⊎ Le
 abbrev pub CutOfDeleteAlone : Entry → Option Entry → Type 0
 CutOfDeleteAlone e left = (left ≡ Some e) ⊎ (left ≡ None)
 
--- a law: what a cut of a delete that isn't refused leaves of its entry
+-- a law: the entry after a crash in a delete that isn't refused
 abbrev pub DeleteIsCut : Type 0
 DeleteIsCut =
     (sets : List (List Mapping)) (areas : List (Option Area)) (uuid : List ℕ) (e : Entry) → AreRegions sets → AreRead areas
@@ -54,7 +54,7 @@ DeleteIsCut =
     → refusal_of (namespaces_of sets areas) (Delete uuid) ≡ None → (steps : ℕ) (stays : Bool)
     → CutOfDelete e (lookup uuid (namespaces_of sets (after_steps areas (changes_of (namespaces_of sets areas) areas (Delete uuid)) steps stays)).entries)
 
--- a law: with one part nothing is between
+-- a law: with one part there is nothing in between
 abbrev pub DeleteAloneIsCut : Type 0
 DeleteAloneIsCut =
     (sets : List (List Mapping)) (areas : List (Option Area)) (uuid : List ℕ) (e : Entry) → AreRegions sets → AreRead areas
@@ -71,7 +71,7 @@ CutOfRename e name left = (left ≡ Some e) ⊎ Left (IsPending e.name e) left �
 abbrev pub CutOfRenameAlone : Entry → List ℕ → Option Entry → Type 0
 CutOfRenameAlone e name left = (left ≡ Some e) ⊎ (left ≡ Some (renamed e name))
 
--- a law: what a cut of a rename that isn't refused leaves of its entry
+-- a law: the entry after a crash in a rename that isn't refused
 abbrev pub RenameIsCut : Type 0
 RenameIsCut =
     (sets : List (List Mapping)) (areas : List (Option Area)) (uuid : List ℕ) (e : Entry) → AreRegions sets → AreRead areas
@@ -79,7 +79,7 @@ RenameIsCut =
     → refusal_of (namespaces_of sets areas) (Rename uuid name) ≡ None → (steps : ℕ) (stays : Bool)
     → CutOfRename e (name_in name) (lookup uuid (namespaces_of sets (after_steps areas (changes_of (namespaces_of sets areas) areas (Rename uuid name)) steps stays)).entries)
 
--- a law: with one part nothing is between
+-- a law: with one part there is nothing in between
 abbrev pub RenameAloneIsCut : Type 0
 RenameAloneIsCut =
     (sets : List (List Mapping)) (areas : List (Option Area)) (uuid : List ℕ) (e : Entry) → AreRegions sets → AreRead areas

@@ -1,4 +1,4 @@
--- Laws: what a cut leaves of a command recovers to what there was before it, or to what there is after it.
+-- Laws: after a crash in a command, recovery leads to the map before it or after it.
 use Rattle.std.specs.Prelude.{◌≡◌, ◌⊎◌, ℕ, Bool, false, List, Option, Some, None}
 use Rattle.nfit_reader.specs.declared.table.Mapping.{Mapping}
 use Rattle.label_set.specs.declared.placed.SetStatus.TheVariants.{Complete}
@@ -12,27 +12,26 @@ use Rattle.namespace_map.specs.Commands.{refusal_of, done, recovered}
 use Rattle.namespace_map.specs.Changes.{namespaces_of, changes_of}
 use Rattle.namespace_map.specs.Left.{AreRegions, AreRead}
 
--- whatever a cut leaves, its namespaces recover, all of them and the areas with them, to the recovery of those before the command or
--- of those after it
+-- after a crash, recovery leads to the recovery of the map before the command or of the map after it, with all entries and areas
 abbrev pub RecoversToEither : List (List Mapping) → List (Option Area) → Command → Type 0
 RecoversToEither sets areas c =
     (steps : ℕ) (stays : Bool) → let left = namespaces_of sets (after_steps areas (changes_of (namespaces_of sets areas) areas c) steps stays) in
     (recovered left ≡ recovered (namespaces_of sets areas)) ⊎ (recovered left ≡ recovered (done (namespaces_of sets areas) c))
 
--- a law: so for a create that isn't refused
+-- a law: for a create that isn't refused
 abbrev pub CreateRecovers : Type 0
 CreateRecovers =
     (sets : List (List Mapping)) (areas : List (Option Area)) (spec : CreateSpec) → AreRegions sets
     → refusal_of (namespaces_of sets areas) (Create spec) ≡ None → RecoversToEither sets areas (Create spec)
 
--- a law: so for a delete that isn't refused, of an entry that is complete and not pending
+-- a law: for a delete that isn't refused, of an entry that is complete and not pending
 abbrev pub DeleteRecovers : Type 0
 DeleteRecovers =
     (sets : List (List Mapping)) (areas : List (Option Area)) (uuid : List ℕ) (e : Entry) → AreRegions sets → AreRead areas
     → lookup uuid (namespaces_of sets areas).entries ≡ Some e → e.status ≡ Complete e.name false
     → refusal_of (namespaces_of sets areas) (Delete uuid) ≡ None → RecoversToEither sets areas (Delete uuid)
 
--- a law: so for a rename that isn't refused, of an entry that is complete and not pending
+-- a law: for a rename that isn't refused, of an entry that is complete and not pending
 abbrev pub RenameRecovers : Type 0
 RenameRecovers =
     (sets : List (List Mapping)) (areas : List (Option Area)) (uuid : List ℕ) (e : Entry) → AreRegions sets → AreRead areas

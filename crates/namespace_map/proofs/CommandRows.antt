@@ -1,4 +1,4 @@
--- Worked rows, computed: two modules of 32 MiB with label areas of 1,024 bytes, just initialised.
+-- Worked examples, computed on the definitions: two modules of 32 MiB with label areas of 1,024 bytes, just initialised.
 use Rattle.std.proofs.Common.{◌≡◌, ℕ, List, [], ◌∷◌, Option, Some, None, Bool, true, false, codes, replicate, refl}
 use Rattle.std.specs.Prelude.{map}
 use Rattle.nvd_words.specs.Checks.{first_fault, checked}
@@ -91,12 +91,12 @@ cut_520 = refl
 abbrev made : List (Option Area)
 made = after_steps fresh making 520 false
 
--- a second create with another UUID finds one free slot
+-- a second create with another UUID needs two free slots, and there is one
 pub second_create : refusal_of (namespaces_of sets made) (create_with (replicate 16 0x22) (named.Good a) 0 8388608 make.Raw) ≡ Some (NoSlot 0)
 unfolding after_steps steps_of_all all_changed put_all put status_of first_fault checked by_position by_position_with taken_from given_to unfinished_gone
 second_create = refl
 
--- a rename that is cut after 200 steps, and recovered
+-- a rename with a crash after 200 steps, and recovered
 abbrev renaming : List Change
 renaming = changes_of (namespaces_of sets made) made (command.Rename u (named.Good (codes "b")))
 
@@ -131,7 +131,7 @@ pub delete_recovered : statuses (recovered_areas sets (after_steps made deleting
 unfolding after_steps steps_of_all all_changed put_all put status_of first_fault checked by_position by_position_with taken_from given_to unfinished_gone
 delete_recovered = refl
 
--- ---- statuses of labels that don't agree
+-- ---- statuses of labels that differ
 
 abbrev half_label : ℕ → ℕ → List ℕ → ℕ → Label
 half_label position flags name slot = record {
@@ -180,7 +180,7 @@ pub two_pending : two_with 8 ≡ Complete a true ∷ []
 unfolding after_steps steps_of_all all_changed put_all put status_of first_fault checked by_position by_position_with taken_from given_to unfinished_gone
 two_pending = refl
 
--- ---- the commands on entries are what their label changes come to
+-- ---- the commands on entries agree with their label changes
 
 abbrev left_by : Namespaces → Command → Namespaces
 left_by ns c = (step ns c).1
@@ -251,7 +251,7 @@ pub pending_delete_recovered : statuses (recovered_areas sets (after_steps half_
 unfolding after_steps steps_of_all all_changed put_all put status_of first_fault checked by_position by_position_with taken_from given_to unfinished_gone
 pending_delete_recovered = refl
 
--- ---- recovery where a module has no free slot: the commands on entries and the label changes agree
+-- ---- recovery on a module without a free slot: the commands on entries and the label changes agree
 
 abbrev full_with : Label → Option Area
 full_with l = Some (record { block = 256; slots = Some (Some l) ∷ Some None ∷ [] })
@@ -277,7 +277,7 @@ pub stuck_whole_agrees : recovered (namespaces_of sets stuck_whole) ≡ namespac
 unfolding after_steps steps_of_all all_changed put_all put status_of first_fault checked by_position by_position_with taken_from given_to unfinished_gone
 stuck_whole_agrees = refl
 
--- an unfinished one loses its label without a free slot
+-- removing the label of an unfinished entry needs no free slot
 pub stuck_one_agrees : recovered (namespaces_of sets stuck_one) ≡ namespaces_of sets (recovered_areas sets stuck_one)
 unfolding after_steps steps_of_all all_changed put_all put status_of first_fault checked by_position by_position_with taken_from given_to unfinished_gone
 stuck_one_agrees = refl

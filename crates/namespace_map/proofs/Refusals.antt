@@ -1,4 +1,5 @@
--- Worked rows of refusals, computed: two modules of 32 MiB with label areas of 1,024 bytes, just initialised.
+-- Worked examples of refusals, computed on the definitions: two modules of 32 MiB with label areas of 1,024 bytes, just
+-- initialised.
 use Rattle.std.proofs.Common.{◌≡◌, ℕ, List, [], ◌∷◌, Option, Some, None, codes, replicate, refl}
 use Rattle.nvd_words.specs.Checks.{first_fault, checked}
 use Rattle.nfit_reader.specs.declared.table.Mapping.{Mapping}
@@ -114,7 +115,7 @@ pub size_of_half_units : refused_by made (create_v (codes "b") 0 12288 make.Raw)
 unfolding after_steps steps_of_all all_changed put_all put status_of first_fault checked by_position by_position_with taken_from given_to unfinished_gone
 size_of_half_units = refl
 
--- no arena is planned for 8 MiB
+-- no arena can be planned for 8 MiB
 pub size_of_no_arena : refused_by made (create_v (codes "b") 0 8388608 (make.Sector 512 256)) ≡ Some (BadSize 8388608)
 unfolding after_steps steps_of_all all_changed put_all put status_of first_fault checked by_position by_position_with taken_from given_to unfinished_gone is_lane_count is_sector
 size_of_no_arena = refl

@@ -20,11 +20,11 @@ use Rattle.namespace_map.specs.Commands.{no_area, set_of, share_of, new_offset, 
 
 -- ---- the namespaces of areas
 
--- the labels of a module's area by slot, where it is ready
+-- the labels of a module's area by slot, if it is ready
 abbrev pub labels_at : Option Area → Option (List (Option Label))
 labels_at area = option_map (λ a. labels_in a.slots) area
 
--- the labels of all areas, rising by module and slot
+-- the labels of all areas, ordered by module and slot
 abbrev pub placed_in_all : List (Option Area) → List Placed
 placed_in_all areas = placed_of (map labels_at areas)
 
@@ -32,7 +32,7 @@ abbrev pub area_state : Option Area → AreaState
 area_state None = no_area
 area_state (Some area) = record { ready = true; block = area.block; free = free_in area.slots }
 
--- the namespaces that the labels of areas make, none of them claimed
+-- the namespaces of the labels of areas, without claims
 abbrev pub namespaces_of : List (List Mapping) → List (Option Area) → Namespaces
 namespaces_of sets areas = record { sets = sets; areas = map area_state areas; entries = entries_of sets (placed_in_all areas); claims = [] }
 
@@ -41,11 +41,11 @@ namespaces_of sets areas = record { sets = sets; areas = map area_state areas; e
 abbrev pub with_name : List ℕ → Label → Label
 with_name name l = record l { name = name }
 
--- a module's label becomes this, or goes
+-- a module's label is replaced or removed
 abbrev pub change_to : (Label → Option Label) → ℕ × Label → Change
 change_to become p = record { number = p.0; uuid = p.1.uuid; label = become p.1 }
 
--- each label becomes one thing and then, in a second round, another; with one module the second alone
+-- each label is changed in one way and then, in a second round, in another; with one module only the second
 abbrev pub in_two : (Label → Option Label) → (Label → Option Label) → List (ℕ × Label) → List Change
 in_two first second [] = []
 in_two first second (p ∷ []) = change_to second p ∷ []
@@ -55,7 +55,7 @@ abbrev pub abstraction_for : Make → List ℕ
 abstraction_for make.Raw = no_abstraction
 abstraction_for (make.Sector sector lanes) = btt_2_0
 
--- the label of a new namespace on the module at a position; its slot is the one into which it comes
+-- the label of a new namespace on the module at a position; its slot is set when it is put
 abbrev pub new_label : List ℕ → List ℕ → Make → List Mapping → ℕ → ℕ → ℕ × Mapping → ℕ × Label
 new_label uuid name made set offset raw m = (
   m.1.«module»,
@@ -77,14 +77,14 @@ new_label uuid name made set offset raw m = (
   },
 )
 
--- the labels of a new namespace, by position
+-- the labels of a new namespace, in order of position
 abbrev pub new_labels : Namespaces → CreateSpec → List (ℕ × Label)
 new_labels ns spec =
     let set = set_of ns spec.region in
     let raw = share_of set spec.size in
     map (new_label spec.uuid (name_in spec.name) spec.make set (new_offset ns set raw) raw) (enumerate_from 0 set)
 
--- labels by position
+-- labels in order of position
 unfoldable pub by_position_with : Placed → List Placed → List Placed
 by_position_with p [] = p ∷ []
 by_position_with p (q ∷ qs) = if nat_le p.label.position q.label.position then p ∷ q ∷ qs else q ∷ by_position_with p qs
@@ -93,11 +93,12 @@ unfoldable pub by_position : List Placed → List Placed
 by_position [] = []
 by_position (p ∷ ps) = by_position_with p (by_position ps)
 
--- the labels of a UUID with their modules, by position
+-- the labels of a UUID with their modules, in order of position
 abbrev pub own_labels : List (Option Area) → List ℕ → List (ℕ × Label)
 own_labels areas uuid = map (λ p. (p.«module», p.label)) (by_position (labels_with uuid (placed_in_all areas)))
 
--- the changes of a command that isn't refused: by position, each label is put with UPDATING, and then without it, or removed
+-- the changes of a command that isn't refused: in order of position, each label is put with UPDATING, and then without it, or
+-- removed
 abbrev pub changes_of : Namespaces → List (Option Area) → Command → List Change
 changes_of ns areas (command.Create spec) = in_two (λ l. Some (updating l)) (λ l. Some (settled l)) (new_labels ns spec)
 changes_of ns areas (command.Delete uuid) = in_two (λ l. Some (updating l)) (λ l. None) (own_labels areas uuid)
@@ -108,7 +109,7 @@ changes_of ns areas (command.Unclaim uuid) = []
 
 -- ---- recovery
 
--- an unfinished entry loses its labels
+-- the labels of an unfinished entry are removed
 abbrev pub gone_changes : List (Option Area) → Entry → List Change
 gone_changes areas e = if is_unfinished e.status then map (change_to (λ l. None)) (own_labels areas e.uuid) else []
 
@@ -121,7 +122,7 @@ abbrev pub settling_changes : List (Option Area) → Entry → List Change
 settling_changes areas e =
     if is_complete e.status then map (change_to (λ l. Some (with_name e.name (settled l)))) (filter (is_unsettled areas) (own_labels areas e.uuid)) else []
 
--- first each unfinished entry loses its labels, and then each complete one is settled
+-- first the labels of each unfinished entry are removed, and then each complete one is settled
 abbrev pub recovery_changes : List (List Mapping) → List (Option Area) → List Change
 recovery_changes sets areas =
     let gone = flat_map (gone_changes areas) (namespaces_of sets areas).entries in

@@ -26,7 +26,7 @@ use Rattle.namespace_map.specs.declared.commands.Command.TheVariants as command
 use Rattle.namespace_map.specs.declared.refused.OpRefused.{OpRefused}
 use Rattle.namespace_map.specs.declared.refused.OpRefused.TheVariants.{NoSuch, Exists, NoRegion, NoSpace, NoSlot, Busy, NotComplete, NotSector, BadSize, BadName, ModuleLabels, ReadOnlyLabel}
 
--- ---- what a refusal looks at
+-- ---- the facts behind a refusal
 
 abbrev pub no_area : AreaState
 no_area = record { ready = false; block = 0; free = 0 }
@@ -45,7 +45,7 @@ abbrev pub is_sector : Mode → Bool
 is_sector mode.Sector = true
 is_sector other = false
 
--- the modules of an entry, rising
+-- the modules of an entry, in ascending order
 abbrev pub entry_modules : Entry → List ℕ
 entry_modules e = map (λ p. p.extent.«module») e.parts
 
@@ -57,11 +57,11 @@ least_module test modules = least_where (λ number. number) test modules
 abbrev pub unready_of : Namespaces → List ℕ → Option OpRefused
 unready_of ns modules = option_map (λ number. ModuleLabels number) (least_module (λ number. not (area_of ns number).ready) modules)
 
--- the least module with fewer free slots than are wanted
+-- the least module with fewer free slots than wanted
 abbrev pub short_of : Namespaces → ℕ → List ℕ → Option OpRefused
 short_of ns wanted modules = option_map (λ number. NoSlot number) (least_module (λ number. nat_lt (area_of ns number).free wanted) modules)
 
--- the name that a text makes, or the length of one that makes none
+-- the name that a text makes, or the length of a text that isn't a name
 abbrev pub named_by : ℕ → Option (List ℕ) → Named
 named_by bytes None = named.Refused bytes
 named_by bytes (Some name) = named.Good name
@@ -73,11 +73,11 @@ abbrev pub bad_name : Named → Option OpRefused
 bad_name (named.Good name) = None
 bad_name (named.Refused bytes) = Some (BadName bytes)
 
--- the bytes of each module
+-- the size on each module, in bytes
 abbrev pub share_of : List Mapping → ℕ → ℕ
 share_of set size = size / length set
 
--- a sector namespace of a size for which no arena is planned
+-- a sector namespace whose size has no arena
 abbrev pub has_no_plan : Make → ℕ → Bool
 has_no_plan make.Raw size = false
 has_no_plan (make.Sector sector lanes) size = is_err (planned size sector lanes)
@@ -85,7 +85,7 @@ has_no_plan (make.Sector sector lanes) size = is_err (planned size sector lanes)
 abbrev pub is_bad_size : List Mapping → ℕ → Make → Bool
 is_bad_size set size made = (size == 0) || not (size % (length set * unit_of set) == 0) || has_no_plan made size
 
--- the least multiple of the unit at which so many bytes of each module fit
+-- the least multiple of the unit at which `raw` bytes of each module fit
 abbrev pub first_fit_of : List Mapping → List Extent → ℕ → Option ℕ
 first_fit_of [] extents raw = None
 first_fit_of (m ∷ ms) extents raw =
@@ -107,7 +107,7 @@ create_refusal ns spec =
     ∷ fault_if (is_none (first_fit_of set (extents_of ns.entries) (share_of set spec.size))) (NoSpace (share_of set spec.size))
     ∷ [])
 
--- what only an entry that is there and complete gets past
+-- refuses unless there is an entry and it is complete
 abbrev pub entry_refusal : Option Entry → (Entry → List (Option OpRefused)) → Option OpRefused
 entry_refusal None further = Some NoSuch
 entry_refusal (Some e) further = first_fault (fault_if (not (is_complete e.status)) NotComplete ∷ further e)
@@ -128,7 +128,7 @@ rename_refusal ns uuid name = first_fault (
 abbrev pub claim_refusal : Namespaces → List ℕ → Option OpRefused
 claim_refusal ns uuid = entry_refusal (lookup uuid ns.entries) (λ e. fault_if (not (is_sector e.mode)) NotSector ∷ [])
 
--- the first reason for which a command is refused
+-- the first reason to refuse a command
 abbrev pub refusal_of : Namespaces → Command → Option OpRefused
 refusal_of ns (command.Create spec) = create_refusal ns spec
 refusal_of ns (command.Delete uuid) = delete_refusal ns uuid
@@ -136,12 +136,12 @@ refusal_of ns (command.Rename uuid name) = rename_refusal ns uuid name
 refusal_of ns (command.Claim uuid) = claim_refusal ns uuid
 refusal_of ns (command.Unclaim uuid) = None
 
--- ---- what a command does where it isn't refused
+-- ---- the effect of a command that isn't refused
 
 abbrev pub count_in : List ℕ → ℕ → ℕ
 count_in modules which = length (filter (λ m. m == which) modules)
 
--- the areas after a slot on each of these modules was taken, or given back
+-- the areas after a slot on each of these modules was taken, or freed
 unfoldable pub taken_from : ℕ → List ℕ → List AreaState → List AreaState
 taken_from which modules [] = []
 taken_from which modules (a ∷ areas) = record a { free = a.free - count_in modules which } ∷ taken_from (which + 1) modules areas
@@ -165,11 +165,11 @@ lba_for (make.Sector sector lanes) = sector
 abbrev pub new_part : List ℕ → ℕ → ℕ → Mapping → Part
 new_part uuid offset raw m = record { extent = record { owner = uuid; «module» = m.«module»; start = m.start + offset; length = raw }; align = 0; spa_cookie = 0; flags = 0 }
 
--- a part on each module of the set, rising by module
+-- a part on each module of the set, in ascending order
 abbrev pub new_parts : List ℕ → ℕ → ℕ → List Mapping → ℕ → List Part
 new_parts uuid offset raw set count = filter_map (λ n. option_map (new_part uuid offset raw) (find (λ m. m.«module» == n) set)) (range_with_len 0 count)
 
--- the offset that a new namespace takes on each module
+-- the offset of a new namespace on each module
 abbrev pub new_offset : Namespaces → List Mapping → ℕ → ℕ
 new_offset ns set raw = unwrap_or (first_fit_of set (extents_of ns.entries) raw) 0
 
@@ -216,7 +216,7 @@ done ns (command.Rename uuid name) = renamed_entry ns (name_in name) (lookup uui
 done ns (command.Claim uuid) = with_claims ns uuid (claims_of ns uuid + 1)
 done ns (command.Unclaim uuid) = with_claims ns uuid (claims_of ns uuid - 1)
 
--- the reply of a command, and what it leaves; a refused one changes nothing
+-- the reply of a command, and the map after it; a refused command changes nothing
 abbrev pub step : Namespaces → Command → Option OpRefused × Namespaces
 step ns c = unwrap_or (option_map (λ f. (Some f, ns)) (refusal_of ns c)) (None, done ns c)
 
@@ -226,7 +226,7 @@ abbrev pub is_unfinished : SetStatus → Bool
 is_unfinished Unfinished = true
 is_unfinished status = false
 
--- the unfinished entries are gone, and their slots given back
+-- the unfinished entries are removed, and their slots freed
 unfoldable pub unfinished_gone : Namespaces → List Entry → Namespaces
 unfinished_gone ns [] = ns
 unfinished_gone ns (e ∷ es) = unfinished_gone (if is_unfinished e.status then deleted_entry ns (Some e) else ns) es
@@ -235,7 +235,7 @@ abbrev pub settled_status : SetStatus → List ℕ → SetStatus
 settled_status (Complete name pending) updating = Complete name (list_any (λ m. true) updating)
 settled_status status updating = status
 
--- each module with a free slot is taken from a complete entry's list
+-- each module with a free slot is removed from the `updating` list of a complete entry
 abbrev pub settled_entry : Namespaces → Entry → Entry
 settled_entry ns e =
     let updating = if is_complete e.status then filter (λ m. (area_of ns m).free == 0) e.updating else e.updating in

@@ -4,23 +4,23 @@ use uuid::Uuid;
 /// What a namespace is made as.
 #[derive(Clone, Copy, Debug, PartialEq, Eq)]
 pub enum Make {
-    /// Persistent memory without an abstraction: bytes as they stand.
+    /// Persistent memory without an abstraction: byte access.
     Raw,
     /// Persistent memory with a Block Translation Table, version 2.0.
     Sector {
         /// The bytes of a sector: the label's LbaSize.
         sector: u32,
-        /// How many writers the table has room for.
+        /// The number of lanes, at most so many writers at the same time.
         lanes: u32,
     },
 }
 
-/// What a command gives as a name.
+/// A command's word for a name.
 #[derive(Clone, Copy, Debug)]
 pub enum Named {
     /// A name.
     Good(Name),
-    /// A text that makes none: it has more than 63 bytes, or a zero byte.
+    /// A text that isn't a name: it has more than 63 bytes, or a zero byte.
     Refused {
         /// Its length in bytes.
         bytes: u64,
@@ -43,7 +43,7 @@ pub struct CreateSpec {
     pub make: Make,
 }
 
-/// What is asked of the namespaces of an image set.
+/// A command on the namespaces of an image set.
 #[derive(Clone, Copy, Debug)]
 pub enum Command {
     /// A namespace is made.
@@ -60,12 +60,12 @@ pub enum Command {
         /// The other name.
         name: Named,
     },
-    /// A namespace is claimed once more.
+    /// A namespace gets one more claim.
     Claim {
         /// Its UUID.
         uuid: Uuid,
     },
-    /// A claim of a namespace is given back.
+    /// A namespace loses a claim.
     Unclaim {
         /// Its UUID.
         uuid: Uuid,
