@@ -220,6 +220,32 @@ def changes(size):
         yield ["OUT", *words], OK, "ok\n"
 
 
+def said_after():
+    """Commands on the pair with areas of 1,024 bytes, and what `labels` says of each module then.
+
+    Each change writes the block that isn't current, under the next Seq of the ring 1, 2, 3 (UEFI 2.10, section 13.19). `init` wrote 2 at side 1 and
+    3 at side 0. Each command makes two changes on a module: it puts a label into the free slot, and puts it again or removes it."""
+    label = 'label 1 %s "a" pos %d of 2 dpa 0 size 4096 flags 0 lba 512 mode raw cookie 0002e2420000346b\n'
+    yield create(FIRST, name="a"), ["index 0 seq 2 slots 2 free 1\n" + label % (FIRST, m) for m in range(2)]
+    yield ["OUT", "rename", FIRST, "a"], ["index 0 seq 1 slots 2 free 1\n" + label % (FIRST, m) for m in range(2)]
+    yield ["OUT", "delete", FIRST], ["index 0 seq 3 slots 2 free 2\n"] * 2
+
+
+def seeded():
+    """Commands that are cut while stores are pending: two words of a label area that are pending then, and which of them has its new value.
+
+    The chooser is begun from the number of `--evict`, and asked for each pending word, rising. For 4 its first answers are no and yes, for 13 yes
+    and no; of a rename's third and thirty-second word it is the other way round. Another program worked them out."""
+    # the UUID in the first label, of which 20 words are stored
+    yield "fresh", create(FIRST, name="a"), "20", (512, 520), {"4": (False, True), "13": (True, False)}
+    # the name in the first label, and its checksum
+    yield "made", ["OUT", "rename", FIRST, "b"], "32", (528, 760), {"4": (True, False), "13": (False, True)}
+    # checksum and free bits of the first block, of which 31 words are stored
+    yield "made", ["OUT", "delete", FIRST], "293", (64, 72), {"4": (False, True), "13": (True, False)}
+    # the UUID in the first label, behind the format of an arena, which takes 38,912 steps
+    yield "large", create(FIRST, str(ARENA), "a", "0", "sector"), "38932", (512, 520), {"4": (False, True), "13": (True, False)}
+
+
 # A module, or two, in which each byte of the contents is other than zero.
 ARENA = 16 << 20
 
