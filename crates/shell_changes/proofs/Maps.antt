@@ -159,7 +159,7 @@ module _ (sets : List (List Mapping)) (areas : List (Option Area)) (regions : Ar
 
 -- a command that isn't refused
 agreed : (sets : List (List Mapping)) (areas : List (Option Area)) (c : Command) → ChangesLabels c → AreRegions sets → AreRead areas → refusal_of (namespaces_of sets areas) c ≡ None → Agrees sets areas c
-agreed sets areas (Create uuid name region size made) changes regions read none = create_agrees sets areas uuid name region size made regions none
+agreed sets areas (Create spec) changes regions read none = create_agrees sets areas spec.uuid spec.name spec.region spec.size spec.make regions none
 agreed sets areas (Delete uuid) changes regions read none = delete_agrees sets areas uuid regions read none
 agreed sets areas (Rename uuid name) changes regions read none = rename_agrees sets areas uuid name regions read none
 agreed sets areas (Claim uuid) changes regions read none = absurd changes
@@ -186,7 +186,7 @@ recovered_apart ns before u v e f differ at_u at_v a b in_e in_f =
     before u v x y differ x_is y_is a b (subst (λ (ps : List Part). Contains ps a) x_parts in_e) (subst (λ (ps : List Part). Contains ps b) y_parts in_f)
 
 keeps : (sets : List (List Mapping)) (areas : List (Option Area)) (c : Command) → ChangesLabels c → AreRegions sets → AreRead areas → refusal_of (namespaces_of sets areas) c ≡ None → KeepsApart sets areas c
-keeps sets areas (Create uuid name region size made) changes regions read none = create_apart sets areas uuid name region size made regions none
+keeps sets areas (Create spec) changes regions read none = create_apart sets areas spec.uuid spec.name spec.region spec.size spec.make regions none
 keeps sets areas (Delete uuid) changes regions read none = delete_apart sets areas uuid regions read none
 keeps sets areas (Rename uuid name) changes regions read none = rename_apart sets areas uuid name regions read none
 keeps sets areas (Claim uuid) changes regions read none = absurd changes
@@ -236,7 +236,7 @@ recovers_once sets areas regions read =
 
 to_either : (sets : List (List Mapping)) (areas : List (Option Area)) (c : Command) → ChangesLabels c → AreRegions sets → AreRead areas → IsSettled (namespaces_of sets areas) c
     → refusal_of (namespaces_of sets areas) c ≡ None → RecoversToEither sets areas c
-to_either sets areas (Create uuid name region size made) changes regions read settled none = create_recovers sets areas uuid name region size made regions none
+to_either sets areas (Create spec) changes regions read settled none = create_recovers sets areas spec.uuid spec.name spec.region spec.size spec.make regions none
 to_either sets areas (Delete uuid) changes regions read settled none =
     let f = delete_found sets areas uuid none in
     delete_recovers sets areas uuid f.entry regions read f.is (settled f.entry f.is) none
