@@ -1,0 +1,5 @@
+pub mod Following
+pub mod Loops
+pub mod Parts
+pub mod Rows
+pub mod Utf8
