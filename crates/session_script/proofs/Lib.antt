@@ -2,4 +2,5 @@ pub mod Following
 pub mod Loops
 pub mod Parts
 pub mod Rows
+pub mod ScriptRows
 pub mod Utf8

@@ -1,9 +1,10 @@
 -- The fields of a line, from left to right. A field is what stands before the next blank.
-use Rattle.std.specs.Prelude.{ℕ, ◌-◌, ◌^◌, ◌==◌, nat_le, Bool, not, ◌&&◌, if◌then◌else◌, List, [], ◌∷◌, take, drop, Option, Some, None, option_map, option_and_then, Result, Ok, Err, codes}
+use Rattle.std.specs.Prelude.{ℕ, ◌-◌, ◌^◌, ◌==◌, nat_le, Bool, not, ◌&&◌, if◌then◌else◌, List, [], ◌∷◌, length, take, drop, Option, Some, None, option_map, option_and_then, Result, Ok, Err, codes}
 use Rattle.std.specs.List.{list_all}
 use Rattle.std.specs.Result.{result_ok}
 use Rattle.std.specs.Str.{bytes_eq, is_utf8}
 use Rattle.hex.specs.Hex.{decode_of}
+use Rattle.uuid.specs.Text.{parsed}
 use Rattle.command_words.specs.Numbers.{limited, number_of}
 use Rattle.session_script.specs.declared.fault.LineFault.{LineFault}
 use Rattle.session_script.specs.declared.fault.LineFault.TheVariants as line
@@ -71,6 +72,18 @@ u64_field rest = number_field (2 ^ 64 - 1) rest
 
 abbrev pub u32_field : Rest → Field ℕ
 u32_field rest = number_field (2 ^ 32 - 1) rest
+
+-- a UUID in its form with hyphens, in either case: of the forms that `parsed` has it alone takes 36 bytes
+abbrev pub hyphenated : List ℕ → Option (List ℕ)
+hyphenated word = if length word == 36 then parsed word else None
+
+abbrev pub uuid_field : Rest → Field (List ℕ)
+uuid_field rest = field_of kind.Uuid hyphenated rest
+
+-- a name is all that is left of the line, and may be empty; the blank before it must be there
+abbrev pub name_field : Rest → Field (List ℕ)
+name_field None = Err (line.Kind kind.Name)
+name_field (Some name) = Ok (name, None)
 
 abbrev pub fill_of : List ℕ → Option Payload
 fill_of (byte ∷ []) = Some (payload.Fill byte)

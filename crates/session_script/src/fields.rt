@@ -1,13 +1,15 @@
 //! The fields of a line, read from left to right.
 ghost use Rattle.std.specs.Prelude.{◌≡◌, ◌≢◌, ◌≤◌, IfOk, IfErr, Ok, Err, Some, None, option_map};
 ghost use Rattle.session_script.specs.Lines.{before, after};
-ghost use Rattle.session_script.specs.Fields.{rest_of, at_end, number_field, u32_field, u64_field, value_field, word_field};
+ghost use Rattle.session_script.specs.Fields.{rest_of, at_end, name_field, number_field, u32_field, u64_field, uuid_field, value_field, word_field};
 
 use crate::fault::{LineFault, LineKind};
 use crate::lines::{count_before, text_from};
 use crate::payload::Payload;
-use crate::words::{number_in, value_in};
+use crate::words::{number_in, uuid_in, value_in};
+use nvd_words::Items;
 use std::alloc::Global;
+use uuid::Uuid;
 
 /// What stands after the last blank that was read, `None` after the end of the line.
 #[derive(Drop)]
@@ -93,6 +95,33 @@ impl<'a> Fields<'a> {
         match value_in(alloc, word) {
             Ok(Some(value)) => Ok(value),
             Ok(None) => Err(LineFault::Kind(LineKind::Value)),
+            Err(_) => Err(LineFault::OutOfMemory),
+        }
+    }
+
+    /// Reads a UUID in the form with hyphens.
+    pub(crate) fn uuid(&mut self) -> Result<Uuid, LineFault>
+        ensures ok { IfOk result (λ uuid. uuid_field (rest_of self.old) ≡ Ok (uuid, rest_of self.new)) }
+        ensures err { IfErr result (λ fault. uuid_field (rest_of self.old) ≡ Err fault) }
+    {
+        let word = self.word()?;
+        match uuid_in(word) {
+            Some(uuid) => Ok(uuid),
+            None => Err(LineFault::Kind(LineKind::Uuid)),
+        }
+    }
+
+    /// Reads a name, which is all that is left of the line.
+    pub(crate) fn name(&mut self, alloc: Global) -> Result<Items<u8>, LineFault>
+        ensures ok { IfOk result (λ name. name_field (rest_of self.old) ≡ Ok (name, rest_of self.new)) }
+        ensures err { IfErr result (λ fault. fault ≢ LineFault.OutOfMemory → name_field (rest_of self.old) ≡ Err fault) }
+    {
+        let Some(text) = self.rest else {
+            return Err(LineFault::Kind(LineKind::Name));
+        };
+        self.rest = None;
+        match Vec::from_slice(alloc, text) {
+            Ok(bytes) => Ok(Items::from_vec(bytes)),
             Err(_) => Err(LineFault::OutOfMemory),
         }
     }

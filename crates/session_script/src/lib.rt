@@ -1,5 +1,15 @@
 //! Scripts of sessions, and schedules of lanes.
 //!
+//! A script says what each session calls, and after how many steps power is cut:
+//!
+//! ```text
+//! labelcut 520                                     power is cut after 520 steps on labels
+//! session 0                                        the first session
+//! cut 391                                          .. cuts power after 391 of its own steps
+//! open 11111111-1111-4111-8111-111111111111        .. opens a namespace
+//! write 9 fill:11                                  .. and writes its sector 9
+//! ```
+//!
 //! A schedule says which lane of an arena does what and steps how often, so that a race can be
 //! written down and run:
 //!
@@ -13,7 +23,7 @@
 //! - **Fields** are separated by one blank. They are read from left to right, and the first that
 //!   isn't of its kind decides (`specs/Fields.antt`).
 //! - **A text** is read exactly if each of its lines is in the grammar and within the limits. Else
-//!   the first line that isn't decides (`specs/Schedule.antt`).
+//!   the first line that isn't decides (`specs/Script.antt`, `specs/Schedule.antt`).
 //!
 //! These grammars are this project's own.
 #![tactic(auto)]
@@ -24,9 +34,14 @@ mod lines;
 mod payload;
 mod reading;
 mod schedule;
+mod script;
+mod sessions;
+mod verbs;
 mod words;
 
 pub use fault::{LineKind, ScriptFault, ScriptLimit};
 pub use payload::Payload;
 pub use reading::read_replay;
 pub use schedule::{Replay, ReplayLine};
+pub use script::{Line, Order, Script, SessionLines};
+pub use sessions::read_script;

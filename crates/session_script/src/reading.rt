@@ -14,10 +14,10 @@ use nvd_words::Items;
 use std::alloc::Global;
 
 /// The greatest number of calls.
-const MOST_CALLS: u64 = 65_536;
+pub(crate) const MOST_CALLS: u64 = 65_536;
 
 /// The greatest length of a line in bytes, without its LF.
-const MOST_BYTES: usize = 32_768;
+pub(crate) const MOST_BYTES: usize = 32_768;
 
 /// The lines read so far, and how many of them are calls.
 #[derive(Drop)]
@@ -109,7 +109,7 @@ fn line_of(alloc: Global, text: &[u8]) -> Result<ReplayLine, LineFault>
 }
 
 /// A fault of the line with this number.
-fn numbered(number: u64, fault: LineFault) -> ScriptFault
+pub(crate) fn numbered(number: u64, fault: LineFault) -> ScriptFault
     ensures { result ≡ numbered number fault }
 {
     match fault {

@@ -4,13 +4,15 @@ ghost use Rattle.std.specs.List.{list_all};
 ghost use Rattle.std.specs.Result.{result_ok};
 ghost use Rattle.std.specs.Str.{is_utf8};
 ghost use Rattle.hex.specs.Hex.{decode_of};
+ghost use Rattle.uuid.specs.Text.{parsed};
 ghost use Rattle.command_words.specs.Numbers.{digits_after, limited, number_of};
-ghost use Rattle.session_script.specs.Fields.{fill_of, is_plain, is_printable, value_of};
+ghost use Rattle.session_script.specs.Fields.{fill_of, hyphenated, is_plain, is_printable, value_of};
 
 use crate::payload::Payload;
 use hex::FromHexError;
 use nvd_words::Items;
 use std::alloc::{AllocError, Global};
+use uuid::Uuid;
 
 /// Returns whether bytes are UTF-8.
 fn is_text(bytes: &[u8]) -> bool
@@ -72,6 +74,26 @@ fn digits_in(digits: &[u8], limit: u64) -> Option<u64>
         rest = others;
     }
     Some(value as u64)
+}
+
+fn any_uuid(word: &[u8]) -> Option<Uuid>
+    ensures { result ≡ parsed word.now }
+{
+    match Uuid::try_parse_ascii(word) {
+        Ok(uuid) => Some(uuid),
+        Err(_) => None,
+    }
+}
+
+/// Returns the UUID that a word denotes in the form with hyphens, which alone takes 36 bytes.
+pub(crate) fn uuid_in(word: &[u8]) -> Option<Uuid>
+    ensures { result ≡ hyphenated word.now }
+{
+    if word.len() == 36 {
+        any_uuid(word)
+    } else {
+        None
+    }
 }
 
 /// Returns the bytes that hexadecimal digits stand for, `None` if there aren't two for each byte.
