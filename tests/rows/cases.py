@@ -1,7 +1,7 @@
 """The rows of tests/rows/run: each has the files of an image set, the words of a command, its status and its text."""
 from areas import AREA, AREA_SIZE, CASES, LINUX, LINUX_SIZE, LINUX_TEXT
 from lists import AGREED, ALONE, LISTS, MEETING, ONE, RULES, SINGLES, UNITS, WIDE
-from tables import ONE_WAY, TWO_LINES, TWO_WAY
+from tables import ONE_WAY, REGIONS, TWO_LINES, TWO_WAY
 
 OK, USAGE, IMAGE, REFUSED, CUT = 0, 2, 3, 4, 8
 BYTES = 8192
@@ -115,6 +115,8 @@ def unloaded():
 def tables():
     yield pair(), ["-", "nfit"], OK, SMALL_TEXT
     yield pair(TWO_LINES), ["-", "nfit"], OK, MODULES + "region 0 index 1 fault Cover 1\n"
+    for table, patches, text in REGIONS:
+        yield {"nfit.bin": table_of(table, patches), "contents-0.bin": 64 << 20, "contents-1.bin": 64 << 20, "complete": b""}, ["-", "nfit"], OK, text
 
 
 def lists():

@@ -48,10 +48,10 @@ module _ (x : Shape) (hs : IsShape x) (words : List ℕ) (size : length words �
   all_is : all ≡ words ++ (words ++ none (2 * x.lanes))
   all_is = append_assoc words words (none (2 * x.lanes))
 
-  first : (i : ℕ) → i < x.total → get_or all i 0 ≡ get_or words i 0
+  pub first : (i : ℕ) → i < x.total → get_or all i 0 ≡ get_or words i 0
   first i lt = ap (λ xs. get_or xs i 0) all_is ∙ get_or_append_left words (words ++ none (2 * x.lanes)) 0 i (omega (arith, size))
 
-  second : (i : ℕ) → i < x.total → get_or all (x.total + i) 0 ≡ get_or words i 0
+  pub second : (i : ℕ) → i < x.total → get_or all (x.total + i) 0 ≡ get_or words i 0
   second i lt =
       ap (λ xs. get_or xs (x.total + i) 0) all_is
       ∙ get_or-append_right words (words ++ none (2 * x.lanes)) x.total (x.total + i) 0 size (omega arith)

@@ -24,12 +24,17 @@ use Rattle.lane_core.specs.Arenas.{areas_of, no_group}
 
 -- ---- one group
 
-three : {A F : Type 0} (v w : A) (o p q : Option F) → value_unless v (first_fault (o ∷ p ∷ q ∷ [])) ≡ Ok w → (q ≡ None) × (v ≡ w)
+three : {A F : Type 0} (v w : A) (o p q : Option F) → value_unless v (first_fault (o ∷ p ∷ q ∷ [])) ≡ Ok w → (q ≡ None) × (v ≡ w) × (o ≡ None)
 unfolding first_fault
 three v w (Some f) p q e = cc
 three v w None (Some f) q e = cc
 three v w None None (Some f) e = cc
-three v w None None None e = (refl, cc)
+three v w None None None e = (refl, cc, refl)
+
+-- a check that must hold has passed
+unless : {F : Type 0} (b : Bool) (f : F) → fault_if (not b) f ≡ None → b ≡ true
+unless true f e = refl
+unless false f e = cc
 
 none_mapped : (o : Option ℕ) → option_map Range o ≡ None → o ≡ None
 none_mapped None e = refl
@@ -55,8 +60,9 @@ pub record Read (words : List ℕ) (external internal : ℕ) (g : Group) : Type 
   pub is : group_in words ≡ g
   pub range : (g.half.old < internal) × (g.half.new < internal) × ((g.half.old ≡ g.half.new) ⊎ (g.half.lba < external))
   pub newer_half : IsNewerHalf words g
+  pub padded : is_padded words ≡ true
 
-read_group : (words : List ℕ) (external internal : ℕ) (g : Group) → StandsFor words external internal g → Read words external internal g
+pub read_group : (words : List ℕ) (external internal : ℕ) (g : Group) → StandsFor words external internal g → Read words external internal g
 read_group words external internal g e =
     let t = three (group_in words) g (fault_if (not (is_padded words)) Padding)
     (fault_if (not (are_ordered (group_half words 0).seq (group_half words 1).seq)) (Sequences (group_half words 0).seq (group_half words 1).seq))
@@ -65,6 +71,7 @@ read_group words external internal g e =
       is = t.1;
       range = in_range external internal g.half (ap (λ (k : Group). out_of_range external internal k.half) (sym t.1) ∙ none_mapped (out_of_range external internal (group_in words).half) t.0);
       newer_half = newer words external internal (Ok g) (sym e);
+      padded = unless (is_padded words) Padding t.2;
     }
 
 -- ---- a lane's group in the areas
@@ -73,11 +80,11 @@ module _ (l : Layout) (words : List ℕ) (lane : ℕ) where
   abbrev pub areas : Areas
   areas = areas_of (shape_of l) words
 
-  half_zero : group_half (group_words l words lane) 0 ≡ half_at areas lane 0
+  pub half_zero : group_half (group_words l words lane) 0 ≡ half_at areas lane 0
   unfolding place_of lba_in old_in new_in seq_in
   half_zero = ap₂ (λ i j. half_of (slice_index words i) (slice_index words j)) (omega arith) (omega arith)
 
-  half_one : group_half (group_words l words lane) 1 ≡ half_at areas lane 1
+  pub half_one : group_half (group_words l words lane) 1 ≡ half_at areas lane 1
   unfolding place_of lba_in old_in new_in seq_in
   half_one = ap₂ (λ i j. half_of (slice_index words i) (slice_index words j)) (omega arith) (omega arith)
 

@@ -33,4 +33,14 @@ pub mod Rooms
 pub mod Nothing
 pub mod Stepping
 pub mod Elsewhere
+pub mod Fixed
+pub mod Stands
+pub mod Naming
+pub mod Cells
+pub mod Again
+pub mod Reopened
+pub mod Keeping
+pub mod Served
+pub mod Flying
+pub mod LaneLogs
 pub mod Rows

@@ -43,7 +43,7 @@ unfolding end_of IsLegal
 legal_grown c [] e h r = (r, tt)
 legal_grown c (x ∷ es) e h r = (h.0, legal_grown (after c x) es e h.1 r)
 
-filter-grown : (f : Entry → Bool) (es : List Entry) (e : Entry) → filter f (es ++ e ∷ []) ≡ filter f es ++ filter f (e ∷ [])
+pub filter-grown : (f : Entry → Bool) (es : List Entry) (e : Entry) → filter f (es ++ e ∷ []) ≡ filter f es ++ filter f (e ∷ [])
 filter-grown f [] e = refl
 filter-grown f (x ∷ es) e = elim (f x) as (λ b. cond b (x ∷ filter f (es ++ e ∷ [])) (filter f (es ++ e ∷ [])) ≡ cond b (x ∷ filter f es) (filter f es) ++ filter f (e ∷ [])) [
   | true ↦ ap (λ r. x ∷ r) (filter-grown f es e)

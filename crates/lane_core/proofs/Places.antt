@@ -59,8 +59,21 @@ bounds x h (KeptB l side) i = (omega arith, omega (arith, h.log, i.0, i.1))
 bounds x h (Reader l) i = (omega arith, omega arith)
 bounds x h (Lock k) i = (omega arith, omega arith)
 
-in_order : (x : Shape) → IsShape x → (x.data_at ≤ x.map_at) × (x.map_at ≤ x.log_at) × (x.log_at ≤ x.total)
+pub in_order : (x : Shape) → IsShape x → (x.data_at ≤ x.map_at) × (x.map_at ≤ x.log_at) × (x.log_at ≤ x.total)
 in_order x h = let a = h.blocks in let b = h.map in let c = h.log in (omega arith, omega arith, omega arith)
+
+-- all places lie behind the info block
+pub after_info : (x : Shape) → IsShape x → (p : Place) → IsIn x p → x.data_at ≤ word_of x p
+after_info x h p i = let b = bounds x h p i in from_low p (in_order x h) b.0
+  where
+    from_low : (p : Place) → (x.data_at ≤ x.map_at) × (x.map_at ≤ x.log_at) × (x.log_at ≤ x.total) → low x p ≤ word_of x p → x.data_at ≤ word_of x p
+    from_low (SeenData b k) c le = le
+    from_low (SeenMap m) c le = omega arith
+    from_low (SeenA l side) c le = omega arith
+    from_low (SeenB l side) c le = omega arith
+    from_low (Reader l) c le = omega arith
+    from_low (Lock k) c le = omega arith
+    from_low _ c le = omega arith
 
 pub same_place : (x : Shape) → IsShape x → (p q : Place) → IsIn x p → IsIn x q → word_of x p ≡ word_of x q → p ≡ q
 same_place x h (SeenData b k) (SeenData c j) i m e = let w = h.wide in let s = same_row x.inner b c k j (omega (arith, i.1)) (omega (arith, m.1)) (omega arith) in ap₂ SeenData s.0 s.1

@@ -25,7 +25,7 @@ module _ (x : Shape) (row : RowWords) (lanes : List LaneNow) (entries : List Ent
   size = let a = h.row_is.size in let b = h.row_is.arena in omega arith
 
   -- a word of the arena is the kept one or the seen one
-  left_word : (i : ℕ) → i < x.total → (get_or left i 0 ≡ get_or row.words (x.total + i) 0) ⊎ (get_or left i 0 ≡ get_or row.words i 0)
+  pub left_word : (i : ℕ) → i < x.total → (get_or left i 0 ≡ get_or row.words (x.total + i) 0) ⊎ (get_or left i 0 ≡ get_or row.words i 0)
   left_word i lt = elim (hl.each i) [
     | inl e ↦ inl (e ∙ kept)
     | inr e ↦ by (get_or row.pending i false) (e ∙ ap (λ o. unwrap_or o (get_or (words_in row).kept i 0)) (stored_at row size i inside))

@@ -8,6 +8,7 @@ pub mod Opening
 pub mod Finished
 pub mod Places
 pub mod Rows
+pub mod Fixed
 pub mod Lines
 pub mod After
 pub mod Ready
@@ -16,5 +17,8 @@ pub mod Cores
 pub mod Idle
 pub mod Machines
 pub mod Arenas
+pub mod Reopening
+pub mod Sessions
+pub mod Logs
 pub mod Begins
 pub mod Laws

@@ -1,6 +1,8 @@
 //! Power is cut.
 ghost use Rattle.cut_words.specs.Leaving.{LeavesFrom};
 ghost use Rattle.lane_core.specs.Machines.{CutSurvives, IsSomeCore};
+ghost use Rattle.arena_open.specs.declared.state.ArenaState.{ArenaState};
+ghost use Rattle.lane_core.specs.Reopening.{IsCoreOf, Reopens};
 ghost use Rattle.lane_core.specs.Rows.{words_in};
 
 use crate::machine::Core;
@@ -9,13 +11,17 @@ use nvd_media::Chooser;
 impl Core {
     /// What a power cut leaves of the arena's words.
     ///
-    /// The chooser is asked once for each word that was stored since its last keep, also where the stored value is the kept one,
+    /// The chooser is asked once for each word that was stored since its last keep, also if the stored value is the kept one,
     /// in rising order. Whatever it says, opening finds each block once, and each sector has its cell at the history's end or
     /// the words of one write in flight.
+    ///
+    /// Words that no lane stores (info blocks, padding) are as the arena was opened with. So if the arena's words opened in a
+    /// namespace, what is left opens in their place, as the same arena and with these cells (`specs/Reopening.antt`).
     pub fn cut<C: Chooser>(self, choose: &mut C) -> Vec<u64>
         requires core { IsSomeCore self }
         ensures asked { LeavesFrom C.picks 0 (words_in self.row).kept (words_in self.row).stored result.items choose.old choose.new }
         ensures survives { CutSurvives self result.items }
+        ensures reopens { (state : ArenaState) → IsCoreOf state self → Reopens state self result.items }
     {
         self.row.leave(choose)
     }

@@ -1,6 +1,7 @@
 //! The laws about the steps of lanes. Each is a function that does nothing; what it ensures is the law (`specs/Laws.antt`).
 ghost use Rattle.lane_core.specs.History.{SomeMayGo};
 ghost use Rattle.lane_core.specs.Places.{PlacesAreApart};
+ghost use Rattle.lane_core.specs.Sessions.{OpenReadsMayGo, StepsArePaid, SurvivorsAreCalls};
 ghost use Rattle.lane_core.specs.Laws.{CallsAreGivenUp, CutsReopen, DataKeep, DataLoad, DataStore, EachIsNamed, EveryAccount, EveryCut, EveryRun, FlogAKeep, FlogAStore, FlogBKeep, FlogBStore, FormattedIsOpen, LockFree, LockTake, MapCheck, MapKeep, MapLoad, MapLook, MapStore, OneIsCurrent, OpenedIsSound, ReadBegins, RttClear, RttScan, RttSet, UnloggedWritesAreLost, WriteBegins};
 
 /// A law: a write begins in an idle lane.
@@ -164,4 +165,20 @@ pub fn some_calls_may_be_left_out()
 #[tactic(auto, using(crate::proofs::Places::places_are_apart))]
 pub fn places_are_apart()
     ensures { PlacesAreApart }
+{}
+
+/// A law: a lane's phase counts the steps of its call from below: a step counts one at most, and a write that is answered made all
+/// its least steps.
+pub fn steps_are_paid()
+    ensures { StepsArePaid }
+{}
+
+/// A law: a cell that may survive a power cut is the one at the history's end, or what a call that doesn't stand would have left.
+pub fn survivors_are_calls()
+    ensures { SurvivorsAreCalls }
+{}
+
+/// A law: reads that aren't answered may be left out of a core's history. It stays legal and has the same end.
+pub fn open_reads_may_go()
+    ensures { OpenReadsMayGo }
 {}

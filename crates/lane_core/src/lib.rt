@@ -38,6 +38,8 @@
 //! | what a cut left opens again, with these contents | [`cuts_reopen`] | `IsReopened` |
 //! | reads that were cut may be left out | [`every_account`], [`some_calls_may_be_left_out`] | `IsAccount`, `SomeMayGo` |
 //! | a new arena is one of which all this speaks | [`formatted_is_open`], [`opened_is_sound`] | `IsOpen` |
+//! | what survives is the history's end or what a call would have left | [`survivors_are_calls`] | `CoreSurvives` |
+//! | a phase counts the steps of its call from below | [`steps_are_paid`] | `least_steps` |
 //!
 //! **The code.** A [`Core`] has the arena's words as they are seen and as they are kept, the reader table and the locks in one
 //! row (`specs/Places.antt`), its lanes, and the history as a list of entries. Each line is one function over the row and a lane
@@ -45,10 +47,13 @@
 //!
 //! | call | promise | clause |
 //! |---|---|---|
-//! | [`Core::of`] | it shows the state of the arena that was opened | `core`, `fresh` |
+//! | [`Core::of`] | it shows the state of the arena that was opened, and its history begins with the cells that a reader gets | `fresh`, `arena` |
 //! | [`Core::begin`] | a call begins, in an idle lane alone, with room for its entry and its answer | `busy`, `begun`, `refused` |
 //! | [`Core::step`] | it is the line of the lane's phase, and `Nothing` exactly for an idle lane | `line`, `core` |
+//! | [`Core::log`] | the calls that a lane answered, and its write whose map word is stored | `entries` |
 //! | [`Core::cut`] | the chooser is asked once for each word stored since its last keep; what is left survives | `asked`, `survives` |
+//! | the same | what is left opens as the same arena, each sector as the history ends or as one write in flight | `reopens` |
+//! | `begin`, `step` | if sessions make one call at a time, no entry of one stands behind its open read | `serves` |
 #![tactic(auto)]
 
 mod begin;
@@ -57,9 +62,11 @@ mod call;
 mod calls;
 mod cut;
 mod history;
+mod in_call;
 mod lane;
 mod law;
 mod lines;
+mod logs;
 mod looks;
 mod machine;
 mod now;
@@ -73,6 +80,7 @@ mod words;
 
 pub use call::{Begun, Call};
 pub use history::{Act, Entry};
+pub use in_call::InCall;
 pub use lane::Lane;
 pub use law::{
     calls_are_given_up, cuts_reopen, data_keep_keeps_the_invariant, data_load_keeps_the_invariant,
@@ -82,9 +90,10 @@ pub use law::{
     flog_b_store_keeps_the_invariant, formatted_is_open, lock_free_keeps_the_invariant,
     lock_take_keeps_the_invariant, map_check_keeps_the_invariant, map_keep_keeps_the_invariant,
     map_load_keeps_the_invariant, map_look_keeps_the_invariant, map_store_keeps_the_invariant,
-    one_half_is_current, opened_is_sound, places_are_apart, read_begins,
+    one_half_is_current, open_reads_may_go, opened_is_sound, places_are_apart, read_begins,
     rtt_clear_keeps_the_invariant, rtt_scan_keeps_the_invariant, rtt_set_keeps_the_invariant,
-    some_calls_may_be_left_out, unlogged_writes_are_lost, write_begins,
+    some_calls_may_be_left_out, steps_are_paid, survivors_are_calls, unlogged_writes_are_lost,
+    write_begins,
 };
 pub use machine::Core;
 pub use phase::Phase;

@@ -4,6 +4,8 @@ ghost use Rattle.arena_open.specs.Moves.{IsOpenState};
 ghost use Rattle.lane_core.specs.Arenas.{cells_in};
 ghost use Rattle.lane_core.specs.Idle.{idle_of};
 ghost use Rattle.lane_core.specs.Machines.{IsCore, IsFresh, IsSomeCore, KeepsCore, StepsOnce};
+ghost use Rattle.lane_core.specs.Reopening.{IsCoreOf, KeepsArena};
+ghost use Rattle.lane_core.specs.Sessions.{ServesSessions};
 
 use crate::buffer::Buffer;
 use crate::calls::History;
@@ -85,12 +87,16 @@ fn fresh(alloc: Global, state: ArenaState) -> Result<Core, AllocError>
 }
 
 impl Core {
-    /// The core of an arena: all lanes are idle, and no call stands.
+    /// The core of an arena: all lanes are idle, and no call stands. Its history begins with the cells that a reader of the
+    /// arena gets (`cell_at`).
     ///
     /// Condition: the state is as `open_arena` gives it. The one refusal is out of memory.
     pub fn of(alloc: Global, state: ArenaState) -> Result<Core, AllocError>
         requires state { IsOpenState state }
         ensures core { IfOk result (IsCore (cells_in state)) }
+        ensures sound { IfOk result IsSomeCore }
+        ensures arena { IfOk result (IsCoreOf state) }
+        ensures serves { IfOk result ServesSessions }
         ensures fresh { IfOk result (IsFresh state) }
     {
         fresh(alloc, state)
@@ -102,7 +108,11 @@ impl Core {
     pub fn step(&mut self, lane: u32) -> Stepped
         requires core { IsSomeCore self.old }
         requires lane { lane < self.old.shape.lanes }
+        ensures sound { IsSomeCore self.new }
         ensures core { KeepsCore self.old self.new }
+        ensures arena { KeepsArena self.old self.new }
+        ensures shape { self.new.shape ≡ self.old.shape }
+        ensures serves { ServesSessions self.old → ServesSessions self.new }
         ensures line { (p : LaneNow) → slice_get self.old.lanes.items lane ≡ Some p → StepsOnce self.old self.new lane p result }
     {
         let mine = &mut self.lanes[lane as usize];

@@ -1,5 +1,6 @@
 pub mod Moves
 pub mod WriteLines
+pub mod ReadLines
 pub mod Burning
 pub mod Splits
 pub mod Starts
@@ -7,3 +8,6 @@ pub mod Addresses
 pub mod Dealt
 pub mod Gathers
 pub mod Closes
+pub mod Loads
+pub mod Opens
+pub mod Rows

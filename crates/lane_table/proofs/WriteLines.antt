@@ -87,10 +87,10 @@ module _ {S : Type 0} (key : Key) (slots id i : ℕ) (me : Me S View) (live : me
   v = me.0
 
   -- the word at a place
-  at_place : (p : Place) (f : ℕ → ℕ) (fact : ℕ → Me S View → Type 0) → i ≡ word_of x p → Allows (holds key) slots id me (word_of x p) f fact → Allows (holds key) slots id me i f fact
+  pub at_place : (p : Place) (f : ℕ → ℕ) (fact : ℕ → Me S View → Type 0) → i ≡ word_of x p → Allows (holds key) slots id me (word_of x p) f fact → Allows (holds key) slots id me i f fact
   at_place p f fact ei h = subst (λ i. Allows (holds key) slots id me i f fact) (sym ei) h
 
-  stores : (m value : ℕ) (p : Place) (fact : ℕ → Me S View → Type 0) → i ≡ word_of x p → m ≡ value
+  pub stores : (m value : ℕ) (p : Place) (fact : ℕ → Me S View → Type 0) → i ≡ word_of x p → m ≡ value
       → Allows (holds key) slots id me (word_of x p) (λ _. value) fact → Allows (holds key) slots id me i (λ _. m) fact
   stores m value p fact ei em h = at_place p (λ _. m) fact ei (subst (λ m. Allows (holds key) slots id me (word_of x p) (λ _. m) fact) (sym em) h)
 

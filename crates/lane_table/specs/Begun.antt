@@ -5,11 +5,14 @@ use lib.ListN.{get_elem?}
 use Rattle.atomic_table.specs.Seated.{TableId}
 use Rattle.atomic_table.specs.Table.{Me}
 use Rattle.arena_open.specs.declared.opened.LaneState.{LaneState}
+use Rattle.arena_open.specs.declared.state.ArenaState.{ArenaState}
 use Rattle.lane_core.specs.declared.phase.Phase.TheVariants.{Idle}
 use Rattle.lane_core.specs.declared.shape.Shape.{Shape}
+use Rattle.lane_core.specs.Arenas.{shape_in}
 use Rattle.lane_core.specs.Cut.{half_at}
 use Rattle.lane_core.specs.Opening.{IsOpen}
 use Rattle.lane_core.specs.Places.{IsShape, geometry}
+use Rattle.lane_table.specs.declared.arena.Arena.{Arena}
 use Rattle.lane_table.specs.declared.lanes.Lane.{Lane}
 use Rattle.lane_table.specs.declared.table.Key.{Key}
 use Rattle.lane_table.specs.declared.table.View.{View}
@@ -38,6 +41,10 @@ pub record IsOpenArena (x : Shape) (words : List ℕ) (lanes : List LaneState) :
 -- a table is made of such an arena
 abbrev pub IsBegun : Key → Type 0
 IsBegun k = IsOpenArena k.shape (words_of k) k.lanes.value
+
+-- an arena's table is made of this state
+abbrev pub IsMadeOf : ArenaState → Arena → Type 0
+IsMadeOf state a = (a.shape ≡ shape_in state) × (words_of a.table.shared.key ≡ state.words) × (a.table.shared.key.lanes.value ≡ state.lanes)
 
 -- ---- the lanes of a new table
 

@@ -7,4 +7,5 @@ pub mod Begun
 pub mod Kits
 pub mod Closed
 pub mod Stages
+pub mod Reads
 pub mod Outcomes

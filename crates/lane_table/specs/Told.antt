@@ -1,14 +1,19 @@
 -- What each kind of step does to the seat that makes it: `before` and `after` are the seat's view with the slots that it holds
 -- (none here), and n is what the step found.
-use Rattle.std.specs.Prelude.{◌≡◌, ◌≢◌, ℕ, ◌+◌, ◌*◌, ◌^◌, ◌<◌, ◌≤◌, ◌==◌, if◌then◌else◌, [], ◌∷◌, ◌++◌, zero, suc}
+use Rattle.std.specs.Prelude.{◌≡◌, ◌≢◌, ℕ, ◌+◌, ◌*◌, ◌^◌, ◌<◌, ◌≤◌, ◌==◌, if◌then◌else◌, [], ◌∷◌, ◌++◌, zero, suc, replicate}
 use mathlib.Core.Option.{some}
 use Rattle.atomic_table.specs.Table.{Me, Step}
+use Rattle.map_table.specs.declared.kinds.Kind.{Kind}
+use Rattle.map_table.specs.declared.kinds.Kind.TheVariants as kind
+use Rattle.map_table.specs.Entry.{entry_in}
+use Rattle.arena_open.specs.declared.cell.Cell.{Cell}
+use Rattle.arena_open.specs.declared.cell.Cell.TheVariants as cell
 use Rattle.lane_core.specs.declared.lane.Lane.{Lane}
 use Rattle.lane_core.specs.declared.phase.Phase.{Phase}
-use Rattle.lane_core.specs.declared.phase.Phase.TheVariants.{Idle, Scanning, Staging, Staged, Locked, Known, Called, LogAStored, LogA, LogBStored, Logged, Switched, Kept}
+use Rattle.lane_core.specs.declared.phase.Phase.TheVariants.{Idle, Scanning, Staging, Staged, Locked, Known, Called, LogAStored, LogA, LogBStored, Logged, Switched, Kept, Looking, Published, Moved, Reading}
 use Rattle.lane_core.specs.declared.shape.Shape.{Shape}
-use Rattle.lane_core.specs.Areas.{next_seq}
-use Rattle.lane_core.specs.Machine.{other, looked, wrote}
+use Rattle.lane_core.specs.Areas.{kind_in, next_seq}
+use Rattle.lane_core.specs.Machine.{other, looked, wrote, read}
 use Rattle.lane_table.specs.declared.table.Call.{Call}
 use Rattle.lane_table.specs.declared.table.View.{View}
 use Rattle.lane_table.specs.Law.{spent, with, with_by, found, uncounted}
@@ -32,6 +37,10 @@ scan_phase x j = if j + 1 == x.lanes then Staging 0 else Scanning j
 -- where it stands after j keeps
 abbrev pub keep_phase : Shape → ℕ → Phase
 keep_phase x j = if j == x.width then Staged else Staging (x.width + j)
+
+-- the lane l of a read that is answered with a cell
+abbrev pub answered : ℕ → Lane → Cell → Lane
+answered l p c = record p { phase = Idle; log = p.log ++ read l p c ∷ [] }
 
 module _ {S : Type 0} where
   -- the seat after a store, and after a look that found n
@@ -153,8 +162,61 @@ module _ {S : Type 0} where
 
   -- ---- a read
 
+  -- a read begins
   abbrev pub called : Call → Me S View → Me S View
   called t me = (with_by uncounted 0 me.0 (record (me.0.lane) { phase = Called; tag = t.tag; sector = t.sector }), me.1)
+
+  -- the entry says that its block has the bytes
+  abbrev pub looking : ℕ → Me S View → Me S View
+  looking n me = on_found n me (record (me.0.lane) { phase = Looking; loaded = n })
+
+  -- after a look that found the map word n, in which the sector's entry is of this kind: zeros and bad sectors are answered
+  abbrev pub looked_at : Kind → ℕ → Me S View → Me S View
+  looked_at kind.Zero n me = on_found n me (answered me.0.number me.0.lane (cell.Bytes (replicate me.0.shape.width 0)))
+  looked_at kind.Bad n me = on_found n me (answered me.0.number me.0.lane cell.Bad)
+  looked_at kind.Initial n me = looking n me
+  looked_at kind.Normal n me = looking n me
+
+  -- the entry's block is one of the arena
+  abbrev pub map_look : Step S → Me S View → ℕ → Me S View → Type 0
+  map_look step before n after =
+      (after ≡ looked_at (kind_in (entry_in n before.0.lane.sector)) n before) × (looked (record (before.0.lane) { loaded = n }) < blocks before.0.shape)
+
+  abbrev pub published : Me S View → Me S View
+  published me = on me (record (me.0.lane) { phase = Published })
+
+  abbrev pub rtt_set : Step S → Me S View → ℕ → Me S View → Type 0
+  rtt_set step before n after = after ≡ published before
+
+  -- after a check that found the map word n: the entry is the one that was loaded, and the read stands; or it has changed
+  abbrev pub reading : ℕ → Me S View → Me S View
+  reading n me = on_found n me (record (me.0.lane) { phase = Reading 0; got = [] })
+
+  abbrev pub moved : ℕ → Me S View → Me S View
+  moved n me = on_found n me (record (me.0.lane) { phase = Moved })
+
+  abbrev pub map_check : Step S → Me S View → ℕ → Me S View → Type 0
+  map_check step before n after =
+      (entry_in n before.0.lane.sector ≡ entry_in before.0.lane.loaded before.0.lane.sector → after ≡ reading n before)
+      × (entry_in n before.0.lane.sector ≢ entry_in before.0.lane.loaded before.0.lane.sector → after ≡ moved n before)
+
+  abbrev pub with_load : Me S View → ℕ → ℕ → Me S View
+  with_load me k n = on_found n me (record (me.0.lane) { phase = Reading (k + 1); got = me.0.lane.got ++ n ∷ [] })
+
+  abbrev pub data_load : Step S → Me S View → ℕ → Me S View → Type 0
+  data_load step before n after = (k : ℕ) → before.0.lane.phase ≡ Reading k → after ≡ with_load before k n
+
+  -- after the reader word is cleared: a read whose entry moved is given up, and one that has its words is answered
+  abbrev pub given_up : Me S View → Me S View
+  given_up me = on me (record (me.0.lane) { phase = Idle })
+
+  abbrev pub answered_with_words : Me S View → Me S View
+  answered_with_words me = on me (record (answered me.0.number me.0.lane (cell.Bytes me.0.lane.got)) { got = [] })
+
+  abbrev pub rtt_clear : Step S → Me S View → ℕ → Me S View → Type 0
+  rtt_clear step before n after =
+      (before.0.lane.phase ≡ Moved → after ≡ given_up before)
+      × ((k : ℕ) → before.0.lane.phase ≡ Reading k → after ≡ answered_with_words before)
 
 -- ---- the steps that tell a call
 

@@ -165,3 +165,48 @@ impl Play<Call, View> for ReadBegin {
 
     ghost then = { read_begin };
 }
+
+/// The map word is loaded. If the entry says zeros or bad, the read stands in the history and is answered.
+pub struct MapLook;
+
+impl Play<Call, View> for MapLook {
+    ghost use Rattle.lane_table.specs.Told.{map_look};
+
+    ghost then = { map_look };
+}
+
+/// The block is stored in the lane's own reader word.
+pub struct RttSet;
+
+impl Play<Call, View> for RttSet {
+    ghost use Rattle.lane_table.specs.Told.{rtt_set};
+
+    ghost then = { rtt_set };
+}
+
+/// The map word is loaded again. If the entry is the same, the read stands in the history.
+pub struct MapCheck;
+
+impl Play<Call, View> for MapCheck {
+    ghost use Rattle.lane_table.specs.Told.{map_check};
+
+    ghost then = { map_check };
+}
+
+/// A word of the block is loaded.
+pub struct DataLoad;
+
+impl Play<Call, View> for DataLoad {
+    ghost use Rattle.lane_table.specs.Told.{data_load};
+
+    ghost then = { data_load };
+}
+
+/// The lane's own reader word is cleared.
+pub struct RttClear;
+
+impl Play<Call, View> for RttClear {
+    ghost use Rattle.lane_table.specs.Told.{rtt_clear};
+
+    ghost then = { rtt_clear };
+}

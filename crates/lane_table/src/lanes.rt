@@ -28,6 +28,36 @@ pub struct Kit {
     ghost rooms_are: { All (IsRoom seat.me.0.shape.width) rooms.items },
 }
 
+/// What a lane has, in one piece again.
+pub(crate) fn kit_of(
+    seat: LaneSeat,
+    number: u32,
+    fuse: Fuse,
+    log: Vec<Entry>,
+    rooms: Vec<Vec<u64>>,
+) -> Kit
+    requires live { seat.me.0.live ≡ true }
+    requires numbered { (seat.me.0.number ≡ number) × (number < seat.me.0.shape.lanes) }
+    requires alone { (seat.me.0.rest ≡ []) × (seat.me.1 ≡ []) }
+    requires logged { seat.me.0.lane.log ≡ log.items }
+    requires room { vec_len log + vec_len rooms ≤ vec_capacity log }
+    requires rooms_are { All (IsRoom seat.me.0.shape.width) rooms.items }
+    ensures seat { result.seat ≡ seat }
+    ensures me { result.seat.me ≡ seat.me }
+    ensures number { result.number ≡ number }
+    ensures fuse { result.fuse ≡ fuse }
+    ensures log { result.log ≡ log }
+    ensures rooms { result.rooms ≡ rooms }
+{
+    Kit {
+        seat,
+        number,
+        fuse,
+        log,
+        rooms,
+    }
+}
+
 /// A lane without a call.
 #[derive(Drop)]
 pub struct Lane {

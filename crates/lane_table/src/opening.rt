@@ -1,6 +1,7 @@
 //! A table is made of an arena.
 ghost use Rattle.std.specs.Prelude.{◌≡◌, ◌<◌, ◌+◌, ◌*◌, ◌^◌, ◌++◌, length, replicate, IfOk};
-ghost use Rattle.lane_table.specs.Begun.{row_of, IsOpenArena, AreFresh};
+ghost use Rattle.arena_open.specs.Moves.{IsOpenState};
+ghost use Rattle.lane_table.specs.Begun.{row_of, IsMadeOf, IsOpenArena, AreFresh};
 ghost use Rattle.lane_table.specs.Kits.{arena_id};
 ghost use Rattle.lane_table.specs.Law.{words_of};
 
@@ -8,7 +9,7 @@ use crate::arena::Arena;
 use crate::dealing::deal;
 use crate::lanes::Lane;
 use crate::table::{Key, WordTable};
-use arena_open::LaneState;
+use arena_open::{ArenaState, LaneState};
 use lane_core::Shape;
 use nvd_words::Items;
 use std::alloc::{AllocError, Global};
@@ -27,27 +28,39 @@ pub(crate) fn row(alloc: Global, words: &[u64], lanes: u32) -> Result<Vec<u64>, 
     Ok(row)
 }
 
+/// The arena of this shape with these words, and its lanes.
+fn arena_of(
+    alloc: Global,
+    shape: Shape,
+    words: &Items<u64>,
+    states: &Items<LaneState>,
+) -> Result<(Arena, Vec<Lane>), AllocError>
+    requires { IsOpenArena shape words.now states.now }
+    ensures shape { IfOk result (λ r. (r.0.shape ≡ shape) × (words_of r.0.table.shared.key ≡ words.now) × (r.0.table.shared.key.lanes.value ≡ states.now)) }
+    ensures lanes { IfOk result (λ r. AreFresh (arena_id r.0) r.0.table.shared.key r.1.items) }
+{
+    let key = Key {
+        shape,
+        words: Snapshot::of(words),
+        lanes: Snapshot::of(states),
+    };
+    let first = row(alloc, words.as_slice(), shape.lanes)?;
+    let (table, mut dealer) = WordTable::of_words(alloc, first.as_slice(), &key)?;
+    let lanes = deal(alloc, &table.shared, &mut dealer, states.as_slice())?;
+    Ok((Arena { table, shape }, lanes))
+}
+
 impl Arena {
-    /// The arena of this shape with these words, and its lanes in the order of their numbers, each with its seat. The arena is as
-    /// opening gives it. The one refusal is out of memory.
-    pub fn of(
-        alloc: Global,
-        shape: Shape,
-        words: Items<u64>,
-        states: Items<LaneState>,
-    ) -> Result<(Arena, Vec<Lane>), AllocError>
-        requires open { IsOpenArena shape words states }
-        ensures shape { IfOk result (λ r. (r.0.shape ≡ shape) × (words_of r.0.table.shared.key ≡ words)) }
+    /// An arena that was opened, on words that its lanes share, and its lanes in the order of their numbers, each with its seat. The
+    /// one refusal is out of memory.
+    ///
+    /// Condition: the state is as `open_arena` gives it.
+    pub fn of(alloc: Global, state: ArenaState) -> Result<(Arena, Vec<Lane>), AllocError>
+        requires state { IsOpenState state }
+        ensures arena { IfOk result (λ r. IsMadeOf state r.0) }
         ensures lanes { IfOk result (λ r. AreFresh (arena_id r.0) r.0.table.shared.key r.1.items) }
     {
-        let key = Key {
-            shape,
-            words: Snapshot::of(&words),
-            lanes: Snapshot::of(&states),
-        };
-        let first = row(alloc, words.as_slice(), shape.lanes)?;
-        let (table, mut dealer) = WordTable::of_words(alloc, first.as_slice(), &key)?;
-        let lanes = deal(alloc, &table.shared, &mut dealer, states.as_slice())?;
-        Ok((Arena { table, shape }, lanes))
+        let shape = Shape::of(&state.info.layout);
+        arena_of(alloc, shape, &state.words, &state.lanes)
     }
 }

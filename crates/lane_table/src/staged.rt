@@ -1,21 +1,38 @@
 //! A lane without a call: what it can be asked, and how it stages a write.
-ghost use Rattle.std.specs.Prelude.{◌≡◌, ◌≤◌, ◌⊎◌, length, vec_len, All, OnOk};
+ghost use Rattle.std.specs.Prelude.{◌≡◌, ◌<◌, ◌≤◌, ◌⊎◌, suc, length, vec_len, All, OnOk};
 ghost use Rattle.lane_table.specs.Conditions.{IsRoom};
 
 use crate::arena::Arena;
 use crate::fuse::Fuse;
-use crate::lanes::{Kit, Lane, Staged, Stopped};
+use crate::lanes::{Kit, Lane, Staged, Stopped, kit_of};
 use crate::outcome::StageOutcome;
 use crate::staging::{StageFate, stage};
 use std::alloc::{AllocError, Global};
 
-/// A call's words, in room that was kept for them.
+/// Fills room that was kept for a call's words.
 fn fill(room: &mut Vec<u64>, words: &[u64])
     requires { IsRoom (length words.now) room.old }
     ensures { room.new.items ≡ words.now }
 {
     for word in words {
         room.push_reserved(*word);
+    }
+}
+
+/// A call's words, in one of the rooms that were kept for them.
+pub(crate) fn filled(rooms: &mut Vec<Vec<u64>>, words: &[u64]) -> Vec<u64>
+    requires rooms { All (IsRoom (length words.now)) rooms.old.items }
+    requires some { 0 < vec_len rooms.old }
+    ensures words { result.items ≡ words.now }
+    ensures rooms { All (IsRoom (length words.now)) rooms.new.items }
+    ensures less { suc (vec_len rooms.new) ≡ vec_len rooms.old }
+{
+    match rooms.pop() {
+        Some(mut room) => {
+            fill(&mut room, words);
+            room
+        }
+        None => unreachable!(),
     }
 }
 
@@ -29,6 +46,7 @@ fn more_rooms(
     requires rooms { All (IsRoom width) rooms.old.items }
     ensures rooms { All (IsRoom width) rooms.new.items }
     ensures enough { OnOk result (calls ≤ vec_len rooms.new) }
+    ensures more { vec_len rooms.old ≤ vec_len rooms.new }
     ensures few { (vec_len rooms.new ≤ vec_len rooms.old) ⊎ (vec_len rooms.new ≤ calls) }
 {
     if calls <= rooms.len() {
@@ -73,6 +91,8 @@ impl Lane {
         ensures fuse { of_left self.new.kit.fuse ≡ steps }
         ensures same { IsSame self.old.kit self.new.kit }
         ensures seat { self.new.kit.seat ≡ self.old.kit.seat }
+        ensures rooms { self.new.kit.rooms ≡ self.old.kit.rooms }
+        ensures mine { self.new.mine ≡ self.old.mine }
     {
         self.kit.fuse = Fuse::of(steps);
     }
@@ -81,9 +101,11 @@ impl Lane {
     pub fn reserve(&mut self, alloc: Global, arena: &Arena, calls: usize) -> Result<(), AllocError>
         requires arena { IsOf arena.now self.old.kit }
         ensures enough { OnOk result (calls ≤ spare_in self.new.kit) }
+        ensures more { spare_in self.old.kit ≤ spare_in self.new.kit }
         ensures same { IsSame self.old.kit self.new.kit }
         ensures seat { self.new.kit.seat ≡ self.old.kit.seat }
         ensures fuse { self.new.kit.fuse ≡ self.old.kit.fuse }
+        ensures mine { self.new.mine ≡ self.old.mine }
     {
         self.kit.log.reserve(calls)?;
         more_rooms(
@@ -110,55 +132,24 @@ impl Lane {
             log,
             mut rooms,
         } = kit;
-        let fate = stage(
-            &arena.table.shared,
-            &mut seat,
-            &mut fuse,
-            &arena.shape,
-            mine,
-            words,
-        );
+        let table = &arena.table.shared;
+        let fate = stage(table, &mut seat, &mut fuse, &arena.shape, mine, words);
         match fate {
             StageFate::Staged => {
-                let mut room = match rooms.pop() {
-                    Some(room) => room,
-                    None => unreachable!(),
-                };
-                fill(&mut room, words);
-                StageOutcome::Staged(Staged {
-                    kit: Kit {
-                        seat,
-                        number,
-                        fuse,
-                        log,
-                        rooms,
-                    },
-                    mine,
-                    words: room,
-                })
+                let words = filled(&mut rooms, words);
+                let kit = kit_of(seat, number, fuse, log, rooms);
+                StageOutcome::Staged(Staged { kit, mine, words })
             }
-            StageFate::Tracked(reader) => StageOutcome::Tracked {
-                lane: Lane {
-                    kit: Kit {
-                        seat,
-                        number,
-                        fuse,
-                        log,
-                        rooms,
-                    },
-                    mine,
-                },
-                reader,
-                block: mine.block,
-            },
+            StageFate::Tracked(reader) => {
+                let kit = kit_of(seat, number, fuse, log, rooms);
+                StageOutcome::Tracked {
+                    lane: Lane { kit, mine },
+                    reader,
+                    block: mine.block,
+                }
+            }
             StageFate::Cut => StageOutcome::Cut(Stopped {
-                kit: Kit {
-                    seat,
-                    number,
-                    fuse,
-                    log,
-                    rooms,
-                },
+                kit: kit_of(seat, number, fuse, log, rooms),
             }),
         }
     }

@@ -3,19 +3,21 @@
 //! Each store has its condition in two clauses: `at` says which word it is of, and `value` what is stored. A keep stores the lane's
 //! own value in the kept word.
 ghost use Rattle.std.specs.Prelude.{◌≡◌, ◌≢◌, ◌+◌, ◌-◌, ◌*◌, ◌/◌, ◌^◌, ◌<◌, ◌≤◌, true, false, suc, slice_index, IfSome, IfNone, Some, None};
-ghost use Rattle.lane_core.specs.declared.phase.Phase.TheVariants.{Idle, Scanning, Staging, Staged, Locked, Known, LogAStored, LogA, LogBStored, Logged, Switched, Kept};
-ghost use Rattle.map_table.specs.Entry.{with_entry};
-ghost use Rattle.lane_core.specs.Areas.{word_a, word_b, next_seq, normal};
+ghost use Rattle.lane_core.specs.declared.phase.Phase.TheVariants.{Idle, Scanning, Staging, Staged, Locked, Known, LogAStored, LogA, LogBStored, Logged, Switched, Kept, Called, Looking, Published, Moved, Reading};
+ghost use Rattle.map_table.specs.Entry.{entry_in, with_entry};
+ghost use Rattle.lane_core.specs.Areas.{kind_in, word_a, word_b, next_seq, normal};
 ghost use Rattle.lane_core.specs.Machine.{other, other_lane, looked, lock_of};
 ghost use Rattle.lane_core.specs.Places.{geometry, SeenData, KeptData, SeenA, KeptA, SeenB, KeptB, SeenMap, KeptMap, Reader, Lock};
 ghost use Rattle.lane_table.specs.Conditions.{IsSeated, IsWord};
 ghost use Rattle.lane_table.specs.Fuse.{Fell, Burnt};
 ghost use Rattle.lane_table.specs.Told.{begun, tracked, scanned, with_word, with_keep, locked, missed, known, a_stored, a_kept, b_stored, b_kept, switched, map_kept, freed, blocks};
+ghost use Rattle.lane_table.specs.Told.{called, looked_at, published, reading, moved, with_load, given_up, answered_with_words};
 
 use crate::fuse::Fuse;
 use crate::kinds::{
-    DataKeep, DataStore, FlogAKeep, FlogAStore, FlogBKeep, FlogBStore, LockFree, LockTake, MapKeep,
-    MapLoad, MapStore, RttScan, WriteBegin,
+    DataKeep, DataLoad, DataStore, FlogAKeep, FlogAStore, FlogBKeep, FlogBStore, LockFree,
+    LockTake, MapCheck, MapKeep, MapLoad, MapLook, MapStore, ReadBegin, RttClear, RttScan, RttSet,
+    WriteBegin,
 };
 use crate::table::{Call, LaneSeat, Words};
 
@@ -294,5 +296,129 @@ pub fn lock_free(table: &Words, seat: &mut LaneSeat, fuse: &mut Fuse, at: usize,
         return false;
     }
     table.store::<LockFree>(seat, at, value);
+    true
+}
+
+// ---- a read
+
+/// A read begins. It is no line of the algorithm, changes no word and costs no fuse: the lane's own reader word, which is 0, is
+/// exchanged for 0, so that the view learns the read's call.
+#[inline]
+pub fn read_begin(table: &Words, seat: &mut LaneSeat, at: usize, call: Call)
+    requires seat { IsSeated Idle table.now.table_id seat.old.table_id seat.old.me }
+    requires sector { call.sector < table.now.key.shape.sectors }
+    requires at { IsWord table.now.table_id table.now.key.shape at (Reader seat.old.me.0.number) }
+    ensures table { seat.new.table_id ≡ seat.old.table_id }
+    ensures called { seat.new.me ≡ called call seat.old.me }
+{
+    table.compare_exchange_with::<ReadBegin>(seat, at, 0, 0, &call);
+}
+
+/// MapLook: loads the map word of the sector. A read of a sector whose entry says zeros or bad stands in the history then, and is
+/// answered.
+#[inline]
+pub fn map_look(table: &Words, seat: &mut LaneSeat, fuse: &mut Fuse, at: usize) -> Option<u64>
+    requires seat { IsSeated Called table.now.table_id seat.old.table_id seat.old.me }
+    requires at { IsWord table.now.table_id table.now.key.shape at (SeenMap (seat.old.me.0.lane.sector / 2)) }
+    ensures table { seat.new.table_id ≡ seat.old.table_id }
+    ensures looked { IfSome result (λ n. seat.new.me ≡ looked_at (kind_in (entry_in n seat.old.me.0.lane.sector)) n seat.old.me) }
+    ensures in_range { IfSome result (λ n. looked (record (seat.old.me.0.lane) { loaded = n }) < blocks seat.old.me.0.shape) }
+    ensures made { IfSome result (λ n. Fell 1 fuse.old fuse.new) }
+    ensures cut { result ≡ None → (seat.new.me ≡ seat.old.me) × Burnt 0 fuse.old fuse.new }
+{
+    if !fuse.spend() {
+        return None;
+    }
+    Some(table.load::<MapLook>(seat, at))
+}
+
+/// RttSet: stores one more than the block in the lane's own reader word.
+#[inline]
+pub fn rtt_set(table: &Words, seat: &mut LaneSeat, fuse: &mut Fuse, at: usize, block: u32) -> bool
+    requires seat { IsSeated Looking table.now.table_id seat.old.table_id seat.old.me }
+    requires at { IsWord table.now.table_id table.now.key.shape at (Reader seat.old.me.0.number) }
+    requires block { block ≡ looked seat.old.me.0.lane }
+    ensures table { seat.new.table_id ≡ seat.old.table_id }
+    ensures made { result ≡ true → (seat.new.me ≡ published seat.old.me) × Fell 1 fuse.old fuse.new }
+    ensures cut { result ≡ false → (seat.new.me ≡ seat.old.me) × Burnt 0 fuse.old fuse.new }
+{
+    if !fuse.spend() {
+        return false;
+    }
+    table.store::<RttSet>(seat, at, u64::from(block) + 1);
+    true
+}
+
+/// MapCheck: loads the map word again. If the sector's entry is the one that was looked at, the read stands in the history.
+#[inline]
+pub fn map_check(table: &Words, seat: &mut LaneSeat, fuse: &mut Fuse, at: usize) -> Option<u64>
+    requires seat { IsSeated Published table.now.table_id seat.old.table_id seat.old.me }
+    requires at { IsWord table.now.table_id table.now.key.shape at (SeenMap (seat.old.me.0.lane.sector / 2)) }
+    ensures table { seat.new.table_id ≡ seat.old.table_id }
+    ensures same { IfSome result (λ n. entry_in n seat.old.me.0.lane.sector ≡ entry_in seat.old.me.0.lane.loaded seat.old.me.0.lane.sector → seat.new.me ≡ reading n seat.old.me) }
+    ensures moved { IfSome result (λ n. entry_in n seat.old.me.0.lane.sector ≢ entry_in seat.old.me.0.lane.loaded seat.old.me.0.lane.sector → seat.new.me ≡ moved n seat.old.me) }
+    ensures made { IfSome result (λ n. Fell 1 fuse.old fuse.new) }
+    ensures cut { result ≡ None → (seat.new.me ≡ seat.old.me) × Burnt 0 fuse.old fuse.new }
+{
+    if !fuse.spend() {
+        return None;
+    }
+    Some(table.load::<MapCheck>(seat, at))
+}
+
+/// DataLoad: loads word `k` of the block.
+#[inline]
+pub fn data_load(
+    table: &Words,
+    seat: &mut LaneSeat,
+    fuse: &mut Fuse,
+    at: usize,
+    k: usize,
+) -> Option<u64>
+    requires seat { IsSeated (Reading k) table.now.table_id seat.old.table_id seat.old.me }
+    requires k { k < table.now.key.shape.width }
+    requires block { looked seat.old.me.0.lane < blocks table.now.key.shape }
+    requires at { IsWord table.now.table_id table.now.key.shape at (SeenData (looked seat.old.me.0.lane) k) }
+    ensures table { seat.new.table_id ≡ seat.old.table_id }
+    ensures loaded { IfSome result (λ n. seat.new.me ≡ with_load seat.old.me k n) }
+    ensures made { IfSome result (λ n. Fell 1 fuse.old fuse.new) }
+    ensures cut { result ≡ None → (seat.new.me ≡ seat.old.me) × Burnt 0 fuse.old fuse.new }
+{
+    let _ = k;
+    if !fuse.spend() {
+        return None;
+    }
+    Some(table.load::<DataLoad>(seat, at))
+}
+
+/// RttClear after the last word: stores 0 in the lane's own reader word, and the read is answered.
+#[inline]
+pub fn rtt_clear(table: &Words, seat: &mut LaneSeat, fuse: &mut Fuse, at: usize) -> bool
+    requires seat { IsSeated (Reading table.now.key.shape.width) table.now.table_id seat.old.table_id seat.old.me }
+    requires at { IsWord table.now.table_id table.now.key.shape at (Reader seat.old.me.0.number) }
+    ensures table { seat.new.table_id ≡ seat.old.table_id }
+    ensures made { result ≡ true → (seat.new.me ≡ answered_with_words seat.old.me) × Fell 1 fuse.old fuse.new }
+    ensures cut { result ≡ false → (seat.new.me ≡ seat.old.me) × Burnt 0 fuse.old fuse.new }
+{
+    if !fuse.spend() {
+        return false;
+    }
+    table.store::<RttClear>(seat, at, 0);
+    true
+}
+
+/// RttClear of a read whose entry moved: stores 0 in the lane's own reader word, and the read is given up.
+#[inline]
+pub fn rtt_clear_moved(table: &Words, seat: &mut LaneSeat, fuse: &mut Fuse, at: usize) -> bool
+    requires seat { IsSeated Moved table.now.table_id seat.old.table_id seat.old.me }
+    requires at { IsWord table.now.table_id table.now.key.shape at (Reader seat.old.me.0.number) }
+    ensures table { seat.new.table_id ≡ seat.old.table_id }
+    ensures made { result ≡ true → (seat.new.me ≡ given_up seat.old.me) × Fell 1 fuse.old fuse.new }
+    ensures cut { result ≡ false → (seat.new.me ≡ seat.old.me) × Burnt 0 fuse.old fuse.new }
+{
+    if !fuse.spend() {
+        return false;
+    }
+    table.store::<RttClear>(seat, at, 0);
     true
 }

@@ -1,7 +1,13 @@
 //! Writes: a lane is staged, and then commits.
+ghost use Rattle.std.specs.Prelude.{◌≡◌, ◌<◌, ◌≤◌};
+ghost use Rattle.lane_core.specs.declared.history.Act.TheVariants as act;
+ghost use Rattle.lane_core.specs.Areas.{next_seq};
+ghost use Rattle.lane_core.specs.Machine.{other};
+
 use crate::arena::Arena;
 use crate::committing::{Fate, commit};
-use crate::lanes::{Kit, Lane, Staged, Stopped};
+use crate::fuse::Fuse;
+use crate::lanes::{Kit, Lane, Staged, Stopped, kit_of};
 use crate::outcome::CommitOutcome;
 use crate::pieces::{Mine, seq_after};
 use crate::spots::commit_words;
@@ -9,10 +15,50 @@ use crate::table::Call;
 use lane_core::{Act, Entry};
 use nvd_words::{Items, Tag};
 
+/// The entry of a write.
+fn written(lane: u32, call: Call, words: Vec<u64>) -> Entry
+    ensures { result ≡ record { lane = lane; tag = call.tag; sector = call.sector; act = act.Write words.items } }
+{
+    Entry {
+        lane,
+        tag: call.tag,
+        sector: call.sector,
+        act: Act::Write(Items::from_vec(words)),
+    }
+}
+
+/// What the code knows of its lane after a commit that left it this free block.
+fn mine_after(mine: Mine, block: u32) -> Mine
+    requires written { 1 ≤ mine.seq }
+    requires ring { mine.seq ≤ 3 }
+    requires side { mine.side < 2 }
+    ensures { result ≡ record { number = mine.number; block = block; side = other mine.side; seq = next_seq mine.seq } }
+{
+    Mine {
+        number: mine.number,
+        block,
+        side: 1 - mine.side,
+        seq: seq_after(mine.seq),
+    }
+}
+
 impl Staged {
     ghost use Rattle.std.specs.Prelude.{◌≡◌, ◌<◌};
-    ghost use Rattle.lane_table.specs.Kits.{IsOf};
+    ghost use Rattle.lane_table.specs.Fuse.{of_left};
+    ghost use Rattle.lane_table.specs.Kits.{IsOf, IsSame};
     ghost use Rattle.lane_table.specs.Outcomes.{Commits};
+
+    /// Sets or takes away the lane's fuse.
+    pub fn set_fuse(&mut self, steps: Option<u64>)
+        ensures fuse { of_left self.new.kit.fuse ≡ steps }
+        ensures same { IsSame self.old.kit self.new.kit }
+        ensures seat { self.new.kit.seat ≡ self.old.kit.seat }
+        ensures rooms { self.new.kit.rooms ≡ self.old.kit.rooms }
+        ensures words { self.new.words ≡ self.old.words }
+        ensures mine { self.new.mine ≡ self.old.mine }
+    {
+        self.kit.fuse = Fuse::of(steps);
+    }
 
     /// Commits the write to a sector of the arena. It takes the lock of the sector's map word with one compare-and-exchange, and
     /// gives the lane back as it was if another lane has it. No memory is taken, and nothing waits.
@@ -33,59 +79,23 @@ impl Staged {
         let call = Call { tag, sector };
         match commit(&arena.table.shared, &mut seat, &mut fuse, at, mine, call) {
             Fate::Done(block) => {
-                log.push_reserved(Entry {
-                    lane: number,
-                    tag,
-                    sector,
-                    act: Act::Write(Items::from_vec(words)),
-                });
+                log.push_reserved(written(number, call, words));
                 CommitOutcome::Done(Lane {
-                    kit: Kit {
-                        seat,
-                        number,
-                        fuse,
-                        log,
-                        rooms,
-                    },
-                    mine: Mine {
-                        number,
-                        block,
-                        side: 1 - mine.side,
-                        seq: seq_after(mine.seq),
-                    },
+                    kit: kit_of(seat, number, fuse, log, rooms),
+                    mine: mine_after(mine, block),
                 })
             }
-            Fate::Busy(holder) => CommitOutcome::MapBusy {
-                staged: Staged {
-                    kit: Kit {
-                        seat,
-                        number,
-                        fuse,
-                        log,
-                        rooms,
-                    },
-                    mine,
-                    words,
-                },
-                holder,
-            },
+            Fate::Busy(holder) => {
+                let kit = kit_of(seat, number, fuse, log, rooms);
+                let staged = Staged { kit, mine, words };
+                CommitOutcome::MapBusy { staged, holder }
+            }
             Fate::Cut(made) => {
                 if made >= 7 {
-                    log.push_reserved(Entry {
-                        lane: number,
-                        tag,
-                        sector,
-                        act: Act::Write(Items::from_vec(words)),
-                    });
+                    log.push_reserved(written(number, call, words));
                 }
                 CommitOutcome::Cut(Stopped {
-                    kit: Kit {
-                        seat,
-                        number,
-                        fuse,
-                        log,
-                        rooms,
-                    },
+                    kit: kit_of(seat, number, fuse, log, rooms),
                 })
             }
         }

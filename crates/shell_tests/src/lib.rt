@@ -10,8 +10,6 @@ mod fault_tests;
 #[cfg(test)]
 mod init_tests;
 #[cfg(test)]
-mod table_tests;
-#[cfg(test)]
 mod tables;
 #[cfg(test)]
 mod world;

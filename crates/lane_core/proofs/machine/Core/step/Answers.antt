@@ -1,7 +1,13 @@
 use Rattle.std.proofs.Common.{◌≡◌, ◌<◌, slice_get, slice_set, Some, sym, ap, ◌∙◌, subst, refl}
 use Rattle.lane_core.specs.declared.now.LaneNow.{LaneNow}
 use Rattle.lane_core.specs.After.{answer_after, lane_after, past_after, row_after}
+use Rattle.lane_core.specs.Fixed.{RowHasFixed}
+use Rattle.lane_core.specs.Reopening.{first_cells}
+use Rattle.lane_core.specs.Rows.{Recorded, RowWords}
+use Rattle.lane_core.specs.Sessions.{IsServed}
+use Rattle.lane_core.proofs.Served.{changed, served_step}
 use Rattle.lane_core.proofs.Cores.{ready}
+use Rattle.lane_core.proofs.Fixed.{line_keeps}
 use Rattle.lane_core.proofs.Nothing.{nothing_idle}
 use Rattle.lane_core.proofs.Stepping.{lane_there, there_is, stepped_parts, line_shown}
 use Rattle.lane_core.proofs.machine.Core.step.Goals as goal
@@ -47,3 +53,34 @@ returns-clause-line c = λ p here.
       nothing = λ e. nothing_idle core.shape c.args.lane core.row p p.phase (sym answer ∙ e);
       idle = λ e. answer ∙ ap (λ ph. answer_after core.shape c.args.lane core.row p ph) e;
     }
+
+pub returns-clause-arena : goal.returns-clause-arena
+returns-clause-arena c = λ state h.
+    let core = c.args.self.now in
+    let mine = c.index_mut-mine.result.now in
+    let k = h.shows.1 in
+    let at : slice_get core.lanes.items c.args.lane ≡ Some mine = lane_there core.lanes.items c.args.lane mine (subst (λ n. c.args.lane < n) (sym k.shown.count) c.requires.lane) c.index_mut-mine.ensures.value in
+    let lane_is_ready = ready core.shape core.row core.lanes.items core.history (first_cells state) h.shows.0 c.args.lane mine k at in
+    record {
+      opened = h.opened;
+      info = h.info;
+      shape = h.shape;
+      shows = returns-clause-core c (first_cells state) h.shows;
+      fixed = subst (λ (row : RowWords). RowHasFixed core.shape state.words row.words) (sym c.step_lane.ensures.row)
+          (line_keeps core.shape core.row c.args.lane mine core.history.room lane_is_ready state.words h.fixed mine.phase refl);
+    }
+
+pub returns-clause-sound : goal.returns-clause-sound
+returns-clause-sound c = (c.requires.core.0, returns-clause-core c c.requires.core.0 c.requires.core.1)
+
+pub returns-clause-serves : goal.returns-clause-serves
+returns-clause-serves c = λ served.
+    let core = c.args.self.now in
+    let mine = c.index_mut-mine.result.now in
+    let h = c.requires.core.1.1 in
+    let at : slice_get core.lanes.items c.args.lane ≡ Some mine = lane_there core.lanes.items c.args.lane mine (subst (λ n. c.args.lane < n) (sym h.shown.count) c.requires.lane) c.index_mut-mine.ensures.value in
+    let q : LaneNow = lane_after core.shape c.args.lane core.row mine mine.phase in
+    let past : Recorded = past_after core.shape c.args.lane core.row mine core.history mine.phase in
+    subst (λ (q : LaneNow). IsServed (slice_set core.lanes.items c.args.lane q) c.step_lane.new.history.entries) (sym c.step_lane.ensures.lane)
+    (subst (λ (r : Recorded). IsServed (slice_set core.lanes.items c.args.lane q) r.entries) (sym c.step_lane.ensures.history)
+    (served_step core.lanes.items c.args.lane mine q at core.history.entries past.entries (changed core.shape c.args.lane core.row mine core.history mine.phase refl) served))

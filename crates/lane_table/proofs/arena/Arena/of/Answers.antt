@@ -1,18 +1,8 @@
-use Rattle.std.proofs.Common.{◌≡◌, List, ℕ, [], sym, ap, ◌∙◌, subst}
-use Rattle.atomic_table.specs.Table.{opening}
-use Rattle.arena_open.specs.declared.opened.LaneState.{LaneState}
-use Rattle.lane_table.specs.declared.table.Call.{Call}
-use Rattle.lane_table.specs.declared.table.Key.{Key}
-use Rattle.lane_table.specs.Begun.{row_of, IsOpenArena, IsBegun}
-use Rattle.lane_table.specs.Law.{holds, first}
-use Rattle.lane_table.proofs.Starts.{begins}
+use Rattle.std.proofs.Common.{sym, subst}
+use Rattle.lane_core.specs.declared.shape.Shape.{Shape}
+use Rattle.lane_table.specs.Begun.{IsOpenArena}
+use Rattle.lane_table.proofs.Opens.{opened_arena}
 use Rattle.lane_table.proofs.arena.Arena.of.Goals as goal
 
-pub of_words-requires : goal.of_words-requires
-of_words-requires c =
-    let x = c.args.shape in
-    let key : Key = record { shape = x; words = c.of.result; lanes = c.of-2.result } in
-    let begun : IsBegun key =
-    subst (λ (ls : List LaneState). IsOpenArena x key.words.value ls) (sym c.of-2.ensures) (subst (λ (ws : List ℕ). IsOpenArena x ws c.args.states) (sym c.of.ensures) c.requires.open) in
-    let row : c.as_slice-2.result.now ≡ row_of x key.words.value = c.as_slice-2.ensures.value ∙ c.in_ok-first.ensures ∙ ap (row_of x) (c.as_slice.ensures ∙ sym c.of.ensures) in
-    subst (λ (ws : List ℕ). holds {S = Call} key (opening ws [] (first key))) (sym row) (begins key begun Call)
+pub arena_of-requires : goal.arena_of-requires
+arena_of-requires c = let state = c.args.state in subst (λ (x : Shape). IsOpenArena x state.words state.lanes) (sym c.of-shape.ensures.value) (opened_arena state c.requires.state)

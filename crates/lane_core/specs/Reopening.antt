@@ -1,0 +1,58 @@
+-- The core of an arena that was opened, and what opening finds in the words that a power cut leaves of it.
+use Rattle.std.specs.Prelude.{◌≡◌, ◌⊎◌, ℕ, ◌<◌, true, List, ◌++◌, slice_get, Some, Ok}
+use Rattle.arena_open.specs.declared.cell.Cell.{Cell}
+use Rattle.arena_open.specs.declared.cell.Cell.TheVariants as cell
+use Rattle.arena_open.specs.declared.opened.Opened.{Opened}
+use Rattle.arena_open.specs.declared.state.ArenaState.{ArenaState}
+use Rattle.arena_open.specs.Reading.{cell_at, opening}
+use Rattle.arena_open.specs.Moves.{state_of, IsOpenState}
+use Rattle.lane_core.specs.declared.machine.Core.{Core}
+use Rattle.lane_core.specs.declared.now.LaneNow.{LaneNow}
+use Rattle.lane_core.specs.Arenas.{shape_in}
+use Rattle.lane_core.specs.Cut.{is_open}
+use Rattle.lane_core.specs.Fixed.{SameFixed, RowHasFixed}
+use Rattle.lane_core.specs.History.{Cells, end_of}
+use Rattle.lane_core.specs.Machines.{IsCore}
+
+-- the sectors' cells at the opening, as a reader of the arena gets them
+abbrev pub first_cells : ArenaState → Cells
+first_cells state = cell_at state.info.layout state.words
+
+-- The core of an arena: its calls began with the arena's sectors, and each word that no lane stores is the arena's.
+pub record IsCoreOf (state : ArenaState) (core : Core) : Type 0 where
+  pub opened : IsOpenState state
+  pub info : core.info ≡ state.info
+  pub shape : core.shape ≡ shape_in state
+  pub shows : IsCore (first_cells state) core
+  pub fixed : RowHasFixed core.shape state.words core.row.words
+
+-- it is still the core of the same arena
+abbrev pub KeepsArena : Core → Core → Type 0
+KeepsArena old new = (state : ArenaState) → IsCoreOf state old → IsCoreOf state new
+
+-- ---- after a power cut
+
+-- the cell has the words of a write of this sector whose log entry was stored and whose map entry wasn't
+pub record IsInFlight (core : Core) (sector : ℕ) (found : Cell) : Type 0 where
+  pub lane : ℕ
+  pub call : LaneNow
+  pub there : slice_get core.lanes.items lane ≡ Some call
+  pub unfinished : is_open call.phase ≡ true
+  pub on : call.sector ≡ sector
+  pub words : found ≡ cell.Bytes call.words
+
+-- a cell that a sector may have after a power cut: the one at the history's end, or that of one write in flight
+abbrev pub MaySurvive : Cells → Core → ℕ → Cell → Type 0
+MaySurvive first core sector found = (found ≡ end_of first core.history.entries sector) ⊎ IsInFlight core sector found
+
+-- the words open as the core's arena, and each sector has a cell that may survive
+pub record IsFoundAgain (first : Cells) (core : Core) (words parent : List ℕ) : Type 0 where
+  pub arena : Opened
+  pub opens : opening words parent ≡ Ok arena
+  pub info : arena.info ≡ core.info
+  pub contents : (sector : ℕ) → sector < core.shape.sectors → MaySurvive first core sector (cell_at arena.info.layout (state_of words arena).words sector)
+
+-- What a power cut left of the core of an arena. Wherever the arena's words opened, these open in their place, whatever stands behind them.
+pub record Reopens (state : ArenaState) (core : Core) (left : List ℕ) : Type 0 where
+  pub fixed : SameFixed core.shape state.words left
+  pub opens : (behind parent : List ℕ) (arena : Opened) → opening (state.words ++ behind) parent ≡ Ok arena → IsFoundAgain (first_cells state) core (left ++ behind) parent

@@ -1,0 +1,181 @@
+//! A sector's words are read: looks at the map and at the block, and the loop over the block's words.
+ghost use Rattle.std.specs.Prelude.{◌≡◌, ◌<◌, ◌≤◌, ◌+◌, ◌/◌, ◌^◌, [], length};
+ghost use Rattle.map_table.specs.Entry.{entry_in};
+ghost use Rattle.lane_core.specs.declared.phase.Phase.TheVariants.{Idle, Looking, Reading};
+ghost use Rattle.lane_core.specs.Areas.{block_in, kind_in};
+ghost use Rattle.lane_core.specs.Machine.{looked};
+ghost use Rattle.lane_core.specs.Places.{word_of, SeenData, SeenMap, Reader};
+ghost use Rattle.lane_table.specs.Conditions.{IsSeated, IsWord};
+ghost use Rattle.lane_table.specs.Reads.{found_by, Loaded, BlockEnds, ReadEnds, Answers, AreReadWords};
+ghost use Rattle.lane_table.specs.Told.{blocks};
+
+use crate::arena::Arena;
+use crate::fuse::Fuse;
+use crate::pieces::looked_in;
+use crate::steps::{
+    data_load, map_check, map_look, read_begin, rtt_clear, rtt_clear_moved, rtt_set,
+};
+use crate::table::{Call, LaneSeat, Words};
+use crate::words::{block_word, map_word, reader_word};
+use arena_open::CellKind;
+use map_table::{Kind, entry, entry_in};
+
+/// What a read may do between its first look at the map and the store of its reader word. So a test can say what others do
+/// meanwhile. Nothing is asked of it: what is promised of a read holds for every pause.
+pub trait Pause {
+    fn pause(&mut self);
+}
+
+/// Where the words of a read stand in the table.
+#[derive(Clone, Copy, Debug, PartialEq, Eq)]
+pub struct ReadWords {
+    /// The lane's own reader word.
+    pub reader: usize,
+    pub map: usize,
+    /// The first word of the block.
+    pub block: usize,
+}
+
+/// What the sector's entry says.
+#[derive(Clone, Copy, Debug, PartialEq, Eq)]
+pub enum Found {
+    Zeros,
+    Bad,
+    /// This block has the bytes.
+    Block(u32),
+}
+
+/// How a read ends.
+#[derive(Clone, Copy, Debug, PartialEq, Eq)]
+pub enum ReadFate {
+    /// The read stands in the history, with a cell of this kind.
+    Got(CellKind),
+    /// The entry that was looked at, and another one that was found by the check.
+    Moved(u32, u32),
+    /// The fuse was spent.
+    Cut,
+}
+
+/// What a sector's entry in its map word says.
+#[inline]
+#[tactic(auto, unfolding(lane_core::specs::Areas::block_in, lane_core::specs::Areas::kind_in))]
+fn found_in(word: u64, sector: u32) -> Found
+    ensures { result ≡ found_by (kind_in (entry_in word sector)) (block_in (entry_in word sector) sector) }
+{
+    let entry = entry(entry_in(word, sector), sector);
+    match entry.kind {
+        Kind::Zero => Found::Zeros,
+        Kind::Bad => Found::Bad,
+        Kind::Initial => Found::Block(entry.block),
+        Kind::Normal => Found::Block(entry.block),
+    }
+}
+
+/// Loads the words of the block, of which `at` is the first word. It returns how many were loaded: all, or as many as the fuse had
+/// steps.
+fn load_words(
+    table: &Words,
+    seat: &mut LaneSeat,
+    fuse: &mut Fuse,
+    at: usize,
+    into: &mut [u64],
+) -> usize
+    requires seat { IsSeated (Reading 0) table.now.table_id seat.old.table_id seat.old.me }
+    requires none { seat.old.me.0.lane.got ≡ [] }
+    requires into { length into.old ≡ table.now.key.shape.width }
+    requires block { looked seat.old.me.0.lane < blocks table.now.key.shape }
+    requires at { (at ≡ word_of table.now.key.shape (SeenData (looked seat.old.me.0.lane) 0)) × (at + length into.old ≤ table.now.table_id.words) × (table.now.table_id.words < 2 ^ 60) }
+    ensures table { seat.new.table_id ≡ seat.old.table_id }
+    ensures loaded { Loaded seat.old.me seat.new.me fuse.old fuse.new into.old into.new result }
+{
+    for k in 0..into.len() {
+        let Some(word) = data_load(table, seat, fuse, at + k, k) else {
+            return k;
+        };
+        into[k] = word;
+    }
+    into.len()
+}
+
+/// Reads the block that the first look found: says in the reader word which block is read, looks at the map word again, and loads the
+/// words if the entry is the same.
+fn read_block(
+    table: &Words,
+    seat: &mut LaneSeat,
+    fuse: &mut Fuse,
+    at: ReadWords,
+    word: u64,
+    sector: u32,
+    into: &mut [u64],
+) -> ReadFate
+    requires seat { IsSeated Looking table.now.table_id seat.old.table_id seat.old.me }
+    requires shape { seat.old.me.0.shape ≡ table.now.key.shape }
+    requires looked { (word ≡ seat.old.me.0.lane.loaded) × (sector ≡ seat.old.me.0.lane.sector) }
+    requires block { looked seat.old.me.0.lane < blocks table.now.key.shape }
+    requires into { length into.old ≡ table.now.key.shape.width }
+    requires at { AreReadWords table.now.table_id table.now.key.shape seat.old.me.0.number seat.old.me.0.lane.sector (looked seat.old.me.0.lane) at }
+    ensures table { seat.new.table_id ≡ seat.old.table_id }
+    ensures ends { BlockEnds seat.old.me seat.new.me fuse.old fuse.new into.old into.new result }
+{
+    if !rtt_set(table, seat, fuse, at.reader, looked_in(word, sector)) {
+        return ReadFate::Cut;
+    }
+    let Some(again) = map_check(table, seat, fuse, at.map) else {
+        return ReadFate::Cut;
+    };
+    let (first, then) = (entry_in(word, sector), entry_in(again, sector));
+    if first != then {
+        if !rtt_clear_moved(table, seat, fuse, at.reader) {
+            return ReadFate::Cut;
+        }
+        return ReadFate::Moved(first, then);
+    }
+    if load_words(table, seat, fuse, at.block, into) < into.len() {
+        return ReadFate::Cut;
+    }
+    if !rtt_clear(table, seat, fuse, at.reader) {
+        return ReadFate::Cut;
+    }
+    ReadFate::Got(CellKind::Bytes)
+}
+
+/// Reads a sector's cell. Its words go into `into`, if it isn't bad.
+pub fn read<P: Pause>(
+    arena: &Arena,
+    seat: &mut LaneSeat,
+    fuse: &mut Fuse,
+    number: u32,
+    call: Call,
+    into: &mut [u64],
+    between: &mut P,
+) -> ReadFate
+    requires seat { IsSeated Idle arena.now.table.shared.table_id seat.old.table_id seat.old.me }
+    requires shape { seat.old.me.0.shape ≡ arena.now.shape }
+    requires number { (seat.old.me.0.number ≡ number) × (number < arena.now.shape.lanes) }
+    requires sector { call.sector < arena.now.shape.sectors }
+    requires into { length into.old ≡ arena.now.shape.width }
+    ensures table { seat.new.table_id ≡ seat.old.table_id }
+    ensures ends { ReadEnds seat.old.me seat.new.me fuse.old fuse.new into.old into.new call result }
+    ensures answers { Answers seat.old.me seat.new.me into.new call result }
+{
+    let table = &arena.table.shared;
+    let reader = reader_word(&arena.shape, number);
+    let map = map_word(&arena.shape, call.sector);
+    read_begin(table, seat, reader, call);
+    let Some(word) = map_look(table, seat, fuse, map) else {
+        return ReadFate::Cut;
+    };
+    match found_in(word, call.sector) {
+        Found::Zeros => {
+            into.fill(0);
+            ReadFate::Got(CellKind::Bytes)
+        }
+        Found::Bad => ReadFate::Got(CellKind::Bad),
+        Found::Block(block) => {
+            between.pause();
+            let block = block_word(&arena.shape, block);
+            let at = ReadWords { reader, map, block };
+            read_block(table, seat, fuse, at, word, call.sector, into)
+        }
+    }
+}
