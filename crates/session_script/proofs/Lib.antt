@@ -1,4 +1,6 @@
 pub mod Following
+pub mod Generated
+pub mod LoadRows
 pub mod Loops
 pub mod Parts
 pub mod Rows

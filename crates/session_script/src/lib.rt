@@ -24,13 +24,15 @@
 //!   isn't of its kind decides (`specs/Fields.antt`).
 //! - **A text** is read exactly if each of its lines is in the grammar and within the limits. Else
 //!   the first line that isn't decides (`specs/Script.antt`, `specs/Schedule.antt`).
+//! - **A load** is a script that [`make_load`] makes from a number (`specs/Load.antt`).
 //!
-//! These grammars are this project's own.
+//! These rules are this project's own.
 #![tactic(auto)]
 
 mod fault;
 mod fields;
 mod lines;
+mod load;
 mod payload;
 mod reading;
 mod schedule;
@@ -40,6 +42,7 @@ mod verbs;
 mod words;
 
 pub use fault::{LineKind, ScriptFault, ScriptLimit};
+pub use load::make_load;
 pub use payload::Payload;
 pub use reading::read_replay;
 pub use schedule::{Replay, ReplayLine};
