@@ -38,7 +38,7 @@ abbrev pub without : Outline → ℕ → Outline
 without outline m = record { nfit = outline.nfit; nfit_bytes = outline.nfit_bytes; labels = set outline.labels m None; sizes = outline.sizes; bad = outline.bad }
 
 none_is_area : IsArea None
-none_is_area = record { sized = λ words is. absurd cc; kept = λ words is. absurd cc }
+none_is_area = record { sized = λ words is. absurd cc; kept = λ words is. absurd cc; fit = λ words is. absurd cc }
 
 pub outlined_without : (outline : Outline) (m : ℕ) → IsOutlined outline → IsOutlined (without outline m)
 outlined_without outline m sound = record {

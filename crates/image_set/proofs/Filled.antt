@@ -20,10 +20,11 @@ there_told (Some all) found n bytes told is read = ap (λ (b : List ℕ). Some b
 pub area_whole : (n : ℕ) → IsAreaSize n → n % 8 ≡ 0
 area_whole n a = let m = a.multiple in omega arith
 
-pub area_sound : (words : Words) (n : ℕ) → size_of words ≡ n → IsAreaSize n → words ≡ settled words.kept → IsArea (Some words)
-area_sound words n count sized kept = record {
+pub area_sound : (words : Words) (n : ℕ) → size_of words ≡ n → IsAreaSize n → words ≡ settled words.kept → AreWords words.kept → IsArea (Some words)
+area_sound words n count sized kept fit = record {
   sized = λ w is. let same : words ≡ w = cc in subst (λ (v : Words). IsAreaSize (size_of v)) same (subst IsAreaSize (sym count) sized);
   kept = λ w is. let same : words ≡ w = cc in subst (λ (v : Words). v ≡ settled v.kept) same kept;
+  fit = λ w is. let same : words ≡ w = cc in subst (λ (v : Words). AreWords v.kept) same fit;
 }
 
 -- ---- a list by modules

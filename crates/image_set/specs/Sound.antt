@@ -13,14 +13,15 @@ use Rattle.image_set.specs.declared.loading.Loaded.{Loaded}
 abbrev pub size_of : Words → ℕ
 size_of words = 8 * length words.kept
 
+-- each number is one of 64 bits
+pub record AreWords (values : List ℕ) : Type 0 where
+  pub each : (i : ℕ) → slice_index values i < 2 ^ 64
+
 -- a label area, where there is one, has a label area's size, and no word of it is pending
 pub record IsArea (area : Option Words) : Type 0 where
   pub sized : (words : Words) → area ≡ Some words → IsAreaSize (size_of words)
   pub kept : (words : Words) → area ≡ Some words → words ≡ settled words.kept
-
--- each number is one of 64 bits
-pub record AreWords (values : List ℕ) : Type 0 where
-  pub each : (i : ℕ) → slice_index values i < 2 ^ 64
+  pub fit : (words : Words) → area ≡ Some words → AreWords words.kept
 
 -- contents are a positive multiple of 4,096 bytes, and no word of them is pending
 pub record IsContents (words : Words) : Type 0 where

@@ -86,8 +86,8 @@ impl Outline {
     /// Takes a module's label area out, where there is one: `None` where the table doesn't name the
     /// module, or it has no label area.
     ///
-    /// - `area`, `settled`: its bytes are the area's; it has a label area's size, and no word of it is
-    ///   pending.
+    /// - `area`, `settled`: its bytes are the area's; it has a label area's size, its words are of 64 bits,
+    ///   and none of them is pending.
     /// - `sound`, `others`: the rest of the set is sound, and with a label area put back it is the set
     ///   with that label area in place of the one that was taken, whatever the contents are.
     pub fn take_area(self, module: u32) -> (Outline, Option<CutWords>)

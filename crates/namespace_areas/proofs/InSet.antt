@@ -10,7 +10,7 @@ use Rattle.label_set.specs.declared.placed.Placed.{Placed}
 use Rattle.region_space.specs.declared.extent.Extent.{Extent}
 use Rattle.namespace_map.specs.Namespaces.{entry_with, extent_of, extents_of, labels_with, lookup}
 use Rattle.namespace_map.specs.declared.commands.Make.{Make}
-use Rattle.namespace_map.specs.declared.commands.Named.{Named}
+use Rattle.namespace_map.specs.declared.commands.CreateSpec.{CreateSpec}
 use Rattle.namespace_map.specs.declared.refused.OpRefused.{OpRefused}
 use Rattle.namespace_map.specs.declared.refused.OpRefused.TheVariants.{BadSize, Exists, NoRegion, NoSpace}
 use Rattle.namespace_map.specs.Changes.{placed_in_all}
@@ -57,26 +57,29 @@ module _ (sets : List (List Mapping)) (areas : List Area) (grouping : Grouping) 
       ∙ ap (λ (t : List Mapping). first_fault (name ∷ creating t areas grouping.sorted taken size made)) (let e = is in cc)
 
   -- where the region is there
-  pub create_in : (name : Named) (uuid : List ℕ) (region size : ℕ) (made : Make) (set : List Mapping) (taken : Bool) (r : Result ℕ OpRefused) → slice_get sets region ≡ Some set
-      → is_some (slice_get (labels_with uuid grouping.sorted) 0) ≡ taken → bad_name name ≡ None
-      → r ≡ offset_or set grouping.sorted size (first_fault (creating set areas grouping.sorted taken size made))
-      → r ≡ value_unless (offset_for (shown sets areas) region size) (create_refusal (shown sets areas) uuid name region size made)
+  pub create_in : (spec : CreateSpec) (set : List Mapping) (taken : Bool) (r : Result ℕ OpRefused) → slice_get sets spec.region ≡ Some set
+      → is_some (slice_get (labels_with spec.uuid grouping.sorted) 0) ≡ taken → bad_name spec.name ≡ None
+      → r ≡ offset_or set grouping.sorted spec.size (first_fault (creating set areas grouping.sorted taken spec.size spec.make))
+      → r ≡ value_unless (offset_for (shown sets areas) spec) (create_refusal (shown sets areas) spec)
   unfolding first_fault
-  create_in name uuid region size made set taken r here known good is =
+  create_in spec set taken r here known good is =
+      let size = spec.size in
+      let made = spec.make in
       is
       ∙ ap (λ (es : List Extent). value_unless (unwrap_or (first_fit_of set es (share_of set size)) 0) (first_fault (creating set areas grouping.sorted taken size made))) (sym extents_are)
       ∙ ap (λ (s : List Mapping). value_unless (unwrap_or (first_fit_of s (extents_of (shown sets areas).entries) (share_of s size)) 0) (first_fault (creating set areas grouping.sorted taken size made))) (sym (ap (λ (o : Option (List Mapping)). unwrap_or o []) here))
-      ∙ ap (λ (o : Option OpRefused). value_unless (offset_for (shown sets areas) region size) o)
-      (sym (refused_by (bad_name name) uuid region size made (slice_get sets region) set taken here known ∙ ap (λ (o : Option OpRefused). first_fault (o ∷ creating set areas grouping.sorted taken size made)) good))
+      ∙ ap (λ (o : Option OpRefused). value_unless (offset_for (shown sets areas) spec) o)
+      (sym (refused_by (bad_name spec.name) spec.uuid spec.region size made (slice_get sets spec.region) set taken here known ∙ ap (λ (o : Option OpRefused). first_fault (o ∷ creating set areas grouping.sorted taken size made)) good))
 
 -- the name is bad
-pub create_unnamed : (sets : List (List Mapping)) (areas : List Area) (name : Named) (uuid : List ℕ) (region size : ℕ) (made : Make) (f : OpRefused) → bad_name name ≡ Some f
-    → Err f ≡ value_unless (offset_for (shown sets areas) region size) (create_refusal (shown sets areas) uuid name region size made)
-create_unnamed sets areas name uuid region size made f is = fault_first (offset_for (shown sets areas) region size) (bad_name name) f _ is
+pub create_unnamed : (sets : List (List Mapping)) (areas : List Area) (spec : CreateSpec) (f : OpRefused) → bad_name spec.name ≡ Some f
+    → Err f ≡ value_unless (offset_for (shown sets areas) spec) (create_refusal (shown sets areas) spec)
+create_unnamed sets areas spec f is = fault_first (offset_for (shown sets areas) spec) (bad_name spec.name) f _ is
 
 -- there is no such region
-pub create_nowhere : (sets : List (List Mapping)) (areas : List Area) (name : Named) (uuid : List ℕ) (region size : ℕ) (made : Make) → bad_name name ≡ None → slice_get sets region ≡ None
-    → Err (NoRegion region) ≡ value_unless (offset_for (shown sets areas) region size) (create_refusal (shown sets areas) uuid name region size made)
-create_nowhere sets areas name uuid region size made good none =
-    fault_next (offset_for (shown sets areas) region size) (bad_name name) _ _ good
-    (fault_first (offset_for (shown sets areas) region size) (fault_if (is_none (slice_get sets region)) (NoRegion region)) (NoRegion region) _ (ap (λ (o : Option (List Mapping)). fault_if (is_none o) (NoRegion region)) none))
+pub create_nowhere : (sets : List (List Mapping)) (areas : List Area) (spec : CreateSpec) → bad_name spec.name ≡ None → slice_get sets spec.region ≡ None
+    → Err (NoRegion spec.region) ≡ value_unless (offset_for (shown sets areas) spec) (create_refusal (shown sets areas) spec)
+create_nowhere sets areas spec good none =
+    fault_next (offset_for (shown sets areas) spec) (bad_name spec.name) _ _ good
+    (fault_first (offset_for (shown sets areas) spec) (fault_if (is_none (slice_get sets spec.region)) (NoRegion spec.region)) (NoRegion spec.region) _
+    (ap (λ (o : Option (List Mapping)). fault_if (is_none o) (NoRegion spec.region)) none))

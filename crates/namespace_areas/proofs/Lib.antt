@@ -1,11 +1,13 @@
 pub mod Slots
 pub mod OneChange
 pub mod Seen
+pub mod Steps
 pub mod Went
 pub mod Lists
 pub mod CanMake
 pub mod Placed
 pub mod Opening
+pub mod OnModules
 pub mod Named
 pub mod Order
 pub mod Parts

@@ -3,8 +3,8 @@ use Rattle.std.proofs.Common.{◌≡◌, ℕ, ◌≤◌, Bool, true, false, List
 use Rattle.std.specs.Prelude.{not}
 use Rattle.std.specs.List.{position}
 use Rattle.std.proofs.lemmas.Bool.{cases_Bool, false≢true, leb-true}
-use Rattle.cut_words.specs.Words.{Words, settled, IsLeft}
-use Rattle.cut_words.specs.Fuses.{burnt, lasts}
+use Rattle.cut_words.specs.Words.{Words, Step, settled, IsLeft}
+use Rattle.cut_words.specs.Fuses.{Makes, burnt, lasts}
 use Rattle.cut_words.specs.WordBytes.{bytes_of}
 use Rattle.cut_words.proofs.Making.{makes_length}
 use Rattle.label_codec.specs.declared.label.Label.{Label}
@@ -23,6 +23,7 @@ use Rattle.label_area.proofs.Opened.{ready_sized, ready_current}
 use Rattle.namespace_map.specs.Areas.{Area as SeenArea, slot_of, replaced}
 use Rattle.namespace_map.proofs.Slots.{first_free}
 use Rattle.namespace_areas.specs.Seen.{area_by, ready_seen, shown_by, area_shown, is_label_of}
+use Rattle.namespace_areas.specs.Steps.{area_steps, steps_by, steps_put}
 use Rattle.namespace_areas.specs.Went.{HasRoom, area_after, ShowsCut, AreaWent}
 use Rattle.namespace_areas.proofs.Slots.{least_is, first_of}
 
@@ -95,6 +96,10 @@ module _ (old : AreaState) (ready : IsReady old) (uuid : List ℕ) (label : Opti
     left_is : left ≡ burnt fuse count
     left_is = h.made.fuse_left ∙ ap (burnt fuse) steps_are
 
+    -- the steps are those of the change
+    steps_same : replace_steps old.words.kept old.block out put ≡ area_steps old.words.kept uuid label
+    steps_same = ap (steps_put old.words.kept uuid old.block) (sym ok.found) ∙ ap (steps_by old.words.kept uuid label) (sym ready.current)
+
     as_then : (values : List ℕ) → Shows values (next_block old.block out put) (without out (with_put put (ready_seen old).slots)) → area_shown (Some values) ≡ Some then
     as_then values shows = shows_area values _ _ shows ∙ ap (λ (ss : List SlotState). Some (record { block = old.block.size; slots = ss })) (sym ok.slots)
 
@@ -145,6 +150,7 @@ module _ (old : AreaState) (ready : IsReady old) (uuid : List ℕ) (label : Opti
     went = record {
       made_is = made_is;
       left_is = left_is;
+      makes = subst (λ (steps : List Step). Makes old.words new.words fuse left steps (not new.stopped)) steps_same h.made;
       ready = λ e. ready_then (not_true new.stopped e);
       done = λ e. seen_then (not_true new.stopped e);
       cut = cut_at;

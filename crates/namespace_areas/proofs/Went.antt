@@ -1,23 +1,25 @@
 -- What became of areas by no changes, by one, and by lists of changes one after another.
-use Rattle.std.proofs.Common.{◌≡◌, ℕ, zero, suc, ◌+◌, ◌-◌, ◌<◌, ◌≤◌, Bool, true, false, List, [], ◌∷◌, ◌++◌, get_or, map, Option, Some, None, refl, sym, ap, ◌∙◌, arith, inl, inr}
+use Rattle.std.proofs.Common.{◌≡◌, ℕ, zero, suc, ◌+◌, ◌-◌, ◌<◌, ◌≤◌, Bool, true, false, List, [], ◌∷◌, ◌++◌, length, get_or, map, Option, Some, None, refl, sym, ap, ◌∙◌, subst, arith, inl, inr}
 use Rattle.std.specs.Prelude.{nat_le, ◌==◌, slice_get, slice_set, unwrap_or, IsSome}
 use Rattle.std.specs.Option.{option_map}
 use Rattle.std.proofs.lemmas.Bool.{cases_Bool, cases_lt, false≢true, le-leb, lt-leb, leb-true, leb-false, eq-eqb}
 use Rattle.std.proofs.lemmas.Option.{none-some, slice_get-map, get_or_from_slice_get}
-use Rattle.std.proofs.lemmas.List.{map-set, set-get_or}
+use Rattle.std.proofs.lemmas.List.{map-set, set-get_or, length-map, take_all}
 use Rattle.std.proofs.lemmas.List.Elements.{All-head, All-tail, All-set}
 use Rattle.std.proofs.Math.Seq.{map-set_same}
-use Rattle.cut_words.specs.Words.{IsLeft}
-use Rattle.cut_words.specs.Fuses.{burnt, lasts}
+use Rattle.cut_words.specs.Words.{IsLeft, Step, Words, after, settled}
+use Rattle.cut_words.specs.Fuses.{allowed, burnt, lasts}
 use Rattle.label_codec.specs.declared.label.Label.{Label}
 use Rattle.label_area.specs.Change.{count_of_steps}
 use Rattle.label_area.specs.State.{AreaState}
 use Rattle.namespace_areas.specs.declared.area.Area.{Area}
 use Rattle.namespace_areas.specs.declared.area.Area.TheVariants.{Absent, Refused, Ready}
 use Rattle.namespace_map.specs.Areas.{Area as SeenArea, Change, area_at, block_of, changed_area, changed, all_changed, steps_for, steps_of_all, after_steps, IsLeftBy}
-use Rattle.namespace_areas.specs.Seen.{IsHeld, AreHeld, ready_seen, area_seen, areas_seen, AreLeft, area_shown, areas_shown}
+use Rattle.namespace_areas.specs.Seen.{IsHeld, AreHeld, ready_seen, area_seen, areas_seen, words_of, AreLeft, area_shown, areas_shown}
+use Rattle.namespace_areas.specs.Steps.{Rows, AreaStep, MakesAll, after_all, all_rows, all_settled, all_steps, area_steps, front, in_area, row_at, row_after, row_steps, rows_of}
 use Rattle.namespace_areas.specs.Went.{area_after, ShowsCut, AreaWent, unready, size_of, Went}
 use Rattle.namespace_areas.proofs.Seen.{left_shown, held_shown}
+use Rattle.namespace_areas.proofs.Steps.{after_one, allowed_front, front_map, held_words, made_both, made_cut, made_none, rows_both, steps_both_in}
 
 -- ---- fuses
 
@@ -123,6 +125,21 @@ left_with (a ∷ areas) (suc m) old new rows h is (first, rest, split, here, mor
           ∙ ap (λ (xs : Seens). area_seen a ∷ xs) shown,
     )
 
+held_settled : (areas : List Area) → AreHeld areas → (m : ℕ) (a : AreaState) → slice_get areas m ≡ Some (Ready a) → a.words ≡ settled a.words.kept
+held_settled [] h m a at = absurd (none-some (Ready a) at)
+held_settled (x ∷ areas) h zero a at =
+    let here : x ≡ Ready a = cc in
+    ap (λ (s : AreaState). s.words) (subst IsHeld here (All-head IsHeld x areas h)).shown
+held_settled (x ∷ areas) h (suc m) a at = held_settled areas (All-tail IsHeld x areas h) m a at
+
+allowed_all : (fuse : Option ℕ) (steps : List Step) → true ≡ lasts fuse (length steps) → allowed fuse steps ≡ steps
+allowed_all None steps all = refl
+allowed_all (Some n) steps all = take_all n steps (leb-true (length steps) n (sym all))
+
+append_nil : {A : Type 0} (xs : List A) → xs ++ [] ≡ xs
+append_nil [] = refl
+append_nil (x ∷ xs) = ap (λ ys. x ∷ ys) (append_nil xs)
+
 same_with : {B : Type 0} (f : Area → B) (areas : List Area) (m : ℕ) (a b : Area) → slice_get areas m ≡ Some a → f b ≡ f a → map f (slice_set areas m b) ≡ map f areas
 same_with f areas m a b is e = map-set_same f areas m b a (e ∙ ap f (sym (get_or_from_slice_get areas m a a is)))
 
@@ -173,12 +190,59 @@ module _ (areas : List Area) (held : AreHeld areas) (m : ℕ) (uuid : List ℕ) 
         ]
       ]
 
+  -- ---- its words
+
+  abbrev rows : Rows
+  rows = rows_of areas
+
+  abbrev own : List Step
+  own = area_steps old.words.kept uuid label
+
+  row_is : row_at rows m ≡ Some old.words.kept
+  row_is = get_or_from_slice_get rows m (Some old.words.kept) None (slice_get-map (λ area. option_map (λ w. w.kept) (words_of area)) areas m ∙ ap (option_map (λ area. option_map (λ w. w.kept) (words_of area))) at)
+
+  steps_are : all_steps rows (c ∷ []) ≡ map (in_area m) own
+  unfolding all_steps
+  steps_are = append_nil (map (in_area m) (row_steps (row_at rows m) c)) ∙ ap (λ (row : Option (List ℕ)). map (in_area m) (row_steps row c)) row_is
+
+  rows_are : all_rows rows (c ∷ []) ≡ slice_set rows m (Some (after (settled old.words.kept) own).kept)
+  unfolding all_rows
+  rows_are = ap (λ (row : Option (List ℕ)). slice_set rows m (row_after row c)) row_is
+
+  old_settled : old.words ≡ settled old.words.kept
+  old_settled = held_settled areas held m old at
+
+  new_is : new.words ≡ after (settled old.words.kept) (allowed fuse own)
+  new_is = h.makes.words ∙ ap (λ (w : Words). after w (allowed fuse own)) old_settled
+
+  words_are : map words_of (slice_set areas m (Ready new)) ≡ after_all (all_settled rows) (front fuse (all_steps rows (c ∷ [])))
+  words_are =
+      let there : slice_get (map words_of areas) m ≡ Some (Some old.words) = slice_get-map words_of areas m ∙ ap (option_map words_of) at in
+      let first : after_all (map words_of areas) (map (in_area m) (allowed fuse own)) ≡ slice_set (map words_of areas) m (Some (after old.words (allowed fuse own))) =
+      after_one m (allowed fuse own) (map words_of areas) old.words there in
+      map-set words_of areas m (Ready new) ∙ ap (λ (w : Words). slice_set (map words_of areas) m (Some w)) h.makes.words ∙ sym first
+      ∙ ap (λ (ws : List (Option Words)). after_all ws (map (in_area m) (allowed fuse own))) (held_words areas held)
+      ∙ ap (after_all (all_settled rows)) (sym (front_map (in_area m) fuse own (allowed fuse own) (allowed_front fuse own)) ∙ ap (front fuse) (sym steps_are))
+
+  made_all : MakesAll rows (map words_of (slice_set areas m (Ready new))) fuse left (all_steps rows (c ∷ [])) made
+  made_all =
+      let count : length (all_steps rows (c ∷ [])) ≡ length own = ap length steps_are ∙ length-map own (in_area m) in
+      record { words = words_are; fuse_left = h.makes.fuse_left ∙ ap (burnt fuse) (sym count); all_made = h.makes.all_made ∙ ap (lasts fuse) (sym count) }
+
+  rows_then : made ≡ true → rows_of (slice_set areas m (Ready new)) ≡ all_rows rows (c ∷ [])
+  rows_then e =
+      let all : allowed fuse own ≡ own = allowed_all fuse own (sym e ∙ h.makes.all_made) in
+      map-set (λ area. option_map (λ w. w.kept) (words_of area)) areas m (Ready new)
+      ∙ ap (λ (w : Words). slice_set rows m (Some w.kept)) (new_is ∙ ap (after (settled old.words.kept)) all) ∙ sym rows_are
+
   -- one change
   pub went_one : Went areas (slice_set areas m (Ready new)) fuse left (c ∷ []) made
   unfolding all_changed
   went_one = record {
     made = h.made_is ∙ ap (lasts fuse) (sym all_is);
     left_is = h.left_is ∙ ap (burnt fuse) (sym all_is);
+    makes = made_all;
+    rows = rows_then;
     held = λ e. All-set IsHeld areas m (Ready new) (h.ready e) held;
     done = λ e. done_is ∙ ap (λ (s : SeenArea). slice_set os m (Some s)) (h.done e) ∙ sym changed_is;
     cut = λ n is rows left. let (values, here, shown) = left_with areas m old new rows held at left in cut_is n values (areas_shown rows) (h.cut n is values here) shown;
@@ -188,16 +252,29 @@ module _ (areas : List Area) (held : AreHeld areas) (m : ℕ) (uuid : List ℕ) 
 
 -- no changes
 pub went_none : (areas : List Area) (fuse : Option ℕ) → AreHeld areas → Went areas areas fuse fuse [] true
-unfolding all_changed steps_of_all after_steps
+unfolding all_changed steps_of_all after_steps all_steps all_rows
 went_none areas fuse held = record {
   made = lasts_none fuse;
   left_is = burnt_none fuse;
+  makes = subst (λ (ws : List (Option Words)). MakesAll (rows_of areas) ws fuse fuse [] true) (sym (held_words areas held)) (made_none (rows_of areas) fuse (lasts_none fuse) (burnt_none fuse));
+  rows = λ e. refl;
   held = λ e. held;
   done = λ e. refl;
   cut = λ n is rows left. inl (left_shown areas rows held left);
   beside = refl;
   sizes = refl;
 }
+
+-- the words by some changes, all made, and then by others
+made_then : (old mid new : List Area) (fuse left last : Option ℕ) (xs ys : List Change) (whole : Bool) → MakesAll (rows_of old) (map words_of mid) fuse left (all_steps (rows_of old) xs) true → AreHeld mid
+    → rows_of mid ≡ all_rows (rows_of old) xs → MakesAll (rows_of mid) (map words_of new) left last (all_steps (rows_of mid) ys) whole
+    → MakesAll (rows_of old) (map words_of new) fuse last (all_steps (rows_of old) (xs ++ ys)) whole
+made_then old mid new fuse left last xs ys whole first held is second =
+    let first' : MakesAll (rows_of old) (all_settled (rows_of mid)) fuse left (all_steps (rows_of old) xs) true =
+    subst (λ (ws : List (Option Words)). MakesAll (rows_of old) ws fuse left (all_steps (rows_of old) xs) true) (held_words mid held) first in
+    let both = made_both (rows_of old) (rows_of mid) (map words_of new) fuse left last (all_steps (rows_of old) xs) (all_steps (rows_of mid) ys) whole first' second in
+    subst (λ (ss : List AreaStep). MakesAll (rows_of old) (map words_of new) fuse last ss whole)
+    (ap (λ (rs : Rows). all_steps (rows_of old) xs ++ all_steps rs ys) is ∙ sym (steps_both_in xs ys (rows_of old))) both
 
 -- some changes, all made, and then others
 pub went_both : (old mid new : List Area) (fuse left last : Option ℕ) (xs ys : List Change) (whole : Bool) → Went old mid fuse left xs true → Went mid new left last ys whole
@@ -211,6 +288,8 @@ went_both old mid new fuse left last xs ys whole a b =
     record {
       made = b.made ∙ ap (λ (f : Option ℕ). lasts f t) a.left_is ∙ lasts_both fuse s t (sym a.made) ∙ ap (lasts fuse) (sym both);
       left_is = b.left_is ∙ ap (λ (f : Option ℕ). burnt f t) a.left_is ∙ burnt_both fuse s t ∙ ap (burnt fuse) (sym both);
+      makes = made_then old mid new fuse left last xs ys whole a.makes (a.held refl) (a.rows refl) b.makes;
+      rows = λ e. b.rows e ∙ ap (λ (rs : Rows). all_rows rs ys) (a.rows refl) ∙ sym (rows_both xs ys (rows_of old));
       held = b.held;
       done = λ e. b.done e ∙ ap (λ (x : Seens). all_changed x ys) mid_is ∙ sym (changed_both xs ys os);
       cut = λ n is rows row_left.
@@ -240,6 +319,9 @@ went_cut old new fuse left xs ys a =
     record {
       made = short.0 ∙ ap (lasts fuse) (sym both);
       left_is = short.1 ∙ ap (burnt fuse) (sym both);
+      makes = subst (λ (ss : List AreaStep). MakesAll (rows_of old) (map words_of new) fuse left ss false) (sym (steps_both_in xs ys (rows_of old)))
+          (made_cut (rows_of old) (map words_of new) fuse left (all_steps (rows_of old) xs) (all_steps (all_rows (rows_of old) xs) ys) a.makes);
+      rows = λ e. absurd (false≢true e);
       held = λ e. absurd (false≢true e);
       done = λ e. absurd (false≢true e);
       cut = λ n is rows row_left.

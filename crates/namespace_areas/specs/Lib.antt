@@ -1,8 +1,10 @@
 pub mod Areas
 pub mod Seen
+pub mod Steps
 pub mod Went
 pub mod Opening
 pub mod Groups
 pub mod GroupSeen
 pub mod Finding
 pub mod Refusals
+pub mod Regions

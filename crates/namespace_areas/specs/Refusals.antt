@@ -8,6 +8,7 @@ use Rattle.label_set.specs.declared.placed.SetStatus.{SetStatus}
 use Rattle.label_set.specs.Rules.{module_of, modules_of}
 use Rattle.namespace_map.specs.Namespaces.{AreaState, Namespaces, extent_of, is_read_only, region_of, status_in}
 use Rattle.namespace_map.specs.Commands.{no_area, first_fit_of, is_bad_size, is_complete, least_module, new_offset, set_of, share_of}
+use Rattle.namespace_map.specs.declared.commands.CreateSpec.{CreateSpec}
 use Rattle.namespace_map.specs.declared.commands.Make.{Make}
 use Rattle.namespace_map.specs.Changes.{area_state, namespaces_of}
 use Rattle.namespace_map.specs.declared.refused.OpRefused.{OpRefused}
@@ -87,6 +88,6 @@ creating set areas labels taken size made =
 abbrev pub offset_or : List Mapping → List Placed → ℕ → Option OpRefused → Result ℕ OpRefused
 offset_or set labels size refused = value_unless (unwrap_or (fit_beside set labels (share_of set size)) 0) refused
 
--- where a new namespace of so many bytes lies in its region
-abbrev pub offset_for : Namespaces → ℕ → ℕ → ℕ
-offset_for ns region size = new_offset ns (set_of ns region) (share_of (set_of ns region) size)
+-- where a new namespace lies in its region
+abbrev pub offset_for : Namespaces → CreateSpec → ℕ
+offset_for ns spec = new_offset ns (set_of ns spec.region) (share_of (set_of ns spec.region) spec.size)

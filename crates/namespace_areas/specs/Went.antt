@@ -1,7 +1,7 @@
 -- What becomes of label areas by a list of changes, made one after another under a fuse.
 use Rattle.std.specs.Prelude.{◌≡◌, ◌⊎◌, ⊤, ℕ, ◌+◌, ◌<◌, ◌≤◌, Bool, true, List, [], ◌∷◌, length, map, Option, Some, None, IsSome}
 use Rattle.cut_words.specs.Words.{IsLeft}
-use Rattle.cut_words.specs.Fuses.{burnt, lasts}
+use Rattle.cut_words.specs.Fuses.{Makes, burnt, lasts}
 use Rattle.label_codec.specs.declared.label.Label.{Label}
 use Rattle.label_codec.specs.Writable.{IsSound}
 use Rattle.label_area.specs.Change.{count_of_steps}
@@ -10,7 +10,8 @@ use Rattle.label_area.specs.Opened.{IsReady}
 use Rattle.namespace_areas.specs.declared.area.Area.{Area}
 use Rattle.namespace_areas.specs.declared.area.Area.TheVariants.{Absent, Refused, Ready}
 use Rattle.namespace_map.specs.Areas.{Area as SeenArea, Change, slots_of, free_in, slot_of, area_at, replaced, changed, all_changed, steps_of_all, IsLeftBy}
-use Rattle.namespace_areas.specs.Seen.{AreHeld, ready_seen, areas_seen, AreLeft, area_shown, areas_shown}
+use Rattle.namespace_areas.specs.Seen.{AreHeld, ready_seen, areas_seen, words_of, AreLeft, area_shown, areas_shown}
+use Rattle.namespace_areas.specs.Steps.{MakesAll, all_rows, all_steps, area_steps, rows_of}
 
 -- ---- one area
 
@@ -34,6 +35,8 @@ pub record ShowsCut (old new : SeenArea) (count n : ℕ) (values : List ℕ) : T
 pub record AreaWent (old new : AreaState) (fuse left : Option ℕ) (uuid : List ℕ) (label : Option Label) (made : Bool) : Type 0 where
   pub made_is : made ≡ lasts fuse (count_of_steps old.block.size label)
   pub left_is : left ≡ burnt fuse (count_of_steps old.block.size label)
+  -- its words are those after the stores and keeps that the fuse lasts for, and after no other
+  pub makes : Makes old.words new.words fuse left (area_steps old.words.kept uuid label) made
   pub ready : made ≡ true → IsReady new
   pub done : made ≡ true → ready_seen new ≡ area_after (ready_seen old) uuid label
   pub cut : (n : ℕ) → fuse ≡ Some n → (values : List ℕ) → IsLeft new.words values
@@ -59,6 +62,9 @@ pub record Went (old new : List Area) (fuse left : Option ℕ) (changes : List C
   -- they were exactly where the fuse lasts for their steps
   pub made : whole ≡ lasts fuse (steps_of_all (areas_seen old) changes)
   pub left_is : left ≡ burnt fuse (steps_of_all (areas_seen old) changes)
+  -- the words of all areas are those after the changes' stores and keeps that the fuse lasts for, and after no other
+  pub makes : MakesAll (rows_of old) (map words_of new) fuse left (all_steps (rows_of old) changes) whole
+  pub rows : whole ≡ true → rows_of new ≡ all_rows (rows_of old) changes
   -- then no area is stopped, and they show what the changes make of what they showed
   pub held : whole ≡ true → AreHeld new
   pub done : whole ≡ true → areas_seen new ≡ all_changed (areas_seen old) changes

@@ -14,7 +14,7 @@ use crate::{Area, LabelGroups, extents_of};
 use arena_layout::plan;
 use interleave::InterleaveSet;
 use label_set::Placed;
-use namespace_map::{Make, Named, OpRefused};
+use namespace_map::{CreateSpec, Make, OpRefused};
 use region_space::Space;
 use std::alloc::{AllocError, Global};
 use uuid::Uuid;
@@ -149,32 +149,30 @@ pub fn create_offset(
     sets: &[InterleaveSet],
     areas: &[Area],
     groups: &LabelGroups,
-    uuid: &Uuid,
-    name: &Named,
-    region: u32,
-    size: u64,
-    make: Make,
+    spec: &CreateSpec,
 ) -> Result<u64, OpRefused>
     requires open { AreOpen areas.now groups.now }
     requires few { length sets.now < 2 ^ 32 }
-    ensures { Answers OpRefused.OutOfMemory result (value_unless (offset_for (shown sets.now areas.now) region size)
-        (create_refusal (shown sets.now areas.now) uuid.now name.now region size make)) }
+    ensures { Answers OpRefused.OutOfMemory result (value_unless (offset_for (shown sets.now areas.now) spec.now)
+        (create_refusal (shown sets.now areas.now) spec.now)) }
 {
-    if let Some(refused) = bad_name(name) {
+    if let Some(refused) = bad_name(&spec.name) {
         return Err(refused);
     }
-    let place = region as usize;
+    let place = spec.region as usize;
     if place >= sets.len() {
-        return Err(OpRefused::NoRegion { region });
+        return Err(OpRefused::NoRegion {
+            region: spec.region,
+        });
     }
-    let taken = is_taken(groups, uuid);
+    let taken = is_taken(groups, &spec.uuid);
     offset_in(
         alloc,
         &sets[place],
         areas,
         groups.labels(),
         taken,
-        size,
-        make,
+        spec.size,
+        spec.make,
     )
 }

@@ -4,6 +4,7 @@ ghost use Rattle.std.specs.Option.{option_map, option_to_list};
 ghost use Rattle.namespace_map.specs.Namespaces.{extent_of, region_of, shown_name, status_in};
 ghost use Rattle.namespace_areas.specs.GroupSeen.{namespace_in, namespace_with, number_in};
 
+use crate::Regions;
 use interleave::InterleaveSet;
 use label_codec::Name;
 use label_set::{Placed, SetStatus, Why, is_outside, some_local, status};
@@ -97,15 +98,14 @@ pub fn extents_of(alloc: Global, labels: &[Placed]) -> Result<Vec<Extent>, Alloc
 #[tactic(auto, unfolding(crate::specs::GroupSeen::namespace_with))]
 pub fn namespace_with(
     alloc: Global,
-    sets: &[InterleaveSet],
+    regions: &Regions,
     labels: &[Placed],
     first: &Placed,
 ) -> Result<Namespace, AllocError>
     requires some { 0 < length labels.now }
-    requires few { length sets.now < 2 ^ 32 }
-    ensures { IfOk result (λ namespace. namespace ≡ namespace_with sets.now labels.now first.now) }
+    ensures { IfOk result (λ namespace. namespace ≡ namespace_with regions.now labels.now first.now) }
 {
-    let region = region_of(sets, first);
+    let region = regions.region_of(first);
     let status = status_in(region, labels, first);
     Ok(Namespace {
         uuid: first.label.uuid,
@@ -122,15 +122,14 @@ pub fn namespace_with(
 /// Adds what a caller sees of the labels of one UUID, if there is one.
 pub fn add_namespace(
     alloc: Global,
-    sets: &[InterleaveSet],
+    regions: &Regions,
     labels: &[Placed],
     listed: &mut Items<Namespace>,
 ) -> Result<(), AllocError>
-    requires few { length sets.now < 2 ^ 32 }
-    ensures { OnOk result (listed.new ≡ listed.old ++ option_to_list (namespace_in sets.now labels.now)) }
+    ensures { OnOk result (listed.new ≡ listed.old ++ option_to_list (namespace_in regions.now labels.now)) }
 {
     if let Some(first) = labels.first() {
-        listed.push(namespace_with(alloc, sets, labels, first)?)?;
+        listed.push(namespace_with(alloc, regions, labels, first)?)?;
     }
     Ok(())
 }

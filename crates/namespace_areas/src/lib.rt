@@ -22,12 +22,16 @@
 //!                  so many steps leaves of the changes (`IsLeftBy`)
 //! ```
 //!
+//! What an area's words are, to the byte, is said by the list of all stores and keeps of the changes (`all_steps`): after
+//! all of them (`all_rows`), and after the first N (`words_after`). It follows from the first words and the changes alone.
+//!
 //! What an area shows to a definition is the size of its index blocks and its slots (`area_seen`); what a row of
 //! values shows is what it would be opened as (`area_shown`). Both are one where no change is under way.
 //!
 //! | promise | call | definition |
 //! |---|---|---|
 //! | what became of areas and a fuse by a list of changes | [`change_label`] | `Went` of `specs/Went.antt` |
+//! | the words of all areas after so many stores and keeps of the changes, and after no other | the same | `words_after`, `all_rows` of `specs/Steps.antt` |
 //! | so for a list of them, of which each can be made when its turn comes | [`make_changes`] | `CanMake` of `specs/Went.antt` |
 //! | what a cut leaves of the areas' words | [`into_words`] | `words_of`, `AreLeft` of `specs/Seen.antt` |
 //! | areas are opened as their words show them | [`open_areas`] | `opened_as` of `specs/Opening.antt` |
@@ -102,6 +106,7 @@ mod group_labels;
 mod groups;
 mod modules;
 mod open;
+mod regions;
 mod words;
 
 pub use area::Area;
@@ -118,4 +123,5 @@ pub use group_labels::{
 };
 pub use groups::LabelGroups;
 pub use open::open_areas;
+pub use regions::Regions;
 pub use words::into_words;

@@ -27,6 +27,7 @@ use Rattle.namespace_map.specs.Changes.{namespaces_of, area_state, placed_in_all
 use Rattle.namespace_map.proofs.Areas.{Proper}
 use Rattle.namespace_map.proofs.Slots.{slot}
 use Rattle.namespace_map.proofs.Labels.{part, placed_at, own_from, labels_of_areas}
+use Rattle.namespace_map.proofs.Asking.{create_with}
 use Rattle.namespace_laws.proofs.Sets.{no_fault, unmapped}
 use Rattle.namespace_laws.proofs.Regions.{found_passes}
 use Rattle.namespace_laws.proofs.Shaped.{least_nothing}
@@ -179,7 +180,7 @@ module _ (ns : Namespaces) (uuid : List ℕ) (name : Named) (region size : ℕ) 
     pub offset_whole : offset % unit_of set ≡ 0
     pub clear : AllByRecursion (λ (m : Mapping). is_clear (extents_of ns.entries) raw offset m ≡ true) set
 
-  pub allowed : refusal_of ns (command.Create uuid name region size made) ≡ None → Allowed
+  pub allowed : refusal_of ns (create_with uuid name region size made) ≡ None → Allowed
   allowed good =
       let r1 = (no_fault (bad_name name) _ good).1 in
       let r2 = no_fault (fault_if (is_none (slice_get ns.sets region)) (NoRegion region)) _ r1 in

@@ -30,6 +30,7 @@ use Rattle.namespace_map.specs.Changes.{namespaces_of, placed_in_all, new_label,
 use Rattle.namespace_map.proofs.Areas.{Proper}
 use Rattle.std.proofs.Math.ListN.{length-map}
 use Rattle.namespace_map.specs.Left.{AreRegions, IsPartOf, IsPending, Left}
+use Rattle.namespace_map.proofs.Asking.{create_with, spec_with}
 use Rattle.namespace_laws.proofs.Whole.{AllLab, own_of}
 use Rattle.namespace_laws.proofs.Staged.{Apart, names, IsGiven}
 use Rattle.namespace_laws.proofs.Sound.{SoundAt, SoundIn, IsWhole}
@@ -106,7 +107,7 @@ module _ (sets : List (List Mapping)) (areas : List (Option Area)) (uuid : List 
   ns = namespaces_of sets areas
 
   abbrev pub create : Command
-  create = command.Create uuid name region size made
+  create = create_with uuid name region size made
 
   abbrev pub set : List Mapping
   set = set_of ns region
@@ -121,7 +122,7 @@ module _ (sets : List (List Mapping)) (areas : List (Option Area)) (uuid : List 
   label_for = new_label uuid (name_in name) made set offset raw
 
   abbrev pub ps : List (ℕ × Label)
-  ps = new_labels ns uuid (name_in name) region size made
+  ps = new_labels ns (spec_with uuid name region size made)
 
   abbrev pub model : Model
   model = record {
@@ -130,7 +131,7 @@ module _ (sets : List (List Mapping)) (areas : List (Option Area)) (uuid : List 
   }
 
   abbrev pub made_entry : Entry
-  made_entry = new_entry ns uuid name region size made
+  made_entry = new_entry ns (spec_with uuid name region size made)
 
   -- the parts of the new labels are the new parts
   part_found : (ms : List Mapping) (k m : ℕ) → option_map (part_at m) (label_of (map label_for (enumerate_from k ms)) m) ≡ option_map (new_part uuid offset raw) (mapping_of ms m)

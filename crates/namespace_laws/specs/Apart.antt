@@ -4,7 +4,7 @@ use Rattle.std.specs.List.{Contains}
 use Rattle.nfit_reader.specs.declared.table.Mapping.{Mapping}
 use Rattle.region_space.specs.Space.{extents_meet}
 use Rattle.namespace_map.specs.Namespaces.{Part, Entry, Namespaces, lookup}
-use Rattle.namespace_map.specs.declared.commands.Make.{Make}
+use Rattle.namespace_map.specs.declared.commands.CreateSpec.{CreateSpec}
 use Rattle.namespace_map.specs.declared.commands.Named.{Named}
 use Rattle.namespace_map.specs.declared.commands.Command.{Command}
 use Rattle.namespace_map.specs.declared.commands.Command.TheVariants.{Create, Delete, Rename}
@@ -30,8 +30,8 @@ LeavesOthers sets areas uuid c =
 -- a law: so a create that isn't refused
 abbrev pub CreateLeavesOthers : Type 0
 CreateLeavesOthers =
-    (sets : List (List Mapping)) (areas : List (Option Area)) (uuid : List ℕ) (name : Named) (region size : ℕ) (made : Make) → AreRegions sets
-    → refusal_of (namespaces_of sets areas) (Create uuid name region size made) ≡ None → LeavesOthers sets areas uuid (Create uuid name region size made)
+    (sets : List (List Mapping)) (areas : List (Option Area)) (spec : CreateSpec) → AreRegions sets
+    → refusal_of (namespaces_of sets areas) (Create spec) ≡ None → LeavesOthers sets areas spec.uuid (Create spec)
 
 -- a law: so a delete
 abbrev pub DeleteLeavesOthers : Type 0
@@ -53,8 +53,8 @@ KeepsApart sets areas c =
 -- a law: a create that isn't refused keeps entries apart
 abbrev pub CreateKeepsApart : Type 0
 CreateKeepsApart =
-    (sets : List (List Mapping)) (areas : List (Option Area)) (uuid : List ℕ) (name : Named) (region size : ℕ) (made : Make) → AreRegions sets
-    → refusal_of (namespaces_of sets areas) (Create uuid name region size made) ≡ None → KeepsApart sets areas (Create uuid name region size made)
+    (sets : List (List Mapping)) (areas : List (Option Area)) (spec : CreateSpec) → AreRegions sets
+    → refusal_of (namespaces_of sets areas) (Create spec) ≡ None → KeepsApart sets areas (Create spec)
 
 -- a law: so does a delete
 abbrev pub DeleteKeepsApart : Type 0

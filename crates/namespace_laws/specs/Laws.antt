@@ -3,7 +3,7 @@ use Rattle.std.specs.Prelude.{◌≡◌, ◌⊎◌, ℕ, Bool, false, List, leng
 use Rattle.nfit_reader.specs.declared.table.Mapping.{Mapping}
 use Rattle.label_set.specs.declared.placed.SetStatus.TheVariants.{Complete}
 use Rattle.namespace_map.specs.Namespaces.{Entry, lookup}
-use Rattle.namespace_map.specs.declared.commands.Make.{Make}
+use Rattle.namespace_map.specs.declared.commands.CreateSpec.{CreateSpec}
 use Rattle.namespace_map.specs.declared.commands.Named.{Named}
 use Rattle.namespace_map.specs.declared.commands.Command.TheVariants.{Create, Delete, Rename}
 use Rattle.namespace_map.specs.Areas.{Area, after_steps}
@@ -24,18 +24,18 @@ CutOfCreateAlone new left = (left ≡ None) ⊎ (left ≡ Some new)
 -- a law: what a cut of a create that isn't refused leaves of its entry, after any number of steps
 abbrev pub CreateIsCut : Type 0
 CreateIsCut =
-    (sets : List (List Mapping)) (areas : List (Option Area)) (uuid : List ℕ) (name : Named) (region size : ℕ) (made : Make) → AreRegions sets
-    → refusal_of (namespaces_of sets areas) (Create uuid name region size made) ≡ None → (steps : ℕ) (stays : Bool)
-    → CutOfCreate (new_entry (namespaces_of sets areas) uuid name region size made)
-    (lookup uuid (namespaces_of sets (after_steps areas (changes_of (namespaces_of sets areas) areas (Create uuid name region size made)) steps stays)).entries)
+    (sets : List (List Mapping)) (areas : List (Option Area)) (spec : CreateSpec) → AreRegions sets
+    → refusal_of (namespaces_of sets areas) (Create spec) ≡ None → (steps : ℕ) (stays : Bool)
+    → CutOfCreate (new_entry (namespaces_of sets areas) spec)
+    (lookup spec.uuid (namespaces_of sets (after_steps areas (changes_of (namespaces_of sets areas) areas (Create spec)) steps stays)).entries)
 
 -- a law: where the region has one module, nothing is between
 abbrev pub CreateAloneIsCut : Type 0
 CreateAloneIsCut =
-    (sets : List (List Mapping)) (areas : List (Option Area)) (uuid : List ℕ) (name : Named) (region size : ℕ) (made : Make) → AreRegions sets
-    → refusal_of (namespaces_of sets areas) (Create uuid name region size made) ≡ None → length (set_of (namespaces_of sets areas) region) ≡ 1 → (steps : ℕ) (stays : Bool)
-    → CutOfCreateAlone (new_entry (namespaces_of sets areas) uuid name region size made)
-    (lookup uuid (namespaces_of sets (after_steps areas (changes_of (namespaces_of sets areas) areas (Create uuid name region size made)) steps stays)).entries)
+    (sets : List (List Mapping)) (areas : List (Option Area)) (spec : CreateSpec) → AreRegions sets
+    → refusal_of (namespaces_of sets areas) (Create spec) ≡ None → length (set_of (namespaces_of sets areas) spec.region) ≡ 1 → (steps : ℕ) (stays : Bool)
+    → CutOfCreateAlone (new_entry (namespaces_of sets areas) spec)
+    (lookup spec.uuid (namespaces_of sets (after_steps areas (changes_of (namespaces_of sets areas) areas (Create spec)) steps stays)).entries)
 
 -- ---- delete, of an entry that is complete and not pending
 

@@ -3,7 +3,7 @@ use Rattle.std.specs.Prelude.{◌≡◌, ◌⊎◌, ℕ, Bool, false, List, Opti
 use Rattle.nfit_reader.specs.declared.table.Mapping.{Mapping}
 use Rattle.label_set.specs.declared.placed.SetStatus.TheVariants.{Complete}
 use Rattle.namespace_map.specs.Namespaces.{Entry, lookup}
-use Rattle.namespace_map.specs.declared.commands.Make.{Make}
+use Rattle.namespace_map.specs.declared.commands.CreateSpec.{CreateSpec}
 use Rattle.namespace_map.specs.declared.commands.Named.{Named}
 use Rattle.namespace_map.specs.declared.commands.Command.{Command}
 use Rattle.namespace_map.specs.declared.commands.Command.TheVariants.{Create, Delete, Rename}
@@ -22,8 +22,8 @@ RecoversToEither sets areas c =
 -- a law: so for a create that isn't refused
 abbrev pub CreateRecovers : Type 0
 CreateRecovers =
-    (sets : List (List Mapping)) (areas : List (Option Area)) (uuid : List ℕ) (name : Named) (region size : ℕ) (made : Make) → AreRegions sets
-    → refusal_of (namespaces_of sets areas) (Create uuid name region size made) ≡ None → RecoversToEither sets areas (Create uuid name region size made)
+    (sets : List (List Mapping)) (areas : List (Option Area)) (spec : CreateSpec) → AreRegions sets
+    → refusal_of (namespaces_of sets areas) (Create spec) ≡ None → RecoversToEither sets areas (Create spec)
 
 -- a law: so for a delete that isn't refused, of an entry that is complete and not pending
 abbrev pub DeleteRecovers : Type 0

@@ -1,7 +1,7 @@
 -- Laws: a whole command's label changes make of the areas what the command makes of the map.
 use Rattle.std.specs.Prelude.{◌≡◌, ℕ, List, Option, None}
 use Rattle.nfit_reader.specs.declared.table.Mapping.{Mapping}
-use Rattle.namespace_map.specs.declared.commands.Make.{Make}
+use Rattle.namespace_map.specs.declared.commands.CreateSpec.{CreateSpec}
 use Rattle.namespace_map.specs.declared.commands.Named.{Named}
 use Rattle.namespace_map.specs.declared.commands.Command.{Command}
 use Rattle.namespace_map.specs.declared.commands.Command.TheVariants.{Create, Delete, Rename}
@@ -17,8 +17,8 @@ Agrees sets areas c = namespaces_of sets (all_changed areas (changes_of (namespa
 -- a law: so for a create that isn't refused
 abbrev pub CreateAgrees : Type 0
 CreateAgrees =
-    (sets : List (List Mapping)) (areas : List (Option Area)) (uuid : List ℕ) (name : Named) (region size : ℕ) (made : Make) → AreRegions sets
-    → refusal_of (namespaces_of sets areas) (Create uuid name region size made) ≡ None → Agrees sets areas (Create uuid name region size made)
+    (sets : List (List Mapping)) (areas : List (Option Area)) (spec : CreateSpec) → AreRegions sets
+    → refusal_of (namespaces_of sets areas) (Create spec) ≡ None → Agrees sets areas (Create spec)
 
 -- a law: so for a delete that isn't refused, of a complete entry, pending or not
 abbrev pub DeleteAgrees : Type 0

@@ -19,6 +19,7 @@ use Rattle.namespace_map.specs.declared.refused.OpRefused.TheVariants.{NoSlot}
 use Rattle.namespace_map.specs.Areas.{Area, Change, steps_of_all, after_steps, all_changed}
 use Rattle.namespace_map.specs.Commands.{refusal_of, step, recovered, taken_from, given_to, unfinished_gone}
 use Rattle.namespace_map.specs.Changes.{namespaces_of, changes_of, recovered_areas, by_position, by_position_with}
+use Rattle.namespace_map.proofs.Asking.{create_with}
 
 abbrev pair_mapping : ℕ → ℕ → ℕ → Mapping
 pair_mapping number offset serial = record {
@@ -48,7 +49,7 @@ abbrev a : List ℕ
 a = codes "a"
 
 abbrev make_u : Command
-make_u = command.Create u (named.Good a) 0 8388608 make.Raw
+make_u = create_with u (named.Good a) 0 8388608 make.Raw
 
 abbrev making : List Change
 making = changes_of (namespaces_of sets fresh) fresh make_u
@@ -91,7 +92,7 @@ abbrev made : List (Option Area)
 made = after_steps fresh making 520 false
 
 -- a second create with another UUID finds one free slot
-pub second_create : refusal_of (namespaces_of sets made) (command.Create (replicate 16 0x22) (named.Good a) 0 8388608 make.Raw) ≡ Some (NoSlot 0)
+pub second_create : refusal_of (namespaces_of sets made) (create_with (replicate 16 0x22) (named.Good a) 0 8388608 make.Raw) ≡ Some (NoSlot 0)
 unfolding after_steps steps_of_all all_changed put_all put status_of first_fault checked by_position by_position_with taken_from given_to unfinished_gone
 second_create = refl
 
@@ -290,7 +291,7 @@ abbrev one_area : List (Option Area)
 one_area = empty_area ∷ []
 
 abbrev make_one : Command
-make_one = command.Create u (named.Good (codes "a")) 0 8388608 make.Raw
+make_one = create_with u (named.Good (codes "a")) 0 8388608 make.Raw
 
 abbrev one_made : List (Option Area)
 one_made = all_changed one_area (changes_of (namespaces_of alone one_area) one_area make_one)

@@ -1,5 +1,6 @@
 pub mod Entries
 pub mod Rising
+pub mod Asking
 mod Rows
 mod CommandRows
 mod Refusals

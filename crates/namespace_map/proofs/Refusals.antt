@@ -18,6 +18,7 @@ use Rattle.namespace_map.specs.declared.refused.OpRefused.TheVariants.{NoSuch, E
 use Rattle.namespace_map.specs.Areas.{Area, steps_of_all, after_steps, all_changed}
 use Rattle.namespace_map.specs.Commands.{refusal_of, taken_from, given_to, unfinished_gone, named_of}
 use Rattle.namespace_map.specs.Changes.{namespaces_of, changes_of, by_position, by_position_with}
+use Rattle.namespace_map.proofs.Asking.{create_with}
 
 abbrev pair_mapping : ℕ → ℕ → ℕ → Mapping
 pair_mapping number offset serial = record {
@@ -47,7 +48,7 @@ abbrev a : List ℕ
 a = codes "a"
 
 abbrev make_u : Command
-make_u = command.Create u (named.Good a) 0 8388608 make.Raw
+make_u = create_with u (named.Good a) 0 8388608 make.Raw
 
 abbrev half_label : ℕ → ℕ → List ℕ → ℕ → Label
 half_label position flags name slot = record {
@@ -83,7 +84,7 @@ abbrev refused_by : List (Option Area) → Command → Option OpRefused
 refused_by areas c = refusal_of (namespaces_of sets areas) c
 
 abbrev create_v : List ℕ → ℕ → ℕ → Make → Command
-create_v text region size made = command.Create v (named_of text) region size made
+create_v text region size made = create_with v (named_of text) region size made
 
 pub bad_name : refused_by [] (create_v (replicate 64 97) 9 0 make.Raw) ≡ Some (BadName 64)
 unfolding after_steps steps_of_all all_changed put_all put status_of first_fault checked by_position by_position_with taken_from given_to unfinished_gone
@@ -97,11 +98,11 @@ pub no_region : refused_by (None ∷ None ∷ []) (create_v (codes "b") 1 0 make
 unfolding after_steps steps_of_all all_changed put_all put status_of first_fault checked by_position by_position_with taken_from given_to unfinished_gone
 no_region = refl
 
-pub module_labels : refused_by (area_with (half_label 0 0 (codes "a") 0) ∷ None ∷ []) (command.Create u (named_of (codes "a")) 0 0 make.Raw) ≡ Some (ModuleLabels 1)
+pub module_labels : refused_by (area_with (half_label 0 0 (codes "a") 0) ∷ None ∷ []) (create_with u (named_of (codes "a")) 0 0 make.Raw) ≡ Some (ModuleLabels 1)
 unfolding after_steps steps_of_all all_changed put_all put status_of first_fault checked by_position by_position_with taken_from given_to unfinished_gone
 module_labels = refl
 
-pub exists_even_half : refused_by (area_with (half_label 0 0 (codes "a") 0) ∷ empty_area ∷ []) (command.Create u (named_of (codes "a")) 0 0 make.Raw) ≡ Some Exists
+pub exists_even_half : refused_by (area_with (half_label 0 0 (codes "a") 0) ∷ empty_area ∷ []) (create_with u (named_of (codes "a")) 0 0 make.Raw) ≡ Some Exists
 unfolding after_steps steps_of_all all_changed put_all put status_of first_fault checked by_position by_position_with taken_from given_to unfinished_gone
 exists_even_half = refl
 

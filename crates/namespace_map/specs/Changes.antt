@@ -12,6 +12,7 @@ use Rattle.label_set.specs.declared.placed.Placed.{Placed}
 use Rattle.namespace_map.specs.Namespaces.{Entry, AreaState, Namespaces, placed_of, labels_with, entries_of}
 use Rattle.namespace_map.specs.declared.commands.Make.{Make}
 use Rattle.namespace_map.specs.declared.commands.Make.TheVariants as make
+use Rattle.namespace_map.specs.declared.commands.CreateSpec.{CreateSpec}
 use Rattle.namespace_map.specs.declared.commands.Command.{Command}
 use Rattle.namespace_map.specs.declared.commands.Command.TheVariants as command
 use Rattle.namespace_map.specs.Areas.{Area, Change, free_in, slots_on, all_changed}
@@ -77,11 +78,11 @@ new_label uuid name made set offset raw m = (
 )
 
 -- the labels of a new namespace, by position
-abbrev pub new_labels : Namespaces → List ℕ → List ℕ → ℕ → ℕ → Make → List (ℕ × Label)
-new_labels ns uuid name region size made =
-    let set = set_of ns region in
-    let raw = share_of set size in
-    map (new_label uuid name made set (new_offset ns set raw) raw) (enumerate_from 0 set)
+abbrev pub new_labels : Namespaces → CreateSpec → List (ℕ × Label)
+new_labels ns spec =
+    let set = set_of ns spec.region in
+    let raw = share_of set spec.size in
+    map (new_label spec.uuid (name_in spec.name) spec.make set (new_offset ns set raw) raw) (enumerate_from 0 set)
 
 -- labels by position
 unfoldable pub by_position_with : Placed → List Placed → List Placed
@@ -98,8 +99,7 @@ own_labels areas uuid = map (λ p. (p.«module», p.label)) (by_position (labels
 
 -- the changes of a command that isn't refused: by position, each label is put with UPDATING, and then without it, or removed
 abbrev pub changes_of : Namespaces → List (Option Area) → Command → List Change
-changes_of ns areas (command.Create uuid name region size made) =
-    in_two (λ l. Some (updating l)) (λ l. Some (settled l)) (new_labels ns uuid (name_in name) region size made)
+changes_of ns areas (command.Create spec) = in_two (λ l. Some (updating l)) (λ l. Some (settled l)) (new_labels ns spec)
 changes_of ns areas (command.Delete uuid) = in_two (λ l. Some (updating l)) (λ l. None) (own_labels areas uuid)
 changes_of ns areas (command.Rename uuid name) =
     in_two (λ l. Some (with_name (name_in name) (updating l))) (λ l. Some (with_name (name_in name) (settled l))) (own_labels areas uuid)

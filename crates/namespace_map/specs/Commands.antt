@@ -20,6 +20,7 @@ use Rattle.namespace_map.specs.declared.commands.Make.{Make}
 use Rattle.namespace_map.specs.declared.commands.Make.TheVariants as make
 use Rattle.namespace_map.specs.declared.commands.Named.{Named}
 use Rattle.namespace_map.specs.declared.commands.Named.TheVariants as named
+use Rattle.namespace_map.specs.declared.commands.CreateSpec.{CreateSpec}
 use Rattle.namespace_map.specs.declared.commands.Command.{Command}
 use Rattle.namespace_map.specs.declared.commands.Command.TheVariants as command
 use Rattle.namespace_map.specs.declared.refused.OpRefused.{OpRefused}
@@ -93,17 +94,17 @@ first_fit_of (m ∷ ms) extents raw =
 
 -- ---- refusals, in order
 
-abbrev pub create_refusal : Namespaces → List ℕ → Named → ℕ → ℕ → Make → Option OpRefused
-create_refusal ns uuid name region size made =
-    let set = set_of ns region in
+abbrev pub create_refusal : Namespaces → CreateSpec → Option OpRefused
+create_refusal ns spec =
+    let set = set_of ns spec.region in
     first_fault (
-    bad_name name
-    ∷ fault_if (is_none (slice_get ns.sets region)) (NoRegion region)
+    bad_name spec.name
+    ∷ fault_if (is_none (slice_get ns.sets spec.region)) (NoRegion spec.region)
     ∷ unready_of ns (modules_of set)
-    ∷ fault_if (is_some (lookup uuid ns.entries)) Exists
-    ∷ fault_if (is_bad_size set size made) (BadSize size)
+    ∷ fault_if (is_some (lookup spec.uuid ns.entries)) Exists
+    ∷ fault_if (is_bad_size set spec.size spec.make) (BadSize spec.size)
     ∷ short_of ns 2 (modules_of set)
-    ∷ fault_if (is_none (first_fit_of set (extents_of ns.entries) (share_of set size))) (NoSpace (share_of set size))
+    ∷ fault_if (is_none (first_fit_of set (extents_of ns.entries) (share_of set spec.size))) (NoSpace (share_of set spec.size))
     ∷ [])
 
 -- what only an entry that is there and complete gets past
@@ -129,7 +130,7 @@ claim_refusal ns uuid = entry_refusal (lookup uuid ns.entries) (λ e. fault_if (
 
 -- the first reason for which a command is refused
 abbrev pub refusal_of : Namespaces → Command → Option OpRefused
-refusal_of ns (command.Create uuid name region size made) = create_refusal ns uuid name region size made
+refusal_of ns (command.Create spec) = create_refusal ns spec
 refusal_of ns (command.Delete uuid) = delete_refusal ns uuid
 refusal_of ns (command.Rename uuid name) = rename_refusal ns uuid name
 refusal_of ns (command.Claim uuid) = claim_refusal ns uuid
@@ -172,26 +173,26 @@ new_parts uuid offset raw set count = filter_map (λ n. option_map (new_part uui
 abbrev pub new_offset : Namespaces → List Mapping → ℕ → ℕ
 new_offset ns set raw = unwrap_or (first_fit_of set (extents_of ns.entries) raw) 0
 
-abbrev pub new_entry : Namespaces → List ℕ → Named → ℕ → ℕ → Make → Entry
-new_entry ns uuid name region size made =
-    let set = set_of ns region in
-    let raw = share_of set size in
+abbrev pub new_entry : Namespaces → CreateSpec → Entry
+new_entry ns spec =
+    let set = set_of ns spec.region in
+    let raw = share_of set spec.size in
     record {
-      uuid = uuid;
-      name = name_in name;
-      region = Some region;
-      mode = mode_for made;
-      lba = lba_for made;
-      parts = new_parts uuid (new_offset ns set raw) raw set (length ns.areas);
-      status = Complete (name_in name) false;
+      uuid = spec.uuid;
+      name = name_in spec.name;
+      region = Some spec.region;
+      mode = mode_for spec.make;
+      lba = lba_for spec.make;
+      parts = new_parts spec.uuid (new_offset ns set raw) raw set (length ns.areas);
+      status = Complete (name_in spec.name) false;
       updating = [];
       read_only = None;
     }
 
-abbrev pub created : Namespaces → List ℕ → Named → ℕ → ℕ → Make → Namespaces
-created ns uuid name region size made = record ns {
-  areas = taken_from 0 (modules_of (set_of ns region)) ns.areas;
-  entries = put (new_entry ns uuid name region size made) ns.entries;
+abbrev pub created : Namespaces → CreateSpec → Namespaces
+created ns spec = record ns {
+  areas = taken_from 0 (modules_of (set_of ns spec.region)) ns.areas;
+  entries = put (new_entry ns spec) ns.entries;
 }
 
 abbrev pub deleted_entry : Namespaces → Option Entry → Namespaces
@@ -209,7 +210,7 @@ abbrev pub with_claims : Namespaces → List ℕ → ℕ → Namespaces
 with_claims ns uuid n = record ns { claims = (uuid, n) ∷ filter (λ c. not (bytes_eq c.0 uuid)) ns.claims }
 
 abbrev pub done : Namespaces → Command → Namespaces
-done ns (command.Create uuid name region size made) = created ns uuid name region size made
+done ns (command.Create spec) = created ns spec
 done ns (command.Delete uuid) = deleted_entry ns (lookup uuid ns.entries)
 done ns (command.Rename uuid name) = renamed_entry ns (name_in name) (lookup uuid ns.entries)
 done ns (command.Claim uuid) = with_claims ns uuid (claims_of ns uuid + 1)

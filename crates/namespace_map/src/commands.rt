@@ -27,22 +27,27 @@ pub enum Named {
     },
 }
 
+/// What a new namespace is to be: the one form of this from the command line to the labels.
+#[derive(Clone, Copy, Debug)]
+pub struct CreateSpec {
+    /// Its UUID. A namespace of sectors gives it to its arena, as the arena's own and as its parent's.
+    pub uuid: Uuid,
+    /// Its name.
+    pub name: Named,
+    /// The number of its region.
+    pub region: u32,
+    /// Its bytes, those of all modules together: a positive multiple of the unit of the region's set for
+    /// each of its modules.
+    pub size: u64,
+    /// What it is made as.
+    pub make: Make,
+}
+
 /// What is asked of the namespaces of an image set.
 #[derive(Clone, Copy, Debug)]
 pub enum Command {
     /// A namespace is made.
-    Create {
-        /// Its UUID.
-        uuid: Uuid,
-        /// Its name.
-        name: Named,
-        /// The number of its region.
-        region: u32,
-        /// Its bytes, those of all modules together.
-        size: u64,
-        /// What it is made as.
-        make: Make,
-    },
+    Create(CreateSpec),
     /// A namespace is removed.
     Delete {
         /// Its UUID.
@@ -65,20 +70,4 @@ pub enum Command {
         /// Its UUID.
         uuid: Uuid,
     },
-}
-
-/// What a namespace is to be, its name as a text.
-#[derive(Debug, Drop)]
-pub struct CreateSpec {
-    /// Its UUID.
-    pub uuid: Uuid,
-    /// Its name: at most 63 bytes, none of them zero.
-    pub name: String,
-    /// The number of its region.
-    pub region: u32,
-    /// Its bytes, those of all modules together: a positive multiple of the unit of the region's set for
-    /// each of its modules.
-    pub size: u64,
-    /// What it is made as.
-    pub make: Make,
 }

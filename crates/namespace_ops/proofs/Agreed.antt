@@ -6,7 +6,7 @@ use Rattle.nfit_reader.specs.declared.table.Mapping.{Mapping}
 use Rattle.namespace_areas.specs.declared.area.Area.{Area}
 use Rattle.namespace_map.specs.declared.commands.Command.{Command}
 use Rattle.namespace_map.specs.declared.commands.Command.TheVariants as command
-use Rattle.namespace_map.specs.declared.commands.Make.{Make}
+use Rattle.namespace_map.specs.declared.commands.CreateSpec.{CreateSpec}
 use Rattle.namespace_map.specs.declared.commands.Named.{Named}
 use Rattle.namespace_map.specs.declared.refused.OpRefused.{OpRefused}
 use Rattle.namespace_map.specs.declared.refused.OpRefused.TheVariants.{OutOfMemory}
@@ -41,11 +41,11 @@ pub rename_done : (sets : List (List Mapping)) (old new : List Area) (fuse left 
     → Carried sets old new fuse left (command.Rename uuid name) r → OnOk r (shown sets new ≡ done (shown sets old) (command.Rename uuid name))
 rename_done sets old new fuse left uuid name regions = done_by sets old new fuse left (command.Rename uuid name) (rename_agrees sets (areas_seen old) uuid name regions (seen_read old))
 
-pub create_done : (sets : List (List Mapping)) (old new : List Area) (fuse left : Option ℕ) (uuid : List ℕ) (name : Named) (region size : ℕ) (made : Make) → AreRegions sets → (r : Result (Unit {0}) OpRefused)
-    → (r ≢ Err OutOfMemory → Carried sets old new fuse left (command.Create uuid name region size made) r) → OnOk r (shown sets new ≡ done (shown sets old) (command.Create uuid name region size made))
-create_done sets old new fuse left uuid name region size made regions (Err f) carried = tt
-create_done sets old new fuse left uuid name region size made regions (Ok x) carried =
-    done_by sets old new fuse left (command.Create uuid name region size made) (create_agrees sets (areas_seen old) uuid name region size made regions) (Ok x) (carried (λ e. cc))
+pub create_done : (sets : List (List Mapping)) (old new : List Area) (fuse left : Option ℕ) (spec : CreateSpec) → AreRegions sets → (r : Result (Unit {0}) OpRefused)
+    → (r ≢ Err OutOfMemory → Carried sets old new fuse left (command.Create spec) r) → OnOk r (shown sets new ≡ done (shown sets old) (command.Create spec))
+create_done sets old new fuse left spec regions (Err f) carried = tt
+create_done sets old new fuse left spec regions (Ok x) carried =
+    done_by sets old new fuse left (command.Create spec) (create_agrees sets (areas_seen old) spec.uuid spec.name spec.region spec.size spec.make regions) (Ok x) (carried (λ e. cc))
 
 -- the same of equal sets and areas
 pub done_as : (c : Command) (sets sets' now : List (List Mapping)) (old old' new new' : List Area) (r : Result (Unit {0}) OpRefused) → sets ≡ sets' → sets ≡ now → old ≡ old' → new ≡ new'

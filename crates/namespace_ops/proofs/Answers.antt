@@ -20,7 +20,7 @@ use Rattle.namespace_ops.specs.Carried.{Carried, is_cut}
 use Rattle.namespace_ops.specs.Claims.{count_of, with_count}
 use Rattle.namespace_ops.specs.Counted.{Answered, Counted, namespaces_in, with_claims}
 use Rattle.namespace_ops.specs.Entries.{Reply}
-use Rattle.namespace_ops.proofs.NeverMemory.{carried_memory, delete_other}
+use Rattle.namespace_ops.proofs.Findings.{carried_memory, delete_finding}
 
 -- a command that is refused
 pub refused_answered : (old : Counted) (fuse : Option ℕ) (c : Command) (f : OpRefused) → old.held.stopped ≡ false → refusal_of (namespaces_in old) c ≡ Some f → is_cut (Err f) ≡ false → Answered old old fuse fuse c (Err f)
@@ -85,7 +85,7 @@ delete_answered old held fuse left uuid r running zero carried unchanged made se
     let same = unclaimed old uuid zero in
     record {
       off = λ off. absurd (false≢true (sym running ∙ off));
-      memory = λ e. absurd (carried_memory old.held.sets old.held.areas held.areas fuse left (Delete uuid) r (delete_other (shown old.held.sets old.held.areas) uuid) carried e);
+      memory = λ e. absurd (carried_memory old.held.sets old.held.areas held.areas fuse left (Delete uuid) r (delete_finding (shown old.held.sets old.held.areas) uuid) carried e);
       refused = λ goes f at.
           let was = unchanged f (sym same ∙ at) in ((carried.refused f (sym same ∙ at)).0, ap (λ (h : Held). record { held = h; claims = old.claims }) was.0, was.1);
       went = λ goes none. carried.went (sym same ∙ none);

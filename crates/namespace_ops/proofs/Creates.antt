@@ -1,5 +1,5 @@
 -- What a create that isn't refused asks of its label changes.
-use Rattle.std.proofs.Common.{◌≡◌, ◌≢◌, ℕ, zero, suc, ◌+◌, ◌*◌, ◌/◌, ◌%◌, ◌<◌, ◌≤◌, ◌^◌, Bool, true, false, List, [], ◌∷◌, length, map, Option, Some, None, Ok, Err, refl, sym, ap, ◌∙◌, arith}
+use Rattle.std.proofs.Common.{◌≡◌, ◌≢◌, ℕ, zero, suc, ◌+◌, ◌*◌, ◌/◌, ◌%◌, ◌<◌, ◌≤◌, ◌^◌, Bool, true, false, List, [], ◌∷◌, length, map, Option, Some, None, Ok, Err, refl, sym, ap, subst, ◌∙◌, arith}
 use Rattle.std.specs.Prelude.{◌&&◌, nat_lt, slice_get}
 use Rattle.std.specs.List.{AllByRecursion, enumerate_from}
 use Rattle.std.proofs.lemmas.Bool.{leb-true}
@@ -18,13 +18,15 @@ use Rattle.region_space.specs.Space.{is_clear}
 use Rattle.namespace_map.specs.Namespaces.{Namespaces, extents_of}
 use Rattle.namespace_map.proofs.Entries as entries
 use Rattle.namespace_map.specs.declared.commands.Make.{Make}
+use Rattle.namespace_map.specs.declared.commands.CreateSpec.{CreateSpec}
 use Rattle.namespace_map.specs.declared.commands.Named.{Named}
 use Rattle.namespace_map.specs.declared.commands.Named.TheVariants as named
 use Rattle.namespace_map.specs.declared.refused.OpRefused.{OpRefused}
 use Rattle.namespace_map.specs.declared.refused.OpRefused.TheVariants.{BadName, OutOfMemory}
-use Rattle.namespace_map.specs.Commands.{area_of, create_refusal, set_of, share_of}
+use Rattle.namespace_map.specs.Commands.{name_in, area_of, create_refusal, set_of, share_of}
 use Rattle.namespace_map.specs.Changes.{in_two, new_label, placed_in_all}
 use Rattle.namespace_map.proofs.Areas.{Proper}
+use Rattle.namespace_map.specs.Areas.{Change}
 use Rattle.namespace_map.specs.Left.{AreRegions}
 use Rattle.namespace_laws.proofs.Sets.{all_of_contained}
 use Rattle.namespace_laws.proofs.Allowed.{Allowed, allowed, free_there, proper_none}
@@ -34,8 +36,9 @@ use Rattle.namespace_areas.specs.Seen.{areas_seen}
 use Rattle.namespace_areas.specs.Went.{CanMake, PutsSound}
 use Rattle.namespace_areas.specs.Refusals.{offset_for, shown}
 use Rattle.namespace_ops.specs.declared.turns.Round.TheVariants.{Mark, Settle}
-use Rattle.namespace_ops.specs.Carried.{becomes}
-use Rattle.namespace_ops.specs.Created.{new_changes}
+use Rattle.namespace_ops.specs.Carried.{IsGoodName, becomes}
+use Rattle.namespace_ops.specs.Created.{IsNew, new_changes}
+use Rattle.namespace_ops.specs.declared.creating.NewNamespace.{NewNamespace}
 use Rattle.namespace_ops.proofs.CanPlan.{keeps_mark, sound_mark}
 use Rattle.namespace_ops.proofs.CanCreate.{IsNewOn, can_create, good_sizes, keeps_settle, sound_create, sound_settle, whole_pages}
 
@@ -68,7 +71,19 @@ all_step P Q step (x ∷ xs) (one, rest) = (step x one, all_step P Q step xs res
 abbrev IsPlain : Mapping → Type 0
 IsPlain m = (m.start % 4096 ≡ 0) × (m.start + m.size ≤ 2 ^ 63)
 
-module _ (sets : List (List Mapping)) (areas : List Area) (uuid : List ℕ) (name : Named) (region size : ℕ) (made : Make) (regions : AreRegions sets) (good : create_refusal (shown sets areas) uuid name region size made ≡ None) where
+module _ (sets : List (List Mapping)) (areas : List Area) (spec : CreateSpec) (regions : AreRegions sets) (good : create_refusal (shown sets areas) spec ≡ None) where
+  abbrev uuid : List ℕ
+  uuid = spec.uuid
+
+  abbrev region : ℕ
+  region = spec.region
+
+  abbrev size : ℕ
+  size = spec.size
+
+  abbrev made : Make
+  made = spec.make
+
   abbrev ns : Namespaces
   ns = shown sets areas
 
@@ -79,10 +94,10 @@ module _ (sets : List (List Mapping)) (areas : List Area) (uuid : List ℕ) (nam
   raw = share_of set size
 
   abbrev pub offset : ℕ
-  offset = offset_for ns region size
+  offset = offset_for ns spec
 
-  has : Allowed ns uuid name region size made
-  has = allowed ns uuid name region size made good
+  has : Allowed ns uuid spec.name region size made
+  has = allowed ns uuid spec.name region size made good
 
   pub region_there : region < length sets
   region_there = inside sets region set has.there
@@ -135,7 +150,25 @@ module _ (sets : List (List Mapping)) (areas : List Area) (uuid : List ℕ) (nam
   changes_are s n o r a b c = rw (a, b, c) refl
 
 -- a text that makes no name is refused
-pub create_not_named : (sets : List (List Mapping)) (areas : List Area) (uuid : List ℕ) (name : Named) (region size bytes : ℕ) (made : Make) → name ≡ named.Refused bytes
-    → create_refusal (shown sets areas) uuid name region size made ≡ None → ⊥
+pub create_not_named : (sets : List (List Mapping)) (areas : List Area) (spec : CreateSpec) (bytes : ℕ) → spec.name ≡ named.Refused bytes
+    → create_refusal (shown sets areas) spec ≡ None → ⊥
 unfolding first_fault
-create_not_named sets areas uuid name region size bytes made is none = none-some (BadName bytes) (sym none ∙ ap (λ (n : Named). create_refusal (shown sets areas) uuid n region size made) is)
+create_not_named sets areas spec bytes is none = none-some (BadName bytes) (sym none ∙ ap (λ (n : Named). create_refusal (shown sets areas) (record spec { name = n })) is)
+
+-- ---- what was planned
+
+module _ (sets : List (List Mapping)) (areas : List Area) (spec : CreateSpec) (regions : AreRegions sets) (new : NewNamespace) (is : IsNew sets areas spec new) where
+  pub planned_can : CanMake (areas_seen areas) new.changes.items
+  planned_can = subst (λ (cs : List Change). CanMake (areas_seen areas) cs) (sym is.changes) (new_can sets areas spec regions is.allowed (name_in spec.name))
+
+  no_zero : IsGoodName spec.name → (n : Named) → spec.name ≡ n → HasNoZero (name_in n)
+  no_zero good (named.Good n) at = good n at
+  no_zero good (named.Refused bytes) at = absurd (create_not_named sets areas spec bytes at is.allowed)
+
+  pub planned_sound : IsGoodName spec.name → AllByRecursion PutsSound new.changes.items
+  planned_sound good = subst (λ (cs : List Change). AllByRecursion PutsSound cs) (sym is.changes) (new_sound sets areas spec regions is.allowed (name_in spec.name) (no_zero good spec.name refl))
+
+-- on equal sets and areas
+pub planned_as : (sets sets' : List (List Mapping)) (areas areas' : List Area) (spec : CreateSpec) (new : NewNamespace) → sets ≡ sets' → areas ≡ areas' → IsNew sets' areas' spec new → IsNew sets areas spec new
+planned_as sets sets' areas areas' spec new a b is =
+    subst (λ (s : List (List Mapping)). IsNew s areas spec new) (sym a) (subst (λ (x : List Area). IsNew sets' x spec new) (sym b) is)

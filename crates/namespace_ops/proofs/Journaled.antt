@@ -21,7 +21,7 @@ use Rattle.namespace_ops.specs.Entries.{Entry, Reply}
 use Rattle.namespace_ops.specs.Counted.{Answered, Counted, GoesOn, namespaces_in}
 use Rattle.namespace_ops.specs.Replay.{after_entry, Gives, is_memory, Kept, kept_after, namespaces_with}
 use Rattle.namespace_ops.specs.Registered.{IsCutIn, IsJournaled, kept_of, opening_of, Registered, WasCut}
-use Rattle.namespace_ops.proofs.NeverMemory.{other_reply}
+use Rattle.namespace_ops.proofs.Findings.{other_reply}
 use Rattle.namespace_ops.proofs.Replays.{all_more, gives_more, gives_none, IsReply}
 
 memory_is : (r : Reply) → is_memory r ≡ true → r ≡ Err refused.OutOfMemory

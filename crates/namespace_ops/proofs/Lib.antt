@@ -12,10 +12,9 @@ pub mod Claimed
 pub mod NewOnes
 pub mod CanCreate
 pub mod Creates
-pub mod NeverCut
+pub mod Findings
 pub mod Sums
 pub mod Busy
-pub mod NeverMemory
 pub mod RegistryCounts
 pub mod Answers
 pub mod Replays

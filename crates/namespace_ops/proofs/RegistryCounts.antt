@@ -61,7 +61,7 @@ renamed_same ns name None = refl
 renamed_same ns name (Some e) = refl
 
 done_grows : (n : ℕ) (ns : Namespaces) (c : Command) → AreWithin n ns.claims → Grows n ns.claims (done ns c).claims
-done_grows n ns (command.Create uuid name region size made) all = same_grows n ns.claims _ all refl
+done_grows n ns (command.Create spec) all = same_grows n ns.claims _ all refl
 done_grows n ns (command.Delete uuid) all = same_grows n ns.claims _ all (deleted_same ns (lookup uuid ns.entries))
 done_grows n ns (command.Rename uuid name) all = same_grows n ns.claims _ all (renamed_same ns _ (lookup uuid ns.entries))
 done_grows n ns (command.Claim uuid) all = let at : count_of ns.claims uuid ≤ n = count_within n uuid ns.claims all in count_grows n ns.claims uuid (count_of ns.claims uuid + 1) all (omega (arith, at))

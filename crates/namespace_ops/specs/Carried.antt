@@ -40,7 +40,7 @@ IsGoodName name = (n : List ℕ) → name ≡ named.Good n → HasNoZero n
 
 -- so the name that a command gives, if it gives one
 abbrev pub HasGoodName : Command → Type 0
-HasGoodName (command.Create uuid name region size made) = IsGoodName name
+HasGoodName (command.Create spec) = IsGoodName spec.name
 HasGoodName (command.Delete uuid) = ⊤
 HasGoodName (command.Rename uuid name) = IsGoodName name
 HasGoodName (command.Claim uuid) = ⊤

@@ -33,7 +33,7 @@ GoesOn c reply = (c.held.stopped ≡ false) × (reply ≢ Err OutOfMemory)
 
 -- a command that may want memory
 abbrev pub takes_memory : Command → Bool
-takes_memory (Create uuid name region size made) = true
+takes_memory (Create spec) = true
 takes_memory other = false
 
 -- What a command comes to: its reply, and what became of the namespaces and of a fuse.

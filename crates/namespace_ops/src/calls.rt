@@ -2,7 +2,7 @@
 ghost use Rattle.std.specs.Prelude.{◌≡◌, ◌≢◌, ◌<◌, ◌≤◌, ℕ, Option, Err, false, string_bytes};
 ghost use Rattle.namespace_map.specs.declared.commands.Command.TheVariants as command;
 ghost use Rattle.namespace_map.specs.Commands.{named_of};
-ghost use Rattle.namespace_ops.specs.Carried.{HasGoodName};
+ghost use Rattle.namespace_ops.specs.Carried.{HasGoodName, IsGoodName};
 ghost use Rattle.namespace_ops.specs.Claims.{count_of};
 ghost use Rattle.namespace_ops.specs.Counted.{Answered, takes_memory};
 ghost use Rattle.namespace_ops.specs.Registered.{Entered};
@@ -20,8 +20,8 @@ use uuid::Uuid;
 impl<O: Opening> NamespaceRegistry<O> {
     /// Creates a namespace on all modules of a region, as `Holding::create` does.
     ///
-    /// The tag's session has room for one more call. Refusals, after which nothing has changed: `BadName`, `NoRegion`,
-    /// `ModuleLabels`, `Exists`, `BadSize`, `NoSlot`, `NoSpace`; `OutOfMemory` in place of any other answer. Else `PowerCut`
+    /// The tag's session has room for one more call, and the name has no zero byte, as `name_of` of `label_codec` makes
+    /// it. Refusals, after which nothing has changed: `BadName`, `NoRegion`, `ModuleLabels`, `Exists`, `BadSize`, `NoSlot`, `NoSpace`; `OutOfMemory` in place of any other answer. Else `PowerCut`
     /// comes exactly where the fuse has fewer steps left than the label changes take, or where an earlier call answered
     /// it. Of a namespace with sectors the labels alone are made; its arenas are whatever the modules have there.
     pub fn create(
@@ -32,28 +32,14 @@ impl<O: Opening> NamespaceRegistry<O> {
         spec: &CreateSpec,
     ) -> Result<(), OpRefused>
         requires room { 1 ≤ room_of self.old.room tag.session }
-        ensures entered { Entered self.old self.new tag (command.Create spec.now.uuid (named_of (string_bytes spec.now.name)) spec.now.region spec.now.size spec.now.make) result }
-        ensures answered { Answered self.old.counted self.new.counted fuse.old fuse.new (command.Create spec.now.uuid (named_of (string_bytes spec.now.name)) spec.now.region spec.now.size spec.now.make) result }
+        requires name { IsGoodName spec.now.name }
+        ensures entered { Entered self.old self.new tag (command.Create spec.now) result }
+        ensures answered { Answered self.old.counted self.new.counted fuse.old fuse.new (command.Create spec.now) result }
     {
-        let name = named(&spec.name);
-        let reply = self.namespaces.create(
-            alloc,
-            fuse,
-            &spec.uuid,
-            &name,
-            spec.region,
-            spec.size,
-            spec.make,
-        );
+        let reply = self.namespaces.create(alloc, fuse, spec);
         self.journal.enter(JournalEntry {
             tag,
-            command: Command::Create {
-                uuid: spec.uuid,
-                name,
-                region: spec.region,
-                size: spec.size,
-                make: spec.make,
-            },
+            command: Command::Create(*spec),
             reply,
         });
         reply

@@ -60,13 +60,7 @@ impl Holding {
         ensures stopped { self.new.stopped ≡ is_cut result }
     {
         match command {
-            Command::Create {
-                uuid,
-                name,
-                region,
-                size,
-                make,
-            } => self.create(alloc, fuse, uuid, name, *region, *size, *make),
+            Command::Create(spec) => self.create(alloc, fuse, spec),
             Command::Delete { uuid } => self.delete(fuse, uuid),
             Command::Rename { uuid, name } => self.rename(fuse, uuid, name),
             Command::Claim { uuid } => self.claim(uuid),

@@ -1,16 +1,17 @@
 //! The commands on what is held.
-ghost use Rattle.std.specs.Prelude.{◌≡◌, ◌≢◌, false, Some, Err, OnOk};
+ghost use Rattle.std.specs.Prelude.{◌≡◌, ◌≢◌, false, Some, Err, IfOk, OnOk};
 ghost use Rattle.namespace_map.specs.declared.commands.Command.TheVariants as command;
 ghost use Rattle.namespace_map.specs.Commands.{done, refusal_of};
 ghost use Rattle.namespace_map.specs.declared.refused.OpRefused.{OpRefused as Refused};
 ghost use Rattle.namespace_areas.specs.Refusals.{shown};
 ghost use Rattle.namespace_ops.specs.Carried.{Carried, IsGoodName, is_cut};
+ghost use Rattle.namespace_ops.specs.Created.{IsNew};
 
 use crate::changing::{delete, rename};
-use crate::creating::create;
+use crate::creating::{NewNamespace, create, plan_create};
 use crate::holding::Holding;
 use cut_words::Fuse;
-use namespace_map::{Make, Named, OpRefused};
+use namespace_map::{CreateSpec, Named, OpRefused};
 use std::alloc::Global;
 use uuid::Uuid;
 
@@ -22,47 +23,75 @@ fn is_cut(answer: &Result<(), OpRefused>) -> bool
 }
 
 impl Holding {
-    /// Creates a namespace on all modules of a region: a label is put with UPDATING on each, by position, and then each
-    /// without it. On a single module the label is put at once. It lies at the least offset, the same on each module, at
-    /// which it fits beside the extents of all labels.
+    /// Plans a namespace: finds its place, and the label changes by which it is made. Nothing changes, and all memory that
+    /// making it takes is taken here.
     ///
-    /// `size` is in bytes, those of all modules together. It isn't stopped, and the name has no zero byte, as `name_of`
-    /// of `label_codec` makes it. Refusals, after which nothing has changed (`create_offset` of `namespace_areas`):
-    /// `BadName`, `NoRegion`, `ModuleLabels`, `Exists`, `BadSize`, `NoSlot`, `NoSpace`. `OutOfMemory` may come in place of
-    /// any other answer, and nothing has changed then. Else `PowerCut`, as for [`Holding::delete`].
-    pub fn create(
+    /// It isn't stopped. Refusals are those of [`Holding::create`]; `OutOfMemory` may come in place of any other answer.
+    pub fn plan_create(&self, alloc: Global, spec: &CreateSpec) -> Result<NewNamespace, OpRefused>
+        requires running { self.now.stopped ≡ false }
+        ensures planned { IfOk result (IsNew self.now.sets self.now.areas spec.now) }
+        ensures refused { (f : Refused) → result ≡ Err f → f ≢ OpRefused.OutOfMemory → refusal_of (shown self.now.sets self.now.areas) (command.Create spec.now) ≡ Some f }
+    {
+        plan_create(alloc, self.sets.as_slice(), &self.areas, &self.groups, spec)
+    }
+
+    /// Makes a namespace that was planned on what is held now. It takes no memory.
+    ///
+    /// It isn't stopped, and the name has no zero byte, as `name_of` of `label_codec` makes it. `PowerCut` as for
+    /// [`Holding::delete`].
+    pub fn create_planned(
         &mut self,
-        alloc: Global,
         fuse: &mut Fuse,
-        uuid: &Uuid,
-        name: &Named,
-        region: u32,
-        size: u64,
-        make: Make,
+        spec: &CreateSpec,
+        new: &NewNamespace,
     ) -> Result<(), OpRefused>
         requires running { self.old.stopped ≡ false }
-        requires name { IsGoodName name.now }
-        ensures carried { result ≢ Err OpRefused.OutOfMemory → Carried self.old.sets self.old.areas self.new.areas fuse.old fuse.new (command.Create uuid.now name.now region size make) result }
-        ensures memory { result ≡ Err OpRefused.OutOfMemory → (self.new.areas ≡ self.old.areas) × (fuse.new ≡ fuse.old) }
-        ensures unchanged { (f : Refused) → refusal_of (shown self.old.sets self.old.areas) (command.Create uuid.now name.now region size make) ≡ Some f → result ≢ Err OpRefused.OutOfMemory → (self.new ≡ self.old) × (fuse.new ≡ fuse.old) }
-        ensures done { OnOk result (shown self.new.sets self.new.areas ≡ done (shown self.old.sets self.old.areas) (command.Create uuid.now name.now region size make)) }
+        requires name { IsGoodName spec.now.name }
+        requires planned { IsNew self.old.sets self.old.areas spec.now new.now }
+        ensures carried { Carried self.old.sets self.old.areas self.new.areas fuse.old fuse.new (command.Create spec.now) result }
+        ensures done { OnOk result (shown self.new.sets self.new.areas ≡ done (shown self.old.sets self.old.areas) (command.Create spec.now)) }
         ensures sets { self.new.sets ≡ self.old.sets }
         ensures stopped { self.new.stopped ≡ is_cut result }
     {
         let created = create(
-            alloc,
             self.sets.as_slice(),
             &mut self.areas,
             &mut self.groups,
             fuse,
-            uuid,
-            name,
-            region,
-            size,
-            make,
+            spec,
+            new,
         );
         self.stopped = is_cut(&created);
         created
+    }
+
+    /// Creates a namespace on all modules of a region: a label is put with UPDATING on each, by position, and then each
+    /// without it. On a single module the label is put at once. It lies at the least offset, the same on each module, at
+    /// which it fits beside the extents of all labels.
+    ///
+    /// It isn't stopped, and the name has no zero byte, as `name_of` of `label_codec` makes it. Refusals, after which
+    /// nothing has changed (`create_offset` of `namespace_areas`): `BadName`, `NoRegion`, `ModuleLabels`, `Exists`,
+    /// `BadSize`, `NoSlot`, `NoSpace`. `OutOfMemory` may come in place of any other answer, and nothing has changed then.
+    /// Else `PowerCut`, as for [`Holding::delete`].
+    pub fn create(
+        &mut self,
+        alloc: Global,
+        fuse: &mut Fuse,
+        spec: &CreateSpec,
+    ) -> Result<(), OpRefused>
+        requires running { self.old.stopped ≡ false }
+        requires name { IsGoodName spec.now.name }
+        ensures carried { result ≢ Err OpRefused.OutOfMemory → Carried self.old.sets self.old.areas self.new.areas fuse.old fuse.new (command.Create spec.now) result }
+        ensures memory { result ≡ Err OpRefused.OutOfMemory → (self.new.areas ≡ self.old.areas) × (fuse.new ≡ fuse.old) }
+        ensures unchanged { (f : Refused) → refusal_of (shown self.old.sets self.old.areas) (command.Create spec.now) ≡ Some f → result ≢ Err OpRefused.OutOfMemory → (self.new ≡ self.old) × (fuse.new ≡ fuse.old) }
+        ensures done { OnOk result (shown self.new.sets self.new.areas ≡ done (shown self.old.sets self.old.areas) (command.Create spec.now)) }
+        ensures sets { self.new.sets ≡ self.old.sets }
+        ensures stopped { self.new.stopped ≡ is_cut result }
+    {
+        match self.plan_create(alloc, spec) {
+            Ok(new) => self.create_planned(fuse, spec, &new),
+            Err(refused) => Err(refused),
+        }
     }
 
     /// Deletes the namespace of a UUID: its labels get UPDATING, by position, and then each is removed. A single label

@@ -10,7 +10,7 @@ ghost use Rattle.namespace_ops.specs.Counting.{counted_in, is_first};
 use crate::Holding;
 use crate::claims::Claims;
 use cut_words::Fuse;
-use namespace_map::{Command, Make, Named, OpRefused};
+use namespace_map::{Command, CreateSpec, Named, OpRefused};
 use std::alloc::Global;
 use uuid::Uuid;
 
@@ -60,21 +60,16 @@ impl CountedNamespaces {
         &mut self,
         alloc: Global,
         fuse: &mut Fuse,
-        uuid: &Uuid,
-        name: &Named,
-        region: u32,
-        size: u64,
-        make: Make,
+        spec: &CreateSpec,
     ) -> Result<(), OpRefused>
-        requires name { IsGoodName name.now }
-        ensures answered { Answered (counted_in self.old) (counted_in self.new) fuse.old fuse.new (command.Create uuid.now name.now region size make) result }
+        requires name { IsGoodName spec.now.name }
+        ensures answered { Answered (counted_in self.old) (counted_in self.new) fuse.old fuse.new (command.Create spec.now) result }
         ensures claims { self.new.claims ≡ self.old.claims }
     {
         if self.is_off() {
             return Err(OpRefused::PowerCut);
         }
-        self.holding
-            .create(alloc, fuse, uuid, name, region, size, make)
+        self.holding.create(alloc, fuse, spec)
     }
 
     /// Deletes a namespace that isn't claimed, unless power was cut. It takes no memory.
@@ -161,13 +156,7 @@ impl CountedNamespaces {
         ensures memory { takes_memory command.now ≡ false → result ≢ Err OpRefused.OutOfMemory }
     {
         match command {
-            Command::Create {
-                uuid,
-                name,
-                region,
-                size,
-                make,
-            } => self.create(alloc, fuse, uuid, name, *region, *size, *make),
+            Command::Create(spec) => self.create(alloc, fuse, spec),
             Command::Delete { uuid } => self.delete(fuse, uuid),
             Command::Rename { uuid, name } => self.rename(fuse, uuid, name),
             Command::Claim { uuid } => self.claim(uuid),

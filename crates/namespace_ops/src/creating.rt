@@ -1,11 +1,11 @@
 //! A namespace is created.
-ghost use Rattle.std.specs.Prelude.{◌≡◌, ◌≢◌, ◌+◌, ◌*◌, ◌<◌, ◌≤◌, ◌^◌, [], false, length, map, is_ok, Err, IfOk, OnOk, slice_get, slice_index_or, unwrap_or};
+ghost use Rattle.std.specs.Prelude.{◌≡◌, ◌≢◌, ◌+◌, ◌/◌, ◌<◌, ◌^◌, [], Some, false, length, map, is_ok, Err, IfOk, OnOk, slice_get, slice_index_or, unwrap_or};
 ghost use Rattle.std.specs.List.{AllByRecursion, enumerate_from};
 ghost use Rattle.nfit_reader.specs.declared.table.Mapping.{Mapping};
 ghost use Rattle.namespace_map.specs.Left.{AreRegions};
 ghost use Rattle.namespace_map.specs.declared.commands.Command.TheVariants as command;
 ghost use Rattle.namespace_map.specs.declared.refused.OpRefused.{OpRefused as Refused};
-ghost use Rattle.namespace_map.specs.Commands.{done, lba_for};
+ghost use Rattle.namespace_map.specs.Commands.{done, lba_for, refusal_of};
 ghost use Rattle.namespace_map.specs.Changes.{abstraction_for, in_two, new_label};
 ghost use Rattle.namespace_areas.specs.Seen.{areas_seen};
 ghost use Rattle.namespace_areas.specs.Went.{CanMake, PutsSound, Went};
@@ -14,7 +14,7 @@ ghost use Rattle.namespace_areas.specs.Refusals.{shown};
 ghost use Rattle.namespace_ops.specs.Held.{AreCurrent};
 ghost use Rattle.namespace_ops.specs.Plans.{pairs_of};
 ghost use Rattle.namespace_ops.specs.Carried.{Carried, IsGoodName, becomes, is_cut};
-ghost use Rattle.namespace_ops.specs.Created.{new_changes};
+ghost use Rattle.namespace_ops.specs.Created.{IsNew, new_changes};
 
 use crate::changing::carry_out;
 use crate::turns::{Round, plan};
@@ -23,7 +23,7 @@ use interleave::InterleaveSet;
 use label_codec::{BTT_2_0, Label, NO_ABSTRACTION, Name, PERSISTENT_MEMORY};
 use label_set::Placed;
 use namespace_areas::{Area, Change, LabelGroups, create_offset};
-use namespace_map::{Make, Named, OpRefused};
+use namespace_map::{CreateSpec, Make, Named, OpRefused};
 use std::alloc::{AllocError, Global};
 use uuid::Uuid;
 
@@ -118,32 +118,6 @@ impl NewLabels {
     }
 }
 
-/// Makes the labels of a new namespace in a set.
-fn create_in(
-    alloc: Global,
-    set: &InterleaveSet,
-    areas: &mut [Area],
-    groups: &mut LabelGroups,
-    fuse: &mut Fuse,
-    new: &NewLabels,
-) -> Result<(), OpRefused>
-    requires few { length areas.old < 2 ^ 32 }
-    requires current { AreCurrent areas.old groups.old }
-    requires fits { AllByRecursion (λ m. m.start + new.now.offset < 2 ^ 64) set.now }
-    requires can { CanMake (areas_seen areas.old) (new_changes set.now new.now) }
-    requires sound { AllByRecursion PutsSound (new_changes set.now new.now) }
-    ensures went { result ≢ Err OpRefused.OutOfMemory → Went areas.old areas.new fuse.old fuse.new (new_changes set.now new.now) (is_ok result) }
-    ensures cut { result ≢ Err OpRefused.OutOfMemory → (f : Refused) → result ≡ Err f → f ≡ OpRefused.PowerCut }
-    ensures memory { result ≡ Err OpRefused.OutOfMemory → (areas.new ≡ areas.old) × (fuse.new ≡ fuse.old) }
-    ensures current { is_cut result ≡ false → AreCurrent areas.new groups.new }
-    ensures slots { is_cut result ≡ false → slots_in areas.new ≡ slots_in areas.old }
-{
-    match new.changes(alloc, set) {
-        Ok(changes) => carry_out(areas, groups, &changes, fuse),
-        Err(AllocError) => Err(OpRefused::OutOfMemory),
-    }
-}
-
 /// The set of a region that is there.
 fn set_at(sets: &[InterleaveSet], region: u32) -> &InterleaveSet
     requires { region < length sets.now }
@@ -152,43 +126,87 @@ fn set_at(sets: &[InterleaveSet], region: u32) -> &InterleaveSet
     &sets[region as usize]
 }
 
-/// Creates a namespace.
-pub(crate) fn create(
+/// Where a namespace that nothing refuses will lie, and the label changes by which it is made. All memory that a create
+/// takes is in it.
+#[derive(Debug, Drop)]
+pub struct NewNamespace {
+    /// How far its extents lie from the start of each mapping, in bytes.
+    pub offset: u64,
+    /// Each label is put with UPDATING, by position, and then without it; a single one is put at once.
+    pub changes: Vec<Change>,
+}
+
+/// The label changes of a namespace of this name at an offset.
+fn named_changes(
     alloc: Global,
+    sets: &[InterleaveSet],
+    spec: &CreateSpec,
+    name: Name,
+    offset: u64,
+) -> Result<Vec<Change>, OpRefused>
+    requires there { spec.now.region < length sets.now }
+    requires fits { AllByRecursion (λ m. m.start + offset < 2 ^ 64) (unwrap_or (slice_get sets.now spec.now.region) []) }
+    ensures changes { IfOk result (λ changes. changes.items ≡ new_changes (unwrap_or (slice_get sets.now spec.now.region) [])
+        (record { uuid = spec.now.uuid; name = name; make = spec.now.make; offset = offset; raw = spec.now.size / length (unwrap_or (slice_get sets.now spec.now.region) []) })) }
+    ensures memory { (f : Refused) → result ≡ Err f → f ≡ OpRefused.OutOfMemory }
+{
+    let set = set_at(sets, spec.region);
+    let new = NewLabels {
+        uuid: spec.uuid,
+        name,
+        make: spec.make,
+        offset,
+        raw: spec.size / u64::from(set.ways()),
+    };
+    match new.changes(alloc, set) {
+        Ok(changes) => Ok(changes),
+        Err(AllocError) => Err(OpRefused::OutOfMemory),
+    }
+}
+
+/// Plans a namespace, or says why it isn't made.
+pub(crate) fn plan_create(
+    alloc: Global,
+    sets: &[InterleaveSet],
+    areas: &[Area],
+    groups: &LabelGroups,
+    spec: &CreateSpec,
+) -> Result<NewNamespace, OpRefused>
+    requires regions { AreRegions sets.now }
+    requires few_sets { length sets.now < 2 ^ 32 }
+    requires few { length areas.now < 2 ^ 32 }
+    requires current { AreCurrent areas.now groups.now }
+    ensures planned { IfOk result (IsNew sets.now areas.now spec.now) }
+    ensures refused { (f : Refused) → result ≡ Err f → f ≢ OpRefused.OutOfMemory → refusal_of (shown sets.now areas.now) (command.Create spec.now) ≡ Some f }
+{
+    let offset = create_offset(alloc, sets, areas, groups, spec)?;
+    match spec.name {
+        Named::Good(name) => {
+            let changes = named_changes(alloc, sets, spec, name, offset)?;
+            Ok(NewNamespace { offset, changes })
+        }
+        Named::Refused { bytes } => Err(OpRefused::BadName { bytes }),
+    }
+}
+
+/// Makes the labels of a namespace that was planned. It takes no memory.
+pub(crate) fn create(
     sets: &[InterleaveSet],
     areas: &mut [Area],
     groups: &mut LabelGroups,
     fuse: &mut Fuse,
-    uuid: &Uuid,
-    name: &Named,
-    region: u32,
-    size: u64,
-    make: Make,
+    spec: &CreateSpec,
+    new: &NewNamespace,
 ) -> Result<(), OpRefused>
     requires regions { AreRegions sets.now }
-    requires few_sets { length sets.now < 2 ^ 32 }
     requires few { length areas.old < 2 ^ 32 }
-    requires name { IsGoodName name.now }
+    requires name { IsGoodName spec.now.name }
     requires current { AreCurrent areas.old groups.old }
-    ensures carried { result ≢ Err OpRefused.OutOfMemory → Carried sets.now areas.old areas.new fuse.old fuse.new (command.Create uuid.now name.now region size make) result }
-    ensures done { OnOk result (shown sets.now areas.new ≡ done (shown sets.now areas.old) (command.Create uuid.now name.now region size make)) }
-    ensures memory { result ≡ Err OpRefused.OutOfMemory → (areas.new ≡ areas.old) × (fuse.new ≡ fuse.old) }
+    requires planned { IsNew sets.now areas.old spec.now new.now }
+    ensures carried { Carried sets.now areas.old areas.new fuse.old fuse.new (command.Create spec.now) result }
+    ensures done { OnOk result (shown sets.now areas.new ≡ done (shown sets.now areas.old) (command.Create spec.now)) }
     ensures current { is_cut result ≡ false → AreCurrent areas.new groups.new }
     ensures slots { is_cut result ≡ false → slots_in areas.new ≡ slots_in areas.old }
 {
-    let offset = create_offset(alloc, sets, areas, groups, uuid, name, region, size, make)?;
-    match name {
-        Named::Good(name) => {
-            let set = set_at(sets, region);
-            let new = NewLabels {
-                uuid: *uuid,
-                name: *name,
-                make,
-                offset,
-                raw: size / u64::from(set.ways()),
-            };
-            create_in(alloc, set, areas, groups, fuse, &new)
-        }
-        Named::Refused { bytes } => Err(OpRefused::BadName { bytes: *bytes }),
-    }
+    carry_out(areas, groups, &new.changes, fuse)
 }

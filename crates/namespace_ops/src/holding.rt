@@ -1,5 +1,5 @@
 //! What is held of an image set while commands run.
-ghost use Rattle.std.specs.Prelude.{◌≡◌, ◌<◌, ◌^◌, false, not, length, is_ok, IfOk, OnOk};
+ghost use Rattle.std.specs.Prelude.{◌≡◌, ◌<◌, ◌^◌, true, false, not, length, is_ok, IfOk, OnOk};
 ghost use Rattle.namespace_map.specs.Left.{AreRegions};
 ghost use Rattle.namespace_areas.specs.Areas.{labels_of};
 ghost use Rattle.namespace_map.specs.Commands.{recovered};
@@ -10,11 +10,11 @@ ghost use Rattle.namespace_areas.specs.Went.{Went};
 ghost use Rattle.namespace_ops.specs.Held.{AreCurrent};
 
 use crate::recovering::recover;
+use crate::registry::Registry;
 use crate::room::Room;
 use cut_words::{Fuse, PowerCut};
 use interleave::InterleaveSet;
-use namespace_areas::{Area, LabelGroups, slots_in};
-use nvd_words::Items;
+use namespace_areas::{Area, LabelGroups, Regions, slots_in};
 use std::alloc::{AllocError, Global};
 use std::marker::Model;
 
@@ -22,7 +22,7 @@ use std::marker::Model;
 /// work in. Where power is cut in a command it is **stopped**, and no command is left.
 #[derive(Debug, Drop)]
 pub struct Holding {
-    pub(crate) sets: Items<InterleaveSet>,
+    pub(crate) sets: Regions,
     pub(crate) areas: Vec<Area>,
     pub(crate) groups: LabelGroups,
     pub(crate) room: Room,
@@ -41,22 +41,21 @@ impl Model for Holding {
 }
 
 impl Holding {
-    /// Holds areas over interleave sets, which are those of regions of which no two meet.
+    /// Holds what a registry has opened, with the labels by UUID that it has found. Its interleave sets are those of
+    /// regions of which no two meet, and its areas are held: each is as it was read.
     ///
-    /// The areas are held: each is as it was read. The one error is want of memory, of which a label's for each slot
-    /// of the areas, and a change's for two.
-    pub fn of(
-        alloc: Global,
-        sets: Items<InterleaveSet>,
-        areas: Vec<Area>,
-    ) -> Result<Holding, AllocError>
-        requires few_sets { length sets < 2 ^ 32 }
-        requires few { length areas.items < 2 ^ 32 }
-        requires regions { AreRegions sets }
-        requires held { AreHeld areas.items }
-        ensures { IfOk result (λ h. h ≡ record { sets = sets; areas = areas.items; stopped = false }) }
+    /// The one error is want of memory, of which a label's for each slot of the areas, and a change's for two.
+    pub fn of(alloc: Global, registry: Registry) -> Result<Holding, AllocError>
+        requires regions { AreRegions registry.sets }
+        requires held { AreHeld registry.areas }
+        ensures { IfOk result (λ h. h ≡ record { sets = registry.sets; areas = registry.areas; stopped = false }) }
     {
-        let groups = LabelGroups::of(alloc, &areas)?;
+        let Registry {
+            sets,
+            areas,
+            groups,
+        } = registry;
+        let areas = areas.into_vec();
         let slots = slots_in(&areas);
         let room = Room {
             own: Vec::with_capacity(alloc, slots)?,
@@ -86,7 +85,7 @@ impl Holding {
         ensures stopped { self.new.stopped ≡ not (is_ok result) }
     {
         let done = recover(
-            self.sets.as_slice(),
+            &self.sets,
             &mut self.areas,
             &mut self.groups,
             &mut self.room,
@@ -108,6 +107,20 @@ impl Holding {
         ensures { result ≡ self.now.stopped }
     {
         self.stopped
+    }
+
+    /// The interleave sets, and the regions of each module.
+    pub(crate) fn regions(&self) -> &Regions
+        ensures { result.now ≡ self.now.sets }
+    {
+        &self.sets
+    }
+
+    /// Power was cut outside a command on labels, as in the format of an arena: no command is left.
+    pub fn stop(&mut self)
+        ensures { self.new ≡ record { sets = self.old.sets; areas = self.old.areas; stopped = true } }
+    {
+        self.stopped = true;
     }
 
     /// The interleave sets, by region number.

@@ -163,7 +163,7 @@ impl<O: Opening> NamespaceRegistry<O> {
         let _areas = holding.areas();
         listed(
             alloc,
-            holding.sets(),
+            holding.regions(),
             holding.groups(),
             &self.namespaces.claims,
         )

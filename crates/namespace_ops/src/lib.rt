@@ -77,9 +77,11 @@ mod room;
 mod settling;
 mod turns;
 
+pub use creating::NewNamespace;
 pub use holding::Holding;
 pub use journal::JournalEntry;
 pub use journaling::{NamespaceRegistry, Opening};
+pub use names::named;
 pub use namespace_areas::Area;
 pub use nvd_words::Tag;
 pub use registry::{OpenFault, Registry};

@@ -7,7 +7,7 @@ use label_codec::name_of;
 use namespace_map::Named;
 
 /// The name that a text makes, or the length of one that makes none.
-pub(crate) fn named(text: &str) -> Named
+pub fn named(text: &str) -> Named
     ensures named { result ≡ named_of text.now }
     ensures good { IsGoodName result }
 {

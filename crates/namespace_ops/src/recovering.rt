@@ -15,67 +15,63 @@ use crate::removing::plan_removals;
 use crate::room::Room;
 use crate::settling::plan_settlings;
 use cut_words::{Fuse, PowerCut};
-use interleave::InterleaveSet;
-use namespace_areas::{Area, LabelGroups};
+use namespace_areas::{Area, LabelGroups, Regions};
 
 /// Every unfinished namespace, rising by UUID, loses its labels.
 fn remove_unfinished(
-    sets: &[InterleaveSet],
+    regions: &Regions,
     areas: &mut [Area],
     groups: &mut LabelGroups,
     room: &mut Room,
     fuse: &mut Fuse,
 ) -> Result<(), PowerCut>
-    requires few_sets { length sets.now < 2 ^ 32 }
     requires few { length areas.old < 2 ^ 32 }
     requires current { AreCurrent areas.old groups.old }
     requires room { HasRoomFor (slots_in areas.old) (vec_capacity room.old.own) (vec_capacity room.old.changes) }
-    ensures went { Went areas.old areas.new fuse.old fuse.new (gone_round sets.now (areas_seen areas.old)) (is_ok result) }
+    ensures went { Went areas.old areas.new fuse.old fuse.new (gone_round regions.now (areas_seen areas.old)) (is_ok result) }
     ensures current { OnOk result (AreCurrent areas.new groups.new) }
     ensures room { OnOk result (HasRoomFor (slots_in areas.new) (vec_capacity room.new.own) (vec_capacity room.new.changes)) }
 {
-    plan_removals(sets, groups, room);
+    plan_removals(regions, groups, room);
     make_all(areas, groups, &room.changes, fuse)
 }
 
 /// Every pending namespace, rising by UUID, is settled as far as slots are free.
 fn settle_pending(
-    sets: &[InterleaveSet],
+    regions: &Regions,
     areas: &mut [Area],
     groups: &mut LabelGroups,
     room: &mut Room,
     fuse: &mut Fuse,
 ) -> Result<(), PowerCut>
-    requires few_sets { length sets.now < 2 ^ 32 }
     requires few { length areas.old < 2 ^ 32 }
     requires current { AreCurrent areas.old groups.old }
     requires room { HasRoomFor (slots_in areas.old) (vec_capacity room.old.own) (vec_capacity room.old.changes) }
-    ensures went { Went areas.old areas.new fuse.old fuse.new (settling_round sets.now (areas_seen areas.old)) (is_ok result) }
+    ensures went { Went areas.old areas.new fuse.old fuse.new (settling_round regions.now (areas_seen areas.old)) (is_ok result) }
     ensures current { OnOk result (AreCurrent areas.new groups.new) }
     ensures room { OnOk result (HasRoomFor (slots_in areas.new) (vec_capacity room.new.own) (vec_capacity room.new.changes)) }
 {
-    plan_settlings(sets, areas, groups, room);
+    plan_settlings(regions, areas, groups, room);
     make_all(areas, groups, &room.changes, fuse)
 }
 
 /// Both rounds.
 pub(crate) fn recover(
-    sets: &[InterleaveSet],
+    regions: &Regions,
     areas: &mut [Area],
     groups: &mut LabelGroups,
     room: &mut Room,
     fuse: &mut Fuse,
 ) -> Result<(), PowerCut>
-    requires few_sets { length sets.now < 2 ^ 32 }
     requires few { length areas.old < 2 ^ 32 }
-    requires regions { AreRegions sets.now }
+    requires regions { AreRegions regions.now }
     requires current { AreCurrent areas.old groups.old }
     requires room { HasRoomFor (slots_in areas.old) (vec_capacity room.old.own) (vec_capacity room.old.changes) }
-    ensures went { Went areas.old areas.new fuse.old fuse.new (recovery_changes sets.now (areas_seen areas.old)) (is_ok result) }
-    ensures map { OnOk result (namespaces_of sets.now (areas_seen areas.new) ≡ recovered (namespaces_of sets.now (areas_seen areas.old))) }
+    ensures went { Went areas.old areas.new fuse.old fuse.new (recovery_changes regions.now (areas_seen areas.old)) (is_ok result) }
+    ensures map { OnOk result (namespaces_of regions.now (areas_seen areas.new) ≡ recovered (namespaces_of regions.now (areas_seen areas.old))) }
     ensures current { OnOk result (AreCurrent areas.new groups.new) }
     ensures room { OnOk result (HasRoomFor (slots_in areas.new) (vec_capacity room.new.own) (vec_capacity room.new.changes)) }
 {
-    remove_unfinished(sets, areas, groups, room, fuse)?;
-    settle_pending(sets, areas, groups, room, fuse)
+    remove_unfinished(regions, areas, groups, room, fuse)?;
+    settle_pending(regions, areas, groups, room, fuse)
 }

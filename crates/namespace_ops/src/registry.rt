@@ -9,7 +9,7 @@ ghost use Rattle.namespace_areas.specs.Areas.{AreRunning, labels_of};
 use crate::listing::listed;
 use interleave::{InterleaveSet, SetFault, interleave_set};
 use label_codec::Mode;
-use namespace_areas::{Area, Found, LabelGroups, extents_of, find, gathered};
+use namespace_areas::{Area, Found, LabelGroups, Regions, extents_of, find, gathered};
 use namespace_map::{Namespace, OpRefused};
 use nfit_reader::Nfit;
 use nvd_words::Items;
@@ -43,10 +43,10 @@ impl From<AllocError> for OpenFault {
 /// The namespaces of an image set: the interleave sets of its regions, and the label areas of its modules.
 #[derive(Debug, Drop)]
 pub struct Registry {
-    sets: Items<InterleaveSet>,
-    areas: Items<Area>,
+    pub(crate) sets: Regions,
+    pub(crate) areas: Items<Area>,
     // The labels of all areas by UUID.
-    groups: LabelGroups,
+    pub(crate) groups: LabelGroups,
 }
 
 impl Model for Registry {
@@ -138,6 +138,7 @@ impl Registry {
     {
         check_overlap(alloc, areas.as_slice())?;
         let groups = LabelGroups::of(alloc, areas.as_slice())?;
+        let sets = Regions::of(alloc, sets, areas.len() as u32)?;
         Ok(Registry {
             sets,
             areas,
@@ -173,7 +174,7 @@ impl Registry {
         ensures { IfOk result (λ namespaces. namespaces ≡ listing self.now) }
     {
         let labels = gathered(alloc, self.areas.as_slice())?;
-        listed(alloc, self.sets.as_slice(), &labels)
+        listed(alloc, &self.sets, &labels)
     }
 
     /// Finds the complete sector namespace of a UUID. It takes no memory.
@@ -194,14 +195,6 @@ impl Registry {
         ensures { result.now ≡ set_at self.now.sets region }
     {
         &self.sets.as_slice()[region as usize]
-    }
-
-    /// The interleave sets by the regions' numbers, and the label areas by the modules' numbers.
-    pub fn into_parts(self) -> (Items<InterleaveSet>, Items<Area>)
-        ensures sets { result.0 ≡ self.sets }
-        ensures areas { result.1 ≡ self.areas }
-    {
-        (self.sets, self.areas)
     }
 
     /// The label areas, by the modules' numbers.

@@ -1,5 +1,5 @@
 //! The label changes of pending namespaces.
-ghost use Rattle.std.specs.Prelude.{◌≡◌, ◌+◌, ◌≤◌, ◌<◌, ◌^◌, ◌++◌, ◌∷◌, [], nat_le, length, vec_len, Some};
+ghost use Rattle.std.specs.Prelude.{◌≡◌, ◌+◌, ◌≤◌, ◌<◌, ◌++◌, ◌∷◌, [], nat_le, length, vec_len, Some};
 ghost use Rattle.std.specs.Vec.{vec_capacity};
 ghost use Rattle.namespace_map.specs.Namespaces.{entry_with};
 ghost use Rattle.label_codec.specs.Flags.{settled};
@@ -9,10 +9,9 @@ ghost use Rattle.namespace_areas.specs.Seen.{AreHeld, IsHeld, area_seen, areas_s
 ghost use Rattle.namespace_ops.specs.Plans.{all_settling, settling_of, settlings};
 
 use crate::room::{Room, add, order};
-use interleave::InterleaveSet;
 use label_codec::{Label, Name};
 use label_set::{Placed, SetStatus};
-use namespace_areas::{Area, Change, LabelGroups, region_of, status_in};
+use namespace_areas::{Area, Change, LabelGroups, Regions, status_in};
 
 /// A label without UPDATING, and with a name; all else is kept.
 fn settled_label(label: &Label, name: &Name) -> Label
@@ -88,23 +87,22 @@ fn add_settlings(areas: &[Area], name: &Name, own: &[Placed], changes: &mut Vec<
 
 /// Adds the changes of a namespace that may be pending, whose labels are given, and the first of them.
 fn add_settling(
-    sets: &[InterleaveSet],
+    regions: &Regions,
     areas: &[Area],
     group: &[Placed],
     first: &Placed,
     room: &mut Room,
 )
     requires some { 0 < length group.now }
-    requires few { length sets.now < 2 ^ 32 }
     requires held { AreHeld areas.now }
     requires own { length group.now ≤ vec_capacity room.old.own }
     requires room { vec_len room.old.changes + length group.now ≤ vec_capacity room.old.changes }
-    ensures items { room.new.changes.items ≡ room.old.changes.items ++ settling_of (areas_seen areas.now) (entry_with sets.now group.now first.now) group.now }
+    ensures items { room.new.changes.items ≡ room.old.changes.items ++ settling_of (areas_seen areas.now) (entry_with regions.now group.now first.now) group.now }
     ensures len { vec_len room.new.changes ≤ vec_len room.old.changes + length group.now }
     ensures own_capacity { vec_capacity room.old.own ≤ vec_capacity room.new.own }
     ensures capacity { vec_capacity room.old.changes ≤ vec_capacity room.new.changes }
 {
-    if let SetStatus::Complete { name, .. } = status_in(region_of(sets, first), group, first) {
+    if let SetStatus::Complete { name, .. } = status_in(regions.region_of(first), group, first) {
         order(&mut room.own, group);
         add_settlings(areas, &name, &room.own, &mut room.changes);
     }
@@ -112,16 +110,15 @@ fn add_settling(
 
 /// Takes the changes by which every pending namespace is settled as far as slots are free, rising by UUID.
 pub(crate) fn plan_settlings(
-    sets: &[InterleaveSet],
+    regions: &Regions,
     areas: &[Area],
     groups: &LabelGroups,
     room: &mut Room,
 )
-    requires few { length sets.now < 2 ^ 32 }
     requires held { AreHeld areas.now }
     requires own { length groups.now.sorted ≤ vec_capacity room.old.own }
     requires room { length groups.now.sorted ≤ vec_capacity room.old.changes }
-    ensures items { room.new.changes.items ≡ all_settling sets.now (areas_seen areas.now) groups.now.sorted }
+    ensures items { room.new.changes.items ≡ all_settling regions.now (areas_seen areas.now) groups.now.sorted }
     ensures own_capacity { vec_capacity room.old.own ≤ vec_capacity room.new.own }
     ensures capacity { vec_capacity room.old.changes ≤ vec_capacity room.new.changes }
 {
@@ -129,7 +126,7 @@ pub(crate) fn plan_settlings(
     let mut at = 0;
     while at < groups.labels().len() {
         let group = groups.group_from(at);
-        add_settling(sets, areas, group, &group[0], room);
+        add_settling(regions, areas, group, &group[0], room);
         at += group.len();
     }
 }

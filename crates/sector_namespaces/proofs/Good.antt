@@ -19,6 +19,7 @@ use Rattle.arena_layout.specs.Plan.{available_of, log_size, plan_of, planned, pl
 use Rattle.arena_layout.proofs.Planned.{planned_is}
 use Rattle.namespace_areas.specs.declared.area.Area.{Area}
 use Rattle.namespace_map.specs.Namespaces.{Namespaces, extents_of, lookup}
+use Rattle.namespace_map.specs.declared.commands.CreateSpec.{CreateSpec}
 use Rattle.namespace_map.specs.declared.commands.Make.{Make}
 use Rattle.namespace_map.specs.declared.commands.Make.TheVariants as make
 use Rattle.namespace_map.specs.declared.refused.OpRefused.TheVariants.{BadSize, Exists, NoRegion}
@@ -29,13 +30,12 @@ use Rattle.namespace_laws.proofs.Sets.{no_fault}
 use Rattle.namespace_laws.proofs.Allowed.{allowed, passed_if}
 use Rattle.namespace_areas.specs.Finding.{set_at}
 use Rattle.namespace_areas.specs.Refusals.{offset_for, shown}
-use Rattle.sector_namespaces.specs.declared.new_sectors.NewSectors.{NewSectors}
 use Rattle.sector_namespaces.specs.View.{AreUsable}
-use Rattle.sector_namespaces.specs.Creation.{IsFormattedIn, layout_for, place_for, refusal_for}
+use Rattle.sector_namespaces.specs.Creation.{IsFormattedIn, has_sectors, layout_for, layout_of, place_for, refusal_for}
 
 -- ---- plans
 
-checked_ok : {A F : Type 0} (v : A) (checks : List (F × Bool)) → is_err (checked v checks) ≡ false → checked v checks ≡ Ok v
+pub checked_ok : {A F : Type 0} (v : A) (checks : List (F × Bool)) → is_err (checked v checks) ≡ false → checked v checks ≡ Ok v
 unfolding checked
 checked_ok v [] e = refl
 checked_ok v ((f, true) ∷ checks) e = absurd (false≢true (sym e))
@@ -48,13 +48,18 @@ planned_as size sector lanes l is good = same (is ∙ good)
     same : ◌≡◌ {A = Result Layout LayoutFault} (Ok l) (Ok (plan_of size sector lanes)) → l ≡ plan_of size sector lanes
     same e = cc
 
-pub no_plan : (size sector lanes : ℕ) (f : LayoutFault) → ◌≡◌ {A = Result Layout LayoutFault} (Err f) (planned size sector lanes) → planned size sector lanes ≡ Ok (plan_of size sector lanes) → ⊥
-no_plan size sector lanes f is good = let e = is ∙ good in cc
-
 -- a plan keeps within the size
 plan_inside : (size sector lanes : ℕ) → IsLayout (plan_of size sector lanes) → (plan_of size sector lanes).size ≤ size
 unfolding plan_of available_of whole_size log_size
 plan_inside size sector lanes is = omega (arith, is.after_data, is.after_info, is.size_low, is.lanes_few)
+
+-- the layout that is planned for a namespace of sectors
+layout_has : (size : ℕ) (m : Make) → has_sectors m ≡ true → has_no_plan m size ≡ false → IsLayout (layout_of size m) × ((layout_of size m).size ≤ size)
+layout_has size make.Raw sectors good = absurd (false≢true sectors)
+layout_has size (make.Sector sector lanes) sectors good =
+    let plan : planned size sector lanes ≡ Ok (plan_of size sector lanes) = checked_ok (plan_of size sector lanes) (plan_checks size sector lanes) good in
+    let layout : IsLayout (plan_of size sector lanes) = planned_is size sector lanes (Ok (plan_of size sector lanes)) (sym plan) in
+    (layout, plan_inside size sector lanes layout)
 
 -- ---- sizes
 
@@ -85,48 +90,46 @@ all_step : (P Q : Mapping → Type 0) → ((m : Mapping) → P m → Q m) → (x
 all_step P Q step [] all = tt
 all_step P Q step (x ∷ xs) (one, rest) = (step x one, all_step P Q step xs rest)
 
-module _ (sets : List (List Mapping)) (areas : List Area) (new : NewSectors) where
+module _ (sets : List (List Mapping)) (areas : List Area) (spec : CreateSpec) where
   abbrev ns : Namespaces
   ns = shown sets areas
 
   abbrev set : List Mapping
-  set = set_of ns new.region
+  set = set_of ns spec.region
 
   abbrev raw : ℕ
-  raw = share_of set new.size
+  raw = share_of set spec.size
 
   abbrev offset : ℕ
-  offset = offset_for ns new.region new.size
+  offset = offset_for ns spec
 
   abbrev made : Make
-  made = make.Sector new.sector new.lanes
+  made = spec.make
 
   pub record IsGood : Type 0 where
-    pub there : new.region < length sets
-    pub set_is : set_at sets new.region ≡ set
+    pub there : spec.region < length sets
+    pub set_is : set_at sets spec.region ≡ set
     pub from : offset % unit_of set ≡ 0
     pub to : raw % unit_of set ≡ 0
     pub inside : offset + raw ≤ span_of set
-    pub planned_is : planned new.size new.sector new.lanes ≡ Ok (layout_for new)
-    pub layout : IsLayout (layout_for new)
-    pub room : (layout_for new).size / 8 ≤ length set * raw / 8
+    pub planned : has_no_plan spec.make spec.size ≡ false
+    pub layout : IsLayout (layout_for spec)
+    pub room : (layout_for spec).size / 8 ≤ length set * raw / 8
 
-  pub good_has : refusal_for sets areas new ≡ None → IsGood
-  good_has good =
-      let has = allowed ns new.uuid new.name new.region new.size made good in
-      let r1 = (no_fault (bad_name new.name) _ good).1 in
-      let r2 = no_fault (fault_if (is_none (slice_get ns.sets new.region)) (NoRegion new.region)) _ r1 in
+  pub good_has : has_sectors spec.make ≡ true → refusal_for sets areas spec ≡ None → IsGood
+  good_has sectors good =
+      let has = allowed ns spec.uuid spec.name spec.region spec.size spec.make good in
+      let r1 = (no_fault (bad_name spec.name) _ good).1 in
+      let r2 = no_fault (fault_if (is_none (slice_get ns.sets spec.region)) (NoRegion spec.region)) _ r1 in
       let r3 = (no_fault (unready_of ns (modules_of set)) _ r2.1).1 in
-      let r4 = no_fault (fault_if (is_some (lookup new.uuid ns.entries)) Exists) _ r3 in
-      let r5 = no_fault (fault_if (is_bad_size set new.size made) (BadSize new.size)) _ r4.1 in
-      let sizes = or_parts ((new.size == 0) || not (new.size % (length set * unit_of set) == 0)) (has_no_plan made new.size) (passed_if (is_bad_size set new.size made) (BadSize new.size) r5.0) in
-      let parts = or_parts (new.size == 0) (not (new.size % (length set * unit_of set) == 0)) sizes.0 in
-      let multiple : new.size % (length set * unit_of set) ≡ 0 = eqb-true (new.size % (length set * unit_of set)) 0 (not-false (new.size % (length set * unit_of set) == 0) parts.1) in
-      let plan : planned new.size new.sector new.lanes ≡ Ok (layout_for new) = checked_ok (layout_for new) (plan_checks new.size new.sector new.lanes) sizes.1 in
-      let layout : IsLayout (layout_for new) = planned_is new.size new.sector new.lanes (Ok (layout_for new)) (sym plan) in
-      let there = there_at sets new.region set has.there in
-      let all : length set * raw ≡ new.size = all_shares new.size (length set) (unit_of set) has.some multiple in
-      let small : (layout_for new).size ≤ new.size = plan_inside new.size new.sector new.lanes layout in
+      let r4 = no_fault (fault_if (is_some (lookup spec.uuid ns.entries)) Exists) _ r3 in
+      let r5 = no_fault (fault_if (is_bad_size set spec.size made) (BadSize spec.size)) _ r4.1 in
+      let sizes = or_parts ((spec.size == 0) || not (spec.size % (length set * unit_of set) == 0)) (has_no_plan made spec.size) (passed_if (is_bad_size set spec.size made) (BadSize spec.size) r5.0) in
+      let parts = or_parts (spec.size == 0) (not (spec.size % (length set * unit_of set) == 0)) sizes.0 in
+      let multiple : spec.size % (length set * unit_of set) ≡ 0 = eqb-true (spec.size % (length set * unit_of set)) 0 (not-false (spec.size % (length set * unit_of set) == 0) parts.1) in
+      let layout = layout_has spec.size spec.make sectors sizes.1 in
+      let there = there_at sets spec.region set has.there in
+      let all : length set * raw ≡ spec.size = all_shares spec.size (length set) (unit_of set) has.some multiple in
       record {
         there = there.0;
         set_is = there.1;
@@ -134,9 +137,9 @@ module _ (sets : List (List Mapping)) (areas : List Area) (new : NewSectors) whe
         to = has.raw_whole;
         inside = end_inside set offset raw has.some
             (all_step (λ m. is_clear (extents_of ns.entries) raw offset m ≡ true) (λ m. offset + raw ≤ m.size) (λ m e. leb-true (offset + raw) m.size (left_true _ _ e)) set has.clear);
-        planned_is = plan;
-        layout = layout;
-        room = rw all (omega (arith, small));
+        planned = sizes.1;
+        layout = layout.0;
+        room = rw all (omega (arith, layout.1));
       }
 
   -- ---- as the code has them
@@ -150,24 +153,23 @@ module _ (sets : List (List Mapping)) (areas : List Area) (new : NewSectors) whe
     pub layout : IsLayout l
     pub room : l.size / 8 ≤ length s * q / 8
 
-  spot : (rows : List Words) → AreUsable sets rows → IsGood → IsSpot set offset raw (layout_for new) rows
+  spot : (rows : List Words) → AreUsable sets rows → IsGood → IsSpot set offset raw (layout_for spec) rows
   spot rows usable good = record {
     from = good.from;
     to = good.to;
     inside = good.inside;
-    reach = subst (λ (s : List Mapping). ReachEnds s rows) good.set_is (usable new.region good.there).reach;
+    reach = subst (λ (s : List Mapping). ReachEnds s rows) good.set_is (usable spec.region good.there).reach;
     layout = good.layout;
     room = good.room;
   }
 
-  pub spot_by : (s : List Mapping) (o q : ℕ) (l : Layout) (rows : List Words) → s ≡ set → o ≡ offset → q ≡ raw → l ≡ layout_for new → AreUsable sets rows → IsGood → IsSpot s o q l rows
+  pub spot_by : (s : List Mapping) (o q : ℕ) (l : Layout) (rows : List Words) → s ≡ set → o ≡ offset → q ≡ raw → l ≡ layout_for spec → AreUsable sets rows → IsGood → IsSpot s o q l rows
   spot_by s o q l rows a b c d usable good =
       subst (λ (s' : List Mapping). IsSpot s' o q l rows) (sym a) (subst (λ (o' : ℕ). IsSpot set o' q l rows) (sym b)
       (subst (λ (q' : ℕ). IsSpot set offset q' l rows) (sym c) (subst (λ (l' : Layout). IsSpot set offset raw l' rows) (sym d) (spot rows usable good))))
 
-  pub formatted_by : (s : List Mapping) (o q : ℕ) (l : Layout) (uuid : List ℕ) (rows rows' : List Words) (fuse left : Option ℕ) (b b' : Bool) → s ≡ set → o ≡ offset → q ≡ raw → l ≡ layout_for new → b ≡ b'
-      → IsFormattedIn (over s o q) l uuid rows rows' fuse left b → IsFormattedIn (place_for sets areas new) (layout_for new) uuid rows rows' fuse left b'
-  formatted_by s o q l uuid rows rows' fuse left b b' e f g h k it =
-      subst (λ (s' : List Mapping). IsFormattedIn (over s' offset raw) (layout_for new) uuid rows rows' fuse left b') e (subst (λ (o' : ℕ). IsFormattedIn (over s o' raw) (layout_for new) uuid rows rows' fuse left b') f
-      (subst (λ (q' : ℕ). IsFormattedIn (over s o q') (layout_for new) uuid rows rows' fuse left b') g (subst (λ (l' : Layout). IsFormattedIn (over s o q) l' uuid rows rows' fuse left b') h
-      (subst (λ (x : Bool). IsFormattedIn (over s o q) l uuid rows rows' fuse left x) k it))))
+  pub formatted_by : (s : List Mapping) (o q : ℕ) (l : Layout) (uuid : List ℕ) (rows rows' : List Words) (fuse left : Option ℕ) (b : Bool) → s ≡ set → o ≡ offset → q ≡ raw → l ≡ layout_for spec
+      → IsFormattedIn (over s o q) l uuid rows rows' fuse left b → IsFormattedIn (place_for sets areas spec) (layout_for spec) uuid rows rows' fuse left b
+  formatted_by s o q l uuid rows rows' fuse left b e f g h it =
+      subst (λ (s' : List Mapping). IsFormattedIn (over s' offset raw) (layout_for spec) uuid rows rows' fuse left b) e (subst (λ (o' : ℕ). IsFormattedIn (over s o' raw) (layout_for spec) uuid rows rows' fuse left b) f
+      (subst (λ (q' : ℕ). IsFormattedIn (over s o q') (layout_for spec) uuid rows rows' fuse left b) g (subst (λ (l' : Layout). IsFormattedIn (over s o q) l' uuid rows rows' fuse left b) h it)))

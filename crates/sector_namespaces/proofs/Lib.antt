@@ -2,5 +2,4 @@ pub mod Views
 pub mod Usable
 mod Good
 mod Formats
-mod Making
 mod Rows

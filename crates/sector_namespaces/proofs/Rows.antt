@@ -3,11 +3,12 @@ use Rattle.std.proofs.Common.{◌≡◌, ℕ, [], refl}
 use Rattle.arena_layout.specs.Plan.{plan_of, available_of, whole_size, log_size, inner_of, internal_of, map_size}
 use Rattle.arena_open.specs.Format.{format_count}
 use Rattle.namespace_map.specs.declared.commands.Named.TheVariants as named
-use Rattle.sector_namespaces.specs.declared.new_sectors.NewSectors.{NewSectors}
+use Rattle.namespace_map.specs.declared.commands.Make.TheVariants.{Sector}
+use Rattle.namespace_map.specs.declared.commands.CreateSpec.{CreateSpec}
 use Rattle.sector_namespaces.specs.Creation.{layout_for}
 
-abbrev asked : ℕ → ℕ → ℕ → NewSectors
-asked size sector lanes = record { uuid = []; name = named.Good []; region = 0; size = size; sector = sector; lanes = lanes }
+abbrev asked : ℕ → ℕ → ℕ → CreateSpec
+asked size sector lanes = record { uuid = []; name = named.Good []; region = 0; size = size; make = Sector sector lanes }
 
 pub small : format_count (layout_for (asked 16777216 512 256)) ≡ 38912
 unfolding plan_of available_of whole_size log_size inner_of internal_of map_size

@@ -29,19 +29,16 @@
 //!
 //! | definition | stands in |
 //! |---|---|
-//! | what is asked, where the namespace lies, its arena's layout | `command_for`, `place_for`, `layout_for` of `specs/Creation.antt` |
+//! | whether it has sectors, where the namespace lies, its arena's layout | `has_sectors`, `place_for`, `layout_for` of `specs/Creation.antt` |
 //! | what the format makes of the namespace's words, cut or not | `IsFormatted` |
 //! | what becomes of label areas, words and fuse | `Creates`, `IsMade` |
-//! | what stands where memory ran out | `LacksMemory` |
 #![tactic(auto)]
 
 mod creating;
 mod formatting;
 mod law;
-mod new_sectors;
 mod view;
 
 pub use creating::create_sectors;
 pub use law::loaded_sets_are_usable;
-pub use new_sectors::NewSectors;
 pub use view::open_sectors;

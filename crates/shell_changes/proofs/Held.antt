@@ -8,7 +8,6 @@ use Rattle.cut_words.specs.Fuses.{lasts}
 use Rattle.nfit_reader.specs.declared.table.Mapping.{Mapping}
 use Rattle.arena_open.specs.Format.{format_count}
 use Rattle.namespace_areas.specs.declared.area.Area.{Area}
-use Rattle.namespace_map.specs.declared.commands.Make.TheVariants as make
 use Rattle.namespace_map.specs.declared.refused.OpRefused.{OpRefused}
 use Rattle.namespace_map.specs.declared.refused.OpRefused.TheVariants.{OutOfMemory, PowerCut}
 use Rattle.namespace_map.specs.Changes.{recovery_changes}
@@ -16,9 +15,9 @@ use Rattle.namespace_areas.specs.Seen.{areas_seen}
 use Rattle.namespace_areas.specs.Went.{Went, size_of}
 use Rattle.namespace_areas.specs.Refusals.{shown}
 use Rattle.namespace_ops.specs.Carried.{is_cut}
-use Rattle.namespace_ops.proofs.NeverCut.{create_other}
-use Rattle.sector_namespaces.specs.declared.new_sectors.NewSectors.{NewSectors}
-use Rattle.sector_namespaces.specs.Creation.{Creates, IsFormattedIn, IsMade, LacksMemory, layout_for, place_for, refusal_for}
+use Rattle.namespace_ops.proofs.Findings.{create_finding, not_cut as finding_uncut}
+use Rattle.namespace_map.specs.declared.commands.CreateSpec.{CreateSpec}
+use Rattle.sector_namespaces.specs.Creation.{Creates, IsFormattedIn, IsMade, layout_for, place_for, refusal_for}
 use Rattle.shell_reports.specs.declared.status.Ending.{Ending}
 use Rattle.shell_reports.specs.declared.status.Ending.TheVariants as ending
 use Rattle.shell_reports.specs.declared.power.Power.{Power}
@@ -41,64 +40,61 @@ pub saved_rest : (e : Ending) (text : List ℕ) (rest : Rest) (contents : List W
     → IsSavedWith e text (record { nfit_bytes = rest.nfit_bytes; contents = contents; bad = rest.bad }) areas contents outcome → IsSavedWith e text rest areas contents outcome
 saved_rest e text rest contents areas outcome s = record { labels = s.labels; kept = s.kept; rows = s.rows; left = s.left; saves = s.saves }
 
-module _ (sets : List (List Mapping)) (areas news : List Area) (rows rows' : List Words) (fuse left : Option ℕ) (new : NewSectors) where
+module _ (sets : List (List Mapping)) (areas news : List Area) (rows rows' : List Words) (fuse left : Option ℕ) (spec : CreateSpec) where
   abbrev In : Option ℕ → Bool → Type 0
-  In f whole = IsFormattedIn (place_for sets areas new) (layout_for new) new.uuid rows rows' fuse f whole
+  In f whole = IsFormattedIn (place_for sets areas spec) (layout_for spec) spec.uuid rows rows' fuse f whole
 
   -- ---- how many modules and areas there are
 
   rows_in : (f : Option ℕ) (whole : Bool) → In f whole → length rows' ≡ length rows
   rows_in f whole it = sym (length-map rows' (λ (w : Words). length w.kept)) ∙ ap (λ (ns : List ℕ). length ns) it.counts ∙ length-map rows (λ (w : Words). length w.kept)
 
-  areas_in : (r : Result (Unit {0}) OpRefused) → IsMade sets areas news rows rows' fuse left new r → length news ≡ length areas
-  areas_in r made = by (lasts fuse (format_count (layout_for new))) refl
+  areas_in : (r : Result (Unit {0}) OpRefused) → IsMade sets areas news rows rows' fuse left spec r → length news ≡ length areas
+  areas_in r made = by (lasts fuse (format_count (layout_for spec))) refl
     where
-      by : (b : Bool) → lasts fuse (format_count (layout_for new)) ≡ b → length news ≡ length areas
+      by : (b : Bool) → lasts fuse (format_count (layout_for spec)) ≡ b → length news ≡ length areas
       by true long = sym (length-map news size_of) ∙ ap (λ (ns : List ℕ). length ns) (made.labels long).sizes ∙ length-map areas size_of
       by false short = ap (λ (xs : List Area). length xs) (made.within short).1
 
   abbrev Counts : Type 0
   Counts = (length rows' ≡ length rows) × (length news ≡ length areas)
 
-  of_creates : (r : Result (Unit {0}) OpRefused) → Creates sets areas news rows rows' fuse left new r → Counts
-  of_creates r creates = by (refusal_for sets areas new) refl
+  of_creates : (r : Result (Unit {0}) OpRefused) → Creates sets areas news rows rows' fuse left spec r → Counts
+  of_creates r creates = by (refusal_for sets areas spec) refl
     where
-      by : (o : Option OpRefused) → refusal_for sets areas new ≡ o → Counts
+      by : (o : Option OpRefused) → refusal_for sets areas spec ≡ o → Counts
       by (Some f) some = let it = creates.refused f some in (ap (λ (ws : List Words). length ws) it.2, ap (λ (xs : List Area). length xs) it.1)
       by None none = let it = creates.made none in (rows_in _ _ it.formatted, areas_in r it)
 
-  of_lacks : (news ≡ areas) × LacksMemory sets areas rows rows' fuse left new → Counts
-  of_lacks (same, inl nothing) = (ap (λ (ws : List Words). length ws) nothing.0, ap (λ (xs : List Area). length xs) same)
-  of_lacks (same, inr whole) = (rows_in _ _ whole.formatted, ap (λ (xs : List Area). length xs) same)
-
+  -- without memory nothing has changed
   abbrev Memory : Result (Unit {0}) OpRefused → Type 0
-  Memory r = r ≡ Err OutOfMemory → (news ≡ areas) × LacksMemory sets areas rows rows' fuse left new
+  Memory r = r ≡ Err OutOfMemory → (news ≡ areas) × (rows' ≡ rows)
 
-  pub counts_are : (r : Result (Unit {0}) OpRefused) → (r ≢ Err OutOfMemory → Creates sets areas news rows rows' fuse left new r) → Memory r → Counts
+  pub counts_are : (r : Result (Unit {0}) OpRefused) → (r ≢ Err OutOfMemory → Creates sets areas news rows rows' fuse left spec r) → Memory r → Counts
   counts_are (Ok u) creates memory = of_creates (Ok u) (creates (λ e. let h = e in cc))
-  counts_are (Err OutOfMemory) creates memory = of_lacks (memory refl)
+  counts_are (Err OutOfMemory) creates memory = let same = memory refl in (ap (λ (ws : List Words). length ws) same.1, ap (λ (xs : List Area). length xs) same.0)
   counts_are (Err f) creates memory = of_creates (Err f) (creates (λ e. let h = e in cc))
 
   -- ---- the answer
 
-  not_cut : (f : OpRefused) → refusal_for sets areas new ≡ Some f → f ≢ PowerCut
-  not_cut f some is = true≢false (ap (λ (x : OpRefused). is_cut (Err x)) (sym is) ∙ create_other (shown sets areas) new.uuid new.name new.region new.size (make.Sector new.sector new.lanes) f some)
+  not_cut : (f : OpRefused) → refusal_for sets areas spec ≡ Some f → f ≢ PowerCut
+  not_cut f some is = true≢false (ap (λ (x : OpRefused). is_cut (Err x)) (sym is) ∙ finding_uncut f (create_finding (shown sets areas) spec f some))
 
-  pub refused_is : (r : Result (Unit {0}) OpRefused) (outcome : Outcome) → Creates sets areas news rows rows' fuse left new r
-      → ((f : OpRefused) → r ≡ Err f → f ≢ PowerCut → outcome ≡ refused_outcome f) → (f : OpRefused) → refusal_for sets areas new ≡ Some f → outcome ≡ refused_outcome f
+  pub refused_is : (r : Result (Unit {0}) OpRefused) (outcome : Outcome) → Creates sets areas news rows rows' fuse left spec r
+      → ((f : OpRefused) → r ≡ Err f → f ≢ PowerCut → outcome ≡ refused_outcome f) → (f : OpRefused) → refusal_for sets areas spec ≡ Some f → outcome ≡ refused_outcome f
   refused_is r outcome creates said f some = said f (creates.refused f some).0 (not_cut f some)
 
   ok_is : (r : Result (Unit {0}) OpRefused) → is_ok r ≡ true → r ≡ Ok tt
   ok_is (Ok u) e = refl
   ok_is (Err f) e = absurd (false≢true e)
 
-  cut_is : (r : Result (Unit {0}) OpRefused) → IsMade sets areas news rows rows' fuse left new r → is_ok r ≡ false → r ≡ Err PowerCut
+  cut_is : (r : Result (Unit {0}) OpRefused) → IsMade sets areas news rows rows' fuse left spec r → is_ok r ≡ false → r ≡ Err PowerCut
   cut_is (Ok u) made e = absurd (true≢false e)
   cut_is (Err f) made e = ap (λ (x : OpRefused). Err x) (made.cut f refl)
 
-  pub went_is : (rest : Rest) (power : Power) (r : Result (Unit {0}) OpRefused) (outcome : Outcome) → rest.contents ≡ rows → Creates sets areas news rows rows' fuse left new r
+  pub went_is : (rest : Rest) (power : Power) (r : Result (Unit {0}) OpRefused) (outcome : Outcome) → rest.contents ≡ rows → Creates sets areas news rows rows' fuse left spec r
       → (r ≡ Ok tt → IsSavedWith ending.Done done_text rest news rows' outcome) → (r ≡ Err PowerCut → IsSavedWith ending.PowerCut (cut_text power.steps) rest news rows' outcome)
-      → refusal_for sets areas new ≡ None → GoesOn rest power sets areas fuse new outcome
+      → refusal_for sets areas spec ≡ None → GoesOn rest power sets areas fuse spec outcome
   went_is rest power r outcome are creates done cut none =
       let made = creates.made none in
       record {
@@ -106,21 +102,21 @@ module _ (sets : List (List Mapping)) (areas news : List Area) (rows rows' : Lis
         contents = rows';
         left = left;
         result = r;
-        made = subst (λ (ws : List Words). IsMade sets areas news ws rows' fuse left new r) (sym are) made;
+        made = subst (λ (ws : List Words). IsMade sets areas news ws rows' fuse left spec r) (sym are) made;
         done = λ ok. done (ok_is r ok);
         cut = λ err. cut (cut_is r made err);
       }
 
 -- ---- behind recovery
 
-pub goes_then : (leaves : ℕ → List (Option Words) → List (Option (List ℕ)) → Type 0) (rest : Rest) (power : Power) (sets held : List (List Mapping)) (areas a mid : List Area) (f left : Option ℕ) (now : List (List Mapping)) (new : NewSectors) (outcome : Outcome) (b : Bool)
+pub goes_then : (leaves : ℕ → List (Option Words) → List (Option (List ℕ)) → Type 0) (rest : Rest) (power : Power) (sets held : List (List Mapping)) (areas a mid : List Area) (f left : Option ℕ) (now : List (List Mapping)) (spec : CreateSpec) (outcome : Outcome) (b : Bool)
     → a ≡ areas → f ≡ power.steps → held ≡ sets → now ≡ held → b ≡ true → Went a mid f left (recovery_changes held (areas_seen a)) b
-    → ((g : OpRefused) → refusal_for now mid new ≡ Some g → outcome ≡ refused_outcome g) → (refusal_for now mid new ≡ None → GoesOn rest power now mid left new outcome)
-    → GoesFrom leaves rest power sets areas new outcome
-goes_then leaves rest power sets held areas a mid f left now new outcome b p q u w v went refused on = inr (record {
+    → ((g : OpRefused) → refusal_for now mid spec ≡ Some g → outcome ≡ refused_outcome g) → (refusal_for now mid spec ≡ None → GoesOn rest power now mid left spec outcome)
+    → GoesFrom leaves rest power sets areas spec outcome
+goes_then leaves rest power sets held areas a mid f left now spec outcome b p q u w v went refused on = inr (record {
   mid = mid;
   left = left;
   first = moved_went a areas mid f power.steps left held sets b true p q u v went;
-  refused = subst (λ (s : List (List Mapping)). (g : OpRefused) → refusal_for s mid new ≡ Some g → outcome ≡ refused_outcome g) (w ∙ u) refused;
-  went = subst (λ (s : List (List Mapping)). refusal_for s mid new ≡ None → GoesOn rest power s mid left new outcome) (w ∙ u) on;
+  refused = subst (λ (s : List (List Mapping)). (g : OpRefused) → refusal_for s mid spec ≡ Some g → outcome ≡ refused_outcome g) (w ∙ u) refused;
+  went = subst (λ (s : List (List Mapping)). refusal_for s mid spec ≡ None → GoesOn rest power s mid left spec outcome) (w ∙ u) on;
 })

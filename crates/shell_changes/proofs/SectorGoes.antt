@@ -28,8 +28,9 @@ use Rattle.namespace_areas.specs.Refusals.{offset_for, shown}
 use Rattle.namespace_ops.specs.declared.registry.OpenFault.{OpenFault}
 use Rattle.namespace_ops.specs.Opening.{Opened, opening}
 use Rattle.sector_namespaces.specs.View.{rows_of}
-use Rattle.sector_namespaces.specs.declared.new_sectors.NewSectors.{NewSectors}
-use Rattle.sector_namespaces.specs.Creation.{AreSettled, IsFormattedIn, command_for, layout_for, place_in}
+use Rattle.namespace_map.specs.declared.commands.CreateSpec.{CreateSpec}
+use Rattle.namespace_map.specs.declared.commands.Command.TheVariants.{Create}
+use Rattle.sector_namespaces.specs.Creation.{AreSettled, IsFormattedIn, layout_for, place_in}
 use Rattle.shell_reports.specs.declared.status.Ending.{Ending}
 use Rattle.shell_reports.specs.declared.status.Ending.TheVariants as ending
 use Rattle.shell_reports.specs.declared.power.Power.{Power}
@@ -106,7 +107,7 @@ module _ (leaves : ℕ → List (Option Words) → List (Option (List ℕ)) → 
     saves = saving_itself e text outcome _ s.saves;
   }
 
-  module _ (sets : List (List Mapping)) (new : NewSectors) (sound : All IsContents loaded.contents) where
+  module _ (sets : List (List Mapping)) (spec : CreateSpec) (sound : All IsContents loaded.contents) where
     abbrev mid_seen : List (Option SeenArea)
     mid_seen = recovered_areas sets seen
 
@@ -114,19 +115,19 @@ module _ (leaves : ℕ → List (Option Words) → List (Option (List ℕ)) → 
     ns = namespaces_of sets mid_seen
 
     abbrev count : ℕ
-    count = format_count (layout_for new)
+    count = format_count (layout_for spec)
 
     abbrev place : List Words → Namespace
-    place rows = place_in ns new rows
+    place rows = place_in ns spec rows
 
     -- ---- the contents
 
-    formatted : (contents : List Words) (rows : List (List ℕ)) (fuse left : Option ℕ) → IsFormattedIn (place_in ns new) (layout_for new) new.uuid loaded.contents contents fuse left (lasts fuse count)
-        → Each IsLeft contents rows → AreFormatted (place_in ns new) (layout_for new) new.uuid (image_set_in loaded) fuse rows
+    formatted : (contents : List Words) (rows : List (List ℕ)) (fuse left : Option ℕ) → IsFormattedIn (place_in ns spec) (layout_for spec) spec.uuid loaded.contents contents fuse left (lasts fuse count)
+        → Each IsLeft contents rows → AreFormatted (place_in ns spec) (layout_for spec) spec.uuid (image_set_in loaded) fuse rows
     formatted contents rows fuse left it each =
-        let set = set_of ns new.region in
-        let offset = offset_for ns new.region new.size in
-        let raw = share_of set new.size in
+        let set = set_of ns spec.region in
+        let offset = offset_for ns spec in
+        let raw = share_of set spec.size in
         let old : rows_of (image_set_in loaded).contents ≡ loaded.contents = rows_are loaded sound in
         let words : IsLeft (words_of (place contents)) (words_of (place (map settled rows))).kept = left_words set offset raw contents rows each in
         let beside : beside_of (place (map settled rows)) ≡ beside_of (place loaded.contents) = left_beside set offset raw contents rows each loaded.contents (all_settled loaded.contents sound) it.beside in
@@ -135,11 +136,11 @@ module _ (leaves : ℕ → List (Option Words) → List (Option (List ℕ)) → 
         record {
           sizes = sizes ∙ ap (λ (ws : List Words). map (λ (w : Words). length w.kept) ws) (sym old) ∙ map-map (λ (w : Words). length w.kept) (λ (bytes : List ℕ). settled (words_in bytes)) (image_set_in loaded).contents;
           beside = beside ∙ ap (λ (ws : List Words). beside_of (place ws)) (sym old);
-          left = subst (λ (ws : List Words). IsLeft (after (words_of (place ws)) (allowed fuse (format_steps 0 (layout_for new) new.uuid new.uuid))) (words_of (place (map settled rows))).kept) (sym old)
+          left = subst (λ (ws : List Words). IsLeft (after (words_of (place ws)) (allowed fuse (format_steps 0 (layout_for spec) spec.uuid spec.uuid))) (words_of (place (map settled rows))).kept) (sym old)
               (subst (λ (w : Words). IsLeft w (words_of (place (map settled rows))).kept) it.formatted.made.words words);
           opens = λ long.
               let kept : (words_of (place (map settled rows))).kept ≡ (words_of (place contents)).kept = left_kept (words_of (place contents)) (words_of (place (map settled rows))).kept (it.formatted.settles long) words in
-              subst (λ (ws : List ℕ). IsNewArena (layout_for new) new.uuid new.uuid ws) (sym kept) (it.formatted.opens long);
+              subst (λ (ws : List ℕ). IsNewArena (layout_for spec) spec.uuid spec.uuid ws) (sym kept) (it.formatted.opens long);
         }
 
     -- ---- behind recovery
@@ -152,30 +153,30 @@ module _ (leaves : ℕ → List (Option Words) → List (Option (List ℕ)) → 
       ns_is = ap (λ (xs : List (Option SeenArea)). namespaces_of sets xs) mid_is
 
       abbrev changes : List Change
-      changes = changes_of ns mid_seen (command_for new)
+      changes = changes_of ns mid_seen (Create spec)
 
       abbrev behind : Option ℕ
       behind = burnt fuse count
 
       labels_on : (news : List Area) (contents : List Words) (left : Option ℕ) (b : Bool) → Went mid news behind left changes b
           → (b ≡ true → IsSavedWith ending.Done done_text (rest_of loaded) news contents outcome) → (b ≡ false → IsSavedWith ending.PowerCut (cut_text power.steps) (rest_of loaded) news contents outcome)
-          → (rows : List (List ℕ)) × Each IsLeft contents rows × Labels ns (image_set_in loaded) mid_seen rows behind new power outcome
+          → (rows : List (List ℕ)) × Each IsLeft contents rows × Labels ns (image_set_in loaded) mid_seen rows behind spec power outcome
       labels_on news contents left true went done cut =
           let s = done refl in
-          let long : true ≡ lasts behind (label_steps ns mid_seen new) = went.made ∙ ap (λ (xs : List (Option SeenArea)). lasts behind (steps_of_all xs changes)) mid_is in
+          let long : true ≡ lasts behind (label_steps ns mid_seen spec) = went.made ∙ ap (λ (xs : List (Option SeenArea)). lasts behind (steps_of_all xs changes)) mid_is in
           let now : areas_shown s.labels ≡ all_changed mid_seen changes = left_shown news s.labels (went.held refl) s.kept ∙ went.done refl ∙ ap (λ (xs : List (Option SeenArea)). all_changed xs changes) mid_is in (
             s.rows,
             s.left,
-            subst (λ (b : Bool). MatchBool b (SavesParts ending.Done done_text (image_set_in loaded) (all_changed mid_seen changes) s.rows outcome) (IsCutLate ns (image_set_in loaded) mid_seen s.rows behind new power outcome)) long
+            subst (λ (b : Bool). MatchBool b (SavesParts ending.Done done_text (image_set_in loaded) (all_changed mid_seen changes) s.rows outcome) (IsCutLate ns (image_set_in loaded) mid_seen s.rows behind spec power outcome)) long
                 (saves_parts ending.Done done_text news contents (all_changed mid_seen changes) (went.beside ∙ first.beside) (went.sizes ∙ first.sizes) s now),
           )
       labels_on news contents left false went done cut =
           let s = cut refl in
-          let short : false ≡ lasts behind (label_steps ns mid_seen new) = went.made ∙ ap (λ (xs : List (Option SeenArea)). lasts behind (steps_of_all xs changes)) mid_is in
-          let steps = short_of behind (label_steps ns mid_seen new) short in (
+          let short : false ≡ lasts behind (label_steps ns mid_seen spec) = went.made ∙ ap (λ (xs : List (Option SeenArea)). lasts behind (steps_of_all xs changes)) mid_is in
+          let steps = short_of behind (label_steps ns mid_seen spec) short in (
             s.rows,
             s.left,
-            subst (λ (b : Bool). MatchBool b (SavesParts ending.Done done_text (image_set_in loaded) (all_changed mid_seen changes) s.rows outcome) (IsCutLate ns (image_set_in loaded) mid_seen s.rows behind new power outcome)) short
+            subst (λ (b : Bool). MatchBool b (SavesParts ending.Done done_text (image_set_in loaded) (all_changed mid_seen changes) s.rows outcome) (IsCutLate ns (image_set_in loaded) mid_seen s.rows behind spec power outcome)) short
                 (record {
                   steps = steps.0;
                   given = steps.1;
@@ -185,23 +186,23 @@ module _ (leaves : ℕ → List (Option Words) → List (Option (List ℕ)) → 
                 }),
           )
 
-      makes : GoesOn (rest_of loaded) power sets mid fuse new outcome → Makes ns (image_set_in loaded) mid_seen fuse new power outcome
+      makes : GoesOn (rest_of loaded) power sets mid fuse spec outcome → Makes ns (image_set_in loaded) mid_seen fuse spec power outcome
       makes on = by (lasts fuse count) refl
         where
-          it : IsFormattedIn (place_in ns new) (layout_for new) new.uuid loaded.contents on.contents fuse behind (lasts fuse count)
-          it = subst (λ (n : Namespaces). IsFormattedIn (place_in n new) (layout_for new) new.uuid loaded.contents on.contents fuse behind (lasts fuse count)) ns_is on.made.formatted
+          it : IsFormattedIn (place_in ns spec) (layout_for spec) spec.uuid loaded.contents on.contents fuse behind (lasts fuse count)
+          it = subst (λ (n : Namespaces). IsFormattedIn (place_in n spec) (layout_for spec) spec.uuid loaded.contents on.contents fuse behind (lasts fuse count)) ns_is on.made.formatted
 
           went_on : lasts fuse count ≡ true → Went mid on.news behind on.left changes (is_ok on.result)
           went_on long =
-              subst (λ (cs : List Change). Went mid on.news behind on.left cs (is_ok on.result)) (λ i. changes_of (ns_is i) (mid_is i) (command_for new)) (on.made.labels long)
+              subst (λ (cs : List Change). Went mid on.news behind on.left cs (is_ok on.result)) (λ i. changes_of (ns_is i) (mid_is i) (Create spec)) (on.made.labels long)
 
-          by : (b : Bool) → lasts fuse count ≡ b → Makes ns (image_set_in loaded) mid_seen fuse new power outcome
+          by : (b : Bool) → lasts fuse count ≡ b → Makes ns (image_set_in loaded) mid_seen fuse spec power outcome
           by true long =
               let labels = labels_on on.news on.contents on.left (is_ok on.result) (went_on long) on.done on.cut in
               record {
                 rows = labels.0;
                 contents = formatted on.contents labels.0 fuse behind it labels.1;
-                ends = subst (λ (b : Bool). MatchBool b (Labels ns (image_set_in loaded) mid_seen labels.0 behind new power outcome) (SavesParts ending.PowerCut (cut_text power.steps) (image_set_in loaded) mid_seen labels.0 outcome)) (sym long) labels.2;
+                ends = subst (λ (b : Bool). MatchBool b (Labels ns (image_set_in loaded) mid_seen labels.0 behind spec power outcome) (SavesParts ending.PowerCut (cut_text power.steps) (image_set_in loaded) mid_seen labels.0 outcome)) (sym long) labels.2;
               }
           by false short =
               let within = on.made.within short in
@@ -213,44 +214,44 @@ module _ (leaves : ℕ → List (Option Words) → List (Option (List ℕ)) → 
               record {
                 rows = s.rows;
                 contents = formatted on.contents s.rows fuse behind it s.left;
-                ends = subst (λ (b : Bool). MatchBool b (Labels ns (image_set_in loaded) mid_seen s.rows behind new power outcome) (SavesParts ending.PowerCut (cut_text power.steps) (image_set_in loaded) mid_seen s.rows outcome)) (sym short)
+                ends = subst (λ (b : Bool). MatchBool b (Labels ns (image_set_in loaded) mid_seen s.rows behind spec power outcome) (SavesParts ending.PowerCut (cut_text power.steps) (image_set_in loaded) mid_seen s.rows outcome)) (sym short)
                     (saves_parts ending.PowerCut (cut_text power.steps) on.news on.contents mid_seen beside sizes s now);
               }
 
-    recovered : GoesThen (rest_of loaded) power sets opened new outcome → OnRecovered ns (image_set_in loaded) mid_seen (burnt power.steps (steps_of_all seen (recovery_changes sets seen))) new power outcome
-    recovered g = by (refusal_of ns (command_for new)) refl
+    recovered : GoesThen (rest_of loaded) power sets opened spec outcome → OnRecovered ns (image_set_in loaded) mid_seen (burnt power.steps (steps_of_all seen (recovery_changes sets seen))) spec power outcome
+    recovered g = by (refusal_of ns (Create spec)) refl
       where
-        same : refusal_of (shown sets g.mid) (command_for new) ≡ refusal_of ns (command_for new)
-        same = ap (λ (n : Namespaces). refusal_of n (command_for new)) (ns_is g.mid g.left g.first)
+        same : refusal_of (shown sets g.mid) (Create spec) ≡ refusal_of ns (Create spec)
+        same = ap (λ (n : Namespaces). refusal_of n (Create spec)) (ns_is g.mid g.left g.first)
 
-        by : (o : Option OpRefused) → refusal_of ns (command_for new) ≡ o
-            → MatchOption o (Makes ns (image_set_in loaded) mid_seen (burnt power.steps (steps_of_all seen (recovery_changes sets seen))) new power outcome) (λ refused. outcome ≡ refused_outcome refused)
+        by : (o : Option OpRefused) → refusal_of ns (Create spec) ≡ o
+            → MatchOption o (Makes ns (image_set_in loaded) mid_seen (burnt power.steps (steps_of_all seen (recovery_changes sets seen))) spec power outcome) (λ refused. outcome ≡ refused_outcome refused)
         by (Some f) some = g.refused f (same ∙ some)
-        by None none = subst (λ (f : Option ℕ). Makes ns (image_set_in loaded) mid_seen f new power outcome) g.first.left_is (makes g.mid g.left g.first (g.went (same ∙ none)))
+        by None none = subst (λ (f : Option ℕ). Makes ns (image_set_in loaded) mid_seen f spec power outcome) g.first.left_is (makes g.mid g.left g.first (g.went (same ∙ none)))
 
-    pub goes : GoesFrom leaves (rest_of loaded) power sets opened new outcome → Goes leaves sets (image_set_in loaded) seen new power outcome
+    pub goes : GoesFrom leaves (rest_of loaded) power sets opened spec outcome → Goes leaves sets (image_set_in loaded) seen spec power outcome
     goes (inl s) =
-        subst (λ (b : Bool). MatchBool b (OnRecovered ns (image_set_in loaded) mid_seen (burnt power.steps (steps_of_all seen (recovery_changes sets seen))) new power outcome) (IsCut leaves (image_set_in loaded) seen (recovery_changes sets seen) power outcome)) s.went.made
+        subst (λ (b : Bool). MatchBool b (OnRecovered ns (image_set_in loaded) mid_seen (burnt power.steps (steps_of_all seen (recovery_changes sets seen))) spec power outcome) (IsCut leaves (image_set_in loaded) seen (recovery_changes sets seen) power outcome)) s.went.made
         (all_cut leaves (image_set_in loaded) loaded.labels (objects_with (rest_of loaded)) (loaded_as loaded) power s.news s.left (recovery_changes sets seen) s.rows outcome s.went s.kept s.asked s.cut)
     goes (inr g) =
-        subst (λ (b : Bool). MatchBool b (OnRecovered ns (image_set_in loaded) mid_seen (burnt power.steps (steps_of_all seen (recovery_changes sets seen))) new power outcome) (IsCut leaves (image_set_in loaded) seen (recovery_changes sets seen) power outcome)) g.first.made
+        subst (λ (b : Bool). MatchBool b (OnRecovered ns (image_set_in loaded) mid_seen (burnt power.steps (steps_of_all seen (recovery_changes sets seen))) spec power outcome) (IsCut leaves (image_set_in loaded) seen (recovery_changes sets seen) power outcome)) g.first.made
         (recovered g)
 
 -- ---- the whole command
 
 -- a registry that is opened, and the command on what it holds
-pub comes : (leaves : ℕ → List (Option Words) → List (Option (List ℕ)) → Type 0) (loaded : Loaded) (power : Power) (new : NewSectors) (outcome : Outcome) (registry : Opened) → All IsContents loaded.contents → AreWhole loaded.labels
-    → Ok registry ≡ opening loaded.nfit (map opened_as loaded.labels) → GoesFrom leaves (rest_of loaded) power registry.sets registry.areas new outcome → SectorsCome leaves new power (image_set_in loaded) outcome
-comes leaves loaded power new outcome registry sound whole is from =
+pub comes : (leaves : ℕ → List (Option Words) → List (Option (List ℕ)) → Type 0) (loaded : Loaded) (power : Power) (spec : CreateSpec) (outcome : Outcome) (registry : Opened) → All IsContents loaded.contents → AreWhole loaded.labels
+    → Ok registry ≡ opening loaded.nfit (map opened_as loaded.labels) → GoesFrom leaves (rest_of loaded) power registry.sets registry.areas spec outcome → SectorsCome leaves spec power (image_set_in loaded) outcome
+comes leaves loaded power spec outcome registry sound whole is from =
     let was = was_opened loaded.nfit (map opened_as loaded.labels) registry is in
-    let from' : GoesFrom leaves (rest_of loaded) power registry.sets (map opened_as loaded.labels) new outcome = subst (λ (xs : List Area). GoesFrom leaves (rest_of loaded) power registry.sets xs new outcome) (sym was.areas_are) from in
-    subst (λ (r : Result (List (List Mapping)) OpenFault). OnSets leaves (image_set_in loaded) new power r outcome) (sym (sets_ok (image_set_in loaded) loaded.labels loaded.nfit (loaded_as loaded).labels (nfit_is loaded) registry whole is))
-    (subst (λ (xs : List (Option SeenArea)). Goes leaves registry.sets (image_set_in loaded) xs new power outcome) (labels_are (image_set_in loaded) loaded.labels loaded.nfit (loaded_as loaded).labels (nfit_is loaded))
-    (goes leaves loaded power outcome registry.sets new sound from'))
+    let from' : GoesFrom leaves (rest_of loaded) power registry.sets (map opened_as loaded.labels) spec outcome = subst (λ (xs : List Area). GoesFrom leaves (rest_of loaded) power registry.sets xs spec outcome) (sym was.areas_are) from in
+    subst (λ (r : Result (List (List Mapping)) OpenFault). OnSets leaves (image_set_in loaded) spec power r outcome) (sym (sets_ok (image_set_in loaded) loaded.labels loaded.nfit (loaded_as loaded).labels (nfit_is loaded) registry whole is))
+    (subst (λ (xs : List (Option SeenArea)). Goes leaves registry.sets (image_set_in loaded) xs spec power outcome) (labels_are (image_set_in loaded) loaded.labels loaded.nfit (loaded_as loaded).labels (nfit_is loaded))
+    (goes leaves loaded power outcome registry.sets spec sound from'))
 
 -- one that isn't
-pub comes_not : (leaves : ℕ → List (Option Words) → List (Option (List ℕ)) → Type 0) (loaded : Loaded) (power : Power) (new : NewSectors) (outcome : Outcome) (f : OpenFault) → AreWhole loaded.labels → Err f ≡ opening loaded.nfit (map opened_as loaded.labels)
-    → outcome ≡ open_outcome f → SectorsCome leaves new power (image_set_in loaded) outcome
-comes_not leaves loaded power new outcome f whole is said =
-    subst (λ (r : Result (List (List Mapping)) OpenFault). OnSets leaves (image_set_in loaded) new power r outcome)
+pub comes_not : (leaves : ℕ → List (Option Words) → List (Option (List ℕ)) → Type 0) (loaded : Loaded) (power : Power) (spec : CreateSpec) (outcome : Outcome) (f : OpenFault) → AreWhole loaded.labels → Err f ≡ opening loaded.nfit (map opened_as loaded.labels)
+    → outcome ≡ open_outcome f → SectorsCome leaves spec power (image_set_in loaded) outcome
+comes_not leaves loaded power spec outcome f whole is said =
+    subst (λ (r : Result (List (List Mapping)) OpenFault). OnSets leaves (image_set_in loaded) spec power r outcome)
     (sym (sets_err (image_set_in loaded) loaded.labels loaded.nfit (loaded_as loaded).labels (nfit_is loaded) f whole is)) said

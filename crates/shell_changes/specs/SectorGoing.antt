@@ -8,7 +8,7 @@ use Rattle.namespace_map.specs.declared.refused.OpRefused.{OpRefused}
 use Rattle.namespace_map.specs.Changes.{recovery_changes}
 use Rattle.namespace_areas.specs.Seen.{AreLeft, areas_seen}
 use Rattle.namespace_areas.specs.Went.{Went}
-use Rattle.sector_namespaces.specs.declared.new_sectors.NewSectors.{NewSectors}
+use Rattle.namespace_map.specs.declared.commands.CreateSpec.{CreateSpec}
 use Rattle.sector_namespaces.specs.Creation.{IsMade, refusal_for}
 use Rattle.shell_reports.specs.declared.status.Ending.{Ending}
 use Rattle.shell_reports.specs.declared.status.Ending.TheVariants as ending
@@ -31,23 +31,23 @@ pub record IsSavedWith (ends : Ending) (text : List ℕ) (rest : Rest) (areas : 
   pub saves : IsSaving ends text (objects_with (with_rows rest rows) labels) outcome
 
 -- what became of areas and contents by a create that isn't refused, and the set that is saved: whole, or as a cut left it
-pub record GoesOn (rest : Rest) (power : Power) (sets : List (List Mapping)) (areas : List Area) (fuse : Option ℕ) (new : NewSectors) (outcome : Outcome) : Type 0 where
+pub record GoesOn (rest : Rest) (power : Power) (sets : List (List Mapping)) (areas : List Area) (fuse : Option ℕ) (spec : CreateSpec) (outcome : Outcome) : Type 0 where
   pub news : List Area
   pub contents : List Words
   pub left : Option ℕ
   pub result : Result (Unit {0}) OpRefused
-  pub made : IsMade sets areas news rest.contents contents fuse left new result
+  pub made : IsMade sets areas news rest.contents contents fuse left spec result
   pub done : is_ok result ≡ true → IsSavedWith ending.Done done_text rest news contents outcome
   pub cut : is_ok result ≡ false → IsSavedWith ending.PowerCut (cut_text power.steps) rest news contents outcome
 
 -- recovery was made, and then the command was refused or went on
-pub record GoesThen (rest : Rest) (power : Power) (sets : List (List Mapping)) (areas : List Area) (new : NewSectors) (outcome : Outcome) : Type 0 where
+pub record GoesThen (rest : Rest) (power : Power) (sets : List (List Mapping)) (areas : List Area) (spec : CreateSpec) (outcome : Outcome) : Type 0 where
   pub mid : List Area
   pub left : Option ℕ
   pub first : Went areas mid power.steps left (recovery_changes sets (areas_seen areas)) true
-  pub refused : (f : OpRefused) → refusal_for sets mid new ≡ Some f → outcome ≡ refused_outcome f
-  pub went : refusal_for sets mid new ≡ None → GoesOn rest power sets mid left new outcome
+  pub refused : (f : OpRefused) → refusal_for sets mid spec ≡ Some f → outcome ≡ refused_outcome f
+  pub went : refusal_for sets mid spec ≡ None → GoesOn rest power sets mid left spec outcome
 
 -- the command on areas over interleave sets, after recovery
-abbrev pub GoesFrom : (ℕ → List (Option Words) → List (Option (List ℕ)) → Type 0) → Rest → Power → List (List Mapping) → List Area → NewSectors → Outcome → Type 0
-GoesFrom leaves rest power sets areas new outcome = StopsFirst leaves (objects_with rest) power sets areas outcome ⊎ GoesThen rest power sets areas new outcome
+abbrev pub GoesFrom : (ℕ → List (Option Words) → List (Option (List ℕ)) → Type 0) → Rest → Power → List (List Mapping) → List Area → CreateSpec → Outcome → Type 0
+GoesFrom leaves rest power sets areas spec outcome = StopsFirst leaves (objects_with rest) power sets areas outcome ⊎ GoesThen rest power sets areas spec outcome

@@ -1,5 +1,5 @@
 -- The command `create --mode sector`: UEFI 2.10, sections 6.2 and 13.19, with this project's rules.
-use Rattle.std.specs.Prelude.{◌≡◌, ℕ, ◌+◌, Bool, true, false, not, List, map, length, Option, Some, None, is_some, Result, Ok, Err, MatchBool, MatchOption}
+use Rattle.std.specs.Prelude.{◌≡◌, ℕ, ◌+◌, Bool, true, false, not, List, map, length, Option, Some, None, Result, Ok, Err, MatchBool, MatchOption}
 use Rattle.cut_words.specs.Words.{Words, IsLeft, after, settled}
 use Rattle.cut_words.specs.WordBytes.{words_in}
 use Rattle.cut_words.specs.Fuses.{allowed, burnt, lasts}
@@ -15,15 +15,16 @@ use Rattle.namespace_map.specs.Changes.{namespaces_of, changes_of, recovery_chan
 use Rattle.namespace_ops.specs.declared.registry.OpenFault.{OpenFault}
 use Rattle.image_set.specs.Load.{ImageSet}
 use Rattle.sector_namespaces.specs.View.{rows_of}
-use Rattle.sector_namespaces.specs.declared.new_sectors.NewSectors.{NewSectors}
-use Rattle.sector_namespaces.specs.Creation.{command_for, layout_for, place_in}
+use Rattle.namespace_map.specs.declared.commands.CreateSpec.{CreateSpec}
+use Rattle.namespace_map.specs.declared.commands.Command.TheVariants.{Create}
+use Rattle.sector_namespaces.specs.Creation.{layout_for, place_in}
 use Rattle.shell_reports.specs.declared.status.Ending.TheVariants as ending
 use Rattle.shell_reports.specs.declared.power.Power.{Power}
 use Rattle.shell_reports.specs.Outcome.{Outcome}
 use Rattle.shell_reports.specs.Cut.{cut_text, done_text}
 use Rattle.shell_reports.specs.List.{open_outcome}
 use Rattle.shell_changes.specs.Areas.{areas_in}
-use Rattle.shell_changes.specs.Namespaces.{IsCut, sets_in}
+use Rattle.shell_changes.specs.Namespaces.{IsCut, refusal_in, sets_in}
 use Rattle.shell_changes.specs.Refusals.{refused_outcome}
 use Rattle.shell_changes.specs.Parts.{SavesParts}
 
@@ -43,81 +44,70 @@ pub record AreFormatted (place : List Words → Namespace) (l : Layout) (uuid : 
 -- ---- a create that isn't refused, on areas that recovery has left
 
 -- the steps of the labels' changes
-abbrev pub label_steps : Namespaces → List (Option Area) → NewSectors → ℕ
-label_steps ns areas new = steps_of_all areas (changes_of ns areas (command_for new))
+abbrev pub label_steps : Namespaces → List (Option Area) → CreateSpec → ℕ
+label_steps ns areas spec = steps_of_all areas (changes_of ns areas (Create spec))
 
 -- power is cut within the labels' changes: the set is saved with what the cut leaves of the areas, and the whole arena
-pub record IsCutLate (ns : Namespaces) (loaded : ImageSet) (areas : List (Option Area)) (rows : List (List ℕ)) (fuse : Option ℕ) (new : NewSectors) (power : Power) (outcome : Outcome) : Type 0 where
+pub record IsCutLate (ns : Namespaces) (loaded : ImageSet) (areas : List (Option Area)) (rows : List (List ℕ)) (fuse : Option ℕ) (spec : CreateSpec) (power : Power) (outcome : Outcome) : Type 0 where
   pub steps : ℕ
   pub given : fuse ≡ Some steps
   pub left : List (Option Area)
-  pub leaves : IsLeftBy areas (changes_of ns areas (command_for new)) steps left
+  pub leaves : IsLeftBy areas (changes_of ns areas (Create spec)) steps left
   pub saved : SavesParts ending.PowerCut (cut_text power.steps) loaded left rows outcome
 
 -- the labels' changes behind the format, by whether power lasts for them
-abbrev pub Labels : Namespaces → ImageSet → List (Option Area) → List (List ℕ) → Option ℕ → NewSectors → Power → Outcome → Type 0
-Labels ns loaded areas rows fuse new power outcome =
-    MatchBool (lasts fuse (label_steps ns areas new))
-    (SavesParts ending.Done done_text loaded (all_changed areas (changes_of ns areas (command_for new))) rows outcome)
-    (IsCutLate ns loaded areas rows fuse new power outcome)
+abbrev pub Labels : Namespaces → ImageSet → List (Option Area) → List (List ℕ) → Option ℕ → CreateSpec → Power → Outcome → Type 0
+Labels ns loaded areas rows fuse spec power outcome =
+    MatchBool (lasts fuse (label_steps ns areas spec))
+    (SavesParts ending.Done done_text loaded (all_changed areas (changes_of ns areas (Create spec))) rows outcome)
+    (IsCutLate ns loaded areas rows fuse spec power outcome)
 
 -- the format and what comes behind it, with a fuse: where it doesn't last for the format no label area was touched since recovery
-pub record Makes (ns : Namespaces) (loaded : ImageSet) (areas : List (Option Area)) (fuse : Option ℕ) (new : NewSectors) (power : Power) (outcome : Outcome) : Type 0 where
+pub record Makes (ns : Namespaces) (loaded : ImageSet) (areas : List (Option Area)) (fuse : Option ℕ) (spec : CreateSpec) (power : Power) (outcome : Outcome) : Type 0 where
   pub rows : List (List ℕ)
-  pub contents : AreFormatted (place_in ns new) (layout_for new) new.uuid loaded fuse rows
-  pub ends : MatchBool (lasts fuse (format_count (layout_for new)))
-      (Labels ns loaded areas rows (burnt fuse (format_count (layout_for new))) new power outcome)
+  pub contents : AreFormatted (place_in ns spec) (layout_for spec) spec.uuid loaded fuse rows
+  pub ends : MatchBool (lasts fuse (format_count (layout_for spec)))
+      (Labels ns loaded areas rows (burnt fuse (format_count (layout_for spec))) spec power outcome)
       (SavesParts ending.PowerCut (cut_text power.steps) loaded areas rows outcome)
 
 -- ---- the command
 
 -- once recovery has made its changes: refused, or made
-abbrev pub OnRecovered : Namespaces → ImageSet → List (Option Area) → Option ℕ → NewSectors → Power → Outcome → Type 0
-OnRecovered ns loaded areas fuse new power outcome =
-    MatchOption (refusal_of ns (command_for new)) (Makes ns loaded areas fuse new power outcome) (λ refused. outcome ≡ refused_outcome refused)
+abbrev pub OnRecovered : Namespaces → ImageSet → List (Option Area) → Option ℕ → CreateSpec → Power → Outcome → Type 0
+OnRecovered ns loaded areas fuse spec power outcome =
+    MatchOption (refusal_of ns (Create spec)) (Makes ns loaded areas fuse spec power outcome) (λ refused. outcome ≡ refused_outcome refused)
 
 -- recovery first, by whether power lasts for it
-abbrev pub Goes : (ℕ → List (Option Words) → List (Option (List ℕ)) → Type 0) → List (List Mapping) → ImageSet → List (Option Area) → NewSectors → Power → Outcome → Type 0
-Goes leaves sets loaded areas new power outcome =
+abbrev pub Goes : (ℕ → List (Option Words) → List (Option (List ℕ)) → Type 0) → List (List Mapping) → ImageSet → List (Option Area) → CreateSpec → Power → Outcome → Type 0
+Goes leaves sets loaded areas spec power outcome =
     MatchBool (lasts power.steps (steps_of_all areas (recovery_changes sets areas)))
-    (OnRecovered (namespaces_of sets (recovered_areas sets areas)) loaded (recovered_areas sets areas) (burnt power.steps (steps_of_all areas (recovery_changes sets areas))) new power outcome)
+    (OnRecovered (namespaces_of sets (recovered_areas sets areas)) loaded (recovered_areas sets areas) (burnt power.steps (steps_of_all areas (recovery_changes sets areas))) spec power outcome)
     (IsCut leaves loaded areas (recovery_changes sets areas) power outcome)
 
-abbrev pub OnSets : (ℕ → List (Option Words) → List (Option (List ℕ)) → Type 0) → ImageSet → NewSectors → Power → Result (List (List Mapping)) OpenFault → Outcome → Type 0
-OnSets leaves loaded new power (Ok sets) outcome = Goes leaves sets loaded (areas_in loaded.labels) new power outcome
-OnSets leaves loaded new power (Err fault) outcome = outcome ≡ open_outcome fault
+abbrev pub OnSets : (ℕ → List (Option Words) → List (Option (List ℕ)) → Type 0) → ImageSet → CreateSpec → Power → Result (List (List Mapping)) OpenFault → Outcome → Type 0
+OnSets leaves loaded spec power (Ok sets) outcome = Goes leaves sets loaded (areas_in loaded.labels) spec power outcome
+OnSets leaves loaded spec power (Err fault) outcome = outcome ≡ open_outcome fault
 
 -- what the command may come to on a set that is loaded
-abbrev pub SectorsCome : (ℕ → List (Option Words) → List (Option (List ℕ)) → Type 0) → NewSectors → Power → ImageSet → Outcome → Type 0
-SectorsCome leaves new power loaded outcome = OnSets leaves loaded new power (sets_in loaded) outcome
+abbrev pub SectorsCome : (ℕ → List (Option Words) → List (Option (List ℕ)) → Type 0) → CreateSpec → Power → ImageSet → Outcome → Type 0
+SectorsCome leaves spec power loaded outcome = OnSets leaves loaded spec power (sets_in loaded) outcome
 
 -- ---- what the table of exit statuses asks
 
-abbrev pub refused_on : List (List Mapping) → List (Option Area) → NewSectors → Option OpRefused
-refused_on sets areas new = refusal_of (namespaces_of sets (recovered_areas sets areas)) (command_for new)
-
-abbrev pub refuses_by : List (Option Area) → NewSectors → Result (List (List Mapping)) OpenFault → Bool
-refuses_by areas new (Ok sets) = is_some (refused_on sets areas new)
-refuses_by areas new (Err fault) = false
-
--- it is refused by its own rules, once recovery has made its changes
-abbrev pub refuses : ImageSet → NewSectors → Bool
-refuses loaded new = refuses_by (areas_in loaded.labels) new (sets_in loaded)
-
 -- the steps behind recovery: none where it is refused, else those of the format and of the labels
-abbrev pub own_steps : Namespaces → List (Option Area) → NewSectors → Option OpRefused → ℕ
-own_steps ns areas new (Some refused) = 0
-own_steps ns areas new None = format_count (layout_for new) + label_steps ns areas new
+abbrev pub own_steps : Namespaces → List (Option Area) → CreateSpec → Option OpRefused → ℕ
+own_steps ns areas spec (Some refused) = 0
+own_steps ns areas spec None = format_count (layout_for spec) + label_steps ns areas spec
 
-abbrev pub steps_on : List (List Mapping) → List (Option Area) → NewSectors → ℕ
-steps_on sets areas new =
+abbrev pub steps_on : List (List Mapping) → List (Option Area) → CreateSpec → ℕ
+steps_on sets areas spec =
     steps_of_all areas (recovery_changes sets areas)
-    + own_steps (namespaces_of sets (recovered_areas sets areas)) (recovered_areas sets areas) new (refused_on sets areas new)
+    + own_steps (namespaces_of sets (recovered_areas sets areas)) (recovered_areas sets areas) spec (refusal_in sets areas (Create spec))
 
-abbrev pub is_short_by : List (Option Area) → NewSectors → Option ℕ → Result (List (List Mapping)) OpenFault → Bool
-is_short_by areas new steps (Ok sets) = not (lasts steps (steps_on sets areas new))
-is_short_by areas new steps (Err fault) = false
+abbrev pub is_short_by : List (Option Area) → CreateSpec → Option ℕ → Result (List (List Mapping)) OpenFault → Bool
+is_short_by areas spec steps (Ok sets) = not (lasts steps (steps_on sets areas spec))
+is_short_by areas spec steps (Err fault) = false
 
 -- it takes more steps than power lasts for
-abbrev pub is_short : ImageSet → NewSectors → Option ℕ → Bool
-is_short loaded new steps = is_short_by (areas_in loaded.labels) new steps (sets_in loaded)
+abbrev pub is_short : ImageSet → CreateSpec → Option ℕ → Bool
+is_short loaded spec steps = is_short_by (areas_in loaded.labels) spec steps (sets_in loaded)

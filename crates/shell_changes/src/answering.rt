@@ -5,8 +5,8 @@ ghost use Rattle.image_set.specs.Sound.{IsSound};
 ghost use Rattle.namespace_areas.specs.Seen.{AreHeld, words_of};
 ghost use Rattle.namespace_map.specs.Left.{AreRegions};
 ghost use Rattle.namespace_map.specs.declared.refused.OpRefused.{OpRefused as Refused};
-ghost use Rattle.namespace_ops.specs.Carried.{IsGoodName};
-ghost use Rattle.sector_namespaces.specs.Creation.{refusal_for};
+ghost use Rattle.namespace_ops.specs.Carried.{HasGoodName, IsGoodName};
+ghost use Rattle.sector_namespaces.specs.Creation.{has_sectors, refusal_for};
 ghost use Rattle.sector_namespaces.specs.View.{AreUsable};
 ghost use Rattle.shell_reports.specs.Cut.{cut_text, done_text};
 ghost use Rattle.shell_changes.specs.Refusals.{refused_outcome};
@@ -15,20 +15,21 @@ ghost use Rattle.shell_changes.specs.Remains.{AnswersCut, LeavesBy};
 ghost use Rattle.shell_changes.specs.Rest.{IsRest};
 ghost use Rattle.shell_changes.specs.Saved.{copies_contents};
 ghost use Rattle.shell_changes.specs.SectorGoing.{GoesFrom, GoesOn, IsSavedWith};
+ghost use Rattle.shell_changes.specs.Changes.{ChangeComes};
 ghost use Rattle.shell_changes.specs.Sectors.{SectorsCome};
+ghost use Rattle.shell_changes.specs.Words.{makes_sectors};
 
 use crate::answer::Answer;
 use crate::refusals::{faulty_answer, refusing_answer};
 use crate::saving::{Remains, Rest, cut_answer, done_answer};
 use cut_words::{Fuse, PowerCut};
 use image_set::Loaded;
-use interleave::InterleaveSet;
 use namespace_areas::{Area, into_words, open_areas};
-use namespace_map::OpRefused;
+use namespace_map::{Command, CreateSpec, OpRefused};
 use namespace_ops::{Holding, Registry};
 use nvd_media::Chooser;
 use nvd_words::Items;
-use sector_namespaces::{NewSectors, create_sectors, loaded_sets_are_usable};
+use sector_namespaces::{create_sectors, loaded_sets_are_usable};
 use shell_reports::{Ending, Power, fuse_of};
 use std::alloc::{AllocError, Global};
 
@@ -93,19 +94,20 @@ fn held_answer<C: Chooser>(
     alloc: Global,
     holding: Holding,
     fuse: Fuse,
-    new: &NewSectors,
+    spec: &CreateSpec,
     power: Power,
     rest: Rest,
     choose: &mut C,
 ) -> Result<Answer, AllocError>
     requires running { holding.stopped ≡ false }
     requires few_sets { length holding.sets < 2 ^ 32 }
-    requires name { IsGoodName new.now.name }
+    requires name { IsGoodName spec.now.name }
+    requires sectors { has_sectors spec.now.make ≡ true }
     requires rest { IsRest rest }
     requires count { length holding.areas ≡ length rest.contents }
     requires usable { AreUsable holding.sets rest.contents }
-    ensures refused { IfOk result (λ answer. (f : Refused) → refusal_for holding.sets holding.areas new.now ≡ Some f → whole_outcome answer ≡ refused_outcome f) }
-    ensures went { IfOk result (λ answer. refusal_for holding.sets holding.areas new.now ≡ None → GoesOn rest power holding.sets holding.areas fuse new.now (whole_outcome answer)) }
+    ensures refused { IfOk result (λ answer. (f : Refused) → refusal_for holding.sets holding.areas spec.now ≡ Some f → whole_outcome answer ≡ refused_outcome f) }
+    ensures went { IfOk result (λ answer. refusal_for holding.sets holding.areas spec.now ≡ None → GoesOn rest power holding.sets holding.areas fuse spec.now (whole_outcome answer)) }
     ensures whole { IfOk result (λ answer. copies_contents answer.saved ≡ false) }
 {
     let mut holding = holding;
@@ -116,7 +118,7 @@ fn held_answer<C: Chooser>(
         bad,
     } = rest;
     let mut modules = contents.into_vec();
-    let created = create_sectors(alloc, &mut holding, &mut modules, &mut fuse, new);
+    let created = create_sectors(alloc, &mut holding, &mut modules, &mut fuse, spec);
     let rest = Rest {
         nfit_bytes,
         contents: Items::from_vec(modules),
@@ -125,39 +127,11 @@ fn held_answer<C: Chooser>(
     created_answer(alloc, created, power, rest, holding, choose)
 }
 
-/// The answer to a create on areas over interleave sets: recovery first.
-fn recovered_answer<C: Chooser>(
-    alloc: Global,
-    sets: Items<InterleaveSet>,
-    areas: Items<Area>,
-    new: &NewSectors,
-    power: Power,
-    rest: Rest,
-    choose: &mut C,
-) -> Result<Answer, AllocError>
-    requires few_sets { length sets < 2 ^ 32 }
-    requires regions { AreRegions sets }
-    requires held { AreHeld areas }
-    requires name { IsGoodName new.now.name }
-    requires rest { IsRest rest }
-    requires count { length areas ≡ length rest.contents }
-    requires usable { AreUsable sets rest.contents }
-    ensures comes { IfOk result (λ answer. GoesFrom (LeavesBy C.begins C.picks choose.old) rest power sets areas new.now (whole_outcome answer)) }
-    ensures whole { IfOk result (λ answer. copies_contents answer.saved ≡ false) }
-{
-    let mut holding = Holding::of(alloc, sets, areas.into_vec())?;
-    let mut fuse = fuse_of(power);
-    match holding.recover(&mut fuse) {
-        Ok(()) => held_answer(alloc, holding, fuse, new, power, rest, choose),
-        Err(PowerCut) => stopped_answer(alloc, power, rest, holding.into_areas(), choose),
-    }
-}
-
-/// The answer to a create on a registry that is opened.
+/// The answer to a create on a registry that is opened: recovery first.
 fn opened_answer<C: Chooser>(
     alloc: Global,
     registry: Registry,
-    new: &NewSectors,
+    spec: &CreateSpec,
     power: Power,
     rest: Rest,
     choose: &mut C,
@@ -165,34 +139,34 @@ fn opened_answer<C: Chooser>(
     requires few_sets { length registry.sets < 2 ^ 32 }
     requires regions { AreRegions registry.sets }
     requires held { AreHeld registry.areas }
-    requires name { IsGoodName new.now.name }
+    requires name { IsGoodName spec.now.name }
+    requires sectors { has_sectors spec.now.make ≡ true }
     requires rest { IsRest rest }
     requires count { length registry.areas ≡ length rest.contents }
     requires usable { AreUsable registry.sets rest.contents }
-    ensures comes { IfOk result (λ answer. GoesFrom (LeavesBy C.begins C.picks choose.old) rest power registry.sets registry.areas new.now (whole_outcome answer)) }
+    ensures comes { IfOk result (λ answer. GoesFrom (LeavesBy C.begins C.picks choose.old) rest power registry.sets registry.areas spec.now (whole_outcome answer)) }
     ensures whole { IfOk result (λ answer. copies_contents answer.saved ≡ false) }
 {
-    let (sets, areas) = registry.into_parts();
-    recovered_answer(alloc, sets, areas, new, power, rest, choose)
+    let mut holding = Holding::of(alloc, registry)?;
+    let mut fuse = fuse_of(power);
+    match holding.recover(&mut fuse) {
+        Ok(()) => held_answer(alloc, holding, fuse, spec, power, rest, choose),
+        Err(PowerCut) => stopped_answer(alloc, power, rest, holding.into_areas(), choose),
+    }
 }
 
-/// The answer of `create --mode sector` on an image set: `ok` and the set with the changes of recovery, the formatted arena
-/// and the labels; `cut N` and what a power cut after N steps of these leaves of it; or the first reason for which the
-/// command is refused once recovery has made its changes, which saves nothing; or the first region that is no interleave
-/// set, or the least two UUIDs of which extents meet. Contents outside the namespace's extents are saved as they were
-/// loaded. (UEFI 2.10, sections 6.2 and 13.19; the refusals and the order of steps are this project's rules.)
-///
-/// The set was loaded, and the name has no zero byte. The one error is want of memory.
-pub fn sectors_answer<C: Chooser>(
+/// The answer to a create of sectors on an image set.
+fn create_answer<C: Chooser>(
     alloc: Global,
-    new: &NewSectors,
+    spec: &CreateSpec,
     power: Power,
     loaded: Loaded,
     choose: &mut C,
 ) -> Result<Answer, AllocError>
     requires sound { IsSound loaded }
-    requires name { IsGoodName new.now.name }
-    ensures comes { IfOk result (λ answer. SectorsCome (LeavesBy C.begins C.picks choose.old) new.now power (image_set_in loaded) (whole_outcome answer)) }
+    requires name { IsGoodName spec.now.name }
+    requires sectors { has_sectors spec.now.make ≡ true }
+    ensures comes { IfOk result (λ answer. SectorsCome (LeavesBy C.begins C.picks choose.old) spec.now power (image_set_in loaded) (whole_outcome answer)) }
     ensures whole { IfOk result (λ answer. copies_contents answer.saved ≡ false) }
 {
     loaded_sets_are_usable();
@@ -210,7 +184,36 @@ pub fn sectors_answer<C: Chooser>(
     };
     let areas = open_areas(alloc, labels)?;
     match Registry::open_all(alloc, nfit, areas) {
-        Ok(registry) => opened_answer(alloc, registry, new, power, rest, choose),
+        Ok(registry) => opened_answer(alloc, registry, spec, power, rest, choose),
         Err(fault) => faulty_answer(alloc, fault),
+    }
+}
+
+/// The answer of `create --mode sector` on an image set: `ok` and the set with the changes of recovery, the formatted arena
+/// and the labels; `cut N` and what a power cut after N steps of these leaves of it; or the first reason for which the
+/// command is refused once recovery has made its changes, which saves nothing; or the first region that is no interleave
+/// set, or the least two UUIDs of which extents meet. Contents outside the namespace's extents are saved as they were
+/// loaded. (UEFI 2.10, sections 6.2 and 13.19; the refusals and the order of steps are this project's rules.)
+///
+/// The set was loaded, the command makes sectors, and its name has no zero byte. The one error is want of memory.
+pub fn sectors_answer<C: Chooser>(
+    alloc: Global,
+    change: &Command,
+    power: Power,
+    loaded: Loaded,
+    choose: &mut C,
+) -> Result<Answer, AllocError>
+    requires sound { IsSound loaded }
+    requires name { HasGoodName change.now }
+    requires sectors { makes_sectors change.now ≡ true }
+    ensures comes { IfOk result (λ answer. ChangeComes (LeavesBy C.begins C.picks choose.old) change.now power (image_set_in loaded) (whole_outcome answer)) }
+    ensures whole { IfOk result (λ answer. copies_contents answer.saved ≡ false) }
+{
+    match change {
+        Command::Create(spec) => create_answer(alloc, spec, power, loaded, choose),
+        Command::Delete { .. } => unreachable!(),
+        Command::Rename { .. } => unreachable!(),
+        Command::Claim { .. } => unreachable!(),
+        Command::Unclaim { .. } => unreachable!(),
     }
 }

@@ -10,23 +10,21 @@ ghost use Rattle.namespace_areas.specs.Refusals.{shown};
 ghost use Rattle.namespace_ops.specs.Carried.{HasGoodName};
 ghost use Rattle.shell_changes.specs.Answers.{HasSizes, outcome_with};
 ghost use Rattle.shell_changes.specs.Going.{GoesFrom, GoesOn};
-ghost use Rattle.shell_changes.specs.Namespaces.{CommandComes};
+ghost use Rattle.shell_changes.specs.Changes.{ChangeComes};
 ghost use Rattle.shell_changes.specs.Refusals.{refused_outcome};
 ghost use Rattle.shell_changes.specs.Remains.{AnswersCut, LeavesBy};
 ghost use Rattle.shell_changes.specs.Rest.{objects_by};
-ghost use Rattle.shell_changes.specs.Words.{IsPlain};
+ghost use Rattle.shell_changes.specs.Words.{makes_sectors};
 
 use crate::answer::Answer;
 use crate::refusals::{faulty_answer, refusing_answer};
 use crate::saving::{Remains, cut_answer, done_answer};
 use cut_words::{Fuse, PowerCut};
 use image_set::{Outline, OutlineRest};
-use interleave::InterleaveSet;
 use namespace_areas::{Area, into_words, open_areas};
 use namespace_map::Command;
 use namespace_ops::{Holding, NamespaceRegistry, Opening, Registry, Tag};
 use nvd_media::Chooser;
-use nvd_words::Items;
 use shell_reports::{Power, fuse_of};
 use std::alloc::{AllocError, Global};
 use std::marker::Brand;
@@ -93,34 +91,7 @@ fn stopped_answer<C: Chooser>(
     cut_answer(alloc, power, Remains::Areas(rest, labels), choose)
 }
 
-/// The answer to a command on areas over interleave sets: recovery first.
-fn held_answer<C: Chooser>(
-    alloc: Global,
-    sets: Items<InterleaveSet>,
-    areas: Items<Area>,
-    change: &Command,
-    power: Power,
-    rest: OutlineRest,
-    choose: &mut C,
-) -> Result<Answer, AllocError>
-    requires few_sets { length sets < 2 ^ 32 }
-    requires regions { AreRegions sets }
-    requires held { AreHeld areas }
-    requires name { HasGoodName change.now }
-    requires rest { IsOutlineRest rest }
-    requires count { length areas ≡ length rest.sizes }
-    ensures comes { IfOk result (λ answer. (contents : List (List ℕ)) → GoesFrom (LeavesBy C.begins C.picks choose.old) (objects_by rest contents) power sets areas change.now (outcome_with answer contents)) }
-    ensures sizes { IfOk result (HasSizes rest.sizes) }
-{
-    let mut holding = Holding::of(alloc, sets, areas.into_vec())?;
-    let mut fuse = fuse_of(power);
-    match holding.recover(&mut fuse) {
-        Ok(()) => command_answer::<Brand, C>(alloc, holding, fuse, change, power, rest, choose),
-        Err(PowerCut) => stopped_answer(alloc, power, rest, holding.into_areas(), choose),
-    }
-}
-
-/// The answer to a command on a registry that is opened.
+/// The answer to a command on a registry that is opened: recovery first.
 fn opened_answer<C: Chooser>(
     alloc: Global,
     registry: Registry,
@@ -138,8 +109,12 @@ fn opened_answer<C: Chooser>(
     ensures comes { IfOk result (λ answer. (contents : List (List ℕ)) → GoesFrom (LeavesBy C.begins C.picks choose.old) (objects_by rest contents) power registry.sets registry.areas change.now (outcome_with answer contents)) }
     ensures sizes { IfOk result (HasSizes rest.sizes) }
 {
-    let (sets, areas) = registry.into_parts();
-    held_answer(alloc, sets, areas, change, power, rest, choose)
+    let mut holding = Holding::of(alloc, registry)?;
+    let mut fuse = fuse_of(power);
+    match holding.recover(&mut fuse) {
+        Ok(()) => command_answer::<Brand, C>(alloc, holding, fuse, change, power, rest, choose),
+        Err(PowerCut) => stopped_answer(alloc, power, rest, holding.into_areas(), choose),
+    }
 }
 
 /// The answer of `create`, `delete` or `rename` on an image set: `ok` and the set with the changes of recovery and of the
@@ -158,8 +133,8 @@ pub fn change_answer<C: Chooser>(
 ) -> Result<Answer, AllocError>
     requires sound { IsOutlined outline }
     requires name { HasGoodName change.now }
-    requires plain { IsPlain change.now }
-    ensures comes { IfOk result (λ answer. (contents : List (List ℕ)) → CommandComes (LeavesBy C.begins C.picks choose.old) change.now power (image_set_with outline contents) (outcome_with answer contents)) }
+    requires plain { makes_sectors change.now ≡ false }
+    ensures comes { IfOk result (λ answer. (contents : List (List ℕ)) → ChangeComes (LeavesBy C.begins C.picks choose.old) change.now power (image_set_with outline contents) (outcome_with answer contents)) }
     ensures sizes { IfOk result (HasSizes outline.sizes) }
 {
     let Outline {

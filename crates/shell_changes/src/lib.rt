@@ -16,8 +16,9 @@
 //!
 //! | what | function | clause |
 //! |---|---|---|
-//! | what a command comes to on an outline, whatever its contents are | [`change_answer`] | `CommandComes` of `specs/Namespaces.antt` |
-//! | the commands that words say, and the name that a text makes | [`create_in`], [`delete_in`], [`rename_in`], [`named`] | `specs/Words.antt` |
+//! | what any command on namespaces comes to | [`change_answer`], [`sectors_answer`] | `ChangeComes` of `specs/Changes.antt` |
+//! | what one comes to that makes no sectors, whatever contents the set has | [`change_answer`] | `CommandComes` of `specs/Namespaces.antt` |
+//! | the commands that words say | [`create_in`], [`delete_in`], [`rename_in`] | `specs/Words.antt` |
 //! | what is printed of a refusal | `refusing_answer` | `refused_outcome` of `specs/Refusals.antt` |
 //!
 //! Recovery and command burn one fuse, in this order. A refused command saves nothing, what recovery made neither.
@@ -36,7 +37,6 @@
 //! |---|---|---|
 //! | what the command comes to on a set that is loaded | [`sectors_answer`] | `SectorsCome` of `specs/Sectors.antt` |
 //! | what is left of the contents | the same | `AreFormatted` of `specs/Sectors.antt` |
-//! | the command that words say, of either mode | [`created_in`] | `specs/SectorWords.antt` |
 //!
 //! Recovery, format and labels burn one fuse, in this order.
 //!
@@ -59,12 +59,10 @@ mod changing;
 mod init;
 mod refusals;
 mod saving;
-mod sector_words;
 mod words;
 
 pub use answer::{Answer, Left, SavedSet, without_set};
 pub use answering::sectors_answer;
 pub use changing::change_answer;
 pub use init::init_answer;
-pub use sector_words::{Created, created_in};
-pub use words::{create_in, delete_in, named, rename_in};
+pub use words::{create_in, delete_in, makes_sectors, rename_in};

@@ -20,11 +20,10 @@ use Rattle.image_set.specs.Changed.{objects_of, with_area}
 use Rattle.shell_reports.specs.declared.status.Status.{Status}
 use Rattle.shell_reports.specs.declared.status.Status.TheVariants as status
 use Rattle.nfit_reader.specs.declared.table.Mapping.{Mapping}
-use Rattle.shell_changes.specs.Namespaces as namespaces
+use Rattle.shell_changes.specs.Changes as changes
 use Rattle.shell_changes.specs.Namespaces.{sets_in, refuses}
-use Rattle.shell_changes.specs.Sectors as sectors
 use Rattle.shell_run.specs.declared.words.Command.{Command}
-use Rattle.shell_run.specs.declared.words.Command.TheVariants.{Labels, Nfit, Init, Change, CreateSectors, Info, Read}
+use Rattle.shell_run.specs.declared.words.Command.TheVariants.{Labels, Nfit, Init, Change, Info, Read}
 use Rattle.shell_run.specs.declared.words.Command.TheVariants as command
 use Rattle.shell_reports.specs.declared.power.Power.{Power}
 use Rattle.shell_run.specs.Words.{command_of}
@@ -59,7 +58,6 @@ IsRefusedFor Nfit (Ok loaded) = ⊥
 IsRefusedFor command.List (Ok loaded) = (fault : OpenFault) × (listed_of loaded ≡ Err fault)
 IsRefusedFor (Init m power) (Ok loaded) = IsKeptArea (area_of loaded m)
 IsRefusedFor (Change c power) (Ok loaded) = (fault : OpenFault) × (sets_in loaded ≡ Err fault)
-IsRefusedFor (CreateSectors new power) (Ok loaded) = (fault : OpenFault) × (sets_in loaded ≡ Err fault)
 IsRefusedFor (Info uuid) (Ok loaded) = IsBroken loaded uuid
 IsRefusedFor (Read uuid sector) (Ok loaded) = IsBroken loaded uuid
 
@@ -71,7 +69,6 @@ IsAcceptedFor Nfit (Ok loaded) = ⊤
 IsAcceptedFor command.List (Ok loaded) = (namespaces : List Namespace) × (listed_of loaded ≡ Ok namespaces)
 IsAcceptedFor (Init m power) (Ok loaded) = IsBlankArea (area_of loaded m)
 IsAcceptedFor (Change c power) (Ok loaded) = (sets : List (List Mapping)) × (sets_in loaded ≡ Ok sets)
-IsAcceptedFor (CreateSectors new power) (Ok loaded) = (sets : List (List Mapping)) × (sets_in loaded ≡ Ok sets)
 IsAcceptedFor (Info uuid) (Ok loaded) = IsReadable loaded uuid
 IsAcceptedFor (Read uuid sector) (Ok loaded) = IsReadable loaded uuid
 
@@ -83,7 +80,6 @@ is_short steps (Some area) = not (lasts steps (init_count (length area / 8)))
 -- a command is refused by its own rules, on images that are accepted for it
 abbrev pub is_barred : Command → Result ImageSet LoadFault → Bool
 is_barred (Change c power) (Ok loaded) = refuses loaded c
-is_barred (CreateSectors new power) (Ok loaded) = sectors.refuses loaded new
 is_barred (Info uuid) (Ok loaded) = refuses_info loaded uuid
 is_barred (Read uuid sector) (Ok loaded) = refuses_read loaded uuid sector
 is_barred command found = false
@@ -91,8 +87,7 @@ is_barred command found = false
 -- a command takes more steps than power lasts for
 abbrev pub is_cut : Command → Result ImageSet LoadFault → Bool
 is_cut (Init m power) (Ok loaded) = is_short power.steps (area_of loaded m)
-is_cut (Change c power) (Ok loaded) = namespaces.is_short loaded c power.steps
-is_cut (CreateSectors new power) (Ok loaded) = sectors.is_short loaded new power.steps
+is_cut (Change c power) (Ok loaded) = changes.is_short loaded c power.steps
 is_cut command found = false
 
 -- the cause that the table gives a status; those of faults and of want of memory stand on the run itself

@@ -1,5 +1,5 @@
 -- What a run does, seen from outside.
-use Rattle.std.specs.Prelude.{◌≡◌, ◌⊎◌, ℕ, Bool, true, false, IsTrue, IsSome, List, ◌++◌, Option, Some, None, Result, Ok, Err, MatchOption, codes, take}
+use Rattle.std.specs.Prelude.{◌≡◌, ◌⊎◌, ℕ, Bool, true, false, not, IsTrue, IsSome, List, ◌++◌, Option, Some, None, Result, Ok, Err, MatchOption, codes, take}
 use Rattle.std.specs.Io.KnownBytes.{Keeps, Appends}
 use Rattle.nvd_media.specs.Images.{Images, Becomes, IsUnfinished}
 use Rattle.cut_words.specs.Words.{Words}
@@ -8,7 +8,7 @@ use Rattle.image_set.specs.Load.{ImageSet, loading}
 use Rattle.shell_reports.specs.declared.status.Status.{Status}
 use Rattle.shell_reports.specs.declared.status.Status.TheVariants as status
 use Rattle.shell_run.specs.declared.words.Command.{Command}
-use Rattle.shell_run.specs.declared.words.Command.TheVariants.{Labels, Nfit, Init, Change, CreateSectors, Info, Read}
+use Rattle.shell_run.specs.declared.words.Command.TheVariants.{Labels, Nfit, Init, Change, Info, Read}
 use Rattle.shell_run.specs.declared.words.Command.TheVariants as command
 use Rattle.shell_run.specs.Words.{command_of}
 use Rattle.shell_reports.specs.Outcome.{Outcome, usage, lf, status_of}
@@ -17,10 +17,10 @@ use Rattle.shell_reports.specs.Labels.{labels_outcome}
 use Rattle.shell_reports.specs.Nfit.{nfit_outcome}
 use Rattle.shell_reports.specs.Saved.{Saves}
 use Rattle.shell_changes.specs.Init.{InitComes}
-use Rattle.shell_changes.specs.Namespaces.{CommandComes}
+use Rattle.shell_changes.specs.Changes.{ChangeComes}
 use Rattle.shell_reports.specs.List.{list_outcome}
 use Rattle.shell_reports.specs.Sectors.{info_outcome, read_outcome}
-use Rattle.shell_changes.specs.Sectors.{SectorsCome}
+use Rattle.shell_changes.specs.Words.{makes_sectors}
 
 -- ---- a case for each command
 
@@ -31,8 +31,7 @@ LoadedComes leaves (Labels m) loaded outcome = outcome ≡ labels_outcome m load
 LoadedComes leaves Nfit loaded outcome = outcome ≡ nfit_outcome loaded
 LoadedComes leaves command.List loaded outcome = outcome ≡ list_outcome loaded
 LoadedComes leaves (Init m power) loaded outcome = InitComes leaves m power loaded outcome
-LoadedComes leaves (Change c power) loaded outcome = CommandComes leaves c power loaded outcome
-LoadedComes leaves (CreateSectors new power) loaded outcome = SectorsCome leaves new power loaded outcome
+LoadedComes leaves (Change c power) loaded outcome = ChangeComes leaves c power loaded outcome
 LoadedComes leaves (Info uuid) loaded outcome = outcome ≡ info_outcome uuid loaded
 LoadedComes leaves (Read uuid sector) loaded outcome = outcome ≡ read_outcome uuid sector loaded
 
@@ -52,7 +51,6 @@ reads_script Nfit = false
 reads_script command.List = false
 reads_script (Init m power) = false
 reads_script (Change c power) = false
-reads_script (CreateSectors new power) = false
 reads_script (Info uuid) = false
 reads_script (Read uuid sector) = false
 
@@ -62,8 +60,7 @@ copies (Labels m) = false
 copies Nfit = false
 copies command.List = false
 copies (Init m power) = true
-copies (Change c power) = true
-copies (CreateSectors new power) = false
+copies (Change c power) = not (makes_sectors c)
 copies (Info uuid) = false
 copies (Read uuid sector) = false
 
@@ -73,8 +70,7 @@ needs_contents (Labels m) = false
 needs_contents Nfit = false
 needs_contents command.List = false
 needs_contents (Init m power) = false
-needs_contents (Change c power) = false
-needs_contents (CreateSectors new power) = true
+needs_contents (Change c power) = makes_sectors c
 needs_contents (Info uuid) = true
 needs_contents (Read uuid sector) = true
 

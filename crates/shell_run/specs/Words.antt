@@ -6,14 +6,12 @@ use Rattle.command_words.specs.Parsed.{parsed, number_in, optional_number_in, uu
 use Rattle.shell_run.specs.declared.commands.Kind.{Kind}
 use Rattle.shell_run.specs.declared.commands.Kind.TheVariants as kind
 use Rattle.shell_run.specs.declared.words.Command.{Command}
-use Rattle.shell_run.specs.declared.words.Command.TheVariants.{Labels, Nfit, Init, Change, CreateSectors, Info, Read}
+use Rattle.shell_run.specs.declared.words.Command.TheVariants.{Labels, Nfit, Init, Change, Info, Read}
 use Rattle.shell_run.specs.declared.words.Command.TheVariants as command
 use Rattle.shell_reports.specs.declared.power.Power.{Power}
-use Rattle.namespace_ops.specs.Carried.{HasGoodName, IsGoodName}
-use Rattle.shell_changes.specs.Words.{IsPlain, delete_in, rename_in}
-use Rattle.shell_changes.specs.declared.sector_words.Created.{Created}
-use Rattle.shell_changes.specs.declared.sector_words.Created.TheVariants.{Raw, Sectors}
-use Rattle.shell_changes.specs.SectorWords.{created_in}
+use Rattle.namespace_ops.specs.Carried.{HasGoodName}
+use Rattle.namespace_map.specs.declared.commands.Command.TheVariants.{Create}
+use Rattle.shell_changes.specs.Words.{create_in, delete_in, rename_in}
 use Rattle.shell_run.specs.Commands.{kind_of, arguments_of}
 
 -- the greatest number of an option
@@ -27,17 +25,12 @@ power_of steps seed = record { steps = steps; seed = unwrap_or seed 0 }
 abbrev pub power_in : List Row → Option Power
 power_in values = option_and_then (λ steps. option_map (power_of steps) (optional_number_in 0 most (codes "evict") values)) (optional_number_in 0 most (codes "cut") values)
 
--- a namespace is made, of either mode
-abbrev pub creation_of : Created → Power → Command
-creation_of (Raw c) power = Change c power
-creation_of (Sectors new) power = CreateSectors new power
-
 -- the command that the values of its arguments make; modules are numbered 0 to 63
 abbrev pub command_in : Kind → List Row → Option Command
 command_in kind.Labels values = option_map (λ m. Labels m) (number_in 0 63 (codes "module") values)
 command_in kind.Nfit values = Some Nfit
 command_in kind.List values = Some command.List
-command_in kind.Create values = option_and_then (λ created. option_map (λ power. creation_of created power) (power_in values)) (created_in values)
+command_in kind.Create values = option_and_then (λ spec. option_map (λ power. Change (Create spec) power) (power_in values)) (create_in values)
 command_in kind.Delete values = option_and_then (λ c. option_map (λ power. Change c power) (power_in values)) (delete_in values)
 command_in kind.Rename values = option_and_then (λ c. option_map (λ power. Change c power) (power_in values)) (rename_in values)
 command_in kind.Info values = option_map (λ uuid. Info uuid) (uuid_in (codes "uuid") values)
@@ -53,13 +46,12 @@ abbrev pub command_of : List (List ℕ) → Option Command
 command_of [] = None
 command_of (name ∷ words) = option_and_then (λ kind. command_with kind words) (kind_of name)
 
--- a name that a command gives has no zero byte, and a namespace of sectors is made as such
+-- a name that a command gives has no zero byte
 abbrev pub GivesGoodName : Command → Type 0
 GivesGoodName (Labels m) = ⊤
 GivesGoodName Nfit = ⊤
 GivesGoodName command.List = ⊤
 GivesGoodName (Init m power) = ⊤
-GivesGoodName (Change c power) = HasGoodName c × IsPlain c
-GivesGoodName (CreateSectors new power) = IsGoodName new.name
+GivesGoodName (Change c power) = HasGoodName c
 GivesGoodName (Info uuid) = ⊤
 GivesGoodName (Read uuid sector) = ⊤

@@ -23,7 +23,9 @@ use crate::words::{Command, command_from};
 use command_words::WordsFault;
 use image_set::{CopyFault, LoadFault, Loaded, Outline, load, load_outline};
 use nvd_media::{Chooser, Gate, ImageSink, ImageSource, TextSink, TextSource};
-use shell_changes::{Answer, SavedSet, change_answer, init_answer, sectors_answer, without_set};
+use shell_changes::{
+    Answer, SavedSet, change_answer, init_answer, makes_sectors, sectors_answer, without_set,
+};
 use shell_reports::{
     Ending, Report, Status, Stop, info_answer, labels_answer, list_answer, load_answer,
     nfit_answer, read_answer, usage_answer,
@@ -119,8 +121,7 @@ fn needs_contents(command: &Command) -> bool
         Command::Nfit => false,
         Command::List => false,
         Command::Init(_, _) => false,
-        Command::Change(_, _) => false,
-        Command::CreateSectors(_, _) => true,
+        Command::Change(change, _) => makes_sectors(change),
         Command::Info(_) => true,
         Command::Read(_, _) => true,
     }
@@ -146,7 +147,6 @@ fn outlined_answer<C: Chooser>(
         Command::List => list_found(alloc, outline),
         Command::Init(module, power) => init_answer(alloc, module, power, outline, choose),
         Command::Change(change, power) => change_answer(alloc, &change, power, outline, choose),
-        Command::CreateSectors(_, _) => unreachable!(),
         Command::Info(_) => unreachable!(),
         Command::Read(_, _) => unreachable!(),
     }
@@ -170,8 +170,7 @@ fn loaded_answer<C: Chooser>(
         Command::Nfit => unreachable!(),
         Command::List => unreachable!(),
         Command::Init(_, _) => unreachable!(),
-        Command::Change(_, _) => unreachable!(),
-        Command::CreateSectors(new, power) => sectors_answer(alloc, &new, power, loaded, choose),
+        Command::Change(change, power) => sectors_answer(alloc, &change, power, loaded, choose),
         Command::Info(uuid) => arenas_found(alloc, &uuid, loaded),
         Command::Read(uuid, sector) => sector_found(alloc, &uuid, sector, loaded),
     }

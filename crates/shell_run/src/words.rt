@@ -1,13 +1,11 @@
 //! What the words of a command line ask for.
 ghost use Rattle.std.specs.Prelude.{◌≡◌, ◌≢◌, IfOk, IfSome, Some, None, Err, map, string_bytes};
 ghost use Rattle.command_words.specs.Parsed.{rows};
-ghost use Rattle.shell_changes.specs.SectorWords.{GivesName};
-ghost use Rattle.shell_run.specs.Words.{command_of, command_with, command_in, creation_of, power_in, GivesGoodName};
+ghost use Rattle.shell_run.specs.Words.{command_of, command_with, command_in, power_in, GivesGoodName};
 
 use crate::commands::Kind;
 use command_words::{Parsed, WordsFault, parse};
-use sector_namespaces::NewSectors;
-use shell_changes::{Created, created_in, delete_in, rename_in};
+use shell_changes::{create_in, delete_in, rename_in};
 use shell_reports::Power;
 use std::alloc::Global;
 use uuid::Uuid;
@@ -23,10 +21,8 @@ pub enum Command {
     List,
     /// Write fresh index blocks into the label area of a module.
     Init(u32, Power),
-    /// Make a namespace without sectors, or remove or rename one.
+    /// Make a namespace, or remove or rename one.
     Change(namespace_map::Command, Power),
-    /// Make a namespace of sectors.
-    CreateSectors(NewSectors, Power),
     /// Print the arenas of a namespace.
     Info(Uuid),
     /// Print a sector of a namespace.
@@ -48,18 +44,6 @@ fn power_in(values: &Parsed<'_>) -> Option<Power>
     })
 }
 
-/// A namespace is made, of either mode.
-fn creation_of(created: Created, power: Power) -> Command
-    requires name { GivesName created }
-    ensures command { result ≡ creation_of created power }
-    ensures name { GivesGoodName result }
-{
-    match created {
-        Created::Raw(command) => Command::Change(command, power),
-        Created::Sectors(new) => Command::CreateSectors(new, power),
-    }
-}
-
 /// The command that the values of its arguments make.
 fn command_in(kind: Kind, values: &Parsed<'_>) -> Option<Command>
     ensures command { result ≡ command_in kind (rows values.now) }
@@ -78,9 +62,9 @@ fn command_in(kind: Kind, values: &Parsed<'_>) -> Option<Command>
             Some(Command::Init(module as u32, power))
         }
         Kind::Create => {
-            let created = created_in(values)?;
+            let spec = create_in(values)?;
             let power = power_in(values)?;
-            Some(creation_of(created, power))
+            Some(Command::Change(namespace_map::Command::Create(spec), power))
         }
         Kind::Delete => {
             let change = delete_in(values)?;

@@ -3,7 +3,7 @@ use Rattle.namespace_laws.proofs.DisjointEntry as changing
 use Rattle.namespace_laws.proofs.agreeing.commands_leave_others.Goals as goal
 
 pub returns-clause-create : goal.returns-clause-create
-returns-clause-create c = creating.create_others
+returns-clause-create c = λ sets areas spec. creating.create_others sets areas spec.uuid spec.name spec.region spec.size spec.make
 
 pub returns-clause-delete : goal.returns-clause-delete
 returns-clause-delete c = changing.delete_others

@@ -2,7 +2,7 @@ use Rattle.namespace_laws.proofs.RecoversLaw as law
 use Rattle.namespace_laws.proofs.recovering.cuts_recover_to_either.Goals as goal
 
 pub returns-clause-create : goal.returns-clause-create
-returns-clause-create c = law.create_recovers
+returns-clause-create c = λ sets areas spec. law.create_recovers sets areas spec.uuid spec.name spec.region spec.size spec.make
 
 pub returns-clause-delete : goal.returns-clause-delete
 returns-clause-delete c = law.delete_recovers

@@ -8,4 +8,4 @@ pub returns : goal.returns
 returns c =
     let sorted = c.args.groups.now.sorted in
     let past : length sorted ≤ c.loop-at.at = omega (arith, ap length c.labels.ensures.labels) in
-    listed_all c.args.sets.now sorted c.loop-at.at (λ (e : Entry). namespace_of e (count_of c.args.claims.now.counts e.uuid)) c.loop-at.listed _ past c.loop-at.invariant.items
+    listed_all c.args.regions.now sorted c.loop-at.at (λ (e : Entry). namespace_of e (count_of c.args.claims.now.counts e.uuid)) c.loop-at.listed _ past c.loop-at.invariant.items

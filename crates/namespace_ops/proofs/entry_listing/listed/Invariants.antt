@@ -6,7 +6,7 @@ use Rattle.namespace_ops.proofs.entry_listing.listed.Given as goal
 
 abbrev pub invariant-loop-at : goal.invariant-loop-at
 invariant-loop-at l = record {
-  items : l.listed ++ map (λ e. namespace_of e (count_of l.claims.counts e.uuid)) (entries_of l.sets (drop l.at l.groups.sorted)) ≡ map (λ e. namespace_of e (count_of l.claims.counts e.uuid)) (entries_of l.sets l.groups.sorted);
+  items : l.listed ++ map (λ e. namespace_of e (count_of l.claims.counts e.uuid)) (entries_of l.regions (drop l.at l.groups.sorted)) ≡ map (λ e. namespace_of e (count_of l.claims.counts e.uuid)) (entries_of l.regions l.groups.sorted);
   start : IsStart l.groups.sorted l.at;
   within : l.at ≤ length l.groups.sorted;
 }

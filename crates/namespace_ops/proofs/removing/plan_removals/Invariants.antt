@@ -8,7 +8,7 @@ use Rattle.namespace_ops.proofs.removing.plan_removals.Given as goal
 
 abbrev pub invariant-loop-at : goal.invariant-loop-at
 invariant-loop-at l = record {
-  items : l.room.changes.items ++ flat_map (gone_in l.groups.sorted) (entries_of l.sets (drop l.at l.groups.sorted)) ≡ all_gone l.sets l.groups.sorted;
+  items : l.room.changes.items ++ flat_map (gone_in l.groups.sorted) (entries_of l.regions (drop l.at l.groups.sorted)) ≡ all_gone l.regions l.groups.sorted;
   start : IsStart l.groups.sorted l.at;
   within : l.at ≤ length l.groups.sorted;
   len : vec_len l.room.changes ≤ l.at;

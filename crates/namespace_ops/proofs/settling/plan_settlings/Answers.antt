@@ -9,7 +9,7 @@ use Rattle.namespace_ops.proofs.settling.plan_settlings.Goals as goal
 pub loop-at-preserved : goal.loop-at-preserved
 loop-at-preserved c =
     let i = c.loop-at.invariant in
-    let sets = c.args.sets.now in
+    let sets = c.args.regions.now in
     let sorted = c.args.groups.now.sorted in
     let group = c.group_from-group.result.now in
     let first = c.index-group-0.result in
@@ -30,4 +30,4 @@ pub returns-clause-items : goal.returns-clause-items
 returns-clause-items c =
     let sorted = c.args.groups.now.sorted in
     let past : length sorted ≤ c.loop-at.at = omega (arith, ap length c.labels.ensures.labels) in
-    planned_all c.args.sets.now sorted c.loop-at.at (settling_in (areas_seen c.args.areas.now) sorted) c.loop-at.room.changes.items (all_settling c.args.sets.now (areas_seen c.args.areas.now) sorted) past c.loop-at.invariant.items
+    planned_all c.args.regions.now sorted c.loop-at.at (settling_in (areas_seen c.args.areas.now) sorted) c.loop-at.room.changes.items (all_settling c.args.regions.now (areas_seen c.args.areas.now) sorted) past c.loop-at.invariant.items

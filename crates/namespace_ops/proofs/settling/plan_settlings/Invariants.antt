@@ -9,7 +9,7 @@ use Rattle.namespace_ops.proofs.settling.plan_settlings.Given as goal
 
 abbrev pub invariant-loop-at : goal.invariant-loop-at
 invariant-loop-at l = record {
-  items : l.room.changes.items ++ flat_map (settling_in (areas_seen l.areas) l.groups.sorted) (entries_of l.sets (drop l.at l.groups.sorted)) ≡ all_settling l.sets (areas_seen l.areas) l.groups.sorted;
+  items : l.room.changes.items ++ flat_map (settling_in (areas_seen l.areas) l.groups.sorted) (entries_of l.regions (drop l.at l.groups.sorted)) ≡ all_settling l.regions (areas_seen l.areas) l.groups.sorted;
   start : IsStart l.groups.sorted l.at;
   within : l.at ≤ length l.groups.sorted;
   len : vec_len l.room.changes ≤ l.at;

@@ -16,24 +16,24 @@ of-space-requires-clause-reach c =
 pub format_arena-formatted-requires-clause-inside : goal.format_arena-formatted-requires-clause-inside
 format_arena-formatted-requires-clause-inside c =
     let rows_are : c.replace-rows.result.items ≡ c.args.modules.now.items = λ i. (c.replace-rows.ensures.value i).items in
-    let space_is : c.of-space.result ≡ over c.args.set.now c.args.offset c.args.raw c.args.modules.now.items = c.of-space.ensures.made ∙ (λ i. over c.args.set.now c.args.offset c.args.raw (rows_are i)) in
+    let space_is : c.of-space.result ≡ over c.args.set.now c.args.place.offset c.args.place.raw c.args.modules.now.items = c.of-space.ensures.made ∙ (λ i. over c.args.set.now c.args.place.offset c.args.place.raw (rows_are i)) in
     omega (arith, c.first_arena-first.ensures, c.requires.room, count_is c.of-space.result, ap (λ (n : Namespace). count_of n) space_is)
 
 pub format_arena-formatted-requires-clause-settled : goal.format_arena-formatted-requires-clause-settled
 format_arena-formatted-requires-clause-settled c =
     let rows_are : c.replace-rows.result.items ≡ c.args.modules.now.items = λ i. (c.replace-rows.ensures.value i).items in
-    let space_is : c.of-space.result ≡ over c.args.set.now c.args.offset c.args.raw c.args.modules.now.items = c.of-space.ensures.made ∙ (λ i. over c.args.set.now c.args.offset c.args.raw (rows_are i)) in
-    subst (λ (n : Namespace). IsSettled (words_of n)) (sym space_is) (view_settled (over c.args.set.now c.args.offset c.args.raw c.args.modules.now.items) c.requires.settled)
+    let space_is : c.of-space.result ≡ over c.args.set.now c.args.place.offset c.args.place.raw c.args.modules.now.items = c.of-space.ensures.made ∙ (λ i. over c.args.set.now c.args.place.offset c.args.place.raw (rows_are i)) in
+    subst (λ (n : Namespace). IsSettled (words_of n)) (sym space_is) (view_settled (over c.args.set.now c.args.place.offset c.args.place.raw c.args.modules.now.items) c.requires.settled)
 
 pub returns : goal.returns
 returns c =
     let rows_are : c.replace-rows.result.items ≡ c.args.modules.now.items = λ i. (c.replace-rows.ensures.value i).items in
-    let space_is : c.of-space.result ≡ over c.args.set.now c.args.offset c.args.raw c.args.modules.now.items = c.of-space.ensures.made ∙ (λ i. over c.args.set.now c.args.offset c.args.raw (rows_are i)) in
+    let space_is : c.of-space.result ≡ over c.args.set.now c.args.place.offset c.args.place.raw c.args.modules.now.items = c.of-space.ensures.made ∙ (λ i. over c.args.set.now c.args.place.offset c.args.place.raw (rows_are i)) in
     let now = c.format_arena-formatted.new.space in
-    let same = c.beside_tells_the_place.ensures (over c.args.set.now c.args.offset c.args.raw c.args.modules.now.items) now (c.format_arena-formatted.ensures.beside ∙ ap (λ (n : Namespace). beside_and_place n) space_is) in
-    let now_is : now ≡ over c.args.set.now c.args.offset c.args.raw c.into_modules.result.items =
-    in_place now c.args.set.now c.args.offset c.args.raw c.args.modules.now.items same ∙ (λ i. over c.args.set.now c.args.offset c.args.raw (sym c.into_modules.ensures.modules i)) in
-    format_in c.args.set.now c.args.offset c.args.raw c.args.layout.now c.args.uuid.now c.of-space.result now c.args.modules.now.items c.into_modules.result.items c.args.fuse.now
+    let same = c.beside_tells_the_place.ensures (over c.args.set.now c.args.place.offset c.args.place.raw c.args.modules.now.items) now (c.format_arena-formatted.ensures.beside ∙ ap (λ (n : Namespace). beside_and_place n) space_is) in
+    let now_is : now ≡ over c.args.set.now c.args.place.offset c.args.place.raw c.into_modules.result.items =
+    in_place now c.args.set.now c.args.place.offset c.args.place.raw c.args.modules.now.items same ∙ (λ i. over c.args.set.now c.args.place.offset c.args.place.raw (sym c.into_modules.ensures.modules i)) in
+    format_in c.args.set.now c.args.place.offset c.args.place.raw c.args.layout.now c.args.uuid.now c.of-space.result now c.args.modules.now.items c.into_modules.result.items c.args.fuse.now
     c.format_arena-formatted.new.fuse _ space_is now_is (same.beside ∙ ap (λ (n : Namespace). beside_of n) (sym space_is))
     (format_is c.first_arena-first.result c.args.layout.now c.args.uuid.now (words_of c.of-space.result) (words_of now) c.args.fuse.now c.format_arena-formatted.new.fuse c.format_arena-formatted.result
     c.first_arena-first.ensures c.know_uuid.ensures c.format_takes_two_steps_a_word.ensures c.format_arena-formatted.ensures.made c.format_arena-formatted.ensures.outside c.format_arena-formatted.ensures.settles

@@ -12,7 +12,8 @@ use Rattle.image_set.specs.Outline.{image_set_with}
 use Rattle.shell_reports.specs.List.{open_outcome}
 use Rattle.shell_changes.specs.declared.answer.Answer.{Answer}
 use Rattle.shell_changes.specs.Answers.{HasSizes, outcome_with}
-use Rattle.shell_changes.specs.Namespaces.{CommandComes}
+use Rattle.shell_changes.specs.Changes.{ChangeComes}
+use Rattle.shell_changes.proofs.Commands.{change_plain}
 use Rattle.shell_changes.specs.Remains.{LeavesBy}
 use Rattle.shell_reports.proofs.More.{if_more}
 use Rattle.shell_changes.proofs.Carried.{if_both}
@@ -50,19 +51,21 @@ returns-in-Ok-clause-comes g c =
     let leaves = LeavesBy g.C.Chooser.begins g.C.Chooser.picks c.args.choose.now in
     let is : Ok c.in-Ok.registry ≡ opening c.args.outline.nfit c.in_ok-areas.areas = sym c.in-Ok.is ∙ c.open_all.ensures (λ e. absurd (let both = sym c.in-Ok.is ∙ e in cc)) in
     let is' : Ok c.in-Ok.registry ≡ opening c.args.outline.nfit (map opened_as c.args.outline.labels) = is ∙ ap (opening c.args.outline.nfit) c.in_ok-areas.ensures in
-    if_more _ (λ (answer : Answer). (contents : List (List ℕ)) → CommandComes leaves c.args.change.now c.args.power (image_set_with c.args.outline contents) (outcome_with answer contents)) c.opened_answer.result
+    if_more _ (λ (answer : Answer). (contents : List (List ℕ)) → ChangeComes leaves c.args.change.now c.args.power (image_set_with c.args.outline contents) (outcome_with answer contents)) c.opened_answer.result
     (λ answer from contents.
-    comes leaves c.args.outline contents c.args.power c.args.change.now (outcome_with answer contents) (are_whole c.args.outline.labels c.requires.sound.areas) c.in-Ok.registry is' (from contents))
+    change_plain leaves c.args.power (image_set_with c.args.outline contents) (outcome_with answer contents) c.args.change.now c.requires.plain
+    (comes leaves c.args.outline contents c.args.power c.args.change.now (outcome_with answer contents) (are_whole c.args.outline.labels c.requires.sound.areas) c.in-Ok.registry is' (from contents)))
     c.opened_answer.ensures.comes
 
 pub returns-in-Err-clause-comes : goal.returns-in-Err-clause-comes
 returns-in-Err-clause-comes g c =
     let leaves = LeavesBy g.C.Chooser.begins g.C.Chooser.picks c.args.choose.now in
     if_both (λ (answer : Answer). (contents : List (List ℕ)) → outcome_with answer contents ≡ open_outcome c.in-Err.fault) (λ _. c.in-Err.fault ≢ OutOfMemory)
-    (λ (answer : Answer). (contents : List (List ℕ)) → CommandComes leaves c.args.change.now c.args.power (image_set_with c.args.outline contents) (outcome_with answer contents)) c.faulty_answer.result
+    (λ (answer : Answer). (contents : List (List ℕ)) → ChangeComes leaves c.args.change.now c.args.power (image_set_with c.args.outline contents) (outcome_with answer contents)) c.faulty_answer.result
     (λ answer said finding contents.
     let is : Err c.in-Err.fault ≡ opening c.args.outline.nfit c.in_ok-areas.areas = sym c.in-Err.is ∙ c.open_all.ensures (λ e. finding (let both = sym c.in-Err.is ∙ e in cc)) in
-    comes_not leaves c.args.outline contents c.args.power c.args.change.now (outcome_with answer contents) (are_whole c.args.outline.labels c.requires.sound.areas) c.in-Err.fault (is ∙ ap (opening c.args.outline.nfit) c.in_ok-areas.ensures) (said contents))
+    change_plain leaves c.args.power (image_set_with c.args.outline contents) (outcome_with answer contents) c.args.change.now c.requires.plain
+    (comes_not leaves c.args.outline contents c.args.power c.args.change.now (outcome_with answer contents) (are_whole c.args.outline.labels c.requires.sound.areas) c.in-Err.fault (is ∙ ap (opening c.args.outline.nfit) c.in_ok-areas.ensures) (said contents)))
     c.faulty_answer.ensures.text c.faulty_answer.ensures.memory
 
 pub returns-in-Err-clause-sizes : goal.returns-in-Err-clause-sizes

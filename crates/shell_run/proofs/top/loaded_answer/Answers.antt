@@ -4,7 +4,7 @@ use Rattle.shell_changes.specs.Remains.{LeavesBy}
 use Rattle.shell_changes.specs.Saved.{copies_contents}
 use Rattle.shell_changes.proofs.Remains.{copies_none}
 use Rattle.image_set.specs.Load.{image_set_in}
-use Rattle.shell_run.specs.declared.words.Command.TheVariants.{CreateSectors, Info, Read}
+use Rattle.shell_run.specs.declared.words.Command.TheVariants.{Change, Info, Read}
 use Rattle.shell_run.specs.Run.{needs_contents}
 use Rattle.shell_run.specs.Words.{GivesGoodName}
 use Rattle.shell_run.proofs.Comes.{if_then, loaded_by}
@@ -30,14 +30,9 @@ unreachable-requires-in-Init g c =
     let both = sym c.requires.whole ∙ ap needs_contents c.in-Init.is in
     (let e = both in cc)
 
-pub unreachable-requires-in-Change : goal.unreachable-requires-in-Change
-unreachable-requires-in-Change g c =
-    let both = sym c.requires.whole ∙ ap needs_contents c.in-Change.is in
-    (let e = both in cc)
-
-pub returns-in-CreateSectors-clause-comes : goal.returns-in-CreateSectors-clause-comes
-returns-in-CreateSectors-clause-comes g c =
-    loaded_by (LeavesBy g.C.Chooser.begins g.C.Chooser.picks c.args.choose.now) c.args.command (CreateSectors c.in-CreateSectors.new c.in-CreateSectors.power) c.in-CreateSectors.is (image_set_in c.args.loaded) c.sectors_answer.result c.sectors_answer.ensures.comes
+pub returns-in-Change-clause-comes : goal.returns-in-Change-clause-comes
+returns-in-Change-clause-comes g c =
+    loaded_by (LeavesBy g.C.Chooser.begins g.C.Chooser.picks c.args.choose.now) c.args.command (Change c.in-Change.change c.in-Change.power) c.in-Change.is (image_set_in c.args.loaded) c.sectors_answer.result c.sectors_answer.ensures.comes
 
 pub returns-in-Info-clause-comes : goal.returns-in-Info-clause-comes
 returns-in-Info-clause-comes g c =
@@ -54,4 +49,7 @@ pub returns-in-Read-clause-whole : goal.returns-in-Read-clause-whole
 returns-in-Read-clause-whole g c = if_then _ (λ (answer : Answer). copies_contents answer.saved ≡ false) c.sector_found.result (λ answer none. copies_none answer none) c.sector_found.ensures.saved
 
 pub sectors_answer-requires-clause-name : goal.sectors_answer-requires-clause-name
-sectors_answer-requires-clause-name g c = subst GivesGoodName c.in-CreateSectors.is c.requires.name
+sectors_answer-requires-clause-name g c = subst GivesGoodName c.in-Change.is c.requires.name
+
+pub sectors_answer-requires-clause-sectors : goal.sectors_answer-requires-clause-sectors
+sectors_answer-requires-clause-sectors g c = sym (ap needs_contents c.in-Change.is) ∙ c.requires.whole

@@ -1,11 +1,11 @@
 use Rattle.std.proofs.Common.{◌≡◌, ◌∙◌, true, false, refl, sym, ap, subst}
-use Rattle.std.specs.Prelude.{IsTrue}
+use Rattle.std.specs.Prelude.{IsTrue, not}
 use Rattle.shell_changes.specs.declared.answer.Answer.{Answer}
 use Rattle.shell_changes.specs.Answers.{HasSizes}
 use Rattle.shell_changes.specs.Remains.{LeavesBy}
 use Rattle.shell_changes.specs.Saved.{copies_contents}
 use Rattle.shell_changes.proofs.Remains.{copies_none, no_sizes}
-use Rattle.shell_run.specs.declared.words.Command.TheVariants.{Labels, Nfit, Init, Change, CreateSectors, Info, Read}
+use Rattle.shell_run.specs.declared.words.Command.TheVariants.{Labels, Nfit, Init, Change, Info, Read}
 use Rattle.shell_run.specs.declared.words.Command.TheVariants as command
 use Rattle.shell_run.specs.Run.{copies, needs_contents}
 use Rattle.shell_run.specs.Words.{GivesGoodName}
@@ -52,21 +52,16 @@ pub returns-in-Change-clause-comes : goal.returns-in-Change-clause-comes
 returns-in-Change-clause-comes g c = outlined_by (LeavesBy g.C.Chooser.begins g.C.Chooser.picks c.args.choose.now) c.args.command (Change c.in-Change.change c.in-Change.power) c.in-Change.is c.args.outline c.change_answer.result c.change_answer.ensures.comes
 
 pub returns-in-Change-clause-copying : goal.returns-in-Change-clause-copying
-returns-in-Change-clause-copying g c = copies_by_it (LeavesBy g.C.Chooser.begins g.C.Chooser.picks c.args.choose.now) c.args.command (Change c.in-Change.change c.in-Change.power) c.in-Change.is c.change_answer.result refl
+returns-in-Change-clause-copying g c = copies_by_it (LeavesBy g.C.Chooser.begins g.C.Chooser.picks c.args.choose.now) c.args.command (Change c.in-Change.change c.in-Change.power) c.in-Change.is c.change_answer.result (ap not (sym (ap needs_contents c.in-Change.is) ∙ c.requires.outlined))
 
 pub change_answer-requires-clause-name : goal.change_answer-requires-clause-name
-change_answer-requires-clause-name g c = (subst GivesGoodName c.in-Change.is c.requires.name).0
+change_answer-requires-clause-name g c = subst GivesGoodName c.in-Change.is c.requires.name
 
 pub change_answer-requires-clause-plain : goal.change_answer-requires-clause-plain
-change_answer-requires-clause-plain g c = (subst GivesGoodName c.in-Change.is c.requires.name).1
+change_answer-requires-clause-plain g c = sym (ap needs_contents c.in-Change.is) ∙ c.requires.outlined
 
 pub unreachable-requires : goal.unreachable-requires
 unreachable-requires g c =
-    let both = sym c.requires.outlined ∙ ap needs_contents c.in-CreateSectors.is in
-    (let e = both in cc)
-
-pub unreachable-requires-in-Info : goal.unreachable-requires-in-Info
-unreachable-requires-in-Info g c =
     let both = sym c.requires.outlined ∙ ap needs_contents c.in-Info.is in
     (let e = both in cc)
 

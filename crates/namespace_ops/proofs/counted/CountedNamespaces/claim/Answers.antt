@@ -4,13 +4,13 @@ use Rattle.namespace_areas.specs.Refusals.{shown}
 use Rattle.namespace_ops.specs.Claims.{with_count}
 use Rattle.namespace_ops.specs.Counting.{counted_in}
 use Rattle.namespace_ops.proofs.Answers.{claim_answered}
-use Rattle.namespace_ops.proofs.NeverMemory.{carried_memory, claim_other}
+use Rattle.namespace_ops.proofs.Findings.{carried_memory, claim_finding}
 use Rattle.namespace_ops.proofs.counted.CountedNamespaces.claim.Goals as goal
 
 pub returns-in_err-claim-clause-memory : goal.returns-in_err-claim-clause-memory
 returns-in_err-claim-clause-memory c =
     let h = c.args.self.now.holding in
-    let other = carried_memory h.sets h.areas h.areas None None (command.Claim c.args.uuid.now) _ (claim_other (shown h.sets h.areas) c.args.uuid.now) (c.claim.ensures.carried None) in search (rules, other)
+    let other = carried_memory h.sets h.areas h.areas None None (command.Claim c.args.uuid.now) _ (claim_finding (shown h.sets h.areas) c.args.uuid.now) (c.claim.ensures.carried None) in search (rules, other)
 
 pub returns-clause-answered : goal.returns-clause-answered
 returns-clause-answered c fuse =

@@ -1,22 +1,21 @@
 use Rattle.std.proofs.Common.{◌≡◌, Err, sym, ◌∙◌, arith}
 use Rattle.namespace_map.specs.declared.commands.Command.TheVariants as command
 use Rattle.namespace_areas.specs.Refusals.{shown}
-use Rattle.namespace_ops.proofs.NeverCut.{delete_other as delete_uncut}
 use Rattle.namespace_ops.specs.Claims.{count_of}
 use Rattle.namespace_ops.specs.Counted.{namespaces_in}
 use Rattle.namespace_ops.specs.Counting.{counted_in}
 use Rattle.namespace_ops.proofs.Answers.{delete_answered, refused_answered}
-use Rattle.namespace_ops.proofs.NeverMemory.{carried_memory, delete_other, other_reply}
+use Rattle.namespace_ops.proofs.Findings.{carried_memory, delete_finding, not_cut, not_memory, other_reply}
 use Rattle.namespace_ops.proofs.counted.CountedNamespaces.delete.Goals as goal
 
 pub returns-then-claims-gt0-clause-answered : goal.returns-then-claims-gt0-clause-answered
 returns-then-claims-gt0-clause-answered c =
     let old = counted_in c.args.self.now in
     refused_answered old c.args.fuse.now (command.Delete c.args.uuid.now) c.busy.result (sym c.is_off.ensures ∙ c.if-is_off.false) c.busy.ensures
-    (delete_uncut (namespaces_in old) c.args.uuid.now c.busy.result c.busy.ensures)
+    (not_cut c.busy.result (delete_finding (namespaces_in old) c.args.uuid.now c.busy.result c.busy.ensures))
 
 pub returns-then-claims-gt0-clause-memory : goal.returns-then-claims-gt0-clause-memory
-returns-then-claims-gt0-clause-memory c = other_reply (Err c.busy.result) (delete_other (namespaces_in (counted_in c.args.self.now)) c.args.uuid.now c.busy.result c.busy.ensures)
+returns-then-claims-gt0-clause-memory c = other_reply (Err c.busy.result) (not_memory c.busy.result (delete_finding (namespaces_in (counted_in c.args.self.now)) c.args.uuid.now c.busy.result c.busy.ensures))
 
 pub returns-clause-answered : goal.returns-clause-answered
 returns-clause-answered c =
@@ -27,4 +26,4 @@ returns-clause-answered c =
 pub returns-clause-memory : goal.returns-clause-memory
 returns-clause-memory c =
     let h = c.args.self.now.holding in
-    carried_memory h.sets h.areas c.delete.new.self.areas c.args.fuse.now c.delete.new.fuse (command.Delete c.args.uuid.now) c.delete.result (delete_other (shown h.sets h.areas) c.args.uuid.now) c.delete.ensures.carried
+    carried_memory h.sets h.areas c.delete.new.self.areas c.args.fuse.now c.delete.new.fuse (command.Delete c.args.uuid.now) c.delete.result (delete_finding (shown h.sets h.areas) c.args.uuid.now) c.delete.ensures.carried

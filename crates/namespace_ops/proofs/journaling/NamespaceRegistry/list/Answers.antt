@@ -14,7 +14,7 @@ returns g c =
     let n = c.self.inside.namespaces in
     let running : n.holding.stopped ≡ false = ap (λ (r : Registered). r.counted.held.stopped) c.self.view_is ∙ c.requires.running in
     let sorted = c.groups.result.now.sorted in
-    let all = ap (λ (s : List (List Mapping)). map (λ (e : Entry). namespace_of e (count_of n.claims.counts e.uuid)) (entries_of s sorted)) c.sets.ensures
+    let all = ap (λ (s : List (List Mapping)). map (λ (e : Entry). namespace_of e (count_of n.claims.counts e.uuid)) (entries_of s sorted)) c.regions.ensures
     ∙ ap (map (λ (e : Entry). namespace_of e (count_of n.claims.counts e.uuid))) (shown_all n.holding.sets n.holding.areas sorted (c.areas-areas.ensures.held running) (c.groups.ensures running))
     ∙ ap (λ (r : Registered). listed (namespaces_in r.counted)) c.self.view_is in
     subst (λ (xs : List Namespace). IfOk c.listed.result (λ l. l ≡ xs)) all c.listed.ensures
