@@ -1,0 +1,5 @@
+pub mod Fields
+pub mod Lines
+pub mod Load
+pub mod Schedule
+pub mod Script
