@@ -17,7 +17,7 @@ size_of words = 8 * length words.kept
 pub record AreWords (values : List ℕ) : Type 0 where
   pub each : (i : ℕ) → slice_index values i < 2 ^ 64
 
--- a label area, where there is one, has a label area's size, and no word of it is pending
+-- a label area, if there is one, has a label area's size, and no word of it is pending
 pub record IsArea (area : Option Words) : Type 0 where
   pub sized : (words : Words) → area ≡ Some words → IsAreaSize (size_of words)
   pub kept : (words : Words) → area ≡ Some words → words ≡ settled words.kept

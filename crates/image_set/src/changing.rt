@@ -83,8 +83,8 @@ fn with_area(
 }
 
 impl Outline {
-    /// Takes a module's label area out, where there is one: `None` where the table doesn't name the
-    /// module, or it has no label area.
+    /// Takes a module's label area out: `None` if the table doesn't name the module, or the module has
+    /// no label area.
     ///
     /// - `area`, `settled`: its bytes are the area's; it has a label area's size, its words are of 64 bits,
     ///   and none of them is pending.

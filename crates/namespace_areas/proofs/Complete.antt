@@ -40,7 +40,7 @@ broken_short labels number = by (list_all is_updating labels)
     by true = refl
     by false = refl
 
--- the first finding isn't there, where the whole is complete
+-- a whole that is complete has no first finding
 record Misses (naming : SetStatus) (o : Option SetStatus) (fs : List (Option SetStatus)) : Type 0 where
   here : o ≡ None
   behind : is_complete (unwrap_or (first_fault fs) naming) ≡ true

@@ -35,7 +35,7 @@ module _ {X : Type 0} (p : X → Bool) where
   behind_point [] (suc i) le point = tt
   behind_point (x ∷ xs) (suc i) le point = behind_point xs i (omega arith) (point_more x xs i point)
 
-  -- what another test passes stands behind it, where that passes nothing that this one does
+  -- what another test passes stands behind it, if no element passes both
   pub filter_behind : (q : X → Bool) → ((x : X) → p x ≡ true → q x ≡ false) → (xs : List X) (i : ℕ) → i ≤ length xs → IsPoint xs i → filter q xs ≡ filter q (drop i xs)
   filter_behind q other xs zero le point = refl
   filter_behind q other [] (suc i) le point = refl

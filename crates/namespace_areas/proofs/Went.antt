@@ -107,7 +107,7 @@ one_goes os c n lt =
 seen_at : (areas : List Area) (m : ℕ) (a : AreaState) → slice_get areas m ≡ Some (Ready a) → area_at (areas_seen areas) m ≡ Some (ready_seen a)
 seen_at areas m a is = ap (λ (o : Option (Option SeenArea)). unwrap_or o None) (slice_get-map area_seen areas m ∙ ap (option_map area_seen) is)
 
--- what is left where one area changed, of which the others are held
+-- what a crash leaves if one area changed and the others are held
 left_with : (areas : List Area) (m : ℕ) (old new : AreaState) (rows : List (Option (List ℕ))) → AreHeld areas → slice_get areas m ≡ Some (Ready old)
     → AreLeft (slice_set areas m (Ready new)) rows → (values : List ℕ) × IsLeft new.words values × (areas_shown rows ≡ slice_set (areas_seen areas) m (area_shown (Some values)))
 left_with [] m old new rows h is left = absurd (none-some (Ready old) is)

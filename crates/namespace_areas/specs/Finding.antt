@@ -31,7 +31,7 @@ abbrev pub found_by : List (List Mapping) → Mode → Option ℕ → List Part 
 found_by sets mode (Some region) (part ∷ parts) = Ok (found_at sets mode region part.extent)
 found_by sets mode region parts = Err NotComplete
 
--- by its entry, where a label names it
+-- by its entry, if a label names it
 abbrev pub found_of : List (List Mapping) → Option Entry → Result Found OpRefused
 found_of sets None = Err NoSuch
 found_of sets (Some e) =

@@ -53,7 +53,7 @@ area_seen (Ready area) = Some (ready_seen area)
 abbrev pub areas_seen : List Area → List (Option SeenArea)
 areas_seen areas = map area_seen areas
 
--- ---- what a power cut leaves of them
+-- ---- what a crash leaves of them
 
 -- an area's words, none where there is no area
 abbrev pub words_of : Area → Option Words

@@ -59,7 +59,7 @@ size_of (Ready area) = length area.words.kept
 
 -- what became of areas and a fuse by a list of changes, and whether all of them were made to their end
 pub record Went (old new : List Area) (fuse left : Option ℕ) (changes : List Change) (whole : Bool) : Type 0 where
-  -- they were exactly where the fuse lasts for their steps
+  -- they were made if and only if the fuse lasts for their steps
   pub made : whole ≡ lasts fuse (steps_of_all (areas_seen old) changes)
   pub left_is : left ≡ burnt fuse (steps_of_all (areas_seen old) changes)
   -- the words of all areas are those after the changes' stores and keeps that the fuse lasts for, and after no other
@@ -68,7 +68,7 @@ pub record Went (old new : List Area) (fuse left : Option ℕ) (changes : List C
   -- then no area is stopped, and they show what the changes make of what they showed
   pub held : whole ≡ true → AreHeld new
   pub done : whole ≡ true → areas_seen new ≡ all_changed (areas_seen old) changes
-  -- whatever a power cut leaves of the areas shows what a cut after the fuse's steps leaves of the changes
+  -- after a crash the areas show what a crash after the fuse's steps leaves of the changes
   pub cut : (n : ℕ) → fuse ≡ Some n → (rows : List (Option (List ℕ))) → AreLeft new rows → IsLeftBy (areas_seen old) changes n (areas_shown rows)
   -- an area that isn't ready stays as it is, and each keeps its size
   pub beside : map unready new ≡ map unready old

@@ -63,13 +63,13 @@ fn change_area(
 /// rule): the first slot with a label of the UUID is freed, if there is one, and the label, if one is given, is put
 /// into the least slot that is free before, under that slot's number.
 ///
-/// The areas are held: none was stopped by a power cut. The module's area is ready; a label that is put can be
-/// written, and a slot of the area is free for it. A label takes 64 steps, and the index block two for each of its
-/// words and two more. It takes no memory.
+/// Conditions: no area was stopped by a power cut. The module's area is ready. A label that is put can be written, and
+/// the area has a free slot for it. A label takes 64 steps, and the index block two for each of its words and two more.
+/// It takes no memory.
 ///
-/// `PowerCut` comes exactly where the fuse has fewer steps left. As many were made as there were, and the module's
-/// area is stopped: what its words then show is the area before the change, or after it where one step alone is
-/// missing and the chooser says so. No other area changes.
+/// `PowerCut` comes if and only if the fuse has fewer steps left. It made all of these, and the module's area is stopped:
+/// its words show the area before the change, or after it if one step alone is missing and the chooser says so. No other
+/// area changes.
 pub fn change_label(
     areas: &mut [Area],
     fuse: &mut Fuse,

@@ -52,7 +52,7 @@ fn make_change(areas: &mut [Area], fuse: &mut Fuse, change: &Change) -> Result<(
 ///
 /// The areas are held, and each change can be made when its turn comes (`CanMake`): its module's area is ready, and a
 /// label that is put finds a free slot. Those labels can be written. It takes no memory. `PowerCut` comes exactly
-/// where the fuse has fewer steps left than all changes take; then one area is stopped.
+/// if the fuse has fewer steps left than all changes take; then one area is stopped.
 pub fn make_changes(areas: &mut [Area], fuse: &mut Fuse, changes: &[Change]) -> Result<(), PowerCut>
     requires held { AreHeld areas.old }
     requires can { CanMake (areas_seen areas.old) changes.now }

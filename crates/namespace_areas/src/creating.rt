@@ -88,7 +88,7 @@ fn fit(
     Ok(space.first_fit(set, raw))
 }
 
-/// That offset, or the refusal where there is none.
+/// That offset, or the refusal if there is none.
 fn place(alloc: Global, set: &InterleaveSet, labels: &[Placed], raw: u64) -> Result<u64, OpRefused>
     requires some { 0 < length set.now }
     ensures { Answers OpRefused.OutOfMemory result (value_unless (unwrap_or (fit_beside set.now labels.now raw) 0)

@@ -21,7 +21,7 @@ fn put(room: &mut Vec<Placed>, placed: Placed)
     prove!(added.is_ok());
 }
 
-/// Adds the label of a slot, where it has one.
+/// Adds the label of a slot, if it has one.
 fn put_label(module: u32, slot: u32, label: &Option<Label>, room: &mut Vec<Placed>)
     requires room { vec_len room.old + 1 ≤ vec_capacity room.old }
     ensures items { room.new.items ≡ room.old.items ++ option_to_list (placed_in «module» (slot, label.now)) }

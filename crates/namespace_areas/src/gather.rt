@@ -9,7 +9,7 @@ use label_codec::Label;
 use label_set::Placed;
 use std::alloc::{AllocError, Global};
 
-/// Adds the label of a slot, where it has one.
+/// Adds the label of a slot, if it has one.
 fn add_label(
     module: u32,
     slot: u32,
@@ -57,7 +57,7 @@ fn add_area(module: u32, area: &Area, placed: &mut Vec<Placed>) -> Result<(), Al
 /// The labels of all areas, rising by module and slot.
 ///
 /// No area was stopped by a power cut. An area that is absent or refused has none; a label has its module's
-/// and its slot's number. The one error is want of memory.
+/// and its slot's number. The one error is out of memory.
 pub fn gathered(alloc: Global, areas: &[Area]) -> Result<Vec<Placed>, AllocError>
     requires running { AreRunning areas.now }
     requires few { length areas.now < 2 ^ 32 }

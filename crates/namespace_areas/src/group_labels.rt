@@ -13,7 +13,7 @@ use nvd_words::Items;
 use region_space::Extent;
 use std::alloc::{AllocError, Global};
 
-/// The first region in whose mapping a label lies whole, with its set.
+/// The first region whose mapping has the whole extent of a label, with its set.
 pub fn region_of<'a>(sets: &'a [InterleaveSet], label: &Placed) -> Option<(u32, &'a InterleaveSet)>
     requires few { length sets.now < 2 ^ 32 }
     ensures { option_map (λ region. (region.0, region.1.now)) result ≡ region_of sets.now label.now }

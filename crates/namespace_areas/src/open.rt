@@ -1,4 +1,4 @@
-//! The label areas of all modules are opened.
+//! Opens the label areas of all modules.
 ghost use Rattle.std.specs.Prelude.{◌≡◌, ◌≢◌, ◌*◌, IfOk, length, map};
 ghost use Rattle.cut_words.specs.Words.{settled};
 ghost use Rattle.label_index.specs.Area.{IsAreaSize};
@@ -11,7 +11,7 @@ use label_area::{AreaFault, AreaRefused, open_area};
 use nvd_words::Items;
 use std::alloc::{AllocError, Global};
 
-/// An area that isn't open: want of memory is no finding about it.
+/// An area that isn't open. Out of memory is no finding about it.
 fn refused_area(refused: AreaRefused) -> Result<Area, AllocError>
     ensures same { IfOk result (λ area. area ≡ Area.Refused refused) }
     ensures finding { IfOk result (λ _. refused.fault ≢ AreaFault.OutOfMemory) }
@@ -47,9 +47,9 @@ fn area_of(alloc: Global, words: Option<CutWords>) -> Result<Area, AllocError>
 
 /// Opens the label areas of all modules, by the modules' numbers (UEFI 2.10, section 13.19).
 ///
-/// Each row of words has a label area's size, and none of them is pending. A module without one has no area; one
-/// that has no valid index block, or one of another version, is refused and keeps its words. The one error is want of
-/// memory; the words are gone then.
+/// Each row of words has a label area's size, and no word is pending. A module without a row has no area. An area without
+/// a valid index block, or with one of another version, is refused and keeps its words. The one error is out of memory;
+/// then the words are dropped.
 pub fn open_areas(alloc: Global, labels: Items<Option<CutWords>>) -> Result<Items<Area>, AllocError>
     requires { AreWhole labels }
     ensures { IfOk result (λ areas. areas ≡ map opened_as labels) }

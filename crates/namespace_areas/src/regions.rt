@@ -64,7 +64,8 @@ fn on_modules(
     modules: u32,
 ) -> Result<Vec<Vec<u32>>, AllocError>
     requires few { length sets.now < 2 ^ 32 }
-    ensures { IfOk result (λ lists. AreOnModules sets.now lists.items) }
+    ensures regions { IfOk result (λ lists. AreOnModules sets.now lists.items) }
+    ensures count { IfOk result (λ lists. length lists.items ≡ modules) }
 {
     let mut lists = Vec::new(alloc);
     for module in 0..modules {

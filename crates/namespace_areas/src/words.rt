@@ -7,7 +7,7 @@ use cut_words::CutWords;
 use nvd_words::Items;
 use std::alloc::{AllocError, Global};
 
-/// The words of an area, where there is one.
+/// The words of an area, if there is one.
 fn words_of(area: Area) -> Option<CutWords>
     ensures { result ≡ words_of area }
 {
@@ -18,10 +18,10 @@ fn words_of(area: Area) -> Option<CutWords>
     }
 }
 
-/// The words of the label areas of all modules, by the modules' numbers: none where a module has no area.
+/// The words of the label areas of all modules, by the modules' numbers: none for a module that has no area.
 ///
-/// Whatever a power cut leaves of these words is left of the areas (`AreLeft`). The one error is want of memory; the
-/// areas are gone then.
+/// What a crash leaves of these words is what it leaves of the areas (`AreLeft`). The one error is out of memory; then
+/// the areas are dropped.
 pub fn into_words(alloc: Global, areas: Vec<Area>) -> Result<Items<Option<CutWords>>, AllocError>
     ensures { IfOk result (λ words. words ≡ map words_of areas.items) }
 {
