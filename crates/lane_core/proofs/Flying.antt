@@ -1,9 +1,11 @@
 -- A call's steps, and what calls that were cut may have left.
-use Rattle.std.proofs.Common.{◌≡◌, ℕ, ◌+◌, ◌*◌, ◌≤◌, ◌==◌, nat_lt, if◌then◌else◌, inl, inr, zero, suc, not, Bool, true, false, List, [], ◌∷◌, ◌++◌, slice_get, Some, None, Option, refl, sym, ap, ◌∙◌, subst, arith}
+use Rattle.std.proofs.Common.{◌≡◌, ◌⊎◌, ℕ, ◌+◌, ◌*◌, ◌≤◌, ◌==◌, nat_lt, if◌then◌else◌, inl, inr, zero, suc, not, Bool, true, false, List, [], ◌∷◌, ◌++◌, slice_get, Some, None, Option, refl, sym, ap, ◌∙◌, subst, arith}
 use Rattle.std.specs.Prelude.{◌&&◌, Any}
 use Rattle.map_table.specs.declared.kinds.Kind.{Kind}
 use Rattle.map_table.specs.declared.kinds.Kind.TheVariants as kind
 use Rattle.nvd_words.specs.declared.tag.Tag.{Tag}
+use Rattle.arena_open.specs.declared.cell.Cell.{Cell}
+use Rattle.arena_open.specs.declared.cell.Cell.TheVariants as cell
 use Rattle.lane_core.specs.declared.history.Act.TheVariants as act
 use Rattle.lane_core.specs.declared.history.Entry.{Entry}
 use Rattle.lane_core.specs.declared.in_call.InCall.{InCall}
@@ -12,6 +14,7 @@ use Rattle.lane_core.specs.declared.phase.Phase.{Phase}
 use Rattle.lane_core.specs.declared.phase.Phase.TheVariants.{Idle, Scanning, Staging, Staged, Locked, Known, LogAStored, LogA, LogBStored, Logged, Switched, Kept, Called, Looking, Published, Moved, Reading}
 use Rattle.lane_core.specs.declared.shape.Shape.{Shape}
 use Rattle.lane_core.specs.declared.stepped.Answer.TheVariants as answer
+use Rattle.lane_core.specs.declared.stepped.Step.TheVariants as step
 use Rattle.lane_core.specs.declared.stepped.Stepped.{Stepped}
 use Rattle.lane_core.specs.declared.stepped.Stepped.TheVariants as stepped
 use Rattle.lane_core.specs.After.{answer_after, answer_looked, is_free, is_unmoved, kind_found, lane_after, lane_looked, wants_lock}
@@ -22,7 +25,7 @@ use Rattle.lane_core.specs.Lines.{word_at}
 use Rattle.lane_core.specs.Machine.{other_lane}
 use Rattle.lane_core.specs.Places.{Reader}
 use Rattle.lane_core.specs.Rows.{RowWords}
-use Rattle.lane_core.specs.Sessions.{IsFlying, OpenReadsMayGo, StepsArePaid, SurvivorsAreCalls, calls_from, in_call, is_entered, is_open_in, is_open_read, is_unfinished, least_steps, write_steps}
+use Rattle.lane_core.specs.Sessions.{IsFlying, OpenReadsMayGo, StepsArePaid, SurvivorsAreCalls, calls_from, in_call, is_entered, is_open_in, is_open_read, is_unfinished, least_steps, read_steps, write_steps}
 use Rattle.lane_core.proofs.Past.{some_may_go}
 use Rattle.lane_core.proofs.Put.{never}
 
@@ -118,8 +121,48 @@ module _ (x : Shape) (row : RowWords) (l : ℕ) (p : LaneNow) where
   unfolding is_wrote
   done_wrote tag e = ap is_wrote e
 
+  -- a read is answered with a cell by its first look or after its last word
+  is_got : Stepped → Bool
+  is_got (stepped.Done tag (answer.Got found)) = true
+  is_got _ = false
+
+  abbrev Paid : Phase → Type 0
+  Paid ph = (ph ≡ Called) ⊎ (read_steps x ≤ least_steps x ph + 1)
+
+  got_reading : (k : ℕ) (b : Bool) → nat_lt k x.width ≡ b → is_got (if b then stepped.Went step.DataLoad else stepped.Done p.tag (answer.Got (cell.Bytes p.words))) ≡ true → Paid (Reading k)
+  unfolding is_got
+  got_reading k true t e = never e
+  got_reading k false t e = let le = not_below k x.width t in inr (omega arith)
+    where
+      not_below : (a b : ℕ) → nat_lt a b ≡ false → b ≤ a
+      not_below a b q = grind arith
+
+  got_paid : (ph : Phase) → is_got (answer_after x l row p ph) ≡ true → Paid ph
+  unfolding is_got
+  got_paid Called e = inl refl
+  got_paid (Reading k) e = got_reading k (nat_lt k x.width) refl e
+  got_paid (Staging k) e = never (sym (choose (λ (a : Stepped). is_got a ≡ false) (nat_lt k x.width) _ _ refl refl) ∙ e)
+  got_paid Kept e = never e
+  got_paid Idle e = never e
+  got_paid (Scanning j) e = never e
+  got_paid Staged e = never e
+  got_paid Locked e = never e
+  got_paid Known e = never e
+  got_paid LogAStored e = never e
+  got_paid LogA e = never e
+  got_paid LogBStored e = never e
+  got_paid Logged e = never e
+  got_paid Switched e = never e
+  got_paid Looking e = never e
+  got_paid Published e = never e
+  got_paid Moved e = never e
+
+  done_got : (tag : Tag) (found : Cell) → answer_after x l row p p.phase ≡ stepped.Done tag (answer.Got found) → is_got (answer_after x l row p p.phase) ≡ true
+  unfolding is_got
+  done_got tag found e = ap is_got e
+
 pub steps_are_paid : StepsArePaid
-steps_are_paid x row l p = (near x row l p p.phase refl, λ tag e. wrote_kept x row l p p.phase (done_wrote x row l p tag e))
+steps_are_paid x row l p = (near x row l p p.phase refl, λ tag e. wrote_kept x row l p p.phase (done_wrote x row l p tag e), λ tag found e. got_paid x row l p p.phase (done_got x row l p tag found e))
 
 -- ---- survivors
 
@@ -144,11 +187,11 @@ open_parts Logged e = (refl, refl, refl, refl)
 open_parts _ e = never e
 
 pub survivors_are_calls : SurvivorsAreCalls
-survivors_are_calls first core left each t lt = elim (each t lt) [
+survivors_are_calls first held left each t lt = elim (each t lt) [
   | inl e ↦ inl e
   | inr w ↦
       let k = open_parts w.call.phase w.unfinished in
-      inr (any_call (IsFlying t (left t)) core.shape core.lanes.items 0 w.lane w.call w.there k.0 (λ m. (
+      inr (any_call (IsFlying t (left t)) held.shape held.lanes 0 w.lane w.call w.there k.0 (λ m. (
         act.Write w.call.words,
         ap (λ b. if b then Some (act.Write w.call.words) else None) k.1,
         ap (λ b. if b then w.call.next_sector else w.call.sector) k.3 ∙ w.on,

@@ -34,11 +34,11 @@ arena_begun a b lane tag c core h = kept_by a b core (rest_of a b lane tag c h)
 
 -- ---- and the sessions of its calls
 
-first_tag : (b : Bool) (tag next : Tag) → (if wants_lock (if b then Staging 0 else Scanning 0) then next else tag) ≡ next
+pub first_tag : (b : Bool) (tag next : Tag) → (if wants_lock (if b then Staging 0 else Scanning 0) then next else tag) ≡ next
 first_tag true tag next = refl
 first_tag false tag next = refl
 
-first_unread : (b : Bool) → is_reading (if b then Staging 0 else Scanning 0) ≡ false
+pub first_unread : (b : Bool) → is_reading (if b then Staging 0 else Scanning 0) ≡ false
 first_unread true = refl
 first_unread false = refl
 

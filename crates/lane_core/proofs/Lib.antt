@@ -32,6 +32,7 @@ pub mod Callings
 pub mod Rooms
 pub mod Nothing
 pub mod Stepping
+pub mod Starting
 pub mod Elsewhere
 pub mod Fixed
 pub mod Stands
@@ -42,5 +43,10 @@ pub mod Reopened
 pub mod Keeping
 pub mod Served
 pub mod Flying
+pub mod Holding
+pub mod Parting
+pub mod Telling
+pub mod Scheduling
+pub mod ScheduleRows
 pub mod LaneLogs
 pub mod Rows

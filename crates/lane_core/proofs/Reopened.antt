@@ -36,6 +36,7 @@ use Rattle.lane_core.specs.Arenas.{shape_in, sides_in}
 use Rattle.lane_core.specs.Cores.{ShowsSound}
 use Rattle.lane_core.specs.Cut.{AreLeft, IsCurrent, Recovers, Survives, is_open, recovered}
 use Rattle.lane_core.specs.Fixed.{RowHasFixed, SameFixed}
+use Rattle.lane_core.specs.Held.{Held, held_by, recorded}
 use Rattle.lane_core.specs.Invariant.{stored}
 use Rattle.lane_core.specs.Machine.{State}
 use Rattle.lane_core.specs.Rows.{RowWords, words_in}
@@ -71,22 +72,35 @@ fresh_arena state (Ok core) h f = record {
       )));
 }
 
+-- ---- what a core of an arena holds
+
+pub record IsHeldOf (state : ArenaState) (held : Held) : Type 0 where
+  pub opened : IsOpenState state
+  pub shape : held.shape ≡ shape_in state
+  pub room : ℕ
+  pub s : State
+  pub shows : ShowsSound held.shape held.row held.lanes (recorded held.entries room) (first_cells state) s
+  pub fixed : RowHasFixed held.shape state.words held.row.words
+
+held_of : (state : ArenaState) (core : Core) → IsCoreOf state core → IsHeldOf state (held_by core)
+held_of state core h = record { opened = h.opened; shape = h.shape; room = core.history.room; s = h.shows.0; shows = h.shows.1; fixed = h.fixed }
+
 -- ---- a write in flight is a lane of the core
 
-module _ (o : Cells) (core : Core) (s : State) (h : ShowsSound core.shape core.row core.lanes.items core.history o s) where
-  open_words : (ph : Phase) → is_open ph ≡ true → (uses_words ph ≡ true) × (stored core.shape.width ph ≡ core.shape.width)
+module _ (o : Cells) (held : Held) (room : ℕ) (s : State) (h : ShowsSound held.shape held.row held.lanes (recorded held.entries room) o s) where
+  open_words : (ph : Phase) → is_open ph ≡ true → (uses_words ph ≡ true) × (stored held.shape.width ph ≡ held.shape.width)
   open_words LogBStored e = (refl, refl)
   open_words Logged e = (refl, refl)
   open_words _ e = never e
 
-  may_survive : (t : ℕ) (c : Cell) → Survives (geometry core.shape) o s t c → MaySurvive o core t c
+  may_survive : (t : ℕ) (c : Cell) → Survives (geometry held.shape) o s t c → MaySurvive o held t c
   may_survive t c (inl e) = inl (e ∙ ap (λ es. end_of o es t) h.shown.history)
   may_survive t c (inr w) =
-      let p = some_lane core.lanes.items w.0 (subst (λ n. w.0 < n) (sym h.shown.count) w.1) in
-      let same : s.lanes w.0 ≡ lane_of core.shape.width p.0 (s.lanes w.0).log = h.shown.each w.0 p.0 p.1 in
+      let p = some_lane held.lanes w.0 (subst (λ n. w.0 < n) (sym h.shown.count) w.1) in
+      let same : s.lanes w.0 ≡ lane_of held.shape.width p.0 (s.lanes w.0).log = h.shown.each w.0 p.0 p.1 in
       let unfinished : is_open p.0.phase ≡ true = ap (λ (a : Lane). is_open a.phase) (sym same) ∙ w.2 in
-      let long : length p.0.words ≡ core.shape.width = (h.filled w.0 p.0 p.1).words (open_words p.0.phase unfinished).0 in
-      let every : take (stored core.shape.width p.0.phase) p.0.words ≡ p.0.words = ap (λ n. take n p.0.words) (open_words p.0.phase unfinished).1 ∙ take_all core.shape.width p.0.words (omega (arith, long)) in
+      let long : length p.0.words ≡ held.shape.width = (h.filled w.0 p.0 p.1).words (open_words p.0.phase unfinished).0 in
+      let every : take (stored held.shape.width p.0.phase) p.0.words ≡ p.0.words = ap (λ n. take n p.0.words) (open_words p.0.phase unfinished).1 ∙ take_all held.shape.width p.0.words (omega (arith, long)) in
       inr (record {
         lane = w.0;
         call = p.0;
@@ -108,24 +122,24 @@ sides_of areas (suc n) each =
 
 -- ---- after a power cut
 
-module _ (state : ArenaState) (core : Core) (left : List ℕ) (h : IsCoreOf state core) (hl : IsLeft (words_in core.row) left) where
+module _ (state : ArenaState) (held : Held) (left : List ℕ) (h : IsHeldOf state held) (hl : IsLeft (words_in held.row) left) where
   l : Layout
   l = state.info.layout
 
   ok : IsLayout state.info.layout
   ok = h.opened.sound.layout
 
-  s : State
-  s = h.shows.0
+  k : ShowsSound held.shape held.row held.lanes (recorded held.entries h.room) (first_cells state) h.s
+  k = h.shows
 
-  k : ShowsSound core.shape core.row core.lanes.items core.history (first_cells state) h.shows.0
-  k = h.shows.1
+  enough : 2 * length held.row.pending ≤ length held.row.words
+  enough = let a = k.shown.row_is.size in let b = k.shown.row_is.arena in omega arith
 
   left_size : length left ≡ state.info.layout.size / 8
-  left_size = hl.same_length ∙ kept_length core.row (row_enough core (first_cells state, h.shows)) ∙ k.shown.row_is.arena ∙ ap (λ (x : Shape). x.total) h.shape
+  left_size = hl.same_length ∙ kept_length held.row enough ∙ k.shown.row_is.arena ∙ ap (λ (x : Shape). x.total) h.shape
 
-  fixed_core : SameFixed core.shape state.words left
-  fixed_core i f = elim (left_word core.shape core.row core.lanes.items core.history.entries h.shows.0 left k.shape k.shown hl i f.inside) [
+  fixed_core : SameFixed held.shape state.words left
+  fixed_core i f = elim (left_word held.shape held.row held.lanes held.entries h.s left k.shape k.shown hl i f.inside) [
     | inl e ↦ e ∙ (h.fixed i f).1
     | inr e ↦ e ∙ (h.fixed i f).0
   ]
@@ -133,14 +147,14 @@ module _ (state : ArenaState) (core : Core) (left : List ℕ) (h : IsCoreOf stat
   fixed_left : SameFixed (shape_of state.info.layout) state.words left
   fixed_left = subst (λ x. SameFixed x state.words left) h.shape fixed_core
 
-  were_left : AreLeft (geometry core.shape) h.shows.0.seen h.shows.0.kept (areas_of core.shape left)
-  were_left = are_left core.shape core.row core.lanes.items core.history.entries h.shows.0 left k.shape k.shown hl
+  were_left : AreLeft (geometry held.shape) h.s.seen h.s.kept (areas_of held.shape left)
+  were_left = are_left held.shape held.row held.lanes held.entries h.s left k.shape k.shown hl
 
-  sides : (f : ℕ → ℕ) × ((i : ℕ) → i < core.shape.lanes → IsCurrent (areas_of core.shape left) i (f i))
-  sides = sides_of (areas_of core.shape left) core.shape.lanes (λ i li. let side = some_side (geometry core.shape) (first_cells state) h.shows.0 k.sound (areas_of core.shape left) were_left i li in (side.0, side.1))
+  sides : (f : ℕ → ℕ) × ((i : ℕ) → i < held.shape.lanes → IsCurrent (areas_of held.shape left) i (f i))
+  sides = sides_of (areas_of held.shape left) held.shape.lanes (λ i li. let side = some_side (geometry held.shape) (first_cells state) h.s k.sound (areas_of held.shape left) were_left i li in (side.0, side.1))
 
-  r : Recovers (geometry core.shape) (first_cells state) h.shows.0 (areas_of core.shape left) sides.0
-  r = recovers (geometry core.shape) (first_cells state) h.shows.0 k.sound (areas_of core.shape left) were_left sides.0 sides.1
+  r : Recovers (geometry held.shape) (first_cells state) h.s (areas_of held.shape left) sides.0
+  r = recovers (geometry held.shape) (first_cells state) h.s k.sound (areas_of held.shape left) were_left sides.0 sides.1
 
   module _ (behind parent : List ℕ) (arena : Opened) (opens : opening (state.words ++ behind) parent ≡ Ok arena) where
     p : Parts (state.words ++ behind) parent arena
@@ -158,8 +172,8 @@ module _ (state : ArenaState) (core : Core) (left : List ℕ) (h : IsCoreOf stat
     current : (i : ℕ) → i < state.info.layout.lanes → IsCurrent (areas_of (shape_of state.info.layout) left) i (sides.0 i)
     current = subst (λ (x : Shape). (i : ℕ) → i < x.lanes → IsCurrent (areas_of x left) i (sides.0 i)) h.shape sides.1
 
-    r' : Recovers (geometry (shape_of state.info.layout)) (first_cells state) h.shows.0 (areas_of (shape_of state.info.layout) left) sides.0
-    r' = subst (λ (x : Shape). Recovers (geometry x) (first_cells state) h.shows.0 (areas_of x left) sides.0) h.shape r
+    r' : Recovers (geometry (shape_of state.info.layout)) (first_cells state) h.s (areas_of (shape_of state.info.layout) left) sides.0
+    r' = subst (λ (x : Shape). Recovers (geometry x) (first_cells state) h.s (areas_of x left) sides.0) h.shape r
 
     abbrev found : Opened
     found = found_arena state.info.layout ok state.words left behind h.opened.count left_size fixed_left (groups_of_lanes state.lanes) h.opened.groups sides.0 current r'.sized r'.sound state.info
@@ -168,25 +182,25 @@ module _ (state : ArenaState) (core : Core) (left : List ℕ) (h : IsCoreOf stat
     found_opens = left_opens state.info.layout ok state.words left behind h.opened.count left_size fixed_left (groups_of_lanes state.lanes) h.opened.groups sides.0 current r'.sized r'.sound parent state.info refl
         (p.info_is ∙ ap (λ (i : Info). Ok i) info_is)
 
-    contents : (t : ℕ) → t < core.shape.sectors → MaySurvive (first_cells state) core t (cell_at state.info.layout (state_of (left ++ behind) found).words t)
+    contents : (t : ℕ) → t < held.shape.sectors → MaySurvive (first_cells state) held t (cell_at state.info.layout (state_of (left ++ behind) found).words t)
     contents t lt =
         let below : t < state.info.layout.external = subst (λ (x : Shape). t < x.sectors) h.shape lt in
-        subst (λ (c : Cell). MaySurvive (first_cells state) core t c)
+        subst (λ (c : Cell). MaySurvive (first_cells state) held t c)
         (sym (cell_same (left ++ behind) parent found found_opens t below ∙ found_cell_is state.info.layout ok state.words left behind h.opened.count left_size fixed_left (groups_of_lanes state.lanes) h.opened.groups sides.0 current r'.sized r'.sound t below))
-        (may_survive (first_cells state) core h.shows.0 k t _ (subst (λ (c : Cell). Survives (geometry core.shape) (first_cells state) h.shows.0 t c)
+        (may_survive (first_cells state) held h.room h.s k t _ (subst (λ (c : Cell). Survives (geometry held.shape) (first_cells state) h.s t c)
         (ap (λ (x : Shape). cell_in x.width (areas_of x left).data_at (recovered (areas_of x left) sides.0 x.lanes t) t) h.shape) (r.contents t lt)))
 
-    found_again : IsFoundAgain (first_cells state) core (left ++ behind) parent
-    found_again = record { arena = found; opens = found_opens; info = sym h.info; contents = contents }
+    found_again : IsFoundAgain state held (left ++ behind) parent
+    found_again = record { arena = found; opens = found_opens; info = refl; contents = contents }
 
-  pub reopens : Reopens state core left
+  pub reopens : Reopens state held left
   reopens = record { fixed = fixed_core; opens = λ behind parent arena opens. found_again behind parent arena opens }
 
 pub reopens_from : {C : Type 0} (picks : C → ℕ → Bool → C → Type 0) (state : ArenaState) (core : Core) (left : List ℕ) (first last : C) → IsCoreOf state core
-    → LeavesFrom picks 0 (words_in core.row).kept (words_in core.row).stored left first last → Reopens state core left
+    → LeavesFrom picks 0 (words_in core.row).kept (words_in core.row).stored left first last → Reopens state (held_by core) left
 reopens_from picks state core left first last h asked =
     let enough = row_enough core (first_cells state, h.shows) in
-    reopens state core left h (is_left picks (words_in core.row) left first last (stored_length core.row enough ∙ sym (kept_length core.row enough)) asked)
+    reopens state (held_by core) left (held_of state core h) (is_left picks (words_in core.row) left first last (stored_length core.row enough ∙ sym (kept_length core.row enough)) asked)
 
 pub fresh_sound : {E : Type 0} (state : ArenaState) (r : Result Core E) → IsOpenState state → IfOk r (IsFresh state) → IfOk r IsSomeCore
 fresh_sound state (Err e) h f = tt

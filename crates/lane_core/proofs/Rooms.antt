@@ -2,6 +2,7 @@
 use Rattle.std.proofs.Common.{ℕ, ◌≤◌, List, slice_get, slice_set, sym, ap, ◌∙◌, subst, arith}
 use Rattle.nvd_words.specs.declared.tag.Tag.{Tag}
 use Rattle.lane_core.specs.declared.machine.Core.{Core}
+use Rattle.lane_core.specs.declared.now.LaneNow.{LaneNow}
 use Rattle.lane_core.specs.declared.shape.Shape.{Shape}
 use Rattle.lane_core.specs.History.{Cells}
 use Rattle.lane_core.specs.Machine.{State, begin_read, begin_write}
@@ -11,7 +12,7 @@ use Rattle.lane_core.specs.Ready.{IsFilled}
 use Rattle.lane_core.specs.Showing.{Shown}
 use Rattle.lane_core.specs.Cores.{owing}
 use Rattle.lane_core.specs.Machines.{IsCore, CoreShows}
-use Rattle.lane_core.specs.Begins.{read_begun, write_begun, HasRoom, IsIdleLane, KeepsRest, ReadStarts, WriteStarts}
+use Rattle.lane_core.specs.Begins.{read_begun, write_begun, HasRoom, IsIdleLane, KeepsRest, ReadStarts, Starts, WriteStarts}
 
 -- what the core shows, by its parts
 shows_by : (a b : Core) (s : State) → HasRoom a b → CoreShows a s → CoreShows b s
@@ -39,16 +40,16 @@ room_idle a b l h idle = (idle.0, ap (λ ls. slice_get ls l) h.lanes ∙ idle.1,
 rest_by : (a b c : Core) → HasRoom a b → KeepsRest b c → KeepsRest a c
 rest_by a b c h k = record { shape = k.shape ∙ h.rest.shape; info = k.info ∙ h.rest.info; row = k.row ∙ h.rest.row; entries = k.entries ∙ h.rest.entries }
 
-pub read_by : (a b c : Core) (l : ℕ) (tag : Tag) (sector : ℕ) (words cell : List ℕ) → HasRoom a b → ReadStarts b c l tag sector words cell → ReadStarts a c l tag sector words cell
-read_by a b c l tag sector words cell h r = record {
+-- a call that begins where there is room
+starts_by : (a b c : Core) (l : ℕ) (f : Shape → LaneNow → LaneNow) (g : Shape → State → State) → HasRoom a b → Starts b c l (f b.shape) (g b.shape) → Starts a c l (f a.shape) (g a.shape)
+starts_by a b c l f g h r = record {
   rest = rest_by a b c h r.rest;
-  lanes = λ p at. r.lanes p (ap (λ ls. slice_get ls l) h.lanes ∙ at) ∙ ap (λ ls. slice_set ls l (read_begun p tag sector words cell)) h.lanes;
-  line = λ s shown. subst (λ (x : Shape). CoreShows c (begin_read (geometry x) s l tag sector)) h.rest.shape (r.line s (shows_by a b s h shown));
+  lanes = λ p at. r.lanes p (ap (λ ls. slice_get ls l) h.lanes ∙ at) ∙ ap (λ ls. slice_set ls l (f b.shape p)) h.lanes ∙ ap (λ x. slice_set a.lanes.items l (f x p)) h.rest.shape;
+  line = λ s shown. subst (λ (x : Shape). CoreShows c (g x s)) h.rest.shape (r.line s (shows_by a b s h shown));
 }
 
+pub read_by : (a b c : Core) (l : ℕ) (tag : Tag) (sector : ℕ) (words cell : List ℕ) → HasRoom a b → ReadStarts b c l tag sector words cell → ReadStarts a c l tag sector words cell
+read_by a b c l tag sector words cell h r = starts_by a b c l (λ x p. read_begun p tag sector words cell) (λ x s. begin_read (geometry x) s l tag sector) h r
+
 pub write_by : (a b c : Core) (l : ℕ) (tag : Tag) (sector : ℕ) (words : List ℕ) → HasRoom a b → WriteStarts b c l tag sector words → WriteStarts a c l tag sector words
-write_by a b c l tag sector words h r = record {
-  rest = rest_by a b c h r.rest;
-  lanes = λ p at. r.lanes p (ap (λ ls. slice_get ls l) h.lanes ∙ at) ∙ ap (λ ls. slice_set ls l (write_begun b.shape p tag sector words)) h.lanes ∙ ap (λ x. slice_set a.lanes.items l (write_begun x p tag sector words)) h.rest.shape;
-  line = λ s shown. subst (λ (x : Shape). CoreShows c (begin_write (geometry x) s l)) h.rest.shape (r.line s (shows_by a b s h shown));
-}
+write_by a b c l tag sector words h r = starts_by a b c l (λ x p. write_begun x p tag sector words) (λ x s. begin_write (geometry x) s l) h r

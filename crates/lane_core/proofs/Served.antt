@@ -38,7 +38,7 @@ session_none q e ne = grind arith
 session_own : (q : ℕ) (es : List Entry) (e : Entry) → e.tag.session ≡ q → of_session q (es ++ e ∷ []) ≡ of_session q es ++ e ∷ []
 session_own q es e is = session_grown q es e ∙ ap (λ r. of_session q es ++ r) (session_one q e is)
 
-session_other : (q : ℕ) (es : List Entry) (e : Entry) → e.tag.session ≢ q → of_session q (es ++ e ∷ []) ≡ of_session q es
+pub session_other : (q : ℕ) (es : List Entry) (e : Entry) → e.tag.session ≢ q → of_session q (es ++ e ∷ []) ≡ of_session q es
 session_other q es e ne = session_grown q es e ∙ ap (λ r. of_session q es ++ r) (session_none q e ne) ∙ append_none (of_session q es)
 
 -- a lane that loads a read's words isn't idle and wants no lock
@@ -46,11 +46,11 @@ reading_wants : (ph : Phase) → is_reading ph ≡ true → wants_lock ph ≡ fa
 reading_wants (Reading k) e = refl
 reading_wants _ e = never e
 
-reading_busy : (ph : Phase) → is_reading ph ≡ true → is_idle ph ≡ false
+pub reading_busy : (ph : Phase) → is_reading ph ≡ true → is_idle ph ≡ false
 reading_busy (Reading k) e = refl
 reading_busy _ e = never e
 
-reading_tag : (p : LaneNow) → is_reading p.phase ≡ true → tag_of p ≡ p.tag
+pub reading_tag : (p : LaneNow) → is_reading p.phase ≡ true → tag_of p ≡ p.tag
 reading_tag p e = ap (λ b. if b then p.next else p.tag) (reading_wants p.phase e)
 
 -- ---- what a step changes
@@ -151,7 +151,7 @@ last_own h e l t le te = record { before = of_session t.session h; entry = e; is
 
 module _ (lanes : List LaneNow) (l : ℕ) (p q : LaneNow) (at : slice_get lanes l ≡ Some p) where
   -- a lane afterwards is the changed one or another
-  which : (i : ℕ) (r : LaneNow) → slice_get (slice_set lanes l q) i ≡ Some r → ((i ≡ l) × (q ≡ r)) ⊎ ((i ≢ l) × (slice_get lanes i ≡ Some r))
+  pub which : (i : ℕ) (r : LaneNow) → slice_get (slice_set lanes l q) i ≡ Some r → ((i ≡ l) × (q ≡ r)) ⊎ ((i ≢ l) × (slice_get lanes i ≡ Some r))
   which i r is = elim (same_or_not i l) [
     | inl e ↦ inl (e, sym (get_or-set_same lanes l q r (slice_get_within lanes l p at)) ∙ ap (λ j. get_or (slice_set lanes l q) j r) (sym e) ∙ get_or_from_slice_get (slice_set lanes l q) i r r is)
     | inr ne ↦ inr (
@@ -216,7 +216,7 @@ module _ (lanes : List LaneNow) (l : ℕ) (p q : LaneNow) (at : slice_get lanes 
 
 -- ---- idle lanes
 
-all_idle : (lanes : List LaneState) (i : ℕ) (p : LaneNow) → slice_get (map idle_of lanes) i ≡ Some p → is_idle p.phase ≡ true
+pub all_idle : (lanes : List LaneState) (i : ℕ) (p : LaneNow) → slice_get (map idle_of lanes) i ≡ Some p → is_idle p.phase ≡ true
 all_idle [] i p e = cc
 all_idle (x ∷ xs) zero p e = ap (λ (y : LaneNow). is_idle y.phase) (sym (got e))
   where

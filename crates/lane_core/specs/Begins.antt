@@ -38,17 +38,19 @@ pub record HasRoom (old new : Core) : Type 0 where
   pub room : length new.lanes.items ≤ new.history.room
   pub more : old.history.room ≤ new.history.room
 
--- a lane is in a read, with this room for its words and for the cell of its entry
-pub record ReadStarts (old new : Core) (lane : ℕ) (tag : Tag) (sector : ℕ) (words cell : List ℕ) : Type 0 where
+-- a lane is what a call makes of it, and the core shows what the line makes of each state that it showed
+pub record Starts (old new : Core) (lane : ℕ) (begun : LaneNow → LaneNow) (after : State → State) : Type 0 where
   pub rest : KeepsRest old new
-  pub lanes : (p : LaneNow) → slice_get old.lanes.items lane ≡ Some p → new.lanes.items ≡ slice_set old.lanes.items lane (read_begun p tag sector words cell)
-  pub line : (s : State) → CoreShows old s → CoreShows new (begin_read (geometry old.shape) s lane tag sector)
+  pub lanes : (p : LaneNow) → slice_get old.lanes.items lane ≡ Some p → new.lanes.items ≡ slice_set old.lanes.items lane (begun p)
+  pub line : (s : State) → CoreShows old s → CoreShows new (after s)
+
+-- a lane is in a read, with this room for its words and for the cell of its entry
+abbrev pub ReadStarts : Core → Core → ℕ → Tag → ℕ → List ℕ → List ℕ → Type 0
+ReadStarts old new lane tag sector words cell = Starts old new lane (λ p. read_begun p tag sector words cell) (λ s. begin_read (geometry old.shape) s lane tag sector)
 
 -- a lane is in a write of these words
-pub record WriteStarts (old new : Core) (lane : ℕ) (tag : Tag) (sector : ℕ) (words : List ℕ) : Type 0 where
-  pub rest : KeepsRest old new
-  pub lanes : (p : LaneNow) → slice_get old.lanes.items lane ≡ Some p → new.lanes.items ≡ slice_set old.lanes.items lane (write_begun old.shape p tag sector words)
-  pub line : (s : State) → CoreShows old s → CoreShows new (begin_write (geometry old.shape) s lane)
+abbrev pub WriteStarts : Core → Core → ℕ → Tag → ℕ → List ℕ → Type 0
+WriteStarts old new lane tag sector words = Starts old new lane (λ p. write_begun old.shape p tag sector words) (λ s. begin_write (geometry old.shape) s lane)
 
 -- a lane began a read, with room for as many words as a sector has
 abbrev pub ReadBegins : Core → Core → ℕ → Tag → ℕ → Type 0

@@ -17,8 +17,11 @@ pub mod Cores
 pub mod Idle
 pub mod Machines
 pub mod Arenas
+pub mod Held
 pub mod Reopening
 pub mod Sessions
 pub mod Logs
 pub mod Begins
+pub mod Schedules
+pub mod Parts
 pub mod Laws

@@ -11,6 +11,7 @@ use Rattle.lane_core.specs.declared.now.LaneNow.{LaneNow}
 use Rattle.lane_core.specs.Arenas.{shape_in}
 use Rattle.lane_core.specs.Cut.{is_open}
 use Rattle.lane_core.specs.Fixed.{SameFixed, RowHasFixed}
+use Rattle.lane_core.specs.Held.{Held}
 use Rattle.lane_core.specs.History.{Cells, end_of}
 use Rattle.lane_core.specs.Machines.{IsCore}
 
@@ -33,26 +34,27 @@ KeepsArena old new = (state : ArenaState) → IsCoreOf state old → IsCoreOf st
 -- ---- after a power cut
 
 -- the cell has the words of a write of this sector whose log entry was stored and whose map entry wasn't
-pub record IsInFlight (core : Core) (sector : ℕ) (found : Cell) : Type 0 where
+pub record IsInFlight (held : Held) (sector : ℕ) (found : Cell) : Type 0 where
   pub lane : ℕ
   pub call : LaneNow
-  pub there : slice_get core.lanes.items lane ≡ Some call
+  pub there : slice_get held.lanes lane ≡ Some call
   pub unfinished : is_open call.phase ≡ true
   pub on : call.sector ≡ sector
   pub words : found ≡ cell.Bytes call.words
 
 -- a cell that a sector may have after a power cut: the one at the history's end, or that of one write in flight
-abbrev pub MaySurvive : Cells → Core → ℕ → Cell → Type 0
-MaySurvive first core sector found = (found ≡ end_of first core.history.entries sector) ⊎ IsInFlight core sector found
+abbrev pub MaySurvive : Cells → Held → ℕ → Cell → Type 0
+MaySurvive first held sector found = (found ≡ end_of first held.entries sector) ⊎ IsInFlight held sector found
 
 -- the words open as the core's arena, and each sector has a cell that may survive
-pub record IsFoundAgain (first : Cells) (core : Core) (words parent : List ℕ) : Type 0 where
+pub record IsFoundAgain (state : ArenaState) (held : Held) (words parent : List ℕ) : Type 0 where
   pub arena : Opened
   pub opens : opening words parent ≡ Ok arena
-  pub info : arena.info ≡ core.info
-  pub contents : (sector : ℕ) → sector < core.shape.sectors → MaySurvive first core sector (cell_at arena.info.layout (state_of words arena).words sector)
+  pub info : arena.info ≡ state.info
+  pub contents : (sector : ℕ) → sector < held.shape.sectors → MaySurvive (first_cells state) held sector (cell_at arena.info.layout (state_of words arena).words sector)
 
--- What a power cut left of the core of an arena. Wherever the arena's words opened, these open in their place, whatever stands behind them.
-pub record Reopens (state : ArenaState) (core : Core) (left : List ℕ) : Type 0 where
-  pub fixed : SameFixed core.shape state.words left
-  pub opens : (behind parent : List ℕ) (arena : Opened) → opening (state.words ++ behind) parent ≡ Ok arena → IsFoundAgain (first_cells state) core (left ++ behind) parent
+-- What a power cut left of a core that held this, of an arena. Wherever the arena's words opened, these open in their place, whatever
+-- stands behind them.
+pub record Reopens (state : ArenaState) (held : Held) (left : List ℕ) : Type 0 where
+  pub fixed : SameFixed held.shape state.words left
+  pub opens : (behind parent : List ℕ) (arena : Opened) → opening (state.words ++ behind) parent ≡ Ok arena → IsFoundAgain state held (left ++ behind) parent

@@ -17,18 +17,25 @@ use Rattle.lane_core.specs.declared.stepped.Stepped.TheVariants as stepped
 use Rattle.lane_core.specs.After.{answer_after, lane_after, wants_lock}
 use Rattle.lane_core.specs.Rows.{RowWords}
 use Rattle.lane_core.specs.Begins.{is_idle}
+use Rattle.lane_core.specs.Held.{Held}
 use Rattle.lane_core.specs.History.{Cells, changes_nothing, end_of, of_session, IsLegal}
 use Rattle.lane_core.specs.Invariant.{is_reading}
 use Rattle.lane_core.specs.Reopening.{MaySurvive}
 
 -- ---- the lanes in calls
 
--- a lane's call, and its sector. Up to the lock a write has both in `next`
+-- the call of a lane in a phase, and its sector. Up to the lock a write has both in `next`
+abbrev pub tag_in : LaneNow → Phase → Tag
+tag_in p phase = if wants_lock phase then p.next else p.tag
+
+abbrev pub sector_in : LaneNow → Phase → ℕ
+sector_in p phase = if wants_lock phase then p.next_sector else p.sector
+
 abbrev pub tag_of : LaneNow → Tag
-tag_of p = if wants_lock p.phase then p.next else p.tag
+tag_of p = tag_in p p.phase
 
 abbrev pub sector_of : LaneNow → ℕ
-sector_of p = if wants_lock p.phase then p.next_sector else p.sector
+sector_of p = sector_in p p.phase
 
 -- a write whose map word isn't stored yet
 abbrev pub is_unfinished : Phase → Bool
@@ -83,11 +90,12 @@ write_steps x = staged_steps x + 9
 abbrev pub read_steps : Shape → ℕ
 read_steps x = x.width + 4
 
--- a law: a step is counted as one at most, and a write that is answered made its least steps
+-- a law: a step is counted as one at most; a write that is answered made its least steps, and a read made its own or looked once
 abbrev pub StepsArePaid : Type 0
 StepsArePaid =
     (x : Shape) (row : RowWords) (l : ℕ) (p : LaneNow) → (least_steps x (lane_after x l row p p.phase).phase ≤ least_steps x p.phase + 1)
     × ((tag : Tag) → answer_after x l row p p.phase ≡ stepped.Done tag answer.Wrote → least_steps x p.phase + 1 ≡ write_steps x)
+    × ((tag : Tag) (found : Cell) → answer_after x l row p p.phase ≡ stepped.Done tag (answer.Got found) → (p.phase ≡ Called) ⊎ (read_steps x ≤ least_steps x p.phase + 1))
 
 abbrev pub in_call : Shape → ℕ → LaneNow → InCall
 in_call x l p = record { lane = l; tag = tag_of p; sector = sector_of p; act = act_of p; steps = least_steps x p.phase; entered = is_entered p.phase }
@@ -97,8 +105,8 @@ abbrev pub calls_from : Shape → ℕ → List LaneNow → List InCall
 calls_from x l [] = []
 calls_from x l (p ∷ ps) = (if is_idle p.phase then [] else in_call x l p ∷ []) ++ calls_from x (l + 1) ps
 
-abbrev pub calls_in : Core → List InCall
-calls_in core = calls_from core.shape 0 core.lanes.items
+abbrev pub calls_in : Held → List InCall
+calls_in held = calls_from held.shape 0 held.lanes
 
 -- ---- what a power cut may leave of their sectors
 
@@ -117,8 +125,8 @@ CoreSurvives first history calls count left = (sector : ℕ) → sector < count 
 
 -- a law: what may survive of a core's lanes is what its calls may have left
 abbrev pub SurvivorsAreCalls : Type 0
-SurvivorsAreCalls = (first : Cells) (core : Core) (left : Cells) → ((t : ℕ) → t < core.shape.sectors → MaySurvive first core t (left t))
-    → CoreSurvives first core.history.entries (calls_in core) core.shape.sectors left
+SurvivorsAreCalls = (first : Cells) (held : Held) (left : Cells) → ((t : ℕ) → t < held.shape.sectors → MaySurvive first held t (left t))
+    → CoreSurvives first held.entries (calls_in held) held.shape.sectors left
 
 -- ---- one call of a session at a time
 

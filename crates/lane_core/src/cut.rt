@@ -1,5 +1,6 @@
 //! Power is cut.
 ghost use Rattle.cut_words.specs.Leaving.{LeavesFrom};
+ghost use Rattle.lane_core.specs.Held.{held_by};
 ghost use Rattle.lane_core.specs.Machines.{CutSurvives, IsSomeCore};
 ghost use Rattle.arena_open.specs.declared.state.ArenaState.{ArenaState};
 ghost use Rattle.lane_core.specs.Reopening.{IsCoreOf, Reopens};
@@ -21,7 +22,7 @@ impl Core {
         requires core { IsSomeCore self }
         ensures asked { LeavesFrom C.picks 0 (words_in self.row).kept (words_in self.row).stored result.items choose.old choose.new }
         ensures survives { CutSurvives self result.items }
-        ensures reopens { (state : ArenaState) → IsCoreOf state self → Reopens state self result.items }
+        ensures reopens { (state : ArenaState) → IsCoreOf state self → Reopens state (held_by self) result.items }
     {
         self.row.leave(choose)
     }

@@ -3,7 +3,8 @@ use nvd_words::Tag;
 
 /// A lane that is in a call, as the call's session knows it (`specs/Sessions.antt`).
 ///
-/// Nothing makes a value of it. A lock round a core names it in the part that a session knows.
+/// Contracts alone use it, and no code makes a value of it. It is a Rust type because the part that a lock tells a caller is one
+/// (`Parted` of turn_lock), and a session's part of a core has its calls.
 #[derive(Debug, Drop)]
 pub struct InCall {
     pub lane: u32,

@@ -1,6 +1,8 @@
 //! The laws about the steps of lanes. Each is a function that does nothing; what it ensures is the law (`specs/Laws.antt`).
 ghost use Rattle.lane_core.specs.History.{SomeMayGo};
+ghost use Rattle.lane_core.specs.Parts.{OthersKeepParts, OwnPartIsKnown};
 ghost use Rattle.lane_core.specs.Places.{PlacesAreApart};
+ghost use Rattle.lane_core.specs.Schedules.{CoreIsHeld, SchedulesStand};
 ghost use Rattle.lane_core.specs.Sessions.{OpenReadsMayGo, StepsArePaid, SurvivorsAreCalls};
 ghost use Rattle.lane_core.specs.Laws.{CallsAreGivenUp, CutsReopen, DataKeep, DataLoad, DataStore, EachIsNamed, EveryAccount, EveryCut, EveryRun, FlogAKeep, FlogAStore, FlogBKeep, FlogBStore, FormattedIsOpen, LockFree, LockTake, MapCheck, MapKeep, MapLoad, MapLook, MapStore, OneIsCurrent, OpenedIsSound, ReadBegins, RttClear, RttScan, RttSet, UnloggedWritesAreLost, WriteBegins};
 
@@ -167,8 +169,8 @@ pub fn places_are_apart()
     ensures { PlacesAreApart }
 {}
 
-/// A law: a lane's phase counts the steps of its call from below: a step counts one at most, and a write that is answered made all
-/// its least steps.
+/// A law: a lane's phase counts the steps of its call from below: a step counts one at most. A write that is answered made all its
+/// least steps, and a read made all of its own, or looked once.
 pub fn steps_are_paid()
     ensures { StepsArePaid }
 {}
@@ -181,4 +183,25 @@ pub fn survivors_are_calls()
 /// A law: reads that aren't answered may be left out of a core's history. It stays legal and has the same end.
 pub fn open_reads_may_go()
     ensures { OpenReadsMayGo }
+{}
+
+/// A law: what a core's own calls do is a function of what it holds, and so is what a step answers.
+pub fn a_core_is_what_it_holds()
+    ensures { CoreIsHeld }
+{}
+
+/// A law: whatever the lanes of an opened arena are asked, in whatever order: the history is legal, it has each answer once and
+/// else only what stands of calls that lanes are in, and whatever a power cut leaves opens again.
+pub fn schedules_stand()
+    ensures { SchedulesStand }
+{}
+
+/// A law: the calls and steps of others change neither a session's calls nor its entries.
+pub fn others_keep_parts()
+    ensures { OthersKeepParts }
+{}
+
+/// A law: a session that makes one call at a time knows the lane that is in it, and which entries are its own.
+pub fn own_part_is_known()
+    ensures { OwnPartIsKnown }
 {}

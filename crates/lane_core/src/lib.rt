@@ -40,6 +40,9 @@
 //! | a new arena is one of which all this speaks | [`formatted_is_open`], [`opened_is_sound`] | `IsOpen` |
 //! | what survives is the history's end or what a call would have left | [`survivors_are_calls`] | `CoreSurvives` |
 //! | a phase counts the steps of its call from below | [`steps_are_paid`] | `least_steps` |
+//! | others' calls and steps leave a session's calls and entries as they are | [`others_keep_parts`], [`own_part_is_known`] | `SamePart` |
+//! | what a core's calls do and answer is a function of what it holds | [`a_core_is_what_it_holds`] | `held_after`, `answer_in` |
+//! | of any list of calls and steps the history is legal and has just the answers, and each cut opens again | [`schedules_stand`] | `Stands` |
 //!
 //! **The code.** A [`Core`] has the arena's words as they are seen and as they are kept, the reader table and the locks in one
 //! row (`specs/Places.antt`), its lanes, and the history as a list of entries. Each line is one function over the row and a lane
@@ -83,17 +86,18 @@ pub use history::{Act, Entry};
 pub use in_call::InCall;
 pub use lane::Lane;
 pub use law::{
-    calls_are_given_up, cuts_reopen, data_keep_keeps_the_invariant, data_load_keeps_the_invariant,
-    data_store_keeps_the_invariant, each_block_is_named, every_account, every_cut_survives,
-    every_run_keeps_the_invariant, flog_a_keep_keeps_the_invariant,
-    flog_a_store_keeps_the_invariant, flog_b_keep_keeps_the_invariant,
-    flog_b_store_keeps_the_invariant, formatted_is_open, lock_free_keeps_the_invariant,
-    lock_take_keeps_the_invariant, map_check_keeps_the_invariant, map_keep_keeps_the_invariant,
-    map_load_keeps_the_invariant, map_look_keeps_the_invariant, map_store_keeps_the_invariant,
-    one_half_is_current, open_reads_may_go, opened_is_sound, places_are_apart, read_begins,
+    a_core_is_what_it_holds, calls_are_given_up, cuts_reopen, data_keep_keeps_the_invariant,
+    data_load_keeps_the_invariant, data_store_keeps_the_invariant, each_block_is_named,
+    every_account, every_cut_survives, every_run_keeps_the_invariant,
+    flog_a_keep_keeps_the_invariant, flog_a_store_keeps_the_invariant,
+    flog_b_keep_keeps_the_invariant, flog_b_store_keeps_the_invariant, formatted_is_open,
+    lock_free_keeps_the_invariant, lock_take_keeps_the_invariant, map_check_keeps_the_invariant,
+    map_keep_keeps_the_invariant, map_load_keeps_the_invariant, map_look_keeps_the_invariant,
+    map_store_keeps_the_invariant, one_half_is_current, open_reads_may_go, opened_is_sound,
+    others_keep_parts, own_part_is_known, places_are_apart, read_begins,
     rtt_clear_keeps_the_invariant, rtt_scan_keeps_the_invariant, rtt_set_keeps_the_invariant,
-    some_calls_may_be_left_out, steps_are_paid, survivors_are_calls, unlogged_writes_are_lost,
-    write_begins,
+    schedules_stand, some_calls_may_be_left_out, steps_are_paid, survivors_are_calls,
+    unlogged_writes_are_lost, write_begins,
 };
 pub use machine::Core;
 pub use phase::Phase;

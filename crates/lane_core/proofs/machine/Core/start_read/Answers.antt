@@ -1,42 +1,33 @@
-use Rattle.std.proofs.Common.{◌≡◌, slice_get, slice_set, Some, sym, ap, ◌∙◌, subst, refl}
-use Rattle.std.proofs.lemmas.Option.{slice_get_within}
-use Rattle.lane_core.specs.declared.now.LaneNow.{LaneNow}
+use Rattle.std.proofs.Common.{slice_set, sym, subst, refl}
 use Rattle.lane_core.specs.Begins.{read_begun}
 use Rattle.lane_core.specs.Cores.{ShowsSound}
 use Rattle.lane_core.specs.Showing.{Shown}
 use Rattle.lane_core.specs.Machine.{begin_read}
 use Rattle.lane_core.specs.Places.{geometry}
-use Rattle.lane_core.proofs.Stepping.{lane_there, there_is}
 use Rattle.lane_core.proofs.Callings.{read_core, read_shown}
+use Rattle.lane_core.proofs.Starting.{became, here, idle}
 use Rattle.lane_core.proofs.machine.Core.start_read.Goals as goal
 
 pub returns-clause-core : goal.returns-clause-core
 returns-clause-core c = λ o core_is.
     let core = c.args.self.now in
     let mine = c.index_mut-mine.result.now in
-    let s = core_is.0 in
-    let h = core_is.1 in
-    let p = c.requires.lane.0 in
-    let at = c.requires.lane.1 in
-    let here : slice_get core.lanes.items c.args.lane ≡ Some mine = lane_there core.lanes.items c.args.lane mine (slice_get_within core.lanes.items c.args.lane p at) c.index_mut-mine.ensures.value in
-    let idle = ap (λ (p : LaneNow). p.phase) (there_is (sym here ∙ at)) ∙ c.requires.lane.2 in (
+    let value = c.index_mut-mine.ensures.value in
+    let at = here core c.args.lane mine c.requires.lane value in (
       _,
-      subst (λ q. ShowsSound core.shape core.row (slice_set core.lanes.items c.args.lane q) core.history o (begin_read (geometry core.shape) s c.args.lane c.args.tag c.args.sector)) (sym c.set_read.ensures)
-          (read_core core.shape core.row core.lanes.items core.history core.history o s c.args.lane mine h here idle refl c.requires.room c.args.tag c.args.sector c.args.words c.args.cell c.requires.sector c.requires.words.0 c.requires.words.1),
+      subst (λ q. ShowsSound core.shape core.row (slice_set core.lanes.items c.args.lane q) core.history o (begin_read (geometry core.shape) core_is.0 c.args.lane c.args.tag c.args.sector)) (sym c.set_read.ensures)
+          (read_core core.shape core.row core.lanes.items core.history core.history o core_is.0 c.args.lane mine core_is.1 at (idle core c.args.lane mine c.requires.lane value) refl c.requires.room c.args.tag c.args.sector c.args.words c.args.cell c.requires.sector c.requires.words.0 c.requires.words.1),
     )
 
 pub returns-clause-begun : goal.returns-clause-begun
 returns-clause-begun c =
     let core = c.args.self.now in
     let mine = c.index_mut-mine.result.now in
-    let h = c.requires.core.1.1 in
-    let p = c.requires.lane.0 in
-    let at = c.requires.lane.1 in
-    let here : slice_get core.lanes.items c.args.lane ≡ Some mine = lane_there core.lanes.items c.args.lane mine (slice_get_within core.lanes.items c.args.lane p at) c.index_mut-mine.ensures.value in
-    let idle = ap (λ (p : LaneNow). p.phase) (there_is (sym here ∙ at)) ∙ c.requires.lane.2 in
+    let value = c.index_mut-mine.ensures.value in
+    let at = here core c.args.lane mine c.requires.lane value in
     record {
       rest = record { shape = refl; info = refl; row = refl; entries = refl };
-      lanes = λ r is. ap (λ q. slice_set core.lanes.items c.args.lane q) (c.set_read.ensures ∙ ap (λ (p : LaneNow). read_begun p c.args.tag c.args.sector c.args.words c.args.cell) (there_is (sym here ∙ is)));
+      lanes = became core c.args.lane mine c.requires.lane value (λ p. read_begun p c.args.tag c.args.sector c.args.words c.args.cell) _ c.set_read.ensures;
       line = λ t shown. subst (λ q. Shown core.shape core.row (slice_set core.lanes.items c.args.lane q) core.history.entries (begin_read (geometry core.shape) t c.args.lane c.args.tag c.args.sector)) (sym c.set_read.ensures)
-          (read_shown core.shape core.row core.lanes.items core.history.entries t c.args.lane mine h.shape shown here idle c.args.tag c.args.sector c.args.words c.args.cell);
+          (read_shown core.shape core.row core.lanes.items core.history.entries t c.args.lane mine c.requires.core.1.1.shape shown at (idle core c.args.lane mine c.requires.lane value) c.args.tag c.args.sector c.args.words c.args.cell);
     }
