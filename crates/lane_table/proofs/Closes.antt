@@ -1,5 +1,5 @@
 -- What the words tell once each lane was handed in.
-use Rattle.std.proofs.Common.{◌≡◌, ℕ, zero, suc, ◌/◌, ◌<◌, List, [], ◌∷◌, length, map, sym, ap, ◌∙◌, subst, slice_index, get_or-take, take, drop}
+use Rattle.std.proofs.Common.{◌≡◌, ℕ, zero, suc, ◌/◌, ◌<◌, List, [], ◌∷◌, length, map, sym, ap, ◌∙◌, subst, slice_index, get_or-take, get_or-drop, take, drop}
 use mathlib.Core.Option.{some, some-injective, some-ne-none}
 use lib.ListN.{get_elem?}
 use Rattle.atomic_table.specs.Table.{Final, Seen, Me}
@@ -7,6 +7,7 @@ use Rattle.map_table.specs.Entry.{entry_in}
 use Rattle.lane_core.specs.declared.history.Entry.{Entry}
 use Rattle.lane_core.specs.Areas.{entry_at, block_in}
 use Rattle.lane_core.specs.Finished.{IsAccount}
+use Rattle.lane_core.specs.Fixed.{RowHasFixed}
 use Rattle.lane_core.specs.History.{cell_of, cell_in}
 use Rattle.lane_core.specs.Machine.{State}
 use Rattle.lane_core.specs.Places.{Shows, geometry, SeenData, SeenMap}
@@ -21,7 +22,7 @@ use Rattle.lane_table.specs.declared.table.Owned.{Owned}
 use Rattle.lane_table.specs.declared.table.View.{View}
 use Rattle.lane_table.specs.Closed.{IsClosed, AreInOrder}
 use Rattle.lane_table.specs.Kits.{kit_in, owned_in}
-use Rattle.lane_table.specs.Law.{holds, opening_of, cells_in, areas_in, keeper, Tells}
+use Rattle.lane_table.specs.Law.{holds, opening_of, cells_in, areas_in, words_of, keeper, Tells}
 use Rattle.lane_table.proofs.Starts.{data_low, map_low}
 use Rattle.lane_table.proofs.WriteLines.{map_word_in}
 
@@ -49,6 +50,8 @@ module _ {S : Type 0} (k : Key) (id : ℕ) (ends : List LaneEnd) (c : Closed) (w
         shown = shown;
         seen = seen;
         kept = kept;
+        seen_fixed = λ i f. ap (λ r. slice_index r i) seen ∙ seen_at k.shape.total ws i f.inside ∙ (fixed i f).0;
+        kept_fixed = λ i f. ap (λ r. slice_index r i) kept ∙ seen_at k.shape.total (drop k.shape.total ws) i f.inside ∙ get_or-drop k.shape.total ws i 0 ∙ (fixed i f).1;
         lanes = lane;
         history = past.0;
         legal = past.1.legal;
@@ -63,7 +66,7 @@ module _ {S : Type 0} (k : Key) (id : ℕ) (ends : List LaneEnd) (c : Closed) (w
       s : State
       s = final.1.0.0
 
-      told : Tells k.shape (opening_of k) final.0.words final.0.views s
+      told : Tells k.shape (opening_of k) (words_of k) final.0.words final.0.views s
       told = final.1.0.1
 
       past : (h : List Entry) × IsAccount (geometry k.shape) (opening_of k) (cell_of (geometry k.shape) s.seen.data_at s.seen.map_at) (λ l. (s.lanes l).log) h
@@ -71,6 +74,9 @@ module _ {S : Type 0} (k : Key) (id : ℕ) (ends : List LaneEnd) (c : Closed) (w
 
       shown : Shows k.shape ws s
       shown = subst (λ ws. Shows k.shape ws s) final.2 told.shown
+
+      fixed : RowHasFixed k.shape (words_of k) ws
+      fixed = subst (λ ws. RowHasFixed k.shape (words_of k) ws) final.2 told.fixed
 
       knows : (l : ℕ) (e : LaneEnd) → get_elem? ends l ≡ some e → ((kit_in e).number < k.shape.lanes) × (s.lanes (kit_in e).number ≡ (kit_in e).seat.me.0.lane) × ((kit_in e).seat.me.0.shape ≡ k.shape)
       knows l e at = told.seats.known id l (keeper (owned_of ends)) (owned_in (kit_in e)) final.1.1 (map_at (λ e. owned_in (kit_in e)) ends l e at)

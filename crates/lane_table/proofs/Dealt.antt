@@ -1,9 +1,12 @@
 -- The lanes' seats while they are made.
 use Rattle.std.proofs.Common.{◌≡◌, ℕ, suc, ◌+◌, ◌-◌, ◌<◌, ◌≤◌, inl, inr, List, [], ◌∷◌, ◌++◌, length, false, refl, sym, ap, ◌∙◌, subst, arith, length-append}
+use Rattle.std.proofs.lemmas.List.{get_or_default}
+use Rattle.std.specs.Prelude.{All, slice_index_or}
 use mathlib.Core.Option.{some}
 use lib.ListN.{get_elem?}
 use Rattle.atomic_table.specs.Seated.{TableId}
 use Rattle.atomic_table.specs.Table.{Splits, Me}
+use Rattle.atomic_table.proofs.Lists.{at_index}
 use Rattle.arena_open.specs.declared.cell.Cell.{Cell}
 use Rattle.arena_open.specs.declared.opened.LaneState.{LaneState}
 use Rattle.lane_core.specs.declared.shape.Shape.{Shape}
@@ -13,7 +16,8 @@ use Rattle.lane_table.specs.declared.lanes.Lane.{Lane}
 use Rattle.lane_table.specs.declared.table.Key.{Key}
 use Rattle.lane_table.specs.declared.table.Owned.{Owned}
 use Rattle.lane_table.specs.declared.table.View.{View}
-use Rattle.lane_table.specs.Begun.{IsBegun, IsNew, IsFresh, state_at}
+use Rattle.lane_table.specs.Begun.{AreFresh, IsBegun, IsNew, IsFresh, state_at}
+use Rattle.lane_table.specs.Kits.{IsAt}
 use Rattle.lane_table.specs.Law.{keeper, seated, dealt, next_seat, opened_from, opened_owned, areas_in, words_of, side_of}
 use Rattle.lane_table.proofs.Moves.{rule}
 use Rattle.lane_table.proofs.Splits.{splits, at_end}
@@ -28,8 +32,8 @@ waits k n total lt = ap (opened_from k n) (one_less n total lt) ∙ ap (λ m. op
     next : (n : ℕ) → suc n ≡ n + 1
     next n = omega arith
 
-pub splits_as : {S : Type 0} (x : Shape) (c : ℕ → Cell) (id : ℕ) (v : View) (o : Owned) (os : List Owned) → v ≡ keeper (o ∷ os) → Splits {S = S} (rule x c) id v (dealt v) (next_seat v)
-splits_as {S = S} x c id v o os is = subst (λ v. Splits {S = S} (rule x c) id v (dealt v) (next_seat v)) (sym is) (splits x c id (keeper (o ∷ os)) o os refl refl)
+pub splits_as : {S : Type 0} (x : Shape) (c : ℕ → Cell) (ws : List ℕ) (id : ℕ) (v : View) (o : Owned) (os : List Owned) → v ≡ keeper (o ∷ os) → Splits {S = S} (rule x c ws) id v (dealt v) (next_seat v)
+splits_as {S = S} x c ws id v o os is = subst (λ v. Splits {S = S} (rule x c ws) id v (dealt v) (next_seat v)) (sym is) (splits x c ws id (keeper (o ∷ os)) o os refl refl)
 
 -- the new seat, and the dealer after it
 pub seat_is : {S : Type 0} (m d : Me S View) (os : List Owned) (o : Owned) (rest : List Owned) → m ≡ (next_seat d.0, []) → d ≡ (keeper os, []) → os ≡ o ∷ rest → m ≡ (seated o, [])
@@ -82,3 +86,10 @@ fresh_push table k ls lane front new l d at = elim (at_end ls lane d l at) [
 
 pub count_push : {A : Type 0} (ys es : List A) (e : A) (n : ℕ) → ys ≡ es ++ e ∷ [] → length es ≡ n → length ys ≡ n + 1
 count_push ys es e n q c = omega (arith, ap length q, length-append es (e ∷ []), c)
+
+-- the lanes of a new table are those of its arena
+pub are_own : (table : TableId) (k : Key) (x : Shape) (lanes : List Lane) → k.shape ≡ x → AreFresh table k lanes → All (λ l. IsAt table x l.kit) lanes
+are_own table k x lanes is f i d lt =
+    let lane = slice_index_or lanes i d in
+    let at = (f.each i lane (at_index lanes i lane lt (get_or_default lanes i d lane lt))).at in
+    (at.0, at.1 ∙ is)

@@ -11,3 +11,4 @@ pub mod Closes
 pub mod Loads
 pub mod Opens
 pub mod Rows
+pub mod Reopens

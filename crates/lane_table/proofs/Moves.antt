@@ -1,5 +1,5 @@
 -- A step on one word and one view is the step of the state.
-use Rattle.std.proofs.Common.{◌≡◌, ℕ, ◌<◌, ◌≢◌, inl, inr, true, List, ◌∷◌, length, refl, sym, ap, ◌∙◌, subst, slice_index, slice_set, length-set, arith, zero, suc}
+use Rattle.std.proofs.Common.{◌≡◌, ℕ, ◌+◌, ◌<◌, ◌≢◌, inl, inr, true, List, ◌∷◌, length, refl, sym, ap, ◌∙◌, subst, slice_index, slice_set, length-set, get_or-set_other, arith, zero, suc}
 use lib.ListN.{get_elem?}
 use mathlib.Core.Option.{some, some-injective}
 use Rattle.atomic_table.specs.Table.{State as TableState, Allows, Me, keeps}
@@ -9,9 +9,11 @@ use Rattle.lane_core.specs.declared.lane.Lane.{Lane}
 use Rattle.lane_core.specs.declared.phase.Phase.{Phase}
 use Rattle.lane_core.specs.declared.shape.Shape.{Shape}
 use Rattle.lane_core.specs.Areas.{put}
+use Rattle.lane_core.specs.Fixed.{RowHasFixed}
 use Rattle.lane_core.specs.Machine.{State}
 use Rattle.lane_core.specs.Invariant.{IsSound}
 use Rattle.lane_core.specs.Places.{IsShape, Place, IsIn, word_of, value_of, row_size, geometry}
+use Rattle.lane_core.proofs.Fixed.{kept_apart}
 use Rattle.lane_core.proofs.Put.{put_at, put_other}
 use Rattle.lane_core.proofs.Places.{shows_stored, in_table}
 use Rattle.lane_table.specs.declared.table.Count.{Count}
@@ -20,8 +22,8 @@ use Rattle.lane_table.specs.declared.table.View.{View}
 use Rattle.lane_table.specs.Law.{Holds, Seats, owned, owned_by, with_by}
 
 -- the table's fact: its words and views tell a state
-abbrev pub rule : {S : Type 0} → Shape → (ℕ → Cell) → TableState S View → Type 0
-rule x o s = Holds x o s.words s.views
+abbrev pub rule : {S : Type 0} → Shape → (ℕ → Cell) → List ℕ → TableState S View → Type 0
+rule x o ws s = Holds x o ws s.words s.views
 
 -- ---- a live seat's own lane
 
@@ -76,6 +78,13 @@ module _ (x : Shape) (views : List View) (lanes : ℕ → Lane) (id : ℕ) (v : 
 
 -- ---- one step
 
+-- a word at a place is stored: the words that no lane stores stay
+fixed_set : (x : Shape) → IsShape x → (ws words : List ℕ) (p : Place) (n : ℕ) → IsIn x p → RowHasFixed x ws words → RowHasFixed x ws (slice_set words (word_of x p) n)
+fixed_set x hs ws words p n m h i f = (
+  get_or-set_other words (word_of x p) i n 0 (λ q. f.apart p m (sym q)) ∙ (h i f).0,
+  get_or-set_other words (word_of x p) (x.total + i) n 0 (λ q. kept_apart x hs p m i f (sym q)) ∙ (h i f).1,
+)
+
 in_words : (x : Shape) → IsShape x → (words : List ℕ) → length words ≡ row_size x → (p : Place) → IsIn x p → word_of x p < length words
 in_words x h words size p i = subst (λ n. word_of x p < n) (sym size) (in_table x h p i)
 
@@ -101,11 +110,11 @@ pub phase_of : (x : Shape) (o : ℕ → Cell) (v : View) (s : State) (ph : Phase
 phase_of x o v s ph h e = ap (λ (p : Lane). p.phase) h.lane ∙ e
 
 -- a step that takes and gives no slot
-pub allows_step : {S : Type 0} (k : ℕ → Count → Count) (x : Shape) (o : ℕ → Cell) (slots id : ℕ) (v : View) (held : List (ℕ × S)) (p : Place) (f : ℕ → ℕ) (then : ℕ → Me S View → Type 0) → v.live ≡ true
+pub allows_step : {S : Type 0} (k : ℕ → Count → Count) (x : Shape) (o : ℕ → Cell) (ws : List ℕ) (slots id : ℕ) (v : View) (held : List (ℕ × S)) (p : Place) (f : ℕ → ℕ) (then : ℕ → Me S View → Type 0) → v.live ≡ true
     → ((s : State) → Stands x o v s → IsIn x p)
     → ((s : State) → Stands x o v s → (n : ℕ) → n ≡ value_of s p → Goes k x o v held p f then s n)
-    → Allows (rule x o) slots id (v, held) (word_of x p) f then
-allows_step {S = S} k x o slots id v held p f then live inside goes t has size at fits = (
+    → Allows (rule x o ws) slots id (v, held) (word_of x p) f then
+allows_step {S = S} k x o ws slots id v held p f then live inside goes t has size at fits = (
   with_by k n v r.new,
   keeps,
   tt,
@@ -116,6 +125,7 @@ allows_step {S = S} k x o slots id v held p f then live inside goes t has size a
       shape = has.1.shape;
       size = length-set t.words (word_of x p) (f n) ∙ has.1.size;
       shown = shows_stored x has.1.shape t.words s r.next p (f n) i (in_words x has.1.shape t.words has.1.size p i) has.1.shown r.here (λ q ne m. r.there q ne);
+      fixed = fixed_set x has.1.shape ws t.words p (f n) i has.1.fixed;
       seats = subst (Seats x (slice_set t.views id (with_by k n v r.new))) (sym r.lanes) (seats_put x t.views s.lanes id v r.new (k n v.count) at live has.1.seats);
     },
   ),
@@ -145,12 +155,12 @@ pub record Line (x : Shape) (o : ℕ → Cell) (l : ℕ) (p : Place) (f : ℕ �
   pub here : value_of next p ≡ f n
   pub there : (q : Place) → q ≢ p → value_of next q ≡ value_of s q
 
-pub allows_line : {S : Type 0} (k : ℕ → Count → Count) (x : Shape) (o : ℕ → Cell) (slots id : ℕ) (v : View) (held : List (ℕ × S)) (p : Place) (f : ℕ → ℕ) (change : ℕ → Lane → Lane) → v.live ≡ true
+pub allows_line : {S : Type 0} (k : ℕ → Count → Count) (x : Shape) (o : ℕ → Cell) (ws : List ℕ) (slots id : ℕ) (v : View) (held : List (ℕ × S)) (p : Place) (f : ℕ → ℕ) (change : ℕ → Lane → Lane) → v.live ≡ true
     → ((s : State) → Stands x o v s → IsIn x p)
     → ((s : State) → Stands x o v s → (n : ℕ) → n ≡ value_of s p → Line x o v.number p f change s n)
-    → Allows (rule x o) slots id (v, held) (word_of x p) f (λ n me. me ≡ (with_by k n v (change n v.lane), held))
-allows_line k x o slots id v held p f change live inside line =
-    allows_step k x o slots id v held p f (λ n me. me ≡ (with_by k n v (change n v.lane), held)) live inside
+    → Allows (rule x o ws) slots id (v, held) (word_of x p) f (λ n me. me ≡ (with_by k n v (change n v.lane), held))
+allows_line k x o ws slots id v held p f change live inside line =
+    allows_step k x o ws slots id v held p f (λ n me. me ≡ (with_by k n v (change n v.lane), held)) live inside
     (λ s h n is. let r = line s h n is in
     record { new = change n (s.lanes v.number); next = r.next; sound = r.sound; lanes = r.lanes; here = r.here; there = r.there; tells = ap (λ (p : Lane). (with_by k n v (change n p), held)) h.lane })
 

@@ -1,5 +1,5 @@
 -- The lines of a read, each as a step on one word.
-use Rattle.std.proofs.Common.{◌≡◌, ℕ, ◌+◌, ◌/◌, ◌<◌, ◌≢◌, ◌==◌, inl, inr, suc, true, [], ◌∷◌, ◌++◌, replicate, refl, sym, ap, ◌∙◌, subst, arith}
+use Rattle.std.proofs.Common.{◌≡◌, ℕ, ◌+◌, ◌/◌, ◌<◌, ◌≢◌, ◌==◌, inl, inr, suc, true, List, [], ◌∷◌, ◌++◌, replicate, refl, sym, ap, ◌∙◌, subst, arith}
 use mathlib.Core.Option.{some}
 use prog.Atomic.{either}
 use Rattle.atomic_table.specs.Table.{Allows, Me}
@@ -25,7 +25,7 @@ use Rattle.lane_core.proofs.Answering.{look_cell_sound, check_same_sound}
 use Rattle.lane_table.specs.declared.table.Call.{Call}
 use Rattle.lane_table.specs.declared.table.Key.{Key}
 use Rattle.lane_table.specs.declared.table.View.{View}
-use Rattle.lane_table.specs.Law.{holds, opening_of, found, counted, uncounted, looks, with}
+use Rattle.lane_table.specs.Law.{holds, opening_of, words_of, found, counted, uncounted, looks, with}
 use Rattle.lane_table.specs.Told.{answered, called, looking, looked_at, published, reading, moved, with_load, given_up, answered_with_words, blocks}
 use Rattle.lane_table.proofs.Moves.{allows_step, allows_line, allows_weaker, phase_of, Goes, Stands}
 use Rattle.lane_table.proofs.WriteLines.{at_place, map_word_in, sector_in, stores}
@@ -44,6 +44,9 @@ module _ {S : Type 0} (key : Key) (slots id i : ℕ) (me : Me S View) (live : me
   abbrev o : ℕ → Cell
   o = opening_of key
 
+  abbrev ws : List ℕ
+  ws = words_of key
+
   abbrev v : View
   v = me.0
 
@@ -51,7 +54,7 @@ module _ {S : Type 0} (key : Key) (slots id i : ℕ) (me : Me S View) (live : me
 
   begins : (t : Call) → v.lane.phase ≡ Idle → t.sector < x.sectors → Allows (holds key) slots id me (word_of x (Reader v.number)) (λ n. either (n == 0) 0 n) (λ n w. w ≡ called t me)
   begins t e ls =
-      allows_line uncounted x o slots id v me.1 (Reader v.number) (λ n. either (n == 0) 0 n) (λ n p. record p { phase = Called; tag = t.tag; sector = t.sector }) live
+      allows_line uncounted x o ws slots id v me.1 (Reader v.number) (λ n. either (n == 0) 0 n) (λ n p. record p { phase = Called; tag = t.tag; sector = t.sector }) live
       (λ s h. h.number)
       (λ s h n is. record {
         next = machine.begin_read (geometry x) s v.number t.tag t.sector;
@@ -128,7 +131,7 @@ module _ {S : Type 0} (key : Key) (slots id i : ℕ) (me : Me S View) (live : me
   pub looks_map : v.lane.phase ≡ Called → i ≡ word_of x (SeenMap (v.lane.sector / 2)) → Allows (holds key) slots id me i (λ n. n) look_tells
   looks_map e ei =
       at_place key slots id i me live (SeenMap (v.lane.sector / 2)) (λ n. n) look_tells ei
-      (allows_step looks x o slots id v me.1 (SeenMap (v.lane.sector / 2)) (λ n. n) look_tells live
+      (allows_step looks x o ws slots id v me.1 (SeenMap (v.lane.sector / 2)) (λ n. n) look_tells live
       (λ s h. map_word_in x.sectors v.lane.sector (sector_in x o v s _ h e refl))
       (λ s h n is. by_kind (said n) s h n is e refl))
 
@@ -141,7 +144,7 @@ module _ {S : Type 0} (key : Key) (slots id i : ℕ) (me : Me S View) (live : me
   pub checks_map : v.lane.phase ≡ Published → i ≡ word_of x (SeenMap (v.lane.sector / 2)) → Allows (holds key) slots id me i (λ n. n) check_tells
   checks_map e ei =
       at_place key slots id i me live (SeenMap (v.lane.sector / 2)) (λ n. n) check_tells ei
-      (allows_step looks x o slots id v me.1 (SeenMap (v.lane.sector / 2)) (λ n. n) check_tells live
+      (allows_step looks x o ws slots id v me.1 (SeenMap (v.lane.sector / 2)) (λ n. n) check_tells live
       (λ s h. map_word_in x.sectors v.lane.sector (sector_in x o v s _ h e refl))
       (λ s h n is. elim (same_or_not (entry_in n v.lane.sector) (entry_in v.lane.loaded v.lane.sector)) [
         | inl z ↦ record {
@@ -171,7 +174,7 @@ module _ {S : Type 0} (key : Key) (slots id i : ℕ) (me : Me S View) (live : me
   pub sets_reader : (m : ℕ) → v.lane.phase ≡ Looking → i ≡ word_of x (Reader v.number) → m ≡ suc (looked v.lane) → Allows (holds key) slots id me i (λ _. m) (λ n w. w ≡ published me)
   sets_reader m e ei em =
       stores key slots id i me live m (suc (looked v.lane)) (Reader v.number) (λ n w. w ≡ published me) ei em
-      (allows_line counted x o slots id v me.1 (Reader v.number) (λ _. suc (looked v.lane)) (λ n p. record p { phase = Published }) live
+      (allows_line counted x o ws slots id v me.1 (Reader v.number) (λ _. suc (looked v.lane)) (λ n p. record p { phase = Published }) live
       (λ s h. h.number)
       (λ s h n is. record {
         next = machine.rtt_set (geometry x) s v.number;
@@ -189,7 +192,7 @@ module _ {S : Type 0} (key : Key) (slots id i : ℕ) (me : Me S View) (live : me
   pub clears_moved : v.lane.phase ≡ Moved → i ≡ word_of x (Reader v.number) → Allows (holds key) slots id me i (λ _. 0) (λ n w. clear_tells w)
   clears_moved e ei =
       at_place key slots id i me live (Reader v.number) (λ _. 0) (λ n w. clear_tells w) ei
-      (allows_step counted x o slots id v me.1 (Reader v.number) (λ _. 0) (λ n w. clear_tells w) live
+      (allows_step counted x o ws slots id v me.1 (Reader v.number) (λ _. 0) (λ n w. clear_tells w) live
       (λ s h. h.number)
       (λ s h n is. let called : Lane = record (s.lanes v.number) { phase = Called } in
       record {
@@ -207,7 +210,7 @@ module _ {S : Type 0} (key : Key) (slots id i : ℕ) (me : Me S View) (live : me
   pub clears_read : v.lane.phase ≡ Reading x.width → i ≡ word_of x (Reader v.number) → Allows (holds key) slots id me i (λ _. 0) (λ n w. clear_tells w)
   clears_read e ei =
       at_place key slots id i me live (Reader v.number) (λ _. 0) (λ n w. clear_tells w) ei
-      (allows_step counted x o slots id v me.1 (Reader v.number) (λ _. 0) (λ n w. clear_tells w) live
+      (allows_step counted x o ws slots id v me.1 (Reader v.number) (λ _. 0) (λ n w. clear_tells w) live
       (λ s h. h.number)
       (λ s h n is. record {
         new = record (answered v.number (s.lanes v.number) (cell.Bytes (s.lanes v.number).got)) { got = [] };
@@ -223,7 +226,7 @@ module _ {S : Type 0} (key : Key) (slots id i : ℕ) (me : Me S View) (live : me
 
   loads_word : (k : ℕ) → v.lane.phase ≡ Reading k → k < x.width → looked v.lane < blocks x → Allows (holds key) slots id me (word_of x (SeenData (looked v.lane) k)) (λ n. n) (λ n w. w ≡ with_load me k n)
   loads_word k e lt inside =
-      allows_line looks x o slots id v me.1 (SeenData (looked v.lane) k) (λ n. n) (λ n p. record p { phase = Reading (k + 1); got = p.got ++ n ∷ [] }) live
+      allows_line looks x o ws slots id v me.1 (SeenData (looked v.lane) k) (λ n. n) (λ n p. record p { phase = Reading (k + 1); got = p.got ++ n ∷ [] }) live
       (λ s h. (inside, lt))
       (λ s h n is. record {
         next = machine.data_load (geometry x) s v.number k;

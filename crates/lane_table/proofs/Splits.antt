@@ -79,9 +79,9 @@ module _ (x : Shape) (views : List View) (lanes : ℕ → Lane) (id : ℕ) (v : 
       new i (suc k) p q e = absurd (nothing_there k p e)
 
 -- a lane is handed out
-pub splits : {S : Type 0} (x : Shape) (c : ℕ → Cell) (id : ℕ) (v : View) (o : Owned) (os : List Owned) → v.live ≡ false → v.rest ≡ o ∷ os
-    → Splits {S = S} (rule x c) id v (record v { rest = os }) (seated o)
-splits x c id v o os dead wait t has at = (has.0, record { sound = has.1.sound; shape = has.1.shape; size = has.1.size; shown = has.1.shown; seats = seats_split x t.views has.0.lanes id v o os at dead wait has.1.seats })
+pub splits : {S : Type 0} (x : Shape) (c : ℕ → Cell) (ws : List ℕ) (id : ℕ) (v : View) (o : Owned) (os : List Owned) → v.live ≡ false → v.rest ≡ o ∷ os
+    → Splits {S = S} (rule x c ws) id v (record v { rest = os }) (seated o)
+splits x c ws id v o os dead wait t has at = (has.0, record { sound = has.1.sound; shape = has.1.shape; size = has.1.size; shown = has.1.shown; fixed = has.1.fixed; seats = seats_split x t.views has.0.lanes id v o os at dead wait has.1.seats })
 
 -- ---- JoinSeat
 
@@ -107,11 +107,11 @@ module _ (x : Shape) (views : List View) (lanes : ℕ → Lane) (id other : ℕ)
       ])
 
 -- a seat is handed in, and its view is spent
-pub joins : {S : Type 0} (x : Shape) (c : ℕ → Cell) (id : ℕ) (v : View) (other : ℕ) (w : View) → v.live ≡ false → Joins {S = S} (rule x c) id v other w (gathered v w) spent
-joins x c id v other w dead t has at apart that =
+pub joins : {S : Type 0} (x : Shape) (c : ℕ → Cell) (ws : List ℕ) (id : ℕ) (v : View) (other : ℕ) (w : View) → v.live ≡ false → Joins {S = S} (rule x c ws) id v other w (gathered v w) spent
+joins x c ws id v other w dead t has at apart that =
     elim (at_set t.views id other (gathered v w) w that) [
       | inl q ↦ absurd (apart q.0)
-      | inr q ↦ (has.0, record { sound = has.1.sound; shape = has.1.shape; size = has.1.size; shown = has.1.shown; seats = seats_join x t.views has.0.lanes id other v w at dead apart q.1 has.1.seats })
+      | inr q ↦ (has.0, record { sound = has.1.sound; shape = has.1.shape; size = has.1.size; shown = has.1.shown; fixed = has.1.fixed; seats = seats_join x t.views has.0.lanes id other v w at dead apart q.1 has.1.seats })
     ]
 
 -- ---- a seat with no lane comes
@@ -127,8 +127,8 @@ seats_comes x views lanes h =
       | inr q ↦ absurd (nothing_there k p (subst (λ (u : View). get_elem? (owned u) k ≡ some p) (sym q.1) a))
     ])
 
-pub comes : {S : Type 0} (x : Shape) (c : ℕ → Cell) (slots i : ℕ) (then : ℕ → View → Type 0) → ((n : ℕ) → then n spent) → Enters {S = S} (rule x c) slots i then
-comes x c slots i then tells t has size fits = (spent, (has.0, record { sound = has.1.sound; shape = has.1.shape; size = has.1.size; shown = has.1.shown; seats = seats_comes x t.views has.0.lanes has.1.seats }), tells _)
+pub comes : {S : Type 0} (x : Shape) (c : ℕ → Cell) (ws : List ℕ) (slots i : ℕ) (then : ℕ → View → Type 0) → ((n : ℕ) → then n spent) → Enters {S = S} (rule x c ws) slots i then
+comes x c ws slots i then tells t has size fits = (spent, (has.0, record { sound = has.1.sound; shape = has.1.shape; size = has.1.size; shown = has.1.shown; fixed = has.1.fixed; seats = seats_comes x t.views has.0.lanes has.1.seats }), tells _)
 
-pub comes_alone : {S : Type 0} (x : Shape) (c : ℕ → Cell) (slots i : ℕ) → Enters {S = S} (rule x c) slots i (λ n w. Alone S w)
-comes_alone {S = S} x c slots i = comes x c slots i (λ n w. Alone S w) (λ n. refl)
+pub comes_alone : {S : Type 0} (x : Shape) (c : ℕ → Cell) (ws : List ℕ) (slots i : ℕ) → Enters {S = S} (rule x c ws) slots i (λ n w. Alone S w)
+comes_alone {S = S} x c ws slots i = comes x c ws slots i (λ n w. Alone S w) (λ n. refl)

@@ -108,4 +108,4 @@ module _ (k : Key) (b : IsBegun k) where
   shown (Lock l) i = ap (slice_index (row_of x ws)) (right (2 * x.total) x.lanes l) ∙ zero_word x ws b.shape b.size (x.lanes + l) (in_locks x.lanes l i)
 
   pub begins : (S : Type 0) → holds {S = S} k (opening (row_of x ws) [] (first k))
-  begins S = (s, record { sound = opened_sound (geometry x) (areas_in x ws) (side_of k) b.opens; shape = b.shape; size = row_length x ws b.shape b.size; shown = shown; seats = seats })
+  begins S = (s, record { sound = opened_sound (geometry x) (areas_in x ws) (side_of k) b.opens; shape = b.shape; size = row_length x ws b.shape b.size; shown = shown; fixed = λ i f. (seen_word x ws b.shape b.size i f.inside, kept_word x ws b.shape b.size i f.inside); seats = seats })

@@ -1,5 +1,5 @@
 -- The lines of a write, each as a step on one word.
-use Rattle.std.proofs.Common.{◌≡◌, ℕ, ◌+◌, ◌-◌, ◌*◌, ◌/◌, ◌^◌, ◌<◌, ◌≤◌, ◌≢◌, ◌==◌, if◌then◌else◌, inl, inr, zero, suc, true, [], ◌∷◌, ◌++◌, get_or, refl, sym, ap, ◌∙◌, subst, arith, mod-lt}
+use Rattle.std.proofs.Common.{◌≡◌, ℕ, ◌+◌, ◌-◌, ◌*◌, ◌/◌, ◌^◌, ◌<◌, ◌≤◌, ◌≢◌, ◌==◌, if◌then◌else◌, inl, inr, zero, suc, true, List, [], ◌∷◌, ◌++◌, get_or, refl, sym, ap, ◌∙◌, subst, arith, mod-lt}
 use mathlib.Core.Option.{some}
 use prog.Atomic.{either}
 use Rattle.atomic_table.specs.Table.{Allows, Me}
@@ -25,7 +25,7 @@ use Rattle.lane_core.proofs.Switching.{map_store_sound, map_keep_sound}
 use Rattle.lane_table.specs.declared.table.Call.{Call}
 use Rattle.lane_table.specs.declared.table.Key.{Key}
 use Rattle.lane_table.specs.declared.table.View.{View}
-use Rattle.lane_table.specs.Law.{holds, opening_of, with, found, counted, uncounted, looks, with_by}
+use Rattle.lane_table.specs.Law.{holds, opening_of, words_of, with, found, counted, uncounted, looks, with_by}
 use Rattle.lane_table.specs.Told.{begun, tracked, scanned, scan_phase, with_word, with_keep, kept_phase, locked, missed, known, a_stored, a_kept, b_stored, b_kept, switched, map_kept, freed, blocks}
 use Rattle.lane_table.proofs.Moves.{allows_step, allows_line, allows_weaker, phase_of, Stands}
 
@@ -83,6 +83,9 @@ module _ {S : Type 0} (key : Key) (slots id i : ℕ) (me : Me S View) (live : me
   abbrev o : ℕ → Cell
   o = opening_of key
 
+  abbrev ws : List ℕ
+  ws = words_of key
+
   abbrev v : View
   v = me.0
 
@@ -100,7 +103,7 @@ module _ {S : Type 0} (key : Key) (slots id i : ℕ) (me : Me S View) (live : me
   pub begins_write : v.lane.phase ≡ Idle → i ≡ word_of x (Reader v.number) → Allows (holds key) slots id me i (λ n. n) (λ n w. w ≡ begun me)
   begins_write e ei =
       at_place (Reader v.number) (λ n. n) (λ n w. w ≡ begun me) ei
-      (allows_step uncounted x o slots id v me.1 (Reader v.number) (λ n. n) (λ n w. w ≡ begun me) live
+      (allows_step uncounted x o ws slots id v me.1 (Reader v.number) (λ n. n) (λ n w. w ≡ begun me) live
       (λ s h. h.number)
       (λ s h n is. record {
         new = record (s.lanes v.number) { phase = machine.first_phase (geometry x); words = [] };
@@ -119,7 +122,7 @@ module _ {S : Type 0} (key : Key) (slots id i : ℕ) (me : Me S View) (live : me
 
   scans_at : (j : ℕ) → v.lane.phase ≡ Scanning j → Allows (holds key) slots id me (word_of x (Reader (other_lane v.number j))) (λ n. n) (scan_tells j)
   scans_at j e =
-      allows_step looks x o slots id v me.1 (Reader (other_lane v.number j)) (λ n. n) (scan_tells j) live
+      allows_step looks x o ws slots id v me.1 (Reader (other_lane v.number j)) (λ n. n) (scan_tells j) live
       (λ s h. other_in j v.number x.lanes ((h.sound.each v.number h.number).knows.scans j (phase_of x o v s _ h e)) h.number)
       (λ s h n is. elim (same_or_not n (suc v.lane.block)) [
         | inl z ↦ record {
@@ -159,7 +162,7 @@ module _ {S : Type 0} (key : Key) (slots id i : ℕ) (me : Me S View) (live : me
 
   stores_word : (k w : ℕ) → v.lane.phase ≡ Staging k → k < x.width → Allows (holds key) slots id me (word_of x (SeenData v.lane.block k)) (λ _. w) (λ n u. u ≡ with_word me k w)
   stores_word k w e lt =
-      allows_line counted x o slots id v me.1 (SeenData v.lane.block k) (λ _. w) (λ n p. record p { phase = Staging (k + 1); words = p.words ++ w ∷ [] }) live
+      allows_line counted x o ws slots id v me.1 (SeenData v.lane.block k) (λ _. w) (λ n p. record p { phase = Staging (k + 1); words = p.words ++ w ∷ [] }) live
       (λ s h. (subst (λ (p : Lane). p.block < x.sectors + x.lanes) h.lane (h.sound.blocks.lane_in v.number h.number), lt))
       (λ s h n is. record {
         next = machine.data_store (geometry x) s v.number k w;
@@ -181,7 +184,7 @@ module _ {S : Type 0} (key : Key) (slots id i : ℕ) (me : Me S View) (live : me
   keeps_word : (k : ℕ) → v.lane.phase ≡ Staging k → x.width ≤ k → k < 2 * x.width
       → Allows (holds key) slots id me (word_of x (KeptData v.lane.block (k - x.width))) (λ _. get_or v.lane.words (k - x.width) 0) (λ n u. u ≡ with_keep me k)
   keeps_word k e le lt =
-      allows_step counted x o slots id v me.1 (KeptData v.lane.block (k - x.width)) (λ _. get_or v.lane.words (k - x.width) 0) (λ n u. u ≡ with_keep me k) live
+      allows_step counted x o ws slots id v me.1 (KeptData v.lane.block (k - x.width)) (λ _. get_or v.lane.words (k - x.width) 0) (λ n u. u ≡ with_keep me k) live
       (λ s h. (subst (λ (p : Lane). p.block < x.sectors + x.lanes) h.lane (h.sound.blocks.lane_in v.number h.number), omega arith))
       (λ s h n is. record {
         new = record (s.lanes v.number) { phase = kept_phase x k };
@@ -211,7 +214,7 @@ module _ {S : Type 0} (key : Key) (slots id i : ℕ) (me : Me S View) (live : me
   exchanges : (t : Call) → v.lane.phase ≡ Staged → t.sector < x.sectors
       → Allows (holds key) slots id me (word_of x (Lock (lock_of (geometry x) t.sector))) (λ n. either (n == 0) (suc v.number) n) (lock_tells t)
   exchanges t e ls =
-      allows_step looks x o slots id v me.1 (Lock (lock_of (geometry x) t.sector)) (λ n. either (n == 0) (suc v.number) n) (lock_tells t) live
+      allows_step looks x o ws slots id v me.1 (Lock (lock_of (geometry x) t.sector)) (λ n. either (n == 0) (suc v.number) n) (lock_tells t) live
       (λ s h. lock_in (geometry x) t.sector h.sound.geometry.lanes)
       (λ s h n is. elim (same_or_not n 0) [
         | inl z ↦ record {
@@ -253,7 +256,7 @@ module _ {S : Type 0} (key : Key) (slots id i : ℕ) (me : Me S View) (live : me
   loads_map e ei =
       let told : ℕ → Me S View → Type 0 = λ n w. (w ≡ known n me) × (looked (record (v.lane) { loaded = n }) < blocks v.shape) in
       at_place (SeenMap (v.lane.sector / 2)) (λ n. n) told ei
-      (allows_step looks x o slots id v me.1 (SeenMap (v.lane.sector / 2)) (λ n. n) told live
+      (allows_step looks x o ws slots id v me.1 (SeenMap (v.lane.sector / 2)) (λ n. n) told live
       (λ s h. map_word_in x.sectors v.lane.sector (sector_in x o v s _ h e refl))
       (λ s h n is. record {
         new = record (s.lanes v.number) { phase = Known; loaded = n };
@@ -276,7 +279,7 @@ module _ {S : Type 0} (key : Key) (slots id i : ℕ) (me : Me S View) (live : me
       → Allows (holds key) slots id me i (λ _. m) (λ n w. w ≡ a_stored me)
   stores_a m e two ei em =
       stores m (word_a v.lane.sector (looked v.lane)) (SeenA v.number (other v.lane.side)) (λ n w. w ≡ a_stored me) ei em
-      (allows_line counted x o slots id v me.1 (SeenA v.number (other v.lane.side)) (λ _. word_a v.lane.sector (looked v.lane)) (λ n p. record p { phase = LogAStored }) live
+      (allows_line counted x o ws slots id v me.1 (SeenA v.number (other v.lane.side)) (λ _. word_a v.lane.sector (looked v.lane)) (λ n p. record p { phase = LogAStored }) live
       (λ s h. (h.number, omega arith))
       (λ s h n is. record {
         next = machine.log_a_store (geometry x) s v.number;
@@ -291,7 +294,7 @@ module _ {S : Type 0} (key : Key) (slots id i : ℕ) (me : Me S View) (live : me
       → Allows (holds key) slots id me i (λ _. m) (λ n w. w ≡ a_kept me)
   keeps_a m e two ei em =
       stores m (word_a v.lane.sector (looked v.lane)) (KeptA v.number (other v.lane.side)) (λ n w. w ≡ a_kept me) ei em
-      (allows_line counted x o slots id v me.1 (KeptA v.number (other v.lane.side)) (λ _. word_a v.lane.sector (looked v.lane)) (λ n p. record p { phase = LogA }) live
+      (allows_line counted x o ws slots id v me.1 (KeptA v.number (other v.lane.side)) (λ _. word_a v.lane.sector (looked v.lane)) (λ n p. record p { phase = LogA }) live
       (λ s h. (h.number, omega arith))
       (λ s h n is. record {
         next = machine.log_a_keep (geometry x) s v.number;
@@ -309,7 +312,7 @@ module _ {S : Type 0} (key : Key) (slots id i : ℕ) (me : Me S View) (live : me
       → Allows (holds key) slots id me i (λ _. m) (λ n w. w ≡ b_stored me)
   stores_b m e two ei em =
       stores m (word_b v.lane.block (next_seq v.lane.half.seq)) (SeenB v.number (other v.lane.side)) (λ n w. w ≡ b_stored me) ei em
-      (allows_line counted x o slots id v me.1 (SeenB v.number (other v.lane.side)) (λ _. word_b v.lane.block (next_seq v.lane.half.seq)) (λ n p. record p { phase = LogBStored }) live
+      (allows_line counted x o ws slots id v me.1 (SeenB v.number (other v.lane.side)) (λ _. word_b v.lane.block (next_seq v.lane.half.seq)) (λ n p. record p { phase = LogBStored }) live
       (λ s h. (h.number, omega arith))
       (λ s h n is. record {
         next = machine.log_b_store (geometry x) s v.number;
@@ -324,7 +327,7 @@ module _ {S : Type 0} (key : Key) (slots id i : ℕ) (me : Me S View) (live : me
       → Allows (holds key) slots id me i (λ _. m) (λ n w. w ≡ b_kept me)
   keeps_b m e two ei em =
       stores m (word_b v.lane.block (next_seq v.lane.half.seq)) (KeptB v.number (other v.lane.side)) (λ n w. w ≡ b_kept me) ei em
-      (allows_line counted x o slots id v me.1 (KeptB v.number (other v.lane.side)) (λ _. word_b v.lane.block (next_seq v.lane.half.seq))
+      (allows_line counted x o ws slots id v me.1 (KeptB v.number (other v.lane.side)) (λ _. word_b v.lane.block (next_seq v.lane.half.seq))
       (λ n p. record p { phase = Logged; side = other p.side; half = record { lba = p.sector; old = looked p; new = p.block; seq = next_seq p.half.seq } }) live
       (λ s h. (h.number, omega arith))
       (λ s h n is. record {
@@ -341,7 +344,7 @@ module _ {S : Type 0} (key : Key) (slots id i : ℕ) (me : Me S View) (live : me
       → Allows (holds key) slots id me i (λ _. m) (λ n w. w ≡ switched me)
   stores_map m e ei em =
       stores m (with_entry v.lane.loaded v.lane.sector (normal v.lane.block)) (SeenMap (v.lane.sector / 2)) (λ n w. w ≡ switched me) ei em
-      (allows_line counted x o slots id v me.1 (SeenMap (v.lane.sector / 2)) (λ _. with_entry v.lane.loaded v.lane.sector (normal v.lane.block))
+      (allows_line counted x o ws slots id v me.1 (SeenMap (v.lane.sector / 2)) (λ _. with_entry v.lane.loaded v.lane.sector (normal v.lane.block))
       (λ n p. record p { phase = Switched; block = looked p; words = []; log = p.log ++ wrote v.number p ∷ [] }) live
       (λ s h. map_word_in x.sectors v.lane.sector (sector_in x o v s _ h e refl))
       (λ s h n is. record {
@@ -358,7 +361,7 @@ module _ {S : Type 0} (key : Key) (slots id i : ℕ) (me : Me S View) (live : me
       → Allows (holds key) slots id me i (λ _. m) (λ n w. w ≡ map_kept me)
   keeps_map m e ei em =
       stores m (with_entry v.lane.loaded v.lane.sector (normal v.lane.half.new)) (KeptMap (v.lane.sector / 2)) (λ n w. w ≡ map_kept me) ei em
-      (allows_line counted x o slots id v me.1 (KeptMap (v.lane.sector / 2)) (λ _. with_entry v.lane.loaded v.lane.sector (normal v.lane.half.new)) (λ n p. record p { phase = Kept }) live
+      (allows_line counted x o ws slots id v me.1 (KeptMap (v.lane.sector / 2)) (λ _. with_entry v.lane.loaded v.lane.sector (normal v.lane.half.new)) (λ n p. record p { phase = Kept }) live
       (λ s h. map_word_in x.sectors v.lane.sector (sector_in x o v s _ h e refl))
       (λ s h n is. record {
         next = machine.map_keep (geometry x) s v.number;
@@ -374,7 +377,7 @@ module _ {S : Type 0} (key : Key) (slots id i : ℕ) (me : Me S View) (live : me
       → Allows (holds key) slots id me i (λ _. m) (λ n w. w ≡ freed me)
   frees_lock m e ei em =
       stores m 0 (Lock (lock_of (geometry x) v.lane.sector)) (λ n w. w ≡ freed me) ei em
-      (allows_line counted x o slots id v me.1 (Lock (lock_of (geometry x) v.lane.sector)) (λ _. 0) (λ n p. record p { phase = Idle }) live
+      (allows_line counted x o ws slots id v me.1 (Lock (lock_of (geometry x) v.lane.sector)) (λ _. 0) (λ n p. record p { phase = Idle }) live
       (λ s h. lock_in (geometry x) v.lane.sector h.sound.geometry.lanes)
       (λ s h n is. record {
         next = machine.lock_free (geometry x) s v.number;

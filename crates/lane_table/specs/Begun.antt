@@ -12,13 +12,14 @@ use Rattle.lane_core.specs.Arenas.{shape_in}
 use Rattle.lane_core.specs.Cut.{half_at}
 use Rattle.lane_core.specs.Opening.{IsOpen}
 use Rattle.lane_core.specs.Places.{IsShape, geometry}
+use Rattle.lane_core.specs.Reopening.{first_cells}
 use Rattle.lane_table.specs.declared.arena.Arena.{Arena}
 use Rattle.lane_table.specs.declared.lanes.Lane.{Lane}
 use Rattle.lane_table.specs.declared.table.Key.{Key}
 use Rattle.lane_table.specs.declared.table.View.{View}
 use Rattle.lane_table.specs.Conditions.{IsMine}
 use Rattle.lane_table.specs.Kits.{IsAt, owned_in}
-use Rattle.lane_table.specs.Law.{areas_in, no_state, words_of, opened_owned}
+use Rattle.lane_table.specs.Law.{areas_in, no_state, opening_of, words_of, opened_owned}
 use Rattle.lane_table.specs.Told.{blocks}
 
 -- the row of a table of these words
@@ -43,8 +44,12 @@ abbrev pub IsBegun : Key → Type 0
 IsBegun k = IsOpenArena k.shape (words_of k) k.lanes.value
 
 -- an arena's table is made of this state
-abbrev pub IsMadeOf : ArenaState → Arena → Type 0
-IsMadeOf state a = (a.shape ≡ shape_in state) × (words_of a.table.shared.key ≡ state.words) × (a.table.shared.key.lanes.value ≡ state.lanes)
+pub record IsMadeOf (state : ArenaState) (a : Arena) : Type 0 where
+  pub shape : a.shape ≡ shape_in state
+  pub words : words_of a.table.shared.key ≡ state.words
+  pub lanes : a.table.shared.key.lanes.value ≡ state.lanes
+  -- the history begins with the cells that a reader of the opened arena gets
+  pub begins : opening_of a.table.shared.key ≡ first_cells state
 
 -- ---- the lanes of a new table
 

@@ -5,6 +5,7 @@ use lib.ListN.{get_elem?}
 use Rattle.lane_core.specs.declared.history.Entry.{Entry}
 use Rattle.lane_core.specs.Areas.{Areas}
 use Rattle.lane_core.specs.Cut.{AreLeft, IsCurrent, Recovers}
+use Rattle.lane_core.specs.Fixed.{SameFixed}
 use Rattle.lane_core.specs.History.{end_of, of_lane, IsLegal}
 use Rattle.lane_core.specs.Invariant.{IsSound}
 use Rattle.lane_core.specs.Machine.{State}
@@ -13,7 +14,7 @@ use Rattle.lane_table.specs.declared.closing.Closed.{Closed}
 use Rattle.lane_table.specs.declared.lanes.LaneEnd.{LaneEnd}
 use Rattle.lane_table.specs.declared.table.Key.{Key}
 use Rattle.lane_table.specs.Kits.{kit_in}
-use Rattle.lane_table.specs.Law.{opening_of, cells_in}
+use Rattle.lane_table.specs.Law.{opening_of, cells_in, words_of}
 
 -- every lane of n, each at its number
 pub record AreInOrder (n : ℕ) (ends : List LaneEnd) : Type 0 where
@@ -29,6 +30,9 @@ pub record IsClosed (k : Key) (ends : List LaneEnd) (c : Closed) : Type 0 where
   pub shown : Shows k.shape row state
   pub seen : c.seen.items ≡ take k.shape.total row
   pub kept : c.kept.items ≡ take k.shape.total (drop k.shape.total row)
+  -- the words that no lane stores, as those of the info blocks, are as the arena was opened
+  pub seen_fixed : SameFixed k.shape (words_of k) c.seen.items
+  pub kept_fixed : SameFixed k.shape (words_of k) c.kept.items
   -- each lane of this state is what its seat knew
   pub lanes : (l : ℕ) (e : LaneEnd) → get_elem? ends l ≡ some e → state.lanes l ≡ (kit_in e).seat.me.0.lane
   -- one legal history has the calls of the lanes' logs, each lane's in their order, and no others

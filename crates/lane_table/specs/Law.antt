@@ -10,6 +10,7 @@ use Rattle.lane_core.specs.declared.lane.Lane.{Lane}
 use Rattle.lane_core.specs.declared.phase.Phase.TheVariants.{Idle}
 use Rattle.lane_core.specs.declared.shape.Shape.{Shape}
 use Rattle.lane_core.specs.Areas.{Areas}
+use Rattle.lane_core.specs.Fixed.{RowHasFixed}
 use Rattle.lane_core.specs.History.{cell_of}
 use Rattle.lane_core.specs.Invariant.{IsSound}
 use Rattle.lane_core.specs.Machine.{State}
@@ -37,15 +38,18 @@ pub record Seats (x : Shape) (views : List View) (lanes : ℕ → Lane) : Type 0
 
 -- ---- the rule
 
-pub record Tells (x : Shape) (opening : ℕ → Cell) (words : List ℕ) (views : List View) (s : State) : Type 0 where
+-- `first` has the words of the arena as it was opened
+pub record Tells (x : Shape) (opening : ℕ → Cell) (first words : List ℕ) (views : List View) (s : State) : Type 0 where
   pub sound : IsSound (geometry x) opening s
   pub shape : IsShape x
   pub size : length words ≡ row_size x
   pub shown : Shows x words s
+  -- each word of the arena that no lane stores is as it was opened
+  pub fixed : RowHasFixed x first words
   pub seats : Seats x views s.lanes
 
-abbrev pub Holds : Shape → (ℕ → Cell) → List ℕ → List View → Type 0
-Holds x opening words views = (s : State) × Tells x opening words views s
+abbrev pub Holds : Shape → (ℕ → Cell) → List ℕ → List ℕ → List View → Type 0
+Holds x opening first words views = (s : State) × Tells x opening first words views s
 
 -- the areas that an arena's words show
 abbrev pub areas_in : Shape → List ℕ → Areas
@@ -68,7 +72,7 @@ abbrev pub opening_of : Key → ℕ → Cell
 opening_of k = cells_in k.shape (words_of k)
 
 abbrev pub holds : {S : Type 0} → Key → TableState S View → Type 0
-holds k t = Holds k.shape (opening_of k) t.words t.views
+holds k t = Holds k.shape (opening_of k) (words_of k) t.words t.views
 
 -- ---- seats
 

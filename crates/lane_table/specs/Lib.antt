@@ -9,3 +9,4 @@ pub mod Closed
 pub mod Stages
 pub mod Reads
 pub mod Outcomes
+pub mod Reopened

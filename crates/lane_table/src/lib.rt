@@ -41,7 +41,7 @@
 //!
 //! | promise | call | definition |
 //! |---|---|---|
-//! | the rule holds of a new table, and each lane's seat knows its lane | [`Arena::of`] | `IsMadeOf`, `AreFresh` of specs/Begun.antt |
+//! | the rule holds of a new table, whose history begins with the cells that a reader of the arena gets, and each lane's seat knows its lane | [`Arena::of`] | `IsMadeOf`, `AreFresh` of specs/Begun.antt |
 //! | staging is one look at each other lane's reader word, then a store and a keep of each word; a lane that is told of a reader has looked, and found it | [`Lane::try_stage`] | `Stages` of specs/Outcomes.antt |
 //! | a commit is the nine steps in order, or one step that found the lock's holder, or as many as the fuse had | [`Staged::try_commit`] | `Commits` of specs/Outcomes.antt, `way` of specs/Committed.antt |
 //! | a refused commit gives the lane back with its words | the same | `Commits`, case MapBusy |
@@ -49,6 +49,8 @@
 //! | a read says that the sector moved only if its two looks found other entries | the same | `Reads`, case Moved |
 //! | a fuse that is set falls by one with each step; a step that is due without one isn't made | each step | `Fell`, `Burnt` of specs/Fuse.antt |
 //! | the words at the end meet the invariant with the lanes' ends, the logs are one legal history, and what a cut leaves survives | [`Arena::close`] | `IsClosed` of specs/Closed.antt |
+//! | each word that no lane stores, as those of the info blocks, is as the arena was opened | the same | `IsClosed`, fields `seen_fixed` and `kept_fixed` |
+//! | what a power loss leaves of these words opens again, with the history's cells or those of a write in flight | [`closed_words_reopen`] | `ClosedWordsReopen` of specs/Reopened.antt |
 //!
 //! Nothing is said of progress: not that a lock comes free, nor that a lane that was refused gets on later.
 #![tactic(auto)]
@@ -61,6 +63,7 @@ mod fuse;
 mod gathering;
 mod kinds;
 mod lanes;
+mod law;
 mod loading;
 mod opening;
 mod outcome;
@@ -78,6 +81,7 @@ pub use arena::Arena;
 pub use closing::{CloseRefused, Closed};
 pub use fuse::Fuse;
 pub use lanes::{Kit, Lane, LaneEnd, Staged, Stopped};
+pub use law::closed_words_reopen;
 pub use loading::Pause;
 pub use outcome::{CommitOutcome, ReadOutcome, StageOutcome};
 pub use table::{Call, Count, Key, LaneSeat, Law, Owned, View, WordTable, Words};

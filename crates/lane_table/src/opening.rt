@@ -1,8 +1,8 @@
 //! A table is made of an arena.
-ghost use Rattle.std.specs.Prelude.{◌≡◌, ◌<◌, ◌+◌, ◌*◌, ◌^◌, ◌++◌, length, replicate, IfOk};
+ghost use Rattle.std.specs.Prelude.{◌≡◌, ◌<◌, ◌+◌, ◌*◌, ◌^◌, ◌++◌, length, replicate, All, IfOk};
 ghost use Rattle.arena_open.specs.Moves.{IsOpenState};
 ghost use Rattle.lane_table.specs.Begun.{row_of, IsMadeOf, IsOpenArena, AreFresh};
-ghost use Rattle.lane_table.specs.Kits.{arena_id};
+ghost use Rattle.lane_table.specs.Kits.{arena_id, IsOf};
 ghost use Rattle.lane_table.specs.Law.{words_of};
 
 use crate::arena::Arena;
@@ -38,6 +38,7 @@ fn arena_of(
     requires { IsOpenArena shape words.now states.now }
     ensures shape { IfOk result (λ r. (r.0.shape ≡ shape) × (words_of r.0.table.shared.key ≡ words.now) × (r.0.table.shared.key.lanes.value ≡ states.now)) }
     ensures lanes { IfOk result (λ r. AreFresh (arena_id r.0) r.0.table.shared.key r.1.items) }
+    ensures own { IfOk result (λ r. All (λ l. IsOf r.0 l.kit) r.1.items) }
 {
     let key = Key {
         shape,
@@ -59,6 +60,7 @@ impl Arena {
         requires state { IsOpenState state }
         ensures arena { IfOk result (λ r. IsMadeOf state r.0) }
         ensures lanes { IfOk result (λ r. AreFresh (arena_id r.0) r.0.table.shared.key r.1.items) }
+        ensures own { IfOk result (λ r. All (λ l. IsOf r.0 l.kit) r.1.items) }
     {
         let shape = Shape::of(&state.info.layout);
         arena_of(alloc, shape, &state.words, &state.lanes)

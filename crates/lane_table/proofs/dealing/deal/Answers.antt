@@ -1,7 +1,7 @@
 use Rattle.std.proofs.Common.{◌<◌, length, ap, sym, ◌∙◌, subst, arith}
 use lib.ListN.{get_elem?}
 use Rattle.lane_table.specs.Begun.{state_at, IsFresh}
-use Rattle.lane_table.specs.Law.{opening_of, keeper}
+use Rattle.lane_table.specs.Law.{opening_of, words_of, keeper}
 use Rattle.lane_table.proofs.Dealt.{waits, splits_as, seat_is, dealer_is, new_seat, fresh, fresh_push, count_push}
 use Rattle.lane_table.proofs.dealing.deal.Goals as goal
 
@@ -10,7 +10,7 @@ split_seat-seat-requires c =
     let i = c.loop-number.invariant in
     let k = c.args.shared.now.key in
     let lt : c.loop-number.number < k.shape.lanes = omega (arith, c.loop-number-test.true, ap length c.requires.lanes, c.requires.arena.count) in
-    (i.table ∙ c.requires.table.0, c.requires.table.1, splits_as k.shape (opening_of k) _ _ _ _ (ap (λ m. m.0) i.dealer ∙ ap keeper (waits k c.loop-number.number k.shape.lanes lt)))
+    (i.table ∙ c.requires.table.0, c.requires.table.1, splits_as k.shape (opening_of k) (words_of k) _ _ _ _ (ap (λ m. m.0) i.dealer ∙ ap keeper (waits k c.loop-number.number k.shape.lanes lt)))
 
 pub seated-requires : goal.seated-requires
 seated-requires c =

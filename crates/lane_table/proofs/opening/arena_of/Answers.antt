@@ -5,6 +5,7 @@ use Rattle.lane_table.specs.declared.table.Call.{Call}
 use Rattle.lane_table.specs.declared.table.Key.{Key}
 use Rattle.lane_table.specs.Begun.{row_of, IsOpenArena, IsBegun}
 use Rattle.lane_table.specs.Law.{holds, first}
+use Rattle.lane_table.proofs.Dealt.{are_own}
 use Rattle.lane_table.proofs.Starts.{begins}
 use Rattle.lane_table.proofs.opening.arena_of.Goals as goal
 
@@ -16,3 +17,6 @@ of_words-requires c =
     subst (λ (ls : List LaneState). IsOpenArena x key.words.value ls) (sym c.of-2.ensures) (subst (λ (ws : List ℕ). IsOpenArena x ws c.args.states.now) (sym c.of.ensures) c.requires) in
     let row : c.as_slice-2.result.now ≡ row_of x key.words.value = c.as_slice-2.ensures.value ∙ c.in_ok-first.ensures ∙ ap (row_of x) (c.as_slice.ensures ∙ sym c.of.ensures) in
     subst (λ (ws : List ℕ). holds {S = Call} key (opening ws [] (first key))) (sym row) (begins key begun Call)
+
+pub returns-clause-own : goal.returns-clause-own
+returns-clause-own c = are_own _ _ _ _ (ap (λ (k : Key). k.shape) c.in_ok-table.ensures.5) c.in_ok-lanes.ensures
