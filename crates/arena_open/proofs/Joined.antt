@@ -31,7 +31,7 @@ far words parent at (link ∷ links) end j =
 
 -- ---- in other words
 
-take_part : (end at k : ℕ) (a b : List ℕ) → take end a ≡ take end b → at + k ≤ end → take k (drop at a) ≡ take k (drop at b)
+pub take_part : (end at k : ℕ) (a b : List ℕ) → take end a ≡ take end b → at + k ≤ end → take k (drop at a) ≡ take k (drop at b)
 take_part end at k a b same le =
     let front : take (at + k) a ≡ take (at + k) b = sym (take-take (at + k) end a le) ∙ ap (take (at + k)) same ∙ take-take (at + k) end b le in
     sym (drop-take at k a) ∙ ap (drop at) front ∙ drop-take at k b

@@ -23,6 +23,7 @@ mod Rows
 pub mod Own
 pub mod Outside
 pub mod Joined
+pub mod Found
 pub mod ChainAnswering
 pub mod SoFar
 pub mod ChainSectors

@@ -11,12 +11,14 @@ use Rattle.arena_open.specs.declared.opened.Opened.{Opened}
 use Rattle.arena_open.specs.declared.refused.OpenRefused.{OpenRefused}
 use Rattle.arena_open.specs.Writes.{IsSettled, written_over}
 use Rattle.arena_open.specs.Reading.{opening}
-use Rattle.arena_open.specs.Moves.{IsOpenState, open_answer, opened_steps, steps_if, state_of, with_all_made}
+use Rattle.arena_open.specs.Moves.{IsOpenState, move_writes, open_answer, opened_steps, recovered, steps_if, state_of, with_all_made}
 use Rattle.arena_open.specs.Moves as arena
-use Rattle.arena_open.specs.Chain.{Link, Links, chain_of, chain_steps, state_at, link_made, chain_answer, Recovers, RecoversFirst, OpensAgain, link_steps, states_from, chain_within}
+use Rattle.arena_open.specs.Chain.{Link, Links, chain_of, chain_steps, state_at, link_made, chain_answer, Recovers, RecoversFirst, OpensAgain, link_steps, states_from, chain_within, found_again}
 use Rattle.cut_words.proofs.Making.{makes_none, makes_both, makes_cut, makes_length}
 use Rattle.arena_open.specs.declared.refused.OpenRefused.TheVariants as open_refused
 use Rattle.arena_open.proofs.Written.{made_settled}
+use Rattle.arena_open.proofs.Again.{drop_shifted}
+use Rattle.arena_open.proofs.Found.{AreMade, all_states, found_all, made_more, made_same}
 use Rattle.arena_open.proofs.Own.{Lies, lies}
 use Rattle.arena_open.proofs.Outside.{take_over, drop_over, writes_of, writes_in}
 use Rattle.arena_open.proofs.Joined.{Joined, Far, far, joined_same, joined_more, Reached, reached, chain_last, chain_refused, Behind, chain_some}
@@ -34,6 +36,7 @@ pub record SoFar (old : Words) (fuse : Option ℕ) (first : ℕ) (parent : List 
   pub inside : at + 512 ≤ length old.kept
   pub settled : IsSettled now
   pub states_open : All IsOpenState states
+  pub there : AreMade old.kept now.kept links
 
 -- the result of opening one arena
 pub record Opens (now new : Words) (left left' : Option ℕ) (at : ℕ) (parent : List ℕ) (state : ArenaState) : Type 0 where
@@ -56,6 +59,7 @@ starts old fuse first parent from to inside was = record {
   inside = omega (arith, from, to, inside);
   settled = was;
   states_open = All-nil IsOpenState;
+  there = tt;
 }
 
 -- ---- steps
@@ -179,6 +183,16 @@ module _ (old : Words) (fuse : Option ℕ) (first : ℕ) (parent : List ℕ) (no
     pub all_open : All IsOpenState (states ++ state ∷ [])
     all_open = All-append IsOpenState states (state ∷ []) s.states_open (All-cons IsOpenState state [] o.state_open (All-nil IsOpenState))
 
+    here_made : drop at new.kept ≡ recovered (drop at old.kept) a.opened
+    here_made =
+        ap (drop at) new_is ∙ drop_shifted at now.kept (move_writes a.opened.info.layout (drop at now.kept) a.opened.moves)
+        ∙ ap (λ (ws : List ℕ). recovered ws a.opened) s.rest
+
+    made_all : AreMade old.kept new.kept (s.links ++ record { at = at; opened = a.opened } ∷ [])
+    made_all =
+        made_more old.kept new.kept s.links (record { at = at; opened = a.opened }) (made_same old.kept now.kept new.kept parent first s.links at s.joined front s.there)
+        (ap (take (a.opened.info.layout.size / 8)) here_made)
+
     -- the arenas go on
     pub goes_on : state.info.next ≢ 0 → length old.kept % 512 ≡ 0 → first % 512 ≡ 0
         → SoFar old fuse first parent new left' (at + state.info.next / 8) (states ++ state ∷ [])
@@ -205,6 +219,7 @@ module _ (old : Words) (fuse : Option ℕ) (first : ℕ) (parent : List ℕ) (no
           inside = omega (arith, to, f.whole from, at_is, end_is, l.next_inside some');
           settled = o.settled;
           states_open = all_open;
+          there = made_all;
         }
 
     -- this is the last one
@@ -234,6 +249,13 @@ module _ (old : Words) (fuse : Option ℕ) (first : ℕ) (parent : List ℕ) (no
           chain_last new.kept parent first (map link_made s.links) at again_before (omega (arith, s.inside, s.count, same_count)) (with_all_made a.opened) again_here none'
           ∙ (λ i. record { links = sym (map-append link_made s.links (record { at = at; opened = a.opened } ∷ [])) i; refused = None })
           ∙ (λ i. record { links = map link_made (sym chain_is i).links; refused = None })
+
+      pub last_found : chain_answer None new.kept parent first ≡ Ok (map found_again (states ++ state ∷ []))
+      last_found =
+          ap (λ (c : Links). states_from 0 None new.kept c.refused c.links) last_again
+          ∙ ap (λ (c : Links). states_from 0 None new.kept None (map link_made c.links)) chain_is
+          ∙ all_states 0 new.kept (map link_made (s.links ++ record { at = at; opened = a.opened } ∷ []))
+          ∙ ap (λ (ss : List ArenaState). Ok ss) (found_all old.kept new.kept (s.links ++ record { at = at; opened = a.opened } ∷ []) made_all ∙ ap (map found_again) (sym states_more))
 
   -- ---- it didn't open
 

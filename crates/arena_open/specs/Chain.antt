@@ -115,3 +115,7 @@ link_made link = record { at = link.at; opened = with_all_made link.opened }
 abbrev pub OpensAgain : List ℕ → List ℕ → List ℕ → ℕ → Type 0
 OpensAgain words now parent first =
     chain_of now parent first ≡ record { links = map link_made (chain_of words parent first).links; refused = None }
+
+-- the state of an arena whose pending moves were made, as it is found if it is opened again
+abbrev pub found_again : ArenaState → ArenaState
+found_again state = record { info = state.info; words = state.words; lanes = state.lanes; made = 0 }

@@ -44,6 +44,14 @@ impl Chain {
         self.arenas.as_slice()
     }
 
+    /// Gives the arenas away, in order. The call takes no memory.
+    pub fn into_arenas(self) -> Vec<ArenaState>
+        ensures value { result.items ≡ self }
+        ensures open { AreOpen result.items }
+    {
+        self.arenas.into_vec()
+    }
+
     /// Returns the number of sectors in all arenas together.
     pub fn sectors(&self) -> u64
         ensures { result ≡ sectors_of self.now }

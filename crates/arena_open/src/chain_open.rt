@@ -1,6 +1,6 @@
-ghost use Rattle.std.specs.Prelude.{◌≡◌, ◌≢◌, ℕ, ◌+◌, ◌*◌, ◌%◌, ◌^◌, ◌<◌, ◌≤◌, length, OnOk};
+ghost use Rattle.std.specs.Prelude.{◌≡◌, ◌≢◌, ℕ, ◌+◌, ◌*◌, ◌%◌, ◌^◌, ◌<◌, ◌≤◌, None, Ok, length, map, IfOk, OnOk};
 ghost use Rattle.arena_open.specs.Writes.{IsSettled};
-ghost use Rattle.arena_open.specs.Chain.{HasMemory, OpensAgain, Recovers, RecoversFirst, chain_answer, wants_memory};
+ghost use Rattle.arena_open.specs.Chain.{HasMemory, OpensAgain, Recovers, RecoversFirst, chain_answer, found_again, wants_memory};
 
 use crate::chain::Chain;
 use crate::chain_refused::ChainRefused;
@@ -22,7 +22,8 @@ use uuid::Uuid;
 /// than two for each of its pending moves. Until a refusal, the pending moves of the arenas before
 /// it were completed; at a power cut, also as many steps of this arena's moves as there were.
 /// `OutOfMemory` may replace any result; then exactly the moves of the arenas before were
-/// completed. After Ok no word is pending, and the same arenas open again, without pending moves.
+/// completed. After Ok no word is pending, and the same arenas open again, without pending moves and
+/// with the words that were returned (`again`, `found`).
 pub fn open_chain<W: WordSpace>(
     alloc: Global,
     space: &mut W,
@@ -41,6 +42,7 @@ pub fn open_chain<W: WordSpace>(
     ensures beside { W.beside space.new ≡ W.beside space.old }
     ensures settles { OnOk result (IsSettled (W.words space.new)) }
     ensures again { OnOk result (OpensAgain (W.words space.old).kept (W.words space.new).kept parent.now first) }
+    ensures found { IfOk result (λ states. chain_answer None (W.words space.new).kept parent.now first ≡ Ok (map found_again states)) }
 {
     let mut arenas = Vec::new(alloc);
     let mut at = first;

@@ -1,5 +1,6 @@
 pub mod Views
 pub mod Usable
 mod Good
-mod Formats
+pub mod Formats
 mod Rows
+pub mod Chains

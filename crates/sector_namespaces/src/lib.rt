@@ -10,7 +10,8 @@
 //! ```
 //!
 //! `specs/View.antt` defines these words (`view_words`) and what they open as (`opened_view`); [`open_sectors`] opens them
-//! where they lie.
+//! where they lie. [`open_arenas`] opens them to change one, and [`put_words`] puts its words back
+//! (`specs/Changing.antt`).
 //!
 //! # Creating sector namespaces
 //!
@@ -34,11 +35,13 @@
 //! | what becomes of label areas, words and fuse | `Creates`, `IsMade` |
 #![tactic(auto)]
 
+mod changing;
 mod creating;
 mod formatting;
 mod law;
 mod view;
 
+pub use changing::{OpenArenas, one_arena_changes, open_arenas, put_words, start_of};
 pub use creating::create_sectors;
 pub use law::loaded_sets_are_usable;
 pub use view::open_sectors;

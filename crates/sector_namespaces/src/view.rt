@@ -17,7 +17,7 @@ use std::alloc::Global;
 use uuid::Uuid;
 
 /// A namespace without words has no info block.
-fn no_block() -> ChainRefused
+pub(crate) fn no_block() -> ChainRefused
     ensures { result ≡ record { arena = 0; fault = OpenRefused.Info InfoFault.Signature } }
 {
     ChainRefused {

@@ -1,13 +1,13 @@
-use Rattle.std.proofs.Common.{◌≡◌, ℕ, ◌+◌, ◌∙◌, ◌/◌, List, [], ◌∷◌, ◌++◌, length, Result, Ok, Err, refl, ap, sym, subst, arith}
+use Rattle.std.proofs.Common.{◌≡◌, ℕ, ◌+◌, ◌∙◌, ◌/◌, List, [], ◌∷◌, ◌++◌, length, map, Result, Ok, Err, refl, ap, sym, subst, arith}
 use Rattle.std.proofs.lemmas.List.{length-append}
 use Rattle.arena_open.specs.declared.state.ArenaState.{ArenaState}
 use Rattle.arena_open.specs.declared.refused.OpenRefused.{OpenRefused}
 use Rattle.arena_open.specs.declared.refused.OpenRefused.TheVariants as open_refused
 use Rattle.arena_open.proofs.Groups.{pushed}
 use Rattle.arena_open.specs.declared.chain_refused.ChainRefused.{ChainRefused}
-use Rattle.arena_open.specs.Chain.{RecoversFirst, wants_memory}
+use Rattle.arena_open.specs.Chain.{RecoversFirst, found_again, wants_memory}
 use Rattle.arena_open.specs.ChainCells.{AreOpen}
-use Rattle.arena_open.proofs.SoFar.{SoFar, Opens, starts, few, goes_on, all_open, last_answer, last_made, last_again, refused_answer, refused_made, first_made}
+use Rattle.arena_open.proofs.SoFar.{SoFar, Opens, starts, few, goes_on, all_open, last_answer, last_made, last_again, last_found, refused_answer, refused_made, first_made}
 use Rattle.arena_open.proofs.chain_open.open_chain.Goals as goal
 
 -- which arena it was, and why
@@ -84,6 +84,16 @@ returns-then-next-eq0-clause-again g c =
     let states_are : c.push_reserved.new.self.items ≡ c.arenas.arenas.items ++ c.in-Ok.state ∷ [] =
     c.push_reserved.ensures.items ∙ ap (λ (ss : List ArenaState). ss ++ c.in-Ok.state ∷ []) c.reserve.ensures.items in
     last_again (g.W.WordSpace.words c.args.space.now) c.args.fuse.now c.args.first c.args.parent.now (g.W.WordSpace.words c.arenas.space) c.arenas.fuse c.arenas.at c.arenas.arenas.items c.arenas.invariant.so_far (g.W.WordSpace.words c.open_arena.new.space) c.open_arena.new.fuse c.in-Ok.state o c.if-next-eq0.true
+
+pub returns-then-next-eq0-clause-found : goal.returns-then-next-eq0-clause-found
+returns-then-next-eq0-clause-found g c =
+    let o : Opens (g.W.WordSpace.words c.arenas.space) (g.W.WordSpace.words c.open_arena.new.space) c.arenas.fuse c.open_arena.new.fuse c.arenas.at c.args.parent.now c.in-Ok.state =
+    record { answer = c.in-Ok.ensures.answer (λ e. cc); made = c.in-Ok.ensures.made (λ e. cc); settled = c.in-Ok.ensures.settles; again = c.in-Ok.ensures.again; state_open = c.in-Ok.ensures.state } in
+    let states_are : c.push_reserved.new.self.items ≡ c.arenas.arenas.items ++ c.in-Ok.state ∷ [] =
+    c.push_reserved.ensures.items ∙ ap (λ (ss : List ArenaState). ss ++ c.in-Ok.state ∷ []) c.reserve.ensures.items in
+    let same : c.new.result ≡ c.arenas.arenas.items ++ c.in-Ok.state ∷ [] = c.new.ensures ∙ c.from_vec.ensures ∙ states_are in
+    last_found (g.W.WordSpace.words c.args.space.now) c.args.fuse.now c.args.first c.args.parent.now (g.W.WordSpace.words c.arenas.space) c.arenas.fuse c.arenas.at c.arenas.arenas.items c.arenas.invariant.so_far (g.W.WordSpace.words c.open_arena.new.space) c.open_arena.new.fuse c.in-Ok.state o c.if-next-eq0.true
+    ∙ ap (λ (ss : List ArenaState). Ok (map found_again ss)) (sym same)
 
 pub arenas-preserved : goal.arenas-preserved
 arenas-preserved g c =
