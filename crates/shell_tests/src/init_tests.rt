@@ -1,6 +1,6 @@
 //! Runs of `init`: every cut, what stands then, and what is copied.
 use crate::world::{Made, NEVER, TWO_SLOTS, pair, ran, run_on, shown};
-use nvd_media::{Object, SeedChooser, Stored};
+use nvd_media::{ListChooser, Object, Stored};
 use shell_reports::Status;
 use std::alloc::{AllocError, Global};
 use std::sync::Wait;
@@ -72,7 +72,7 @@ fn an_area_is_initialised(rt: HostRuntime) -> Result<(), AllocError> {
             stored.bytes = vec![in alloc; 0x5a; (256 << 10) + 4096]?;
         }
     }
-    let mut choose = SeedChooser::new(0);
+    let mut choose = ListChooser::new(Vec::new(alloc));
     let Made { status, text, set } = run_on(
         &rt,
         alloc,
@@ -94,25 +94,5 @@ fn an_area_is_initialised(rt: HostRuntime) -> Result<(), AllocError> {
         }
     }
     assert!(rt; set.bytes(Object::BadRanges(1)).is_none());
-    Ok(())
-}
-
-/// After 40 steps the words of the first block from its Checksum on are pending: for the seed 0 neither that nor the word
-/// with Free is left, and for 7 the latter is, by the generator's answers, worked out by another program. The number that
-/// the chooser had before doesn't matter.
-#[test]
-fn a_seed_is_that_of_the_words(rt: HostRuntime) -> Result<(), AllocError> {
-    let alloc = rt.alloc();
-    let blank = pair(alloc, TWO_SLOTS)?;
-    for (evict, free) in [("--evict=0", 0), ("--evict=7", 3)] {
-        for before in [0, 7] {
-            let words = ["init", "0", evict, "--cut", "40"];
-            let mut choose = SeedChooser::new(before);
-            let set = run_on(&rt, alloc, &words, &blank, &mut choose, NEVER)?.set;
-            let area = set.bytes(Object::Labels(0)).unwrap_or(&[]);
-            assert_eq!(rt; area.get(320..328), Some([0; 8].as_slice()));
-            assert_eq!(rt; area.get(328), Some(&free));
-        }
-    }
     Ok(())
 }

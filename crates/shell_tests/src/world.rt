@@ -1,6 +1,6 @@
 //! Image sets in memory, and runs on them.
 use crate::tables::TWO_WAY;
-use nvd_media::{Chooser, ListChooser, MemImages, MemText, NoGate, Object, Stored};
+use nvd_media::{ListChooser, MemImages, MemText, NoGate, Object, Stored};
 use shell_reports::Status;
 use shell_run::run;
 use std::alloc::{AllocError, Global};
@@ -117,13 +117,13 @@ pub struct Made {
     pub set: MemImages,
 }
 
-/// A run of words on a set.
-pub fn run_on<R: Threads + Wait + Sync, C: Chooser>(
+/// A run of words on a set. All tests have choosers of one type: the program is compiled once for each.
+pub fn run_on<R: Threads + Wait + Sync>(
     rt: &R,
     alloc: Global,
     words: &[&str],
     objects: &[Stored],
-    choose: &mut C,
+    choose: &mut ListChooser,
     fails: Fails<'_>,
 ) -> Result<Made, AllocError> {
     let mut owned = Vec::new(alloc);
