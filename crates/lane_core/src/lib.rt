@@ -52,7 +52,7 @@
 //! |---|---|---|
 //! | [`Core::of`] | it shows the state of the arena that was opened, and its history begins with the cells that a reader gets | `fresh`, `arena` |
 //! | [`Core::begin`] | a call begins, in an idle lane alone, with room for its entry and its answer | `busy`, `begun`, `refused` |
-//! | [`Core::step`] | it is the line of the lane's phase, and `Nothing` exactly for an idle lane | `line`, `core` |
+//! | [`Core::step`] | it is the line of the lane's phase, and `Nothing` exactly for an idle lane; what it does and answers is a function of what the core held | `line`, `core`, `held`, `answer` |
 //! | [`Core::log`] | the calls that a lane answered, and its write whose map word is stored | `entries` |
 //! | [`Core::cut`] | the chooser is asked once for each word stored since its last keep; what is left survives | `asked`, `survives` |
 //! | the same | what is left opens as the same arena, each sector as the history ends or as one write in flight | `reopens` |

@@ -2,9 +2,11 @@ ghost use Rattle.std.specs.Prelude.{◌≡◌, ◌<◌, map, slice_get, Some, If
 ghost use Rattle.arena_layout.specs.Layout.{IsLayout};
 ghost use Rattle.arena_open.specs.Moves.{IsOpenState};
 ghost use Rattle.lane_core.specs.Arenas.{cells_in};
+ghost use Rattle.lane_core.specs.Held.{held_by};
 ghost use Rattle.lane_core.specs.Idle.{idle_of};
 ghost use Rattle.lane_core.specs.Machines.{IsCore, IsFresh, IsSomeCore, KeepsCore, StepsOnce};
 ghost use Rattle.lane_core.specs.Reopening.{IsCoreOf, KeepsArena};
+ghost use Rattle.lane_core.specs.Schedules.{answer_in, held_after, Step};
 ghost use Rattle.lane_core.specs.Sessions.{ServesSessions};
 
 use crate::buffer::Buffer;
@@ -114,6 +116,8 @@ impl Core {
         ensures shape { self.new.shape ≡ self.old.shape }
         ensures serves { ServesSessions self.old → ServesSessions self.new }
         ensures line { (p : LaneNow) → slice_get self.old.lanes.items lane ≡ Some p → StepsOnce self.old self.new lane p result }
+        ensures held { held_by self.new ≡ held_after (held_by self.old) (Step lane) }
+        ensures answer { result ≡ answer_in (held_by self.old) lane }
     {
         let mine = &mut self.lanes[lane as usize];
         step_lane(

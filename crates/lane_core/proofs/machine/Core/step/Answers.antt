@@ -8,6 +8,7 @@ use Rattle.lane_core.specs.Sessions.{IsServed}
 use Rattle.lane_core.proofs.Served.{changed, served_step}
 use Rattle.lane_core.proofs.Cores.{ready}
 use Rattle.lane_core.proofs.Fixed.{line_keeps}
+use Rattle.lane_core.proofs.Holding.{core_is_held}
 use Rattle.lane_core.proofs.Nothing.{nothing_idle}
 use Rattle.lane_core.proofs.Stepping.{lane_there, there_is, stepped_parts, line_shown}
 use Rattle.lane_core.proofs.machine.Core.step.Goals as goal
@@ -84,3 +85,19 @@ returns-clause-serves c = λ served.
     subst (λ (q : LaneNow). IsServed (slice_set core.lanes.items c.args.lane q) c.step_lane.new.history.entries) (sym c.step_lane.ensures.lane)
     (subst (λ (r : Recorded). IsServed (slice_set core.lanes.items c.args.lane q) r.entries) (sym c.step_lane.ensures.history)
     (served_step core.lanes.items c.args.lane mine q at core.history.entries past.entries (changed core.shape c.args.lane core.row mine core.history mine.phase refl) served))
+
+pub returns-clause-held : goal.returns-clause-held
+returns-clause-held c =
+    let core = c.args.self.now in
+    let mine = c.index_mut-mine.result.now in
+    let h = c.requires.core.1.1 in
+    let at : slice_get core.lanes.items c.args.lane ≡ Some mine = lane_there core.lanes.items c.args.lane mine (subst (λ n. c.args.lane < n) (sym h.shown.count) c.requires.lane) c.index_mut-mine.ensures.value in
+    (core_is_held.steps core _ c.args.lane mine _ at (returns-clause-line c mine at)).0
+
+pub returns-clause-answer : goal.returns-clause-answer
+returns-clause-answer c =
+    let core = c.args.self.now in
+    let mine = c.index_mut-mine.result.now in
+    let h = c.requires.core.1.1 in
+    let at : slice_get core.lanes.items c.args.lane ≡ Some mine = lane_there core.lanes.items c.args.lane mine (subst (λ n. c.args.lane < n) (sym h.shown.count) c.requires.lane) c.index_mut-mine.ensures.value in
+    (core_is_held.steps core _ c.args.lane mine _ at (returns-clause-line c mine at)).1
