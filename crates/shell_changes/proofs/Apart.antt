@@ -16,11 +16,11 @@ use Rattle.namespace_map.specs.Areas.{Area}
 use Rattle.namespace_map.specs.Changes.{namespaces_of, placed_in_all}
 use Rattle.namespace_laws.specs.Apart.{EntriesApart}
 
-abbrev In : {X : Type 0} → X → List X → Type 0
+abbrev pub In : {X : Type 0} → X → List X → Type 0
 In x [] = ⊥
 In x (y ∷ ys) = (y ≡ x) ⊎ In x ys
 
-in_map : {X Y : Type 0} (f : X → Y) (x : X) (xs : List X) → In x xs → In (f x) (map f xs)
+pub in_map : {X Y : Type 0} (f : X → Y) (x : X) (xs : List X) → In x xs → In (f x) (map f xs)
 in_map f x [] i = i
 in_map f x (y ∷ ys) (inl e) = inl (ap f e)
 in_map f x (y ∷ ys) (inr i) = inr (in_map f x ys i)
@@ -57,7 +57,7 @@ not_found f test (y ∷ ys) x h i = by (test y) refl h i (not_found f test ys x)
     by false is h (inl e) next = ap test (sym e) ∙ is
     by false is h (inr j) next = next h j
 
-no_clash : (xs : List Extent) (x y : Extent) → overlap_of xs ≡ None → In x xs → In y xs → clash x y ≡ false
+pub no_clash : (xs : List Extent) (x y : Extent) → overlap_of xs ≡ None → In x xs → In y xs → clash x y ≡ false
 unfolding overlap_of
 no_clash [] x y none i j = absurd i
 no_clash (e ∷ es) x y none (inl a) (inl b) = ap (λ (z : Extent). clash z y) (sym a) ∙ ap (clash e) (sym b) ∙ clash_self e
@@ -84,14 +84,14 @@ label_of sets labels u e a is c =
     let k = in_kept (λ p. bytes_eq (uuid_of p) u) r.0 labels r.1 in
     (r.0, k.0, (bytes_eq-Decides (uuid_of r.0) u).0 k.1, r.2)
 
-pub labels_apart : (sets : List (List Mapping)) (areas : List (Option Area)) → overlap_of (map extent_of (placed_in_all areas)) ≡ None → EntriesApart (namespaces_of sets areas)
-labels_apart sets areas none u v e f apart at_u at_v a b in_e in_f =
+-- labels of which no two meet make entries that are apart
+pub apart_by : (sets : List (List Mapping)) (areas : List (Option Area)) → ((p r : Placed) → In p (placed_in_all areas) → In r (placed_in_all areas) → clash (extent_of p) (extent_of r) ≡ false) → EntriesApart (namespaces_of sets areas)
+apart_by sets areas clear u v e f apart at_u at_v a b in_e in_f =
     let labels = placed_in_all areas in
     let p = label_of sets labels u e a (sym (lookup_entries sets labels u) ∙ at_u) in_e in
     let r = label_of sets labels v f b (sym (lookup_entries sets labels v) ∙ at_v) in_f in
-    let clear : clash (extent_of p.0) (extent_of r.0) ≡ false = no_clash (map extent_of labels) (extent_of p.0) (extent_of r.0) none (in_map extent_of p.0 labels p.1) (in_map extent_of r.0 labels r.1) in
     let differ : bytes_eq (uuid_of p.0) (uuid_of r.0) ≡ false = differs (bytes_eq (uuid_of p.0) (uuid_of r.0)) refl (λ same. apart (sym p.2 ∙ (bytes_eq-Decides (uuid_of p.0) (uuid_of r.0)).0 same ∙ r.2)) in
-    ap (λ (x : Part). extents_meet x.extent b.extent) (sym p.3) ∙ ap (λ (x : Part). extents_meet (extent_of p.0) x.extent) (sym r.3) ∙ meets (bytes_eq (uuid_of p.0) (uuid_of r.0)) (extents_meet (extent_of p.0) (extent_of r.0)) differ clear
+    ap (λ (x : Part). extents_meet x.extent b.extent) (sym p.3) ∙ ap (λ (x : Part). extents_meet (extent_of p.0) x.extent) (sym r.3) ∙ meets (bytes_eq (uuid_of p.0) (uuid_of r.0)) (extents_meet (extent_of p.0) (extent_of r.0)) differ (clear p.0 r.0 p.1 r.1)
   where
     differs : (b : Bool) → b ≡ b → (b ≡ true → ⊥) → b ≡ false
     differs true e f = absurd (f refl)
@@ -100,3 +100,11 @@ labels_apart sets areas none u v e f apart at_u at_v a b in_e in_f =
     meets : (same meet : Bool) → same ≡ false → (not same && meet) ≡ false → meet ≡ false
     meets true meet e h = absurd (cc)
     meets false meet e h = h
+
+-- two labels don't meet if no fault of an overlap is found
+pub labels_clear : (areas : List (Option Area)) → overlap_of (map extent_of (placed_in_all areas)) ≡ None → (p r : Placed) → In p (placed_in_all areas) → In r (placed_in_all areas) → clash (extent_of p) (extent_of r) ≡ false
+labels_clear areas none p r in_p in_r =
+    no_clash (map extent_of (placed_in_all areas)) (extent_of p) (extent_of r) none (in_map extent_of p (placed_in_all areas) in_p) (in_map extent_of r (placed_in_all areas) in_r)
+
+pub labels_apart : (sets : List (List Mapping)) (areas : List (Option Area)) → overlap_of (map extent_of (placed_in_all areas)) ≡ None → EntriesApart (namespaces_of sets areas)
+labels_apart sets areas none = apart_by sets areas (labels_clear areas none)

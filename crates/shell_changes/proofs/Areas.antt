@@ -1,10 +1,12 @@
 -- The label areas of a loaded set: what they show, and what is saved of them.
-use Rattle.std.proofs.Common.{◌≡◌, ℕ, zero, suc, ◌*◌, List, [], ◌∷◌, length, map, get_or, Option, Some, None, Result, Ok, Err, refl, sym, ap, ◌∙◌, subst}
-use Rattle.std.specs.Prelude.{slice_index_or}
+use Rattle.std.proofs.Common.{◌≡◌, ℕ, zero, suc, ◌*◌, true, List, [], ◌∷◌, length, map, get_or, Option, Some, None, Result, Ok, Err, refl, sym, ap, ◌∙◌, subst}
+use Rattle.std.specs.Prelude.{slice_get, slice_index_or}
 use Rattle.std.specs.Option.{option_map}
 use Rattle.std.specs.List.{All}
+use Rattle.std.proofs.lemmas.Bool.{false≢true}
 use Rattle.std.proofs.lemmas.Option.{none-some}
 use Rattle.std.proofs.lemmas.List.Elements.{All-head, All-tail}
+use Rattle.std.proofs.lemmas.Simd.{map-map}
 use Rattle.nvd_media.specs.declared.object.Object.TheVariants as object
 use Rattle.nvd_media.specs.Images.{Images, IsSameSet}
 use Rattle.cut_words.specs.Words.{Words, IsLeft, settled}
@@ -14,12 +16,12 @@ use Rattle.label_index.specs.declared.index.IndexBlock.{IndexBlock}
 use Rattle.label_area.specs.declared.fault.AreaFault.{AreaFault}
 use Rattle.label_area.specs.Area.{block_in}
 use Rattle.label_area.specs.Opened.{opened_by}
-use Rattle.power_cut.specs.Left.{IsLeftOf}
+use Rattle.power_cut.specs.Left.{Each, IsLeftOf}
 use Rattle.namespace_areas.specs.declared.area.Area.{Area}
 use Rattle.namespace_areas.specs.declared.area.Area.TheVariants.{Absent, Refused, Ready}
 use Rattle.namespace_areas.specs.Seen.{areas_seen, area_shown, areas_shown, shown_by, words_of, AreLeft}
 use Rattle.namespace_areas.specs.Opening.{as_area, opened_as}
-use Rattle.namespace_areas.specs.Steps.{rows_of}
+use Rattle.namespace_areas.specs.Steps.{rows_of as kept_rows}
 use Rattle.namespace_areas.specs.Went.{unready, size_of}
 use Rattle.namespace_areas.proofs.Seen.{left_kept}
 use Rattle.namespace_areas.proofs.Opening.{row_of, seen_all}
@@ -28,13 +30,20 @@ use Rattle.image_set.specs.Changed.{objects_of}
 use Rattle.image_set.specs.declared.changing.OutlineRest.{OutlineRest}
 use Rattle.image_set.specs.declared.outline.Outline.{Outline}
 use Rattle.image_set.specs.Outline.{image_set_with}
-use Rattle.image_set.specs.Sound.{IsArea}
-use Rattle.shell_reports.proofs.Arenas.{words_back}
+use Rattle.image_set.specs.Sound.{IsArea, IsContents}
+use Rattle.nfit_reader.specs.declared.table.Nfit.{Nfit}
+use Rattle.sector_namespaces.specs.View.{rows_of}
+use Rattle.sector_namespaces.specs.Creation.{AreSettled}
+use Rattle.shell_reports.proofs.Arenas.{rows_back as words_read, words_back}
 use Rattle.image_set.specs.declared.loading.Loaded.{Loaded}
 use Rattle.shell_changes.specs.declared.saving.Rest.{Rest}
 use Rattle.image_set.specs.Load.{ImageSet}
-use Rattle.shell_changes.specs.Areas.{area_by, area_in, areas_in, rows_in, with_labels, HasAreas, HasRows}
-use Rattle.shell_changes.specs.Rest.{objects_by, objects_with}
+use Rattle.shell_changes.specs.declared.saving.Beside.{Beside}
+use Rattle.shell_changes.specs.declared.saving.Beside.TheVariants as beside
+use Rattle.shell_changes.specs.Areas.{area_by, area_in, areas_in, rows_in, with_labels, HasRows}
+use Rattle.shell_changes.specs.Reading.{set_parted}
+use Rattle.shell_changes.specs.Rest.{IsBeside, is_whole, objects_by, objects_left, objects_with, with_rows, words_beside}
+use Rattle.shell_changes.specs.Work.{with_contents}
 
 -- ---- what areas show, by their bytes
 
@@ -87,9 +96,9 @@ row_opened None = refl
 row_opened (Some w) = opened_row w.kept (block_in (bytes_of w.kept))
 
 -- areas that were opened have them
-pub rows_opened : (labels : List (Option Words)) → rows_of (map opened_as labels) ≡ map row_of labels
+pub rows_opened : (labels : List (Option Words)) → kept_rows (map opened_as labels) ≡ map row_of labels
 rows_opened [] = refl
-rows_opened (w ∷ labels) = ap (λ row. row ∷ rows_of (map opened_as labels)) (row_opened w) ∙ ap (λ rows. row_of w ∷ rows) (rows_opened labels)
+rows_opened (w ∷ labels) = ap (λ row. row ∷ kept_rows (map opened_as labels)) (row_opened w) ∙ ap (λ rows. row_of w ∷ rows) (rows_opened labels)
 
 -- ---- one area after a command
 
@@ -174,26 +183,53 @@ sized_all (w ∷ labels) (n ∷ news) rows same sizes left =
 abbrev pub rest_of : Loaded → Rest
 rest_of loaded = record { nfit_bytes = loaded.nfit_bytes; contents = loaded.contents; bad = loaded.bad }
 
--- an image set whose label areas are these words, and how it is saved with others
-pub record IsSavedAs (set : ImageSet) (words : List (Option Words)) (objects : List (Option (List ℕ)) → Images) : Type 0 where
+-- an image set whose label areas are these words, and whose contents are those if they are in memory, and how it is saved with others
+pub record IsSavedAs (set : ImageSet) (words : List (Option Words)) (contents : List Words) (objects : List (Option (List ℕ)) → List (List ℕ) → Images) : Type 0 where
   pub labels : set.labels ≡ map (option_map bytes_kept) words
-  pub same : (rows : List (Option (List ℕ))) → IsSameSet (objects rows) (objects_of (with_labels set (map (option_map bytes_of) rows)))
+  pub same : (rows : List (Option (List ℕ))) (left : List (List ℕ)) → Each IsLeft contents left → IsSameSet (objects rows left) (objects_of (with_labels set (map (option_map bytes_of) rows)))
 
-same_objects : (loaded : Loaded) (rows : List (Option (List ℕ))) → IsSameSet (objects_with (rest_of loaded) rows) (objects_of (with_labels (image_set_in loaded) (map (option_map bytes_of) rows)))
-unfolding objects_with objects_of image_set_in
-same_objects loaded rows object.Mark = refl
-same_objects loaded rows object.Nfit = refl
-same_objects loaded rows (object.Labels m) = refl
-same_objects loaded rows (object.Contents m) = refl
-same_objects loaded rows (object.BadRanges m) = refl
+-- and how it is saved with other contents
+pub record HasWhole (set : ImageSet) (contents : List Words) (objects : List (Option (List ℕ)) → List (List ℕ) → Images) : Type 0 where
+  pub are : rows_of set.contents ≡ contents
+  pub settled : AreSettled contents
+  pub same : (rows : List (Option (List ℕ))) (left : List (List ℕ)) → IsSameSet (objects rows left) (objects_of (with_labels (with_contents set left) (map (option_map bytes_of) rows)))
 
 pub labels_in : (loaded : Loaded) → (image_set_in loaded).labels ≡ map (option_map bytes_kept) loaded.labels
 unfolding image_set_in
 labels_in loaded = refl
 
--- a set that was loaded
-pub loaded_as : (loaded : Loaded) → IsSavedAs (image_set_in loaded) loaded.labels (objects_with (rest_of loaded))
-loaded_as loaded = record { labels = labels_in loaded; same = same_objects loaded }
+contents_in : (loaded : Loaded) → (image_set_in loaded).contents ≡ map bytes_kept loaded.contents
+unfolding image_set_in
+contents_in loaded = refl
+
+-- contents of which no word is pending leave what they keep
+left_of : (rows : List Words) (left : List (List ℕ)) → All IsContents rows → Each IsLeft rows left → map bytes_of left ≡ map bytes_kept rows
+left_of [] left all each = ap (map bytes_of) each
+left_of (w ∷ rows) left all each =
+    let kept : w ≡ settled w.kept = (All-head IsContents w rows all).kept in
+    let here : each.0 ≡ w.kept = left_kept w each.0 kept each.3 in
+    ap (map bytes_of) each.2 ∙ ap (λ v. bytes_of v ∷ map bytes_of each.1) here ∙ ap (λ vs. bytes_of w.kept ∷ vs) (left_of rows each.1 (All-tail IsContents w rows all) each.4)
+
+same_whole : (loaded : Loaded) (rows : List (Option (List ℕ))) (left : List (List ℕ))
+    → IsSameSet (objects_with (with_rows (rest_of loaded) left) rows) (objects_of (with_labels (with_contents (image_set_in loaded) left) (map (option_map bytes_of) rows)))
+unfolding objects_with objects_of image_set_in
+same_whole loaded rows left object.Mark = refl
+same_whole loaded rows left object.Nfit = refl
+same_whole loaded rows left (object.Labels m) = refl
+same_whole loaded rows left (object.Contents m) = ap (λ xs. slice_get xs m) (map-map bytes_kept settled left)
+same_whole loaded rows left (object.BadRanges m) = refl
+
+same_loaded : (loaded : Loaded) (rows : List (Option (List ℕ))) (left : List (List ℕ)) → All IsContents loaded.contents → Each IsLeft loaded.contents left
+    → IsSameSet (objects_with (with_rows (rest_of loaded) left) rows) (objects_of (with_labels (image_set_in loaded) (map (option_map bytes_of) rows)))
+unfolding objects_with objects_of image_set_in
+same_loaded loaded rows left all each object.Mark = refl
+same_loaded loaded rows left all each object.Nfit = refl
+same_loaded loaded rows left all each (object.Labels m) = refl
+same_loaded loaded rows left all each (object.Contents m) = ap (λ xs. slice_get xs m) (map-map bytes_kept settled left ∙ left_of loaded.contents left all each)
+same_loaded loaded rows left all each (object.BadRanges m) = refl
+
+all_settled : (rows : List Words) → All IsContents rows → AreSettled rows
+all_settled rows all = λ k d lt. (all k d lt).kept
 
 get_map : {A B : Type 0} (f : A → B) (xs : List A) (k : ℕ) (d : A) → get_or (map f xs) k (f d) ≡ f (get_or xs k d)
 get_map f [] k d = refl
@@ -217,22 +253,48 @@ pub outline_labels : (outline : Outline) (contents : List (List ℕ)) → (image
 unfolding image_set_with
 outline_labels outline contents = refl
 
--- a set that was loaded but for its contents
-pub outline_as : (outline : Outline) (contents : List (List ℕ)) → IsSavedAs (image_set_with outline contents) outline.labels (objects_by (outline_rest outline) contents)
-outline_as outline contents = record { labels = outline_labels outline contents; same = same_outline outline contents }
+-- ---- a set in parts
 
-module _ (set : ImageSet) (words : List (Option Words)) (objects : List (Option (List ℕ)) → Images) (is : IsSavedAs set words objects) where
-  pub has_rows : (news : List Area) (rows : List (Option (List ℕ))) (saved : Images) → map unready news ≡ map unready (map opened_as words)
-      → map size_of news ≡ map size_of (map opened_as words) → AreLeft news rows → IsSameSet saved (objects rows) → HasRows set rows saved
-  has_rows news rows saved same sizes left all = record {
-    unread = λ m none.
-        unread_all words news rows same left m (ap (λ ls. area_in (slice_index_or ls m None)) (sym is.labels) ∙ none) ∙ ap (λ ls. slice_index_or ls m None) (sym is.labels);
-    sizes = sized_all words news rows same sizes left ∙ ap (map (option_map length)) (sym is.labels);
-    objects = λ o. all o ∙ is.same rows o;
-  }
+abbrev pub loaded_parted : Nfit → List (Option Words) → Rest → Loaded
+loaded_parted nfit labels rest = record { nfit = nfit; nfit_bytes = rest.nfit_bytes; labels = labels; contents = rest.contents; bad = rest.bad }
 
-  pub has_areas : (news : List Area) (rows : List (Option (List ℕ))) (saved : Images) → map unready news ≡ map unready (map opened_as words)
-      → map size_of news ≡ map size_of (map opened_as words) → AreLeft news rows → IsSameSet saved (objects rows) → HasAreas set (areas_shown rows) saved
-  has_areas news rows saved same sizes left all =
-      let has = has_rows news rows saved same sizes left all in
-      record { labels = map (option_map bytes_of) rows; shown = rows_shown rows; unread = has.unread; sizes = has.sizes; objects = has.objects }
+abbrev pub outline_parted : Nfit → List (Option Words) → OutlineRest → Outline
+outline_parted nfit labels rest = record { nfit = nfit; nfit_bytes = rest.nfit_bytes; labels = labels; sizes = rest.sizes; bad = rest.bad }
+
+pub parted_labels : (nfit : Nfit) (labels : List (Option Words)) (beside : Beside) (contents : List (List ℕ)) → (set_parted nfit labels beside contents).labels ≡ map (option_map bytes_kept) labels
+parted_labels nfit labels (beside.Copied rest) contents = outline_labels (outline_parted nfit labels rest) contents
+parted_labels nfit labels (beside.Whole rest) contents = labels_in (loaded_parted nfit labels rest)
+
+pub parted_nfit : (nfit : Nfit) (labels : List (Option Words)) (beside : Beside) (contents : List (List ℕ)) → (set_parted nfit labels beside contents).nfit ≡ nfit
+unfolding image_set_with image_set_in
+parted_nfit nfit labels (beside.Copied rest) contents = refl
+parted_nfit nfit labels (beside.Whole rest) contents = refl
+
+pub parted_as : (nfit : Nfit) (labels : List (Option Words)) (beside : Beside) (contents : List (List ℕ)) → IsBeside beside → IsSavedAs (set_parted nfit labels beside contents) labels (words_beside beside) (objects_left beside contents)
+parted_as nfit labels (beside.Copied rest) contents is = record {
+  labels = outline_labels (outline_parted nfit labels rest) contents;
+  same = λ rows left each. same_outline (outline_parted nfit labels rest) contents rows;
+}
+parted_as nfit labels (beside.Whole rest) contents is = record {
+  labels = labels_in (loaded_parted nfit labels rest);
+  same = λ rows left each. same_loaded (loaded_parted nfit labels rest) rows left is.words each;
+}
+
+pub parted_whole : (nfit : Nfit) (labels : List (Option Words)) (beside : Beside) (contents : List (List ℕ)) → IsBeside beside → is_whole beside ≡ true
+    → HasWhole (set_parted nfit labels beside contents) (words_beside beside) (objects_left beside contents)
+parted_whole nfit labels (beside.Copied rest) contents is whole = absurd (false≢true whole)
+parted_whole nfit labels (beside.Whole rest) contents is whole = record {
+  are = ap rows_of (contents_in (loaded_parted nfit labels rest)) ∙ words_read rest.contents is.words;
+  settled = all_settled rest.contents is.words;
+  same = same_whole (loaded_parted nfit labels rest);
+}
+
+-- a set with these label areas, of which one that wasn't ready is as it was
+pub has_rows : (now : ImageSet) (words : List (Option Words)) → now.labels ≡ map (option_map bytes_kept) words → (news : List Area) (rows : List (Option (List ℕ))) (saved : Images) → map unready news ≡ map unready (map opened_as words)
+    → map size_of news ≡ map size_of (map opened_as words) → AreLeft news rows → IsSameSet saved (objects_of (with_labels now (map (option_map bytes_of) rows))) → HasRows now rows saved
+has_rows now words labels news rows saved same sizes left all = record {
+  unread = λ m none.
+      unread_all words news rows same left m (ap (λ ls. area_in (slice_index_or ls m None)) (sym labels) ∙ none) ∙ ap (λ ls. slice_index_or ls m None) (sym labels);
+  sizes = sized_all words news rows same sizes left ∙ ap (map (option_map length)) (sym labels);
+  objects = all;
+}

@@ -1,15 +1,18 @@
--- From what became of the areas to what the command comes to.
+-- From what became of the areas and contents to what the command comes to.
 use Rattle.std.proofs.Common.{◌≡◌, ℕ, Bool, true, false, List, ◌∷◌, [], map, Option, Some, None, Result, Ok, Err, refl, sym, ap, ◌∙◌, subst, inl, inr}
 use Rattle.std.specs.List.{All}
 use Rattle.std.specs.Option.{option_map}
-use Rattle.cut_words.specs.Words.{Words}
+use Rattle.cut_words.specs.Words.{Words, IsLeft}
+use Rattle.cut_words.specs.Fuses.{burnt, lasts}
 use Rattle.nvd_words.specs.Checks.{first_fault, value_unless}
 use Rattle.nfit_reader.specs.declared.table.Mapping.{Mapping}
 use Rattle.nfit_reader.specs.declared.table.Nfit.{Nfit}
+use Rattle.power_cut.specs.Left.{Each}
 use Rattle.namespace_areas.specs.declared.area.Area.{Area}
 use Rattle.namespace_areas.specs.Areas.{labels_of}
 use Rattle.namespace_map.specs.declared.commands.Command.{Command}
 use Rattle.namespace_map.specs.declared.refused.OpRefused.{OpRefused}
+use Rattle.namespace_map.specs.Namespaces.{Namespaces}
 use Rattle.namespace_map.specs.Areas.{Area as SeenArea, Change}
 use Rattle.namespace_map.specs.Commands.{refusal_of}
 use Rattle.namespace_map.specs.Changes.{namespaces_of, placed_in_all, changes_of, recovery_changes, recovered_areas}
@@ -20,61 +23,85 @@ use Rattle.namespace_areas.proofs.Seen.{seen_labels}
 use Rattle.namespace_areas.proofs.Opening.{held_all, row_of}
 use Rattle.namespace_ops.specs.declared.registry.OpenFault.{OpenFault}
 use Rattle.namespace_ops.specs.Opening.{Opened, opening, overlap_fault, set_fault_from, sets_of}
-use Rattle.namespace_areas.specs.Refusals.{shown}
 use Rattle.nvd_media.specs.Images.{Images}
-use Rattle.image_set.specs.declared.outline.Outline.{Outline}
 use Rattle.image_set.specs.Load.{ImageSet, bytes_kept}
-use Rattle.image_set.specs.Outline.{image_set_with}
 use Rattle.image_set.specs.Sound.{IsArea}
 use Rattle.shell_reports.specs.declared.power.Power.{Power}
 use Rattle.shell_reports.specs.Outcome.{Outcome}
 use Rattle.shell_reports.specs.List.{open_outcome}
+use Rattle.shell_changes.specs.declared.saving.Beside.{Beside}
 use Rattle.shell_changes.specs.Areas.{areas_in, rows_in}
-use Rattle.shell_changes.specs.Going.{GoesOn, GoesThen, GoesFrom}
-use Rattle.shell_changes.specs.Namespaces.{sets_in, refusal_in, changes_by, changes_in, Goes, OnSets, CommandComes}
-use Rattle.shell_changes.specs.Rest.{objects_by}
-use Rattle.shell_changes.proofs.Areas.{IsSavedAs, opened_in, outline_as, outline_labels, outline_rest, rows_are}
-use Rattle.shell_changes.proofs.Ends.{cut_in_recovery, refused_after, done_after, cut_after}
+use Rattle.shell_changes.specs.Going.{GoesOn, GoesThen, GoesFrom, SavesCut, StopsFirst, Works}
+use Rattle.shell_changes.specs.Namespaces.{sets_in, refusal_in, work_by, work_in, ChangeComes, Goes, OnSets}
+use Rattle.shell_changes.specs.Reading.{IsParted, set_parted}
+use Rattle.shell_changes.specs.Rest.{is_whole, objects_left, words_beside}
+use Rattle.shell_changes.specs.Words.{makes_sectors}
+use Rattle.shell_changes.specs.Work.{arena_of, count_of}
+use Rattle.shell_changes.proofs.Areas.{HasWhole, IsSavedAs, opened_in, parted_as, parted_labels, parted_nfit, parted_whole, rows_are}
+use Rattle.shell_changes.proofs.Ends.{cut_after, cut_in_recovery, cut_within, done_after, refused_after}
+use Rattle.shell_changes.proofs.Formats.{SavedAs, saved_as}
 use Rattle.shell_changes.proofs.Regions.{was_opened}
 
-module _ (leaves : ℕ → List (Option Words) → List (Option (List ℕ)) → Type 0) (set : ImageSet) (words : List (Option Words)) (objects : List (Option (List ℕ)) → Images) (is_set : IsSavedAs set words objects) (fit : rows_in set ≡ map row_of words) (power : Power) (sets : List (List Mapping)) (c : Command) (outcome : Outcome) where
+module _ (leaves : ℕ → List (Option Words) → List (Option (List ℕ)) → Type 0) (set : ImageSet) (words : List (Option Words)) (contents : List Words) (objects : List (Option (List ℕ)) → List (List ℕ) → Images) (is_set : IsSavedAs set words contents objects) (fit : rows_in set ≡ map row_of words) (power : Power) (outcome : Outcome)
+    (sets : List (List Mapping)) (c : Command) (whole : makes_sectors c ≡ true → HasWhole set contents objects) where
   abbrev opened : List Area
   opened = map opened_as words
 
   abbrev seen : List (Option SeenArea)
   seen = areas_seen (map opened_as words)
 
-  abbrev own : List (Option SeenArea) → List Change
-  own areas = changes_of (namespaces_of sets areas) areas c
+  abbrev mid_seen : List (Option SeenArea)
+  mid_seen = recovered_areas sets seen
 
-  gone_on : (mid : List Area) (left : Option ℕ) → Went opened mid power.steps left (recovery_changes sets seen) true → areas_seen mid ≡ recovered_areas sets seen
-      → GoesOn leaves objects power mid left (changes_of (shown sets mid) (areas_seen mid) c) outcome → Goes leaves set seen (changes_by sets seen c None) None power outcome
-  gone_on mid left first is on = by on.whole refl
-    where
-      went : Went mid on.news left on.left (own (recovered_areas sets seen)) on.whole
-      went = subst (λ (xs : List (Option SeenArea)). Went mid on.news left on.left (own xs) on.whole) is on.went
+  abbrev ns : Namespaces
+  ns = namespaces_of sets mid_seen
 
-      by : (b : Bool) → on.whole ≡ b → Goes leaves set seen (changes_by sets seen c None) None power outcome
-      by true whole =
-          done_after leaves set words objects is_set fit power sets c mid on.news left on.left on.rows outcome first (subst (λ (b : Bool). Went mid on.news left on.left (own (recovered_areas sets seen)) b) whole went) on.kept (on.done whole)
-      by false short =
-          cut_after leaves set words objects is_set fit power sets c mid on.news left on.left on.rows outcome first (subst (λ (b : Bool). Went mid on.news left on.left (own (recovered_areas sets seen)) b) short went) on.kept (on.asked short) (on.cut short)
+  abbrev first : List Change
+  first = recovery_changes sets seen
 
-  gone_then : GoesThen leaves objects power sets opened c outcome → (r : Option OpRefused) → refusal_in sets seen c ≡ r → Goes leaves set seen (changes_by sets seen c r) r power outcome
-  gone_then g r at_it = by r at_it
-    where
-      is : areas_seen g.mid ≡ recovered_areas sets seen
-      is = g.first.done refl
+  abbrev own : List Change
+  own = changes_of ns mid_seen c
 
-      same : refusal_of (shown sets g.mid) c ≡ refusal_in sets seen c
-      same = ap (λ (xs : List (Option SeenArea)). refusal_of (namespaces_of sets xs) c) is
+  -- areas and contents that a command changed, by whether power lasts for its format and for its label changes
+  module _ (mid : List Area) (left : Option ℕ) (one : Went opened mid power.steps left first true) (on : GoesOn leaves objects power sets mid contents left c outcome) where
+    works : Works (arena_of ns c) mid on.news contents on.made left on.left own on.whole
+    works =
+        subst (λ (xs : List (Option SeenArea)). Works (arena_of (namespaces_of sets xs) c) mid on.news contents on.made left on.left (changes_of (namespaces_of sets xs) xs c) on.whole) (one.done refl) on.works
 
-      by : (r : Option OpRefused) → refusal_in sets seen c ≡ r → Goes leaves set seen (changes_by sets seen c r) r power outcome
-      by (Some f) some = refused_after leaves set words objects is_set fit power sets c g.mid g.left f outcome g.first (g.refused f (same ∙ some))
-      by None none = gone_on g.mid g.left g.first is (g.went (same ∙ none))
+    at : (rows : List (Option (List ℕ))) (made_left : List (List ℕ)) → Each IsLeft on.made made_left → SavedAs leaves (arena_of ns c) set words objects on.made left rows made_left
+    at rows made_left each = saved_as leaves set words contents objects is_set on.made rows made_left each ns c left whole works.formats
 
-  pub goes : GoesFrom leaves objects power sets opened c outcome → Goes leaves set seen (changes_in sets seen c) (refusal_in sets seen c) power outcome
-  goes (inl s) = cut_in_recovery leaves set words objects is_set fit power sets c s.news s.left s.rows outcome (refusal_in sets seen c) s.went s.kept s.asked s.cut
+    labels_on : lasts left (count_of (arena_of ns c)) ≡ true → (b : Bool) → on.whole ≡ b → Goes leaves set seen (work_by sets seen c None) None power outcome
+    labels_on long true is =
+        let s = on.done is in
+        done_after leaves set words contents objects is_set fit power outcome first own (arena_of ns c) mid left one on.news on.made on.left long works.formats
+        (subst (λ (b : Bool). Went mid on.news (burnt left (count_of (arena_of ns c))) on.left own b) is (works.labels long)) s (at s.rows s.contents_left s.left)
+    labels_on long false is =
+        let s = on.cut is in
+        cut_after leaves set words contents objects is_set fit power outcome first own (arena_of ns c) mid left one on.news on.made on.left long
+        (subst (λ (b : Bool). Went mid on.news (burnt left (count_of (arena_of ns c))) on.left own b) is (works.labels long)) s (at s.rows s.contents_left s.left)
+
+    gone_on : (b : Bool) → lasts left (count_of (arena_of ns c)) ≡ b → Goes leaves set seen (work_by sets seen c None) None power outcome
+    gone_on true long = labels_on long on.whole refl
+    gone_on false short =
+        let within = works.within short in
+        let s : SavesCut leaves objects power mid on.made outcome = subst (λ (xs : List Area). SavesCut leaves objects power xs on.made outcome) within.1 (on.cut within.0) in
+        cut_within leaves set words contents objects is_set fit power outcome first own (arena_of ns c) mid left one on.made short s (at s.rows s.contents_left s.left)
+
+  gone_then : (g : GoesThen leaves objects power sets opened contents c outcome) (r : Option OpRefused) → refusal_in sets seen c ≡ r → Goes leaves set seen (work_by sets seen c r) r power outcome
+  gone_then g (Some f) some =
+      refused_after leaves set words contents objects is_set fit power outcome first g.mid g.left f g.first
+      (g.refused f (ap (λ (xs : List (Option SeenArea)). refusal_of (namespaces_of sets xs) c) (g.first.done refl) ∙ some))
+  gone_then g None none =
+      gone_on g.mid g.left g.first (g.went (ap (λ (xs : List (Option SeenArea)). refusal_of (namespaces_of sets xs) c) (g.first.done refl) ∙ none))
+      (lasts g.left (count_of (arena_of ns c))) refl
+
+  stopped : (s : StopsFirst leaves objects power sets opened contents outcome) (r : Option OpRefused) → Goes leaves set seen (work_by sets seen c r) r power outcome
+  stopped s (Some f) = cut_in_recovery leaves set words contents objects is_set fit power outcome first [] None (Some f) s.news s.left s.went s.cut
+  stopped s None = cut_in_recovery leaves set words contents objects is_set fit power outcome first own (arena_of ns c) None s.news s.left s.went s.cut
+
+  pub goes : GoesFrom leaves objects power sets opened contents c outcome → Goes leaves set seen (work_in sets seen c) (refusal_in sets seen c) power outcome
+  goes (inl s) = stopped s (refusal_in sets seen c)
   goes (inr g) = gone_then g (refusal_in sets seen c) refl
 
 -- label areas of a set that was loaded
@@ -118,33 +145,31 @@ module _ (set : ImageSet) (words : List (Option Words)) (nfit : Nfit) (labels : 
   pub sets_err : (f : OpenFault) → AreWhole words → Err f ≡ opening nfit (map opened_as words) → sets_in set ≡ Err f
   sets_err f whole is = sets_are whole ∙ read_err nfit (map opened_as words) f is
 
-module _ (leaves : ℕ → List (Option Words) → List (Option (List ℕ)) → Type 0) (outline : Outline) (contents : List (List ℕ)) (power : Power) (c : Command) (outcome : Outcome) (areas : All IsArea outline.labels) where
-  whole : AreWhole outline.labels
-  whole = are_whole outline.labels areas
+module _ (leaves : ℕ → List (Option Words) → List (Option (List ℕ)) → Type 0) (nfit : Nfit) (labels : List (Option Words)) (beside : Beside) (contents : List (List ℕ)) (power : Power) (c : Command) (outcome : Outcome) (parted : IsParted nfit labels beside) where
+  all_whole : AreWhole labels
+  all_whole = are_whole labels parted.areas
 
   abbrev set : ImageSet
-  set = image_set_with outline contents
+  set = set_parted nfit labels beside contents
 
-  nfit_is : (image_set_with outline contents).nfit ≡ outline.nfit
-  unfolding image_set_with
-  nfit_is = refl
-
-  -- a registry that is opened, and a command on what it holds
-  pub comes : (registry : Opened) → Ok registry ≡ opening outline.nfit (map opened_as outline.labels)
-      → GoesFrom leaves (objects_by (outline_rest outline) contents) power registry.sets registry.areas c outcome → CommandComes leaves c power set outcome
-  comes registry is from =
-      let was = was_opened outline.nfit (map opened_as outline.labels) registry is in
-      let sets : sets_in set ≡ Ok registry.sets = sets_ok set outline.labels outline.nfit (outline_as outline contents).labels nfit_is registry whole is in
-      let from' : GoesFrom leaves (objects_by (outline_rest outline) contents) power registry.sets (map opened_as outline.labels) c outcome =
-      subst (λ (xs : List Area). GoesFrom leaves (objects_by (outline_rest outline) contents) power registry.sets xs c outcome) (sym was.areas_are) from in
-      let it = goes leaves set outline.labels (objects_by (outline_rest outline) contents) (outline_as outline contents)
-      (rows_are set outline.labels (outline_labels outline contents) areas) power registry.sets c outcome from' in
+  -- a registry that is opened, and a command on what it has
+  pub comes : (registry : Opened) → Ok registry ≡ opening nfit (map opened_as labels) → (makes_sectors c ≡ is_whole beside)
+      → GoesFrom leaves (objects_left beside contents) power registry.sets registry.areas (words_beside beside) c outcome → ChangeComes leaves c power set outcome
+  comes registry is needs from =
+      let was = was_opened nfit (map opened_as labels) registry is in
+      let as_set = parted_as nfit labels beside contents parted.rest in
+      let sets : sets_in set ≡ Ok registry.sets = sets_ok set labels nfit (parted_labels nfit labels beside contents) (parted_nfit nfit labels beside contents) registry all_whole is in
+      let from' : GoesFrom leaves (objects_left beside contents) power registry.sets (map opened_as labels) (words_beside beside) c outcome =
+      subst (λ (xs : List Area). GoesFrom leaves (objects_left beside contents) power registry.sets xs (words_beside beside) c outcome) (sym was.areas_are) from in
+      let it = goes leaves set labels (words_beside beside) (objects_left beside contents) as_set
+      (rows_are set labels (parted_labels nfit labels beside contents) parted.areas) power outcome registry.sets c
+      (λ makes. parted_whole nfit labels beside contents parted.rest (sym needs ∙ makes)) from' in
       subst (λ (r : Result (List (List Mapping)) OpenFault). OnSets leaves set c power r outcome) (sym sets)
-      (subst (λ (xs : List (Option SeenArea)). Goes leaves set xs (changes_in registry.sets xs c) (refusal_in registry.sets xs c) power outcome)
-      (labels_are set outline.labels outline.nfit (outline_as outline contents).labels nfit_is) it)
+      (subst (λ (xs : List (Option SeenArea)). Goes leaves set xs (work_in registry.sets xs c) (refusal_in registry.sets xs c) power outcome)
+      (labels_are set labels nfit (parted_labels nfit labels beside contents) (parted_nfit nfit labels beside contents)) it)
 
   -- one that isn't
-  pub comes_not : (f : OpenFault) → Err f ≡ opening outline.nfit (map opened_as outline.labels) → outcome ≡ open_outcome f → CommandComes leaves c power set outcome
+  pub comes_not : (f : OpenFault) → Err f ≡ opening nfit (map opened_as labels) → outcome ≡ open_outcome f → ChangeComes leaves c power set outcome
   comes_not f is said =
-      let sets : sets_in set ≡ Err f = sets_err set outline.labels outline.nfit (outline_as outline contents).labels nfit_is f whole is in
+      let sets : sets_in set ≡ Err f = sets_err set labels nfit (parted_labels nfit labels beside contents) (parted_nfit nfit labels beside contents) f all_whole is in
       subst (λ (r : Result (List (List Mapping)) OpenFault). OnSets leaves set c power r outcome) (sym sets) said

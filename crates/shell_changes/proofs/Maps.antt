@@ -1,14 +1,14 @@
 -- What the commands on namespaces make of the namespaces of an image set.
-use Rattle.std.proofs.Common.{◌≡◌, ◌⊎◌, ℕ, zero, suc, ◌+◌, ◌-◌, ◌<◌, ◌≤◌, Bool, true, false, cond, List, [], ◌∷◌, ◌++◌, map, take, Option, Some, None, Result, Ok, Err, refl, sym, ap, ◌∙◌, subst, inl, inr, arith}
-use Rattle.std.specs.Prelude.{MatchBool, slice_get}
+use Rattle.std.proofs.Common.{◌≡◌, ◌≢◌, ◌⊎◌, ℕ, zero, suc, ◌+◌, ◌-◌, ◌<◌, ◌≤◌, Bool, true, false, cond, List, [], ◌∷◌, ◌++◌, map, take, Option, Some, None, Result, Ok, Err, refl, sym, ap, ◌∙◌, subst, inl, inr, arith}
+use Rattle.std.specs.Prelude.{MatchBool, nat_le, slice_get}
 use Rattle.std.specs.Option.{option_map}
 use Rattle.std.specs.List.{AllByRecursion, Contains, flat_map, list_any}
-use Rattle.std.proofs.lemmas.Bool.{cases_lt, leb-false}
+use Rattle.std.proofs.lemmas.Bool.{cases_lt, le-leb, leb-false, lt-leb, true≢false}
 use Rattle.std.proofs.lemmas.Option.{none-some}
 use Rattle.nvd_media.specs.Images.{Images}
 use Rattle.nvd_words.specs.Checks.{first_fault}
 use Rattle.cut_words.specs.Words.{Words}
-use Rattle.cut_words.specs.Fuses.{lasts}
+use Rattle.cut_words.specs.Fuses.{burnt, lasts}
 use Rattle.cut_words.specs.WordBytes.{bytes_of}
 use Rattle.nfit_reader.specs.declared.table.Mapping.{Mapping}
 use Rattle.label_codec.specs.declared.label.Label.{Label}
@@ -31,14 +31,14 @@ use Rattle.namespace_map.specs.Changes.{changes_of, gone_changes, namespaces_of,
 use Rattle.namespace_map.specs.Left.{AreRead, AreRegions}
 use Rattle.namespace_map.proofs.Fronts.{cut_is_front}
 use Rattle.namespace_map.proofs.Rising.{rising_entries}
-use Rattle.namespace_laws.specs.Apart.{EntriesApart, KeepsApart}
+use Rattle.namespace_laws.specs.Apart.{EntriesApart, KeepsApart, LeavesOthers}
 use Rattle.namespace_laws.specs.Recovered.{RecoversToEither}
 use Rattle.namespace_laws.specs.Whole.{Agrees}
 use Rattle.namespace_laws.proofs.Allowed.{area_free}
 use Rattle.namespace_laws.proofs.AgreesCreate.{create_agrees}
 use Rattle.namespace_laws.proofs.Cuts.{recovery_resumes}
-use Rattle.namespace_laws.proofs.Disjoint.{create_apart}
-use Rattle.namespace_laws.proofs.DisjointEntry.{delete_apart, rename_apart}
+use Rattle.namespace_laws.proofs.Disjoint.{create_apart, create_others}
+use Rattle.namespace_laws.proofs.DisjointEntry.{delete_apart, delete_others, rename_apart, rename_others}
 use Rattle.namespace_laws.proofs.Fronts.{take_all}
 use Rattle.namespace_laws.proofs.Gone.{GoneAll, append_all, gone_all}
 use Rattle.namespace_laws.proofs.GoneLists.{PutsBytes, read_all}
@@ -61,11 +61,16 @@ use Rattle.shell_reports.specs.declared.power.Power.{Power}
 use Rattle.shell_reports.specs.Outcome.{Outcome}
 use Rattle.shell_reports.specs.Saved.{IsSaving}
 use Rattle.shell_changes.specs.Areas.{HasAreas, HasRows, area_by, areas_in, rows_in}
-use Rattle.shell_changes.specs.Maps.{AcceptedIsApart, ChangesKeepApart, ChangesLabels, CrashIsInEither, CrashRecovers, IsSettled, CutInCommand, CutInRecovery, DoneIsTheCommand, HasTable, SavesMap, map_of}
-use Rattle.shell_changes.specs.Namespaces.{Ends, IsCut, IsDone, OnSets, changes_by, changes_in, refusal_in, sets_in}
+use Rattle.shell_changes.specs.Maps.{AcceptedIsApart, ChangesKeepApart, ChangesLabels, CrashIsInEither, CrashLeavesOthers, CrashRecovers, IsCutIn, IsSettled, CutInCommand, CutInFormat, CutInRecovery, DoneIsTheCommand, HasTable, SavesMap, map_of, uuid_of, with_bytes}
+use Rattle.shell_changes.specs.Namespaces.{Ends, IsCut, IsDone, OnSets, refusal_in, sets_in, work_by, work_in}
+use Rattle.shell_changes.specs.Words.{makes_sectors}
+use Rattle.shell_changes.specs.Work.{Arena, Formats, Work, arena_of, begun, count_of, label_changes, label_steps, steps_of_work}
 use Rattle.shell_changes.specs.Refusals.{refused_outcome}
 use Rattle.shell_changes.proofs.Apart.{labels_apart}
+use Rattle.shell_changes.proofs.RecoveryApart.{stopped_apart}
 use Rattle.shell_changes.proofs.Areas.{rows_shown}
+use Rattle.shell_changes.proofs.Behind.{after_none, append_nil, format_left, label_long, label_short, none_left, rest_left, some_format, under_first, under_sum}
+use Rattle.shell_changes.proofs.Runs.{no_arena}
 use Rattle.shell_changes.proofs.Regions.{no_first, parts_of, sets_are}
 
 -- ---- images that are accepted
@@ -185,16 +190,19 @@ recovered_apart ns before u v e f differ at_u at_v a b in_e in_f =
     let (y, y_is, y_parts) = found_before ns v f at_v in
     before u v x y differ x_is y_is a b (subst (λ (ps : List Part). Contains ps a) x_parts in_e) (subst (λ (ps : List Part). Contains ps b) y_parts in_f)
 
+leaves_others : (sets : List (List Mapping)) (areas : List (Option Area)) (c : Command) → ChangesLabels c → AreRegions sets → AreRead areas → refusal_of (namespaces_of sets areas) c ≡ None → LeavesOthers sets areas (uuid_of c) c
+leaves_others sets areas (Create spec) changes regions read none = create_others sets areas spec.uuid spec.name spec.region spec.size spec.make regions none
+leaves_others sets areas (Delete uuid) changes regions read none = delete_others sets areas uuid regions read none
+leaves_others sets areas (Rename uuid name) changes regions read none = rename_others sets areas uuid name regions read none
+leaves_others sets areas (Claim uuid) changes regions read none = absurd changes
+leaves_others sets areas (Unclaim uuid) changes regions read none = absurd changes
+
 keeps : (sets : List (List Mapping)) (areas : List (Option Area)) (c : Command) → ChangesLabels c → AreRegions sets → AreRead areas → refusal_of (namespaces_of sets areas) c ≡ None → KeepsApart sets areas c
 keeps sets areas (Create spec) changes regions read none = create_apart sets areas spec.uuid spec.name spec.region spec.size spec.make regions none
 keeps sets areas (Delete uuid) changes regions read none = delete_apart sets areas uuid regions read none
 keeps sets areas (Rename uuid name) changes regions read none = rename_apart sets areas uuid name regions read none
 keeps sets areas (Claim uuid) changes regions read none = absurd changes
 keeps sets areas (Unclaim uuid) changes regions read none = absurd changes
-
-append_nil : {A : Type 0} (xs : List A) → xs ++ [] ≡ xs
-append_nil [] = refl
-append_nil (x ∷ xs) = ap (λ ys. x ∷ ys) (append_nil xs)
 
 -- the areas after all steps
 after_whole : (xs : List Change) (areas : List (Option Area)) → after_steps areas xs (steps_of_all areas xs) true ≡ all_changed areas xs
@@ -220,6 +228,7 @@ keep_apart c loaded sets changes table are =
     let own : List Change = changes_of (namespaces_of sets mid) mid c in
     record {
       after_recovery = first;
+      in_recovery = λ n stays. stopped_apart sets seen n stays (no_overlap (overlap_of (map extent_of (placed_in_all seen))) (accepted loaded sets are).clear);
       after_command = λ none.
           subst EntriesApart (ap (namespaces_of sets) (after_whole own mid) ∙ agreed sets mid c changes regions read_mid none ∙ ap (λ (ns : Namespaces). done ns c) map_is)
           (keeps sets mid c changes regions read_mid none first_mid (steps_of_all mid own) true);
@@ -259,13 +268,29 @@ has_shown loaded rows e text set outcome has s = record {
   objects = λ o. s.same o ∙ has.objects o;
 }
 
-saves_shown : (sets : List (List Mapping)) (loaded : ImageSet) (rows : List (Option (List ℕ))) (ns : Namespaces) (e : Ending) (text : List ℕ) (set : Images) (outcome : Outcome) → HasRows loaded rows set
-    → IsSaving e text set outcome → namespaces_of sets (areas_shown rows) ≡ ns → SavesMap sets loaded ns outcome
-saves_shown sets loaded rows ns e text set outcome has s is = record {
+-- contents are those that were loaded, unless a format has begun
+now_is : (b : Bool) (arena : Option Arena) (loaded : ImageSet) (fuse : Option ℕ) (contents : List Words) (rows : List (List ℕ)) (now : ImageSet) → Formats (begun b arena) loaded fuse contents rows now
+    → (now ≡ with_bytes loaded now.contents) × (begun b arena ≡ None → now.contents ≡ loaded.contents)
+now_is false arena loaded fuse contents rows now (none, nothing, same) =
+    (subst (λ (x : ImageSet). x ≡ with_bytes loaded x.contents) (sym same) refl, λ is. ap (λ (x : ImageSet). x.contents) same)
+now_is true None loaded fuse contents rows now (none, nothing, same) =
+    (subst (λ (x : ImageSet). x ≡ with_bytes loaded x.contents) (sym same) refl, λ is. ap (λ (x : ImageSet). x.contents) same)
+now_is true (Some arena) loaded fuse contents rows now (formatted, same) =
+    (subst (λ (x : ImageSet). x ≡ with_bytes loaded x.contents) (sym same) refl, λ is. absurd (none-some arena (sym is)))
+
+begun_none : (b : Bool) (arena : Option Arena) → arena ≡ None → begun b arena ≡ None
+begun_none false arena is = refl
+begun_none true arena is = is
+
+saves_shown : (sets : List (List Mapping)) (loaded now : ImageSet) (formats : Bool) (rows : List (Option (List ℕ))) (ns : Namespaces) (e : Ending) (text : List ℕ) (set : Images) (outcome : Outcome) → now ≡ with_bytes loaded now.contents
+    → (formats ≡ false → now.contents ≡ loaded.contents) → HasRows now rows set → IsSaving e text set outcome → namespaces_of sets (areas_shown rows) ≡ ns → SavesMap sets loaded formats ns outcome
+saves_shown sets loaded now formats rows ns e text set outcome same kept has s is = record {
   set = s.saved;
   saved = s.saves;
+  contents = now.contents;
+  kept = kept;
   areas = areas_shown rows;
-  has = has_shown loaded rows e text set outcome has s;
+  has = subst (λ (x : ImageSet). HasAreas x (areas_shown rows) s.saved) same (has_shown now rows e text set outcome has s);
   map = is;
 }
 
@@ -273,6 +298,18 @@ saves_shown sets loaded rows ns e text set outcome has s is = record {
 
 ending_of : (a b : Outcome) → a ≡ b → a.ending ≡ b.ending
 ending_of a b is = ap (λ (o : Outcome). o.ending) is
+
+add_none : (n : ℕ) → n + 0 ≡ n
+add_none n = omega arith
+
+le_self : (n : ℕ) → n ≤ n
+le_self n = omega arith
+
+never : (a b : ℕ) → a < b → b ≤ a → ⊥
+never a b lt le = omega (arith, lt, le)
+
+not_some : (n : ℕ) → 1 ≤ n → n ≡ 0 → ⊥
+not_some n some none = omega (arith, some, none)
 
 module _ (leaves : ℕ → List (Option Words) → List (Option (List ℕ)) → Type 0) (c : Command) (power : Power) (loaded : ImageSet) (sets : List (List Mapping)) (outcome : Outcome) where
   abbrev seen : List (Option Area)
@@ -287,93 +324,166 @@ module _ (leaves : ℕ → List (Option Words) → List (Option (List ℕ)) → 
   abbrev own : List Change
   own = changes_of (namespaces_of sets mid) mid c
 
+  abbrev arena : Option Arena
+  arena = arena_of (namespaces_of sets mid) c
+
+  abbrev early : ℕ
+  early = steps_of_all (areas_in loaded.labels) (recovery_changes sets (areas_in loaded.labels))
+
+  abbrev format : ℕ
+  format = count_of (arena_of (namespaces_of sets mid) c)
+
+  -- a command that makes no sectors keeps contents
+  kept_by : (b : Bool) → makes_sectors c ≡ false → begun b arena ≡ None
+  kept_by b plain = begun_none b arena (no_arena (namespaces_of sets mid) c plain)
+
   -- ---- to its end
 
-  done_shown : ChangesLabels c → HasTable loaded → sets_in loaded ≡ Ok sets → refusal_in sets seen c ≡ None → IsDone loaded seen (recovery ++ own) outcome
-      → SavesMap sets loaded (done (recovered (map_of sets loaded)) c) outcome
+  done_shown : ChangesLabels c → HasTable loaded → sets_in loaded ≡ Ok sets → refusal_in sets seen c ≡ None → IsDone loaded seen (work_by sets seen c None) outcome
+      → SavesMap sets loaded (makes_sectors c) (done (recovered (map_of sets loaded)) c) outcome
   done_shown changes table are none d =
       let regions : AreRegions sets = regions_of loaded sets table are in
       let read : AreRead seen = areas_read loaded.labels in
       let agrees : Agrees sets mid c = agreed sets mid c changes regions (recovered_read sets seen regions read) none in
-      saves_shown sets loaded (all_rows (rows_in loaded) (recovery ++ own)) (done (recovered (map_of sets loaded)) c) ending.Done _ d.set outcome d.has d.saves
+      let is = now_is true arena loaded None d.contents d.contents_left d.now d.formats in
+      saves_shown sets loaded d.now (makes_sectors c) (all_rows (rows_in loaded) (recovery ++ own)) (done (recovered (map_of sets loaded)) c) ending.Done _ d.set outcome is.0 (λ plain. is.1 (kept_by true plain)) d.has d.saves
       (ap (namespaces_of sets) (d.shown ∙ changed_both recovery own seen) ∙ agrees ∙ ap (λ (ns : Namespaces). done ns c) (recovery_agrees sets seen regions read))
 
   done_by : ChangesLabels c → HasTable loaded → sets_in loaded ≡ Ok sets → outcome.ending ≡ ending.Done → (r : Option OpRefused) → refusal_in sets seen c ≡ r
-      → Ends loaded seen (changes_by sets seen c r) r outcome → SavesMap sets loaded (done (recovered (map_of sets loaded)) c) outcome
+      → Ends loaded seen (work_by sets seen c r) r outcome → SavesMap sets loaded (makes_sectors c) (done (recovered (map_of sets loaded)) c) outcome
   done_by changes table are ended None none d = done_shown changes table are none d
   done_by changes table are ended (Some f) some said = absurd (let e : ending.Refused ≡ ending.Done = sym (ending_of outcome (refused_outcome f) said) ∙ ended in cc)
 
   done_on : ChangesLabels c → HasTable loaded → sets_in loaded ≡ Ok sets → outcome.ending ≡ ending.Done → (b : Bool)
-      → MatchBool b (Ends loaded seen (changes_in sets seen c) (refusal_in sets seen c) outcome) (IsCut leaves loaded seen (changes_in sets seen c) power outcome)
-      → SavesMap sets loaded (done (recovered (map_of sets loaded)) c) outcome
+      → MatchBool b (Ends loaded seen (work_in sets seen c) (refusal_in sets seen c) outcome) (IsCut leaves loaded seen (work_in sets seen c) power outcome)
+      → SavesMap sets loaded (makes_sectors c) (done (recovered (map_of sets loaded)) c) outcome
   done_on changes table are ended true ends = done_by changes table are ended (refusal_in sets seen c) refl ends
   done_on changes table are ended false cut = absurd (let e : ending.PowerCut ≡ ending.Done = sym cut.saves.ends ∙ ended in cc)
 
   -- ---- cut
 
-  abbrev Either : ℕ → Type 0
-  Either n = ((n < steps_of_all seen recovery) × CutInRecovery sets loaded n outcome)
-      ⊎ ((steps_of_all seen recovery ≤ n) × (refusal_in sets seen c ≡ None) × CutInCommand sets loaded c (n - steps_of_all seen recovery) outcome)
+  left_as : (work : Work) (cut : IsCut leaves loaded seen work power outcome) (formats : Bool) (areas : List (Option Area)) → (formats ≡ false → begun (lasts power.steps (steps_of_all seen work.recovery)) work.arena ≡ None)
+      → areas_shown cut.rows ≡ areas → SavesMap sets loaded formats (namespaces_of sets areas) outcome
+  left_as work cut formats areas kept is =
+      let now = now_is (lasts power.steps (steps_of_all seen work.recovery)) work.arena loaded (burnt power.steps (steps_of_all seen work.recovery)) cut.contents cut.contents_left cut.now cut.formats in
+      saves_shown sets loaded cut.now formats cut.rows (namespaces_of sets areas) ending.PowerCut _ cut.set outcome now.0 (λ plain. now.1 (kept plain)) cut.has cut.saves (ap (namespaces_of sets) is)
 
-  left_as : (changes : List Change) (cut : IsCut leaves loaded seen changes power outcome) (areas : List (Option Area)) → areas_shown cut.rows ≡ areas → SavesMap sets loaded (namespaces_of sets areas) outcome
-  left_as changes cut areas is =
-      saves_shown sets loaded cut.rows (namespaces_of sets areas) ending.PowerCut _ cut.set outcome cut.has cut.saves (ap (namespaces_of sets) is)
+  steps_are : (work : Work) (cut : IsCut leaves loaded seen work power outcome) (n : ℕ) → power.steps ≡ Some n → cut.steps ≡ n
+  steps_are work cut n is = let both : Some cut.steps ≡ Some n = sym cut.given ∙ is in cc
 
-  steps_are : (changes : List Change) (cut : IsCut leaves loaded seen changes power outcome) (n : ℕ) → power.steps ≡ Some n → cut.steps ≡ n
-  steps_are changes cut n is = let both : Some cut.steps ≡ Some n = sym cut.given ∙ is in cc
+  left_after : (work : Work) (cut : IsCut leaves loaded seen work power outcome) (n k : ℕ) → power.steps ≡ Some n → label_steps seen work n ≡ k → IsLeftBy seen (label_changes work) k (areas_shown cut.rows)
+  left_after work cut n k is label_is =
+      subst (λ (m : ℕ). IsLeftBy seen (label_changes work) m (areas_shown cut.rows)) (ap (label_steps seen work) (steps_are work cut n is) ∙ label_is) (cut.leave cut.rows cut.left_of)
 
-  left_after : (changes : List Change) (cut : IsCut leaves loaded seen changes power outcome) (n : ℕ) → power.steps ≡ Some n → IsLeftBy seen changes n (areas_shown cut.rows)
-  left_after changes cut n is = subst (λ (k : ℕ). IsLeftBy seen changes k (areas_shown cut.rows)) (steps_are changes cut n is) (cut.leave cut.rows cut.left_of)
+  -- in recovery, whatever stands behind it
+  in_recovery : (arena' : Option Arena) (own' : List Change) (cut : IsCut leaves loaded seen (record { recovery = recovery; arena = arena'; own = own' }) power outcome) (n : ℕ) → power.steps ≡ Some n → n < early → CutInRecovery sets loaded n outcome
+  in_recovery arena' own' cut n is lt = by (left_after (record { recovery = recovery; arena = arena'; own = own' }) cut n n is (label_short early (count_of arena') n short))
+    where
+      short : nat_le early n ≡ false
+      short = lt-leb early n lt
 
-  -- by what it leaves of each of the two lists
-  in_recovery : (changes : List Change) (cut : IsCut leaves loaded seen changes power outcome) (n : ℕ) → ((stays : Bool) → after_steps seen changes n stays ≡ after_steps seen recovery n stays)
-      → IsLeftBy seen changes n (areas_shown cut.rows) → CutInRecovery sets loaded n outcome
-  in_recovery changes cut n same (inl e) = (true, left_as changes cut (after_steps seen recovery n true) (e ∙ same true))
-  in_recovery changes cut n same (inr e) = (false, left_as changes cut (after_steps seen recovery n false) (e ∙ same false))
+      kept : false ≡ false → begun (lasts power.steps early) arena' ≡ None
+      kept e = ap (λ (f : Option ℕ). begun (lasts f early) arena') is ∙ ap (λ (b : Bool). begun b arena') short
 
-  in_command : (cut : IsCut leaves loaded seen (recovery ++ own) power outcome) (n : ℕ) → steps_of_all seen recovery ≤ n → IsLeftBy seen (recovery ++ own) n (areas_shown cut.rows)
-      → CutInCommand sets loaded c (n - steps_of_all seen recovery) outcome
-  in_command cut n le (inl e) = (true, left_as (recovery ++ own) cut (after_steps mid own (n - steps_of_all seen recovery) true) (e ∙ after_both recovery own seen n true le))
-  in_command cut n le (inr e) = (false, left_as (recovery ++ own) cut (after_steps mid own (n - steps_of_all seen recovery) false) (e ∙ after_both recovery own seen n false le))
+      by : IsLeftBy seen (recovery ++ own') n (areas_shown cut.rows) → CutInRecovery sets loaded n outcome
+      by (inl e) = (true, left_as (record { recovery = recovery; arena = arena'; own = own' }) cut false (after_steps seen recovery n true) kept (e ∙ after_first recovery own' seen n true lt))
+      by (inr e) = (false, left_as (record { recovery = recovery; arena = arena'; own = own' }) cut false (after_steps seen recovery n false) kept (e ∙ after_first recovery own' seen n false lt))
 
-  cut_by : (n : ℕ) → power.steps ≡ Some n → (r : Option OpRefused) → refusal_in sets seen c ≡ r → lasts power.steps (steps_of_all seen (changes_by sets seen c r)) ≡ false
-      → IsCut leaves loaded seen (changes_by sets seen c r) power outcome → Either n
+  -- in the format
+  in_format : (cut : IsCut leaves loaded seen (work_by sets seen c None) power outcome) (n : ℕ) → power.steps ≡ Some n → early ≤ n → n < early + format → CutInFormat sets loaded outcome
+  in_format cut n is le lt =
+      by (left_after (work_by sets seen c None) cut n early is (label_long early format n (le-leb early n le) ∙ format_left early format n le lt))
+    where
+      made : (stays : Bool) → after_steps seen (recovery ++ own) early stays ≡ mid
+      made stays =
+          after_both recovery own seen early stays (le_self early) ∙ after_none own mid (early - early) stays (none_left early)
+
+      by : IsLeftBy seen (recovery ++ own) early (areas_shown cut.rows) → CutInFormat sets loaded outcome
+      by (inl e) = left_as (work_by sets seen c None) cut true mid (λ no. absurd (true≢false no)) (e ∙ made true)
+      by (inr e) = left_as (work_by sets seen c None) cut true mid (λ no. absurd (true≢false no)) (e ∙ made false)
+
+  -- in the command's label changes
+  in_command : (cut : IsCut leaves loaded seen (work_by sets seen c None) power outcome) (n : ℕ) → power.steps ≡ Some n → early + format ≤ n → CutInCommand sets loaded c (n - early - format) outcome
+  in_command cut n is le =
+      by (left_after (work_by sets seen c None) cut n (early + (n - early - format)) is (label_long early format n (le-leb early n (under_first early format n le))))
+    where
+      made : (stays : Bool) → after_steps seen (recovery ++ own) (early + (n - early - format)) stays ≡ after_steps mid own (n - early - format) stays
+      made stays =
+          after_both recovery own seen (early + (n - early - format)) stays (under_sum early (n - early - format))
+          ∙ ap (λ (k : ℕ). after_steps mid own k stays) (rest_left early (n - early - format))
+
+      by : IsLeftBy seen (recovery ++ own) (early + (n - early - format)) (areas_shown cut.rows) → CutInCommand sets loaded c (n - early - format) outcome
+      by (inl e) = (true, left_as (work_by sets seen c None) cut (makes_sectors c) (after_steps mid own (n - early - format) true) (kept_by (lasts power.steps early)) (e ∙ made true))
+      by (inr e) = (false, left_as (work_by sets seen c None) cut (makes_sectors c) (after_steps mid own (n - early - format) false) (kept_by (lasts power.steps early)) (e ∙ made false))
+
+  cut_by : (n : ℕ) → power.steps ≡ Some n → (r : Option OpRefused) → refusal_in sets seen c ≡ r → lasts power.steps (steps_of_work seen (work_by sets seen c r)) ≡ false
+      → IsCut leaves loaded seen (work_by sets seen c r) power outcome → IsCutIn sets loaded c n outcome
   cut_by n is (Some f) some short cut =
-      let lt : n < steps_of_all seen recovery = leb-false (steps_of_all seen recovery) n (ap (λ (p : Option ℕ). lasts p (steps_of_all seen recovery)) (sym is) ∙ short) in
-      inl (lt, in_recovery recovery cut n (λ stays. refl) (left_after recovery cut n is))
+      let none : steps_of_all seen (recovery ++ []) + 0 ≡ early = add_none (steps_of_all seen (recovery ++ [])) ∙ ap (λ (cs : List Change). steps_of_all seen cs) (append_nil recovery) in
+      let lt : n < early = leb-false early n (ap (λ (k : ℕ). nat_le k n) (sym none) ∙ ap (λ (p : Option ℕ). lasts p (steps_of_all seen (recovery ++ []) + 0)) (sym is) ∙ short) in
+      inl (lt, in_recovery None [] cut n is lt)
   cut_by n is None none short cut =
-      elim (cases_lt n (steps_of_all seen recovery)) [
-        | inl lt ↦ inl (lt, in_recovery (recovery ++ own) cut n (λ stays. after_first recovery own seen n stays lt) (left_after (recovery ++ own) cut n is))
-        | inr le ↦ inr (le, none, in_command cut n le (left_after (recovery ++ own) cut n is))
+      elim (cases_lt n early) [
+        | inl lt ↦ inl (lt, in_recovery arena own cut n is lt)
+        | inr le ↦ elim (cases_lt n (early + format)) [
+          | inl lt ↦ inr (inl (le, lt, none, in_format cut n is le lt))
+          | inr far ↦ inr (inr (far, none, in_command cut n is far))
+        ]
       ]
 
-  not_cut : (r : Option OpRefused) → Ends loaded seen (changes_by sets seen c r) r outcome → outcome.ending ≡ ending.PowerCut → ⊥
+  not_cut : (r : Option OpRefused) → Ends loaded seen (work_by sets seen c r) r outcome → outcome.ending ≡ ending.PowerCut → ⊥
   not_cut None d cut = let e : ending.Done ≡ ending.PowerCut = sym d.saves.ends ∙ cut in cc
   not_cut (Some f) said cut = let e : ending.Refused ≡ ending.PowerCut = sym (ending_of outcome (refused_outcome f) said) ∙ cut in cc
 
   -- power was given for so many steps
   cut_steps : outcome.ending ≡ ending.PowerCut → (b : Bool)
-      → MatchBool b (Ends loaded seen (changes_in sets seen c) (refusal_in sets seen c) outcome) (IsCut leaves loaded seen (changes_in sets seen c) power outcome) → (n : ℕ) × (power.steps ≡ Some n)
+      → MatchBool b (Ends loaded seen (work_in sets seen c) (refusal_in sets seen c) outcome) (IsCut leaves loaded seen (work_in sets seen c) power outcome) → (n : ℕ) × (power.steps ≡ Some n)
   cut_steps ended true ends = absurd (not_cut (refusal_in sets seen c) ends ended)
   cut_steps ended false cut = (cut.steps, cut.given)
 
-  cut_on : (n : ℕ) → power.steps ≡ Some n → outcome.ending ≡ ending.PowerCut → (b : Bool) → lasts power.steps (steps_of_all seen (changes_in sets seen c)) ≡ b
-      → MatchBool b (Ends loaded seen (changes_in sets seen c) (refusal_in sets seen c) outcome) (IsCut leaves loaded seen (changes_in sets seen c) power outcome) → Either n
+  cut_on : (n : ℕ) → power.steps ≡ Some n → outcome.ending ≡ ending.PowerCut → (b : Bool) → lasts power.steps (steps_of_work seen (work_in sets seen c)) ≡ b
+      → MatchBool b (Ends loaded seen (work_in sets seen c) (refusal_in sets seen c) outcome) (IsCut leaves loaded seen (work_in sets seen c) power outcome) → IsCutIn sets loaded c n outcome
   cut_on n is ended true long ends = absurd (not_cut (refusal_in sets seen c) ends ended)
   cut_on n is ended false short cut = cut_by n is (refusal_in sets seen c) refl short cut
 
   -- ---- recovered again
 
-  recovers_by : (n : ℕ) → ChangesLabels c → HasTable loaded → sets_in loaded ≡ Ok sets → IsSettled (recovered (map_of sets loaded)) c → Either n
-      → (ns : Namespaces) × SavesMap sets loaded ns outcome × ((recovered ns ≡ recovered (map_of sets loaded)) ⊎ (recovered ns ≡ recovered (done (recovered (map_of sets loaded)) c)))
-  recovers_by n changes table are settled (inl (lt, (stays, saves))) =
-      (namespaces_of sets (after_steps seen recovery n stays), saves, inl (cut_recovers sets seen (regions_of loaded sets table are) (areas_read loaded.labels) n stays))
-  recovers_by n changes table are settled (inr (le, none, (stays, saves))) =
+  -- a set whose contents are kept is one whose contents may have changed
+  any_contents : (formats : Bool) (ns : Namespaces) → SavesMap sets loaded false ns outcome → SavesMap sets loaded formats ns outcome
+  any_contents formats ns s = record { set = s.set; saved = s.saved; contents = s.contents; kept = λ e. s.kept refl; areas = s.areas; has = s.has; map = s.map }
+
+  -- a format of one step or more is that of a command that makes sectors
+  formats_sectors : 1 ≤ format → makes_sectors c ≡ true
+  formats_sectors some = by (makes_sectors c) refl
+    where
+      by : (b : Bool) → makes_sectors c ≡ b → makes_sectors c ≡ true
+      by true is = is
+      by false is =
+          let none : format ≡ 0 = ap (λ (o : Option Arena). count_of o) (no_arena (namespaces_of sets mid) c is) in
+          absurd (not_some format some none)
+
+  abbrev Recovers : Type 0
+  Recovers = (ns : Namespaces) × SavesMap sets loaded (makes_sectors c) ns outcome × ((recovered ns ≡ recovered (map_of sets loaded)) ⊎ (recovered ns ≡ recovered (done (recovered (map_of sets loaded)) c)))
+
+  recovers_by : (n : ℕ) → ChangesLabels c → HasTable loaded → sets_in loaded ≡ Ok sets → IsSettled (recovered (map_of sets loaded)) c → IsCutIn sets loaded c n outcome → Recovers
+  recovers_by n changes table are settled (inl (lt, (stays, saves))) = (
+    namespaces_of sets (after_steps seen recovery n stays),
+    any_contents (makes_sectors c) (namespaces_of sets (after_steps seen recovery n stays)) saves,
+    inl (cut_recovers sets seen (regions_of loaded sets table are) (areas_read loaded.labels) n stays),
+  )
+  recovers_by n changes table are settled (inr (inl (le, lt, none, saves))) =
+      let regions = regions_of loaded sets table are in
+      let read : AreRead seen = areas_read loaded.labels in (
+        namespaces_of sets mid,
+        subst (λ (b : Bool). SavesMap sets loaded b (namespaces_of sets mid) outcome) (sym (formats_sectors (some_format early format n le lt))) saves,
+        inl (ap recovered (recovery_agrees sets seen regions read) ∙ recovers_once sets seen regions read),
+      )
+  recovers_by n changes table are settled (inr (inr (far, none, (stays, saves)))) =
       let regions = regions_of loaded sets table are in
       let read : AreRead seen = areas_read loaded.labels in
       let map_is : namespaces_of sets mid ≡ recovered (map_of sets loaded) = recovery_agrees sets seen regions read in
       let settled_mid : IsSettled (namespaces_of sets mid) c = subst (λ (ns : Namespaces). IsSettled ns c) (sym map_is) settled in
-      let rest : ℕ = n - steps_of_all seen recovery in (
+      let rest : ℕ = n - early - format in (
         namespaces_of sets (after_steps mid own rest stays),
         saves,
         elim (to_either sets mid c changes regions (recovered_read sets seen regions read) settled_mid none rest stays) [
@@ -382,18 +492,49 @@ module _ (leaves : ℕ → List (Option Words) → List (Option (List ℕ)) → 
         ],
       )
 
+  -- ---- other namespaces
+
+  abbrev LeavesOthersAs : Type 0
+  LeavesOthersAs = (ns : Namespaces) × SavesMap sets loaded (makes_sectors c) ns outcome × EntriesApart ns
+      × ((other : List ℕ) → other ≢ uuid_of c → lookup other ns.entries ≡ lookup other (recovered (map_of sets loaded)).entries)
+
+  others_by : (n : ℕ) → ChangesLabels c → HasTable loaded → sets_in loaded ≡ Ok sets → early ≤ n → IsCutIn sets loaded c n outcome → LeavesOthersAs
+  others_by n changes table are le (inl (lt, saves)) = absurd (never n early lt le)
+  others_by n changes table are le (inr (inl (le', lt, none, saves))) =
+      let map_is : namespaces_of sets mid ≡ recovered (map_of sets loaded) = recovery_agrees sets seen (regions_of loaded sets table are) (areas_read loaded.labels) in (
+        namespaces_of sets mid,
+        subst (λ (b : Bool). SavesMap sets loaded b (namespaces_of sets mid) outcome) (sym (formats_sectors (some_format early format n le' lt))) saves,
+        subst EntriesApart (sym map_is) (recovered_apart (map_of sets loaded) (accepted_apart loaded sets are)),
+        λ other ne. ap (λ (ns : Namespaces). lookup other ns.entries) map_is,
+      )
+  others_by n changes table are le (inr (inr (far, none, (stays, saves)))) =
+      let regions = regions_of loaded sets table are in
+      let read : AreRead seen = areas_read loaded.labels in
+      let read_mid : AreRead mid = recovered_read sets seen regions read in
+      let map_is : namespaces_of sets mid ≡ recovered (map_of sets loaded) = recovery_agrees sets seen regions read in
+      let apart : EntriesApart (namespaces_of sets mid) = subst EntriesApart (sym map_is) (recovered_apart (map_of sets loaded) (accepted_apart loaded sets are)) in (
+        namespaces_of sets (after_steps mid own (n - early - format) stays),
+        saves,
+        keeps sets mid c changes regions read_mid none apart (n - early - format) stays,
+        λ other ne. leaves_others sets mid c changes regions read_mid none (n - early - format) stays other ne ∙ ap (λ (ns : Namespaces). lookup other ns.entries) map_is,
+      )
+
 pub done_is : (leaves : ℕ → List (Option Words) → List (Option (List ℕ)) → Type 0) → DoneIsTheCommand leaves
 done_is leaves c power loaded sets outcome changes table are comes ended =
-    done_on leaves c power loaded sets outcome changes table are ended (lasts power.steps (steps_of_all (areas_in loaded.labels) (changes_in sets (areas_in loaded.labels) c)))
+    done_on leaves c power loaded sets outcome changes table are ended (lasts power.steps (steps_of_work (areas_in loaded.labels) (work_in sets (areas_in loaded.labels) c)))
     (subst (λ (r : Result (List (List Mapping)) OpenFault). OnSets leaves loaded c power r outcome) are comes)
 
 pub crash_is : (leaves : ℕ → List (Option Words) → List (Option (List ℕ)) → Type 0) → CrashIsInEither leaves
 crash_is leaves c power loaded sets outcome n is are comes ended =
-    cut_on leaves c power loaded sets outcome n is ended (lasts power.steps (steps_of_all (areas_in loaded.labels) (changes_in sets (areas_in loaded.labels) c))) refl
+    cut_on leaves c power loaded sets outcome n is ended (lasts power.steps (steps_of_work (areas_in loaded.labels) (work_in sets (areas_in loaded.labels) c))) refl
     (subst (λ (r : Result (List (List Mapping)) OpenFault). OnSets leaves loaded c power r outcome) are comes)
+
+pub crash_leaves : (leaves : ℕ → List (Option Words) → List (Option (List ℕ)) → Type 0) → CrashLeavesOthers leaves
+crash_leaves leaves c power loaded sets outcome n is changes table are comes ended le =
+    others_by leaves c power loaded sets outcome n changes table are le (crash_is leaves c power loaded sets outcome n is are comes ended)
 
 pub crash_recovers : (leaves : ℕ → List (Option Words) → List (Option (List ℕ)) → Type 0) → CrashRecovers leaves
 crash_recovers leaves c power loaded sets outcome changes table are settled comes ended =
-    let (n, is) = cut_steps leaves c power loaded sets outcome ended (lasts power.steps (steps_of_all (areas_in loaded.labels) (changes_in sets (areas_in loaded.labels) c)))
+    let (n, is) = cut_steps leaves c power loaded sets outcome ended (lasts power.steps (steps_of_work (areas_in loaded.labels) (work_in sets (areas_in loaded.labels) c)))
     (subst (λ (r : Result (List (List Mapping)) OpenFault). OnSets leaves loaded c power r outcome) are comes) in
     recovers_by leaves c power loaded sets outcome n changes table are settled (crash_is leaves c power loaded sets outcome n is are comes ended)

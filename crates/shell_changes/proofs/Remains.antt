@@ -1,11 +1,11 @@
 -- What is saved of what remains of an image set.
-use Rattle.std.proofs.Common.{◌≡◌, ℕ, false, Bool, List, [], ◌∷◌, map, Option, Some, None, refl, sym, ap, ◌∙◌, subst}
+use Rattle.std.proofs.Common.{◌≡◌, ℕ, false, Bool, List, [], ◌∷◌, ◌++◌, map, Option, Some, None, refl, sym, ap, ◌∙◌, subst}
 use Rattle.std.specs.Prelude.{IfSome}
 use Rattle.std.specs.Option.{option_map}
 use Rattle.nvd_media.specs.Images.{Images as Objects, IsSameSet}
 use Rattle.cut_words.specs.Words.{Words}
 use Rattle.cut_words.specs.WordBytes.{bytes_of}
-use Rattle.power_cut.specs.Left.{Each, InTurn, IsLeftOf, LeavesOption, LeavesWords}
+use Rattle.power_cut.specs.Left.{InTurn, LeavesOption, LeavesWords}
 use Rattle.image_set.specs.declared.changing.OutlineLeft.{OutlineLeft}
 use Rattle.image_set.specs.declared.changing.OutlineRest.{OutlineRest}
 use Rattle.image_set.specs.declared.outline.Outline.{Outline}
@@ -13,7 +13,7 @@ use Rattle.image_set.specs.Changed.{objects_of, with_area}
 use Rattle.image_set.specs.Outline as outlined
 use Rattle.image_set.specs.Outline.{image_set_with}
 use Rattle.namespace_areas.specs.declared.area.Area.{Area}
-use Rattle.namespace_areas.specs.Seen.{AreLeft, words_of}
+use Rattle.namespace_areas.specs.Seen.{words_of}
 use Rattle.shell_reports.specs.declared.status.Ending.{Ending}
 use Rattle.shell_reports.specs.declared.status.Ending.TheVariants as ending
 use Rattle.shell_reports.specs.declared.power.Power.{Power}
@@ -21,15 +21,15 @@ use Rattle.shell_reports.specs.Cut.{cut_text, done_text}
 use Rattle.shell_reports.specs.Saved.{IsSaving}
 use Rattle.shell_changes.specs.declared.answer.Answer.{Answer}
 use Rattle.shell_changes.specs.declared.answer.Left.{Left}
+use Rattle.shell_changes.specs.declared.saving.Beside.{Beside}
+use Rattle.shell_changes.specs.declared.saving.Beside.TheVariants as beside
 use Rattle.shell_changes.specs.declared.saving.Remains.TheVariants as kind
 use Rattle.shell_changes.specs.declared.saving.Rest.{Rest}
-use Rattle.shell_changes.specs.Answers.{HasSizes, outcome_with, whole_outcome}
-use Rattle.shell_changes.specs.Remains.{AnswersCut, AnswersDone, LeavesBy, SavesLeft}
-use Rattle.shell_changes.specs.Rest.{IsRest, objects_by, objects_with}
+use Rattle.shell_changes.specs.Answers.{Fits, HasSizes, outcome_with}
+use Rattle.shell_changes.specs.Going.{SavesCut, SavesDone}
+use Rattle.shell_changes.specs.Remains.{AnswersCut, AnswersDone, LeavesBy, SavesLeft, remains_of}
+use Rattle.shell_changes.specs.Rest.{objects_by, objects_left, objects_with, with_rows, with_words, words_beside}
 use Rattle.shell_changes.specs.Saved.{HasSize, copies_contents, objects_saved}
-use Rattle.shell_changes.specs.SectorGoing.{IsSavedWith}
-use Rattle.shell_changes.specs.Parts.{with_rows}
-use Rattle.shell_changes.proofs.Settled.{same_objects}
 use Rattle.shell_changes.proofs.Saved.{same_objects as same_parts}
 
 sizes_by : (sizes : List ℕ) (answer : Answer) (set : Left) → answer.saved ≡ Some set → HasSize sizes set → HasSizes sizes answer
@@ -82,27 +82,21 @@ module _ {C : Type 0} (picks : C → ℕ → Bool → C → Type 0) (e : Ending)
     whole_copies = ap copies_contents s.saves ∙ ap (λ (set : Left). copies_contents (Some set)) s.leaves.is
 
     -- with what is left of contents
-    pub parts_saved : IsSaving e text (objects_with (with_rows rest s.leaves.images.contents) s.leaves.images.labels) (whole_outcome answer)
-    parts_saved =
-        saving s.set (objects_with (with_rows rest s.leaves.images.contents) s.leaves.images.labels) [] s.ends_so s.says s.saves
-        (λ o. ap (λ (set : Left). objects_saved [] set o) s.leaves.is ∙ same_parts rest labels s.leaves.images s.leaves.left_of o)
+    pub parts_saved : (contents : List (List ℕ)) → IsSaving e text (objects_with (with_rows rest s.leaves.images.contents) s.leaves.images.labels) (outcome_with answer contents)
+    parts_saved contents =
+        saving s.set (objects_with (with_rows rest s.leaves.images.contents) s.leaves.images.labels) contents s.ends_so s.says s.saves
+        (λ o. ap (λ (set : Left). objects_saved contents set o) s.leaves.is ∙ same_parts rest labels s.leaves.images s.leaves.left_of o)
 
-    -- of contents none of which is pending
-    pub whole_saved : IsRest rest → IsSaving e text (objects_with rest s.leaves.images.labels) (whole_outcome answer)
-    whole_saved is_rest =
-        saving s.set (objects_with rest s.leaves.images.labels) [] s.ends_so s.says s.saves
-        (λ o. ap (λ (set : Left). objects_saved [] set o) s.leaves.is ∙ same_objects picks rest is_rest labels s.leaves.images before after s.leaves.asked s.leaves.left_of o)
+  -- ---- with contents in memory or not
 
--- what is left of areas and contents is saved
-pub saved_with : {C : Type 0} (picks : C → ℕ → Bool → C → Type 0) (e : Ending) (text : List ℕ) (answer : Answer) (before after : C) (rest : Rest) (areas : List Area) (labels : List (Option Words))
-    → labels ≡ map words_of areas → SavesLeft picks e text (kind.Whole rest labels) answer before after → IsSavedWith e text rest areas rest.contents (whole_outcome answer)
-saved_with picks e text answer before after rest areas labels are s = record {
-  labels = s.leaves.images.labels;
-  kept = subst (λ (ls : List (Option Words)). Each IsLeftOf ls s.leaves.images.labels) are s.leaves.left_of.labels;
-  rows = s.leaves.images.contents;
-  left = s.leaves.left_of.contents;
-  saves = parts_saved picks e text answer before after rest labels s;
-}
+  pub fits_left : (beside : Beside) (labels : List (Option Words)) → SavesLeft picks e text (remains_of beside labels) answer before after → Fits beside answer
+  fits_left (beside.Copied rest) labels s = areas_sizes rest labels s
+  fits_left (beside.Whole rest) labels s = whole_copies rest labels s
+
+-- an answer that saves nothing fits
+pub fits_none : (beside : Beside) (answer : Answer) → answer.saved ≡ None → Fits beside answer
+fits_none (beside.Copied rest) answer none = no_sizes rest.sizes answer none
+fits_none (beside.Whole rest) answer none = copies_none answer none
 
 -- ---- one row
 
@@ -117,63 +111,74 @@ row_alone picks words row before after (first, rest, between, is, (row', is', le
     let one : row ≡ row' = (let e = is in let f = is' in cc) in
     subst (λ c. LeavesWords picks words row before c) (sym same) (subst (λ r. LeavesWords picks words r before between) (sym one) leaves)
 
--- ---- areas of which no word is looked at
+-- ---- label areas, and contents behind them
 
--- what the chooser leaves of areas is saved
-pub record CutAreas (leaves : ℕ → List (Option Words) → List (Option (List ℕ)) → Type 0) (rest : OutlineRest) (areas : List Area) (power : Power) (answer : Answer) : Type 0 where
-  pub rows : List (Option (List ℕ))
-  pub kept : AreLeft areas rows
-  pub asked : leaves power.seed (map words_of areas) rows
-  pub saves : (contents : List (List ℕ)) → IsSaving ending.PowerCut (cut_text power.steps) (objects_by rest contents rows) (outcome_with answer contents)
-  pub sizes : HasSizes rest.sizes answer
+contents_in_turn : {C : Type 0} (picks : C → ℕ → Bool → C → Type 0) (contents : List Words) (left : List (List ℕ)) (before after : C) → InTurn (LeavesWords picks) contents left before after
+    → InTurn (LeavesOption picks) (map (λ w. Some w) contents) (map (λ row. Some row) left) before after
+contents_in_turn picks [] left before after (none, same) = (ap (map (λ row. Some row)) none, same)
+contents_in_turn picks (w ∷ contents) left before after (row, rest, between, is, leaves, more) =
+    (Some row, map (λ r. Some r) rest, between, ap (map (λ r. Some r)) is, (row, refl, leaves), contents_in_turn picks contents rest between after more)
 
-pub cut_areas : {C : Type 0} (begins : C → ℕ → C → Type 0) (picks : C → ℕ → Bool → C → Type 0) (power : Power) (answer : Answer) (choose : C) (rest : OutlineRest) (labels : List (Option Words)) (areas : List Area)
-    → labels ≡ map words_of areas → AnswersCut begins picks power (kind.Areas rest labels) choose answer → CutAreas (LeavesBy begins picks choose) rest areas power answer
-cut_areas begins picks power answer choose rest labels areas are cut =
-    let s = cut.saved in
-    let rows = s.leaves.0.labels in
-    record {
-      rows = s.leaves.0.labels;
-      kept = subst (λ (ls : List (Option Words)). Each IsLeftOf ls rows) are s.leaves.2.left_of;
-      asked = subst (λ (ls : List (Option Words)). LeavesBy begins picks choose power.seed ls rows) are (cut.begun, cut.after, cut.begins_so, s.leaves.2.asked);
-      saves = areas_save picks ending.PowerCut (cut_text power.steps) answer cut.begun cut.after rest labels s;
-      sizes = areas_sizes picks ending.PowerCut (cut_text power.steps) answer cut.begun cut.after rest labels s;
-    }
+-- they are asked about in turn
+both_in_turn : {C : Type 0} (picks : C → ℕ → Bool → C → Type 0) (areas : List (Option Words)) (rows : List (Option (List ℕ))) (contents : List Words) (left : List (List ℕ)) (before between after : C)
+    → InTurn (LeavesOption picks) areas rows before between → InTurn (LeavesWords picks) contents left between after
+    → InTurn (LeavesOption picks) (areas ++ map (λ w. Some w) contents) (rows ++ map (λ row. Some row) left) before after
+both_in_turn picks [] rows contents left before between after (none, same) behind =
+    subst (λ (rs : List (Option (List ℕ))). InTurn (LeavesOption picks) (map (λ w. Some w) contents) (rs ++ map (λ row. Some row) left) before after) (sym none)
+    (contents_in_turn picks contents left before after (subst (λ c. InTurn (LeavesWords picks) contents left c after) same behind))
+both_in_turn picks (area ∷ areas) rows contents left before between after (row, rest, next, is, leaves, more) behind =
+    (row, rest ++ map (λ r. Some r) left, next, ap (λ rs. rs ++ map (λ r. Some r) left) is, leaves, both_in_turn picks areas rest contents left next between after more behind)
 
--- all that the areas keep is saved
-pub record DoneAreas (rest : OutlineRest) (areas : List Area) (answer : Answer) : Type 0 where
-  pub rows : List (Option (List ℕ))
-  pub kept : AreLeft areas rows
-  pub saves : (contents : List (List ℕ)) → IsSaving ending.Done done_text (objects_by rest contents rows) (outcome_with answer contents)
-  pub sizes : HasSizes rest.sizes answer
+-- ---- the answers of a command
 
-pub done_areas : {C : Type 0} (picks : C → ℕ → Bool → C → Type 0) (answer : Answer) (choose : C) (rest : OutlineRest) (labels : List (Option Words)) (areas : List Area)
-    → labels ≡ map words_of areas → AnswersDone picks (kind.Areas rest labels) choose answer → DoneAreas rest areas answer
-done_areas picks answer choose rest labels areas are done =
-    let s = done.saved in
-    let rows = s.leaves.0.labels in
-    record {
-      rows = s.leaves.0.labels;
-      kept = subst (λ (ls : List (Option Words)). Each IsLeftOf ls rows) are s.leaves.2.left_of;
-      saves = areas_save picks ending.Done done_text answer choose done.after rest labels s;
-      sizes = areas_sizes picks ending.Done done_text answer choose done.after rest labels s;
-    }
+module _ {C : Type 0} (begins : C → ℕ → C → Type 0) (picks : C → ℕ → Bool → C → Type 0) (power : Power) (choose : C) (answer : Answer) (areas : List Area) (contents : List (List ℕ)) where
+  pub done_saves : (beside : Beside) → AnswersDone picks (remains_of beside (map words_of areas)) choose answer → SavesDone (objects_left beside contents) areas (words_beside beside) (outcome_with answer contents)
+  done_saves (beside.Copied rest) done = record {
+    rows = done.saved.leaves.0.labels;
+    kept = done.saved.leaves.2.left_of;
+    contents_left = [];
+    left = refl;
+    saves = areas_save picks ending.Done done_text answer choose done.after rest (map words_of areas) done.saved contents;
+  }
+  done_saves (beside.Whole rest) done = record {
+    rows = done.saved.leaves.images.labels;
+    kept = done.saved.leaves.left_of.labels;
+    contents_left = done.saved.leaves.images.contents;
+    left = done.saved.leaves.left_of.contents;
+    saves = parts_saved picks ending.Done done_text answer choose done.after rest (map words_of areas) done.saved contents;
+  }
 
--- what the chooser leaves of the areas of a loaded set is saved, with all of its contents
-pub record CutWhole (leaves : ℕ → List (Option Words) → List (Option (List ℕ)) → Type 0) (rest : Rest) (areas : List Area) (power : Power) (answer : Answer) : Type 0 where
-  pub rows : List (Option (List ℕ))
-  pub kept : AreLeft areas rows
-  pub asked : leaves power.seed (map words_of areas) rows
-  pub saves : IsSaving ending.PowerCut (cut_text power.steps) (objects_with rest rows) (whole_outcome answer)
+  pub cut_saves : (beside : Beside) → AnswersCut begins picks power (remains_of beside (map words_of areas)) choose answer
+      → SavesCut (LeavesBy begins picks choose) (objects_left beside contents) power areas (words_beside beside) (outcome_with answer contents)
+  cut_saves (beside.Copied rest) cut = record {
+    rows = cut.saved.leaves.0.labels;
+    kept = cut.saved.leaves.2.left_of;
+    contents_left = [];
+    left = refl;
+    asked_first = (cut.begun, cut.after, cut.begins_so, cut.saved.leaves.2.asked);
+    asked = (cut.begun, cut.after, cut.begins_so, both_in_turn picks (map words_of areas) cut.saved.leaves.0.labels [] [] cut.begun cut.after cut.after cut.saved.leaves.2.asked (refl, refl));
+    saves = areas_save picks ending.PowerCut (cut_text power.steps) answer cut.begun cut.after rest (map words_of areas) cut.saved contents;
+  }
+  cut_saves (beside.Whole rest) cut = record {
+    rows = cut.saved.leaves.images.labels;
+    kept = cut.saved.leaves.left_of.labels;
+    contents_left = cut.saved.leaves.images.contents;
+    left = cut.saved.leaves.left_of.contents;
+    asked_first = (cut.begun, cut.saved.leaves.asked.between, cut.begins_so, cut.saved.leaves.asked.labels);
+    asked = (
+      cut.begun,
+      cut.after,
+      cut.begins_so,
+      both_in_turn picks (map words_of areas) cut.saved.leaves.images.labels rest.contents cut.saved.leaves.images.contents cut.begun cut.saved.leaves.asked.between cut.after cut.saved.leaves.asked.labels cut.saved.leaves.asked.contents,
+    );
+    saves = parts_saved picks ending.PowerCut (cut_text power.steps) answer cut.begun cut.after rest (map words_of areas) cut.saved contents;
+  }
 
-pub cut_whole : {C : Type 0} (begins : C → ℕ → C → Type 0) (picks : C → ℕ → Bool → C → Type 0) (power : Power) (answer : Answer) (choose : C) (rest : Rest) (labels : List (Option Words)) (areas : List Area)
-    → labels ≡ map words_of areas → IsRest rest → AnswersCut begins picks power (kind.Whole rest labels) choose answer → CutWhole (LeavesBy begins picks choose) rest areas power answer
-cut_whole begins picks power answer choose rest labels areas are is_rest cut =
-    let s = cut.saved in
-    let rows = s.leaves.images.labels in
-    record {
-      rows = s.leaves.images.labels;
-      kept = subst (λ (ls : List (Option Words)). Each IsLeftOf ls rows) are s.leaves.left_of.labels;
-      asked = subst (λ (ls : List (Option Words)). LeavesBy begins picks choose power.seed ls rows) are (cut.begun, s.leaves.asked.between, cut.begins_so, s.leaves.asked.labels);
-      saves = whole_saved picks ending.PowerCut (cut_text power.steps) answer cut.begun cut.after rest labels s is_rest;
-    }
+-- the objects of a set with other words in memory are told by what is left of these
+pub objects_with_words : (beside : Beside) (words : List Words) (contents : List (List ℕ)) → objects_left (with_words beside words) contents ≡ objects_left beside contents
+objects_with_words (beside.Copied rest) words contents = refl
+objects_with_words (beside.Whole rest) words contents = refl
+
+pub fits_with_words : (beside : Beside) (words : List Words) (answer : Answer) → Fits (with_words beside words) answer → Fits beside answer
+fits_with_words (beside.Copied rest) words answer fits = fits
+fits_with_words (beside.Whole rest) words answer fits = fits

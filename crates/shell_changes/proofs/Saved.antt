@@ -15,8 +15,7 @@ use Rattle.image_set.specs.Save.{set_of}
 use Rattle.image_set.specs.Changed.{IsSavable}
 use Rattle.image_set.proofs.Kept.{each_length}
 use Rattle.shell_changes.specs.declared.saving.Rest.{Rest}
-use Rattle.shell_changes.specs.Rest.{objects_with}
-use Rattle.shell_changes.specs.Parts.{with_rows}
+use Rattle.shell_changes.specs.Rest.{objects_with, with_rows}
 
 get_map : {A B : Type 0} (f : A → B) (xs : List A) (k : ℕ) (d : A) → get_or (map f xs) k (f d) ≡ f (get_or xs k d)
 get_map f [] k d = refl

@@ -1,55 +1,101 @@
--- Label areas that are changed, and the set that is saved then.
-use Rattle.std.specs.Prelude.{◌≡◌, ◌⊎◌, ℕ, Bool, true, false, List, map, Option, Some, None}
+-- Label areas and contents that are changed, and the set that is saved then.
+use Rattle.std.specs.Prelude.{◌≡◌, ◌⊎◌, ℕ, Bool, true, false, List, ◌++◌, map, Option, Some, None, Result, Err, is_ok}
 use Rattle.nvd_media.specs.Images.{Images}
-use Rattle.cut_words.specs.Words.{Words}
+use Rattle.cut_words.specs.Words.{Words, IsLeft}
+use Rattle.cut_words.specs.Fuses.{burnt, lasts}
 use Rattle.nfit_reader.specs.declared.table.Mapping.{Mapping}
+use Rattle.arena_open.specs.Format.{format_count}
+use Rattle.power_cut.specs.Left.{Each}
 use Rattle.namespace_areas.specs.declared.area.Area.{Area}
 use Rattle.namespace_map.specs.declared.commands.Command.{Command}
 use Rattle.namespace_map.specs.declared.refused.OpRefused.{OpRefused}
+use Rattle.namespace_map.specs.declared.refused.OpRefused.TheVariants.{PowerCut}
 use Rattle.namespace_map.specs.Areas.{Change}
 use Rattle.namespace_map.specs.Commands.{refusal_of}
 use Rattle.namespace_map.specs.Changes.{changes_of, recovery_changes}
 use Rattle.namespace_areas.specs.Seen.{AreLeft, areas_seen, words_of}
 use Rattle.namespace_areas.specs.Went.{Went}
+use Rattle.namespace_areas.specs.Refusals.{shown}
+use Rattle.sector_namespaces.specs.Creation.{IsFormattedIn}
 use Rattle.shell_reports.specs.declared.status.Ending.TheVariants as ending
 use Rattle.shell_reports.specs.declared.power.Power.{Power}
 use Rattle.shell_reports.specs.Outcome.{Outcome}
 use Rattle.shell_reports.specs.Saved.{IsSaving}
 use Rattle.shell_reports.specs.Cut.{cut_text, done_text}
-use Rattle.namespace_areas.specs.Refusals.{shown}
 use Rattle.shell_changes.specs.Refusals.{refused_outcome}
+use Rattle.shell_changes.specs.Work.{Arena, arena_of, count_of}
 
--- Areas as they became by changes, and the set that is saved with what is left of them: whole, or as the chooser leaves it. `objects`
--- are those of the set with these rows of words as its label areas.
-pub record GoesOn (leaves : ℕ → List (Option Words) → List (Option (List ℕ)) → Type 0) (objects : List (Option (List ℕ)) → Images) (power : Power) (areas : List Area) (fuse : Option ℕ) (changes : List Change) (outcome : Outcome) : Type 0 where
-  pub news : List Area
-  pub left : Option ℕ
-  pub whole : Bool
-  pub went : Went areas news fuse left changes whole
+-- ---- what is saved
+
+-- All is saved that these areas and contents keep. `objects` are those of the set with these rows of words as its label areas, and with
+-- these as its contents, if they are in memory.
+pub record SavesDone (objects : List (Option (List ℕ)) → List (List ℕ) → Images) (areas : List Area) (contents : List Words) (outcome : Outcome) : Type 0 where
   pub rows : List (Option (List ℕ))
-  pub kept : AreLeft news rows
-  pub done : whole ≡ true → IsSaving ending.Done done_text (objects rows) outcome
-  pub asked : whole ≡ false → leaves power.seed (map words_of news) rows
-  pub cut : whole ≡ false → IsSaving ending.PowerCut (cut_text power.steps) (objects rows) outcome
+  pub kept : AreLeft areas rows
+  pub contents_left : List (List ℕ)
+  pub left : Each IsLeft contents contents_left
+  pub saves : IsSaving ending.Done done_text (objects rows contents_left) outcome
+
+-- What the chooser leaves of areas and contents is saved.
+pub record SavesCut (leaves : ℕ → List (Option Words) → List (Option (List ℕ)) → Type 0) (objects : List (Option (List ℕ)) → List (List ℕ) → Images) (power : Power) (areas : List Area) (contents : List Words) (outcome : Outcome) : Type 0 where
+  pub rows : List (Option (List ℕ))
+  pub kept : AreLeft areas rows
+  pub contents_left : List (List ℕ)
+  pub left : Each IsLeft contents contents_left
+  -- it is asked about the areas first, and then about the contents
+  pub asked_first : leaves power.seed (map words_of areas) rows
+  pub asked : leaves power.seed (map words_of areas ++ map (λ words. Some words) contents) (rows ++ map (λ row. Some row) contents_left)
+  pub saves : IsSaving ending.PowerCut (cut_text power.steps) (objects rows contents_left) outcome
+
+-- ---- what a command does
+
+-- contents are as they were, unless an arena is formatted in them
+abbrev pub FormatsIn : Option Arena → List Words → List Words → Option ℕ → Type 0
+FormatsIn None contents contents' fuse = contents' ≡ contents
+FormatsIn (Some arena) contents contents' fuse =
+    IsFormattedIn arena.place arena.layout arena.uuid contents contents' fuse (burnt fuse (format_count arena.layout)) (lasts fuse (format_count arena.layout))
+
+-- an arena is formatted, if there is one, and then label changes are made, as far as the fuse lasts
+pub record Works (arena : Option Arena) (old new : List Area) (contents contents' : List Words) (fuse left : Option ℕ) (changes : List Change) (whole : Bool) : Type 0 where
+  pub formats : FormatsIn arena contents contents' fuse
+  -- where power was cut within the format no label area was touched
+  pub within : lasts fuse (count_of arena) ≡ false → (whole ≡ false) × (new ≡ old)
+  pub labels : lasts fuse (count_of arena) ≡ true → Went old new (burnt fuse (count_of arena)) left changes whole
+
+-- What became of areas, contents and a fuse by a command on their namespaces, and its reply.
+pub record Runs (sets : List (List Mapping)) (old new : List Area) (contents contents' : List Words) (fuse left : Option ℕ) (c : Command) (reply : Result (Unit {0}) OpRefused) : Type 0 where
+  pub refused : (f : OpRefused) → refusal_of (shown sets old) c ≡ Some f → (reply ≡ Err f) × (new ≡ old) × (contents' ≡ contents)
+  pub went : refusal_of (shown sets old) c ≡ None → Works (arena_of (shown sets old) c) old new contents contents' fuse left (changes_of (shown sets old) (areas_seen old) c) (is_ok reply)
+  -- a command that isn't refused has one error
+  pub cut : refusal_of (shown sets old) c ≡ None → (f : OpRefused) → reply ≡ Err f → f ≡ PowerCut
+
+-- ---- recovery, and then the command
 
 -- power was cut in recovery
-pub record StopsFirst (leaves : ℕ → List (Option Words) → List (Option (List ℕ)) → Type 0) (objects : List (Option (List ℕ)) → Images) (power : Power) (sets : List (List Mapping)) (areas : List Area) (outcome : Outcome) : Type 0 where
+pub record StopsFirst (leaves : ℕ → List (Option Words) → List (Option (List ℕ)) → Type 0) (objects : List (Option (List ℕ)) → List (List ℕ) → Images) (power : Power) (sets : List (List Mapping)) (areas : List Area) (contents : List Words) (outcome : Outcome) : Type 0 where
   pub news : List Area
   pub left : Option ℕ
   pub went : Went areas news power.steps left (recovery_changes sets (areas_seen areas)) false
-  pub rows : List (Option (List ℕ))
-  pub kept : AreLeft news rows
-  pub asked : leaves power.seed (map words_of news) rows
-  pub cut : IsSaving ending.PowerCut (cut_text power.steps) (objects rows) outcome
+  pub cut : SavesCut leaves objects power news contents outcome
+
+-- areas and contents as a command made them that isn't refused, and the set that is saved with them: whole, or as the chooser leaves it
+pub record GoesOn (leaves : ℕ → List (Option Words) → List (Option (List ℕ)) → Type 0) (objects : List (Option (List ℕ)) → List (List ℕ) → Images) (power : Power) (sets : List (List Mapping)) (areas : List Area) (contents : List Words) (fuse : Option ℕ) (c : Command) (outcome : Outcome) : Type 0 where
+  pub news : List Area
+  pub made : List Words
+  pub left : Option ℕ
+  pub whole : Bool
+  pub works : Works (arena_of (shown sets areas) c) areas news contents made fuse left (changes_of (shown sets areas) (areas_seen areas) c) whole
+  pub done : whole ≡ true → SavesDone objects news made outcome
+  pub cut : whole ≡ false → SavesCut leaves objects power news made outcome
 
 -- recovery was made, and then the command was refused or went on
-pub record GoesThen (leaves : ℕ → List (Option Words) → List (Option (List ℕ)) → Type 0) (objects : List (Option (List ℕ)) → Images) (power : Power) (sets : List (List Mapping)) (areas : List Area) (c : Command) (outcome : Outcome) : Type 0 where
+pub record GoesThen (leaves : ℕ → List (Option Words) → List (Option (List ℕ)) → Type 0) (objects : List (Option (List ℕ)) → List (List ℕ) → Images) (power : Power) (sets : List (List Mapping)) (areas : List Area) (contents : List Words) (c : Command) (outcome : Outcome) : Type 0 where
   pub mid : List Area
   pub left : Option ℕ
   pub first : Went areas mid power.steps left (recovery_changes sets (areas_seen areas)) true
   pub refused : (f : OpRefused) → refusal_of (shown sets mid) c ≡ Some f → outcome ≡ refused_outcome f
-  pub went : refusal_of (shown sets mid) c ≡ None → GoesOn leaves objects power mid left (changes_of (shown sets mid) (areas_seen mid) c) outcome
+  pub went : refusal_of (shown sets mid) c ≡ None → GoesOn leaves objects power sets mid contents left c outcome
 
 -- a command on areas over interleave sets, after recovery
-abbrev pub GoesFrom : (ℕ → List (Option Words) → List (Option (List ℕ)) → Type 0) → (List (Option (List ℕ)) → Images) → Power → List (List Mapping) → List Area → Command → Outcome → Type 0
-GoesFrom leaves objects power sets areas c outcome = StopsFirst leaves objects power sets areas outcome ⊎ GoesThen leaves objects power sets areas c outcome
+abbrev pub GoesFrom : (ℕ → List (Option Words) → List (Option (List ℕ)) → Type 0) → (List (Option (List ℕ)) → List (List ℕ) → Images) → Power → List (List Mapping) → List Area → List Words → Command → Outcome → Type 0
+GoesFrom leaves objects power sets areas contents c outcome = StopsFirst leaves objects power sets areas contents outcome ⊎ GoesThen leaves objects power sets areas contents c outcome

@@ -1,5 +1,5 @@
 -- The namespaces of an image set, and what `create`, `delete` and `rename` make of them: UEFI 2.10, section 13.19, with this project's rules.
-use Rattle.std.specs.Prelude.{◌≡◌, ⊤, ◌⊎◌, ℕ, ◌-◌, ◌<◌, ◌≤◌, Bool, false, List, Option, Some, None, Ok}
+use Rattle.std.specs.Prelude.{◌≡◌, ◌≢◌, ⊤, ◌⊎◌, ℕ, ◌+◌, ◌-◌, ◌<◌, ◌≤◌, Bool, true, false, List, Option, Some, None, Ok}
 use Rattle.nvd_media.specs.Images.{Images}
 use Rattle.cut_words.specs.Words.{Words}
 use Rattle.nfit_reader.specs.declared.table.Mapping.{Mapping}
@@ -8,7 +8,7 @@ use Rattle.nfit_reader.specs.Counted.{AreCounted}
 use Rattle.label_set.specs.declared.placed.SetStatus.TheVariants.{Complete}
 use Rattle.namespace_map.specs.Namespaces.{Entry, Namespaces, lookup}
 use Rattle.namespace_map.specs.declared.commands.Command.{Command}
-use Rattle.namespace_map.specs.declared.commands.Command.TheVariants.{Claim, Delete, Rename, Unclaim}
+use Rattle.namespace_map.specs.declared.commands.Command.TheVariants.{Claim, Create, Delete, Rename, Unclaim}
 use Rattle.namespace_map.specs.Areas.{Area, after_steps, steps_of_all}
 use Rattle.namespace_map.specs.Commands.{done, recovered}
 use Rattle.namespace_map.specs.Changes.{changes_of, namespaces_of, recovered_areas, recovery_changes}
@@ -18,7 +18,9 @@ use Rattle.shell_reports.specs.declared.status.Ending.TheVariants as ending
 use Rattle.shell_reports.specs.declared.power.Power.{Power}
 use Rattle.shell_reports.specs.Outcome.{Outcome}
 use Rattle.shell_changes.specs.Areas.{HasAreas, areas_in}
-use Rattle.shell_changes.specs.Namespaces.{CommandComes, refusal_in, sets_in}
+use Rattle.shell_changes.specs.Namespaces.{ChangeComes, refusal_in, sets_in}
+use Rattle.shell_changes.specs.Words.{makes_sectors}
+use Rattle.shell_changes.specs.Work.{arena_of, count_of}
 
 -- ---- the map of an image set
 
@@ -26,12 +28,19 @@ use Rattle.shell_changes.specs.Namespaces.{CommandComes, refusal_in, sets_in}
 abbrev pub map_of : List (List Mapping) → ImageSet → Namespaces
 map_of sets loaded = namespaces_of sets (areas_in loaded.labels)
 
--- A set is saved that has these namespaces, and is the one that was loaded but for its label areas.
-pub record SavesMap (sets : List (List Mapping)) (loaded : ImageSet) (ns : Namespaces) (outcome : Outcome) : Type 0 where
+-- an image set with other contents
+abbrev pub with_bytes : ImageSet → List (List ℕ) → ImageSet
+with_bytes set contents = record { nfit = set.nfit; nfit_bytes = set.nfit_bytes; labels = set.labels; contents = contents; bad = set.bad }
+
+-- A set is saved that has these namespaces, and is the one that was loaded but for its label areas, and for its contents if an arena
+-- was formatted in them: what these then are the relation says (`AreFormatted`).
+pub record SavesMap (sets : List (List Mapping)) (loaded : ImageSet) (formats : Bool) (ns : Namespaces) (outcome : Outcome) : Type 0 where
   pub set : Images
   pub saved : outcome.saved ≡ Some set
+  pub contents : List (List ℕ)
+  pub kept : formats ≡ false → contents ≡ loaded.contents
   pub areas : List (Option Area)
-  pub has : HasAreas loaded areas set
+  pub has : HasAreas (with_bytes loaded contents) areas set
   pub map : namespaces_of sets areas ≡ ns
 
 -- ---- laws
@@ -51,9 +60,11 @@ ChangesLabels c = ⊤
 abbrev pub AcceptedIsApart : Type 0
 AcceptedIsApart = (loaded : ImageSet) (sets : List (List Mapping)) → sets_in loaded ≡ Ok sets → EntriesApart (map_of sets loaded)
 
--- what recovery makes of a set, and then a command that isn't refused, to its end or as far as a crash lets it
+-- what recovery makes of a set, and then a command that isn't refused: each to its end, or as far as a crash lets it
 pub record StaysApart (sets : List (List Mapping)) (loaded : ImageSet) (c : Command) : Type 0 where
   pub after_recovery : EntriesApart (recovered (map_of sets loaded))
+  -- within recovery, after any number of its steps
+  pub in_recovery : (n : ℕ) (stays : Bool) → EntriesApart (namespaces_of sets (after_steps (areas_in loaded.labels) (recovery_changes sets (areas_in loaded.labels)) n stays))
   pub after_command : refusal_in sets (areas_in loaded.labels) c ≡ None → EntriesApart (done (recovered (map_of sets loaded)) c)
   pub after_crash : refusal_in sets (areas_in loaded.labels) c ≡ None → (n : ℕ) (stays : Bool) → let areas = recovered_areas sets (areas_in loaded.labels) in
       EntriesApart (namespaces_of sets (after_steps areas (changes_of (namespaces_of sets areas) areas c) n stays))
@@ -62,10 +73,10 @@ pub record StaysApart (sets : List (List Mapping)) (loaded : ImageSet) (c : Comm
 abbrev pub ChangesKeepApart : Type 0
 ChangesKeepApart = (c : Command) (loaded : ImageSet) (sets : List (List Mapping)) → ChangesLabels c → HasTable loaded → sets_in loaded ≡ Ok sets → StaysApart sets loaded c
 
--- a law: after a command that was carried out the namespaces are the command applied to those after recovery, and all else is as it was
+-- a law: after a command that was carried out the namespaces are the command applied to those after recovery
 abbrev pub DoneIsTheCommand : (ℕ → List (Option Words) → List (Option (List ℕ)) → Type 0) → Type 0
 DoneIsTheCommand leaves = (c : Command) (power : Power) (loaded : ImageSet) (sets : List (List Mapping)) (outcome : Outcome) → ChangesLabels c → HasTable loaded → sets_in loaded ≡ Ok sets
-    → CommandComes leaves c power loaded outcome → outcome.ending ≡ ending.Done → SavesMap sets loaded (done (recovered (map_of sets loaded)) c) outcome
+    → ChangeComes leaves c power loaded outcome → outcome.ending ≡ ending.Done → SavesMap sets loaded (makes_sectors c) (done (recovered (map_of sets loaded)) c) outcome
 
 -- ---- after a crash
 
@@ -73,21 +84,38 @@ DoneIsTheCommand leaves = (c : Command) (power : Power) (loaded : ImageSet) (set
 abbrev pub CutInRecovery : List (List Mapping) → ImageSet → ℕ → Outcome → Type 0
 CutInRecovery sets loaded n outcome =
     let areas = areas_in loaded.labels in
-    (stays : Bool) × SavesMap sets loaded (namespaces_of sets (after_steps areas (recovery_changes sets areas) n stays)) outcome
+    (stays : Bool) × SavesMap sets loaded false (namespaces_of sets (after_steps areas (recovery_changes sets areas) n stays)) outcome
 
--- after n steps of a command that isn't refused, on the areas that recovery has made
+-- in the format of an arena: the namespaces are those that recovery has made
+abbrev pub CutInFormat : List (List Mapping) → ImageSet → Outcome → Type 0
+CutInFormat sets loaded outcome = SavesMap sets loaded true (namespaces_of sets (recovered_areas sets (areas_in loaded.labels))) outcome
+
+-- after n label steps of a command that isn't refused, on the areas that recovery has made
 abbrev pub CutInCommand : List (List Mapping) → ImageSet → Command → ℕ → Outcome → Type 0
 CutInCommand sets loaded c n outcome =
     let areas = recovered_areas sets (areas_in loaded.labels) in
-    (stays : Bool) × SavesMap sets loaded (namespaces_of sets (after_steps areas (changes_of (namespaces_of sets areas) areas c) n stays)) outcome
+    (stays : Bool) × SavesMap sets loaded (makes_sectors c) (namespaces_of sets (after_steps areas (changes_of (namespaces_of sets areas) areas c) n stays)) outcome
 
--- a law: a crash comes in recovery, or with recovery made in the command, after the steps that recovery left
+-- the steps of recovery, and those of a format
+abbrev pub recovery_steps : List (List Mapping) → ImageSet → ℕ
+recovery_steps sets loaded = steps_of_all (areas_in loaded.labels) (recovery_changes sets (areas_in loaded.labels))
+
+abbrev pub format_steps_of : List (List Mapping) → ImageSet → Command → ℕ
+format_steps_of sets loaded c = count_of (arena_of (namespaces_of sets (recovered_areas sets (areas_in loaded.labels))) c)
+
+-- where a crash comes after n steps: in recovery; or, with recovery made, in the format of an arena; or in the command's label changes
+-- behind both
+abbrev pub IsCutIn : List (List Mapping) → ImageSet → Command → ℕ → Outcome → Type 0
+IsCutIn sets loaded c n outcome =
+    let first = recovery_steps sets loaded in let format = format_steps_of sets loaded c in let allowed = refusal_in sets (areas_in loaded.labels) c ≡ None in
+    ((n < first) × CutInRecovery sets loaded n outcome)
+    ⊎ ((first ≤ n) × (n < first + format) × allowed × CutInFormat sets loaded outcome)
+    ⊎ ((first + format ≤ n) × allowed × CutInCommand sets loaded c (n - first - format) outcome)
+
+-- a law: it comes in one of them
 abbrev pub CrashIsInEither : (ℕ → List (Option Words) → List (Option (List ℕ)) → Type 0) → Type 0
 CrashIsInEither leaves = (c : Command) (power : Power) (loaded : ImageSet) (sets : List (List Mapping)) (outcome : Outcome) (n : ℕ) → power.steps ≡ Some n → sets_in loaded ≡ Ok sets
-    → CommandComes leaves c power loaded outcome → outcome.ending ≡ ending.PowerCut
-    → let areas = areas_in loaded.labels in let first = steps_of_all areas (recovery_changes sets areas) in
-    ((n < first) × CutInRecovery sets loaded n outcome)
-    ⊎ ((first ≤ n) × (refusal_in sets areas c ≡ None) × CutInCommand sets loaded c (n - first) outcome)
+    → ChangeComes leaves c power loaded outcome → outcome.ending ≡ ending.PowerCut → IsCutIn sets loaded c n outcome
 
 -- the namespace of a delete or rename isn't pending
 abbrev pub IsSettled : Namespaces → Command → Type 0
@@ -99,6 +127,22 @@ IsSettled ns c = ⊤
 -- delete or rename, if its namespace isn't pending once recovery is made
 abbrev pub CrashRecovers : (ℕ → List (Option Words) → List (Option (List ℕ)) → Type 0) → Type 0
 CrashRecovers leaves = (c : Command) (power : Power) (loaded : ImageSet) (sets : List (List Mapping)) (outcome : Outcome) → ChangesLabels c → HasTable loaded → sets_in loaded ≡ Ok sets
-    → IsSettled (recovered (map_of sets loaded)) c → CommandComes leaves c power loaded outcome → outcome.ending ≡ ending.PowerCut
+    → IsSettled (recovered (map_of sets loaded)) c → ChangeComes leaves c power loaded outcome → outcome.ending ≡ ending.PowerCut
     → let before = recovered (map_of sets loaded) in
-    (ns : Namespaces) × SavesMap sets loaded ns outcome × ((recovered ns ≡ before) ⊎ (recovered ns ≡ recovered (done before c)))
+    (ns : Namespaces) × SavesMap sets loaded (makes_sectors c) ns outcome × ((recovered ns ≡ before) ⊎ (recovered ns ≡ recovered (done before c)))
+
+-- the UUID of the namespace that a command is about
+abbrev pub uuid_of : Command → List ℕ
+uuid_of (Create spec) = spec.uuid
+uuid_of (Delete uuid) = uuid
+uuid_of (Rename uuid name) = uuid
+uuid_of (Claim uuid) = uuid
+uuid_of (Unclaim uuid) = uuid
+
+-- a law: if power lasts for recovery, a crash leaves every other namespace as recovery made it, and all of them apart, also where the
+-- command's own was pending then
+abbrev pub CrashLeavesOthers : (ℕ → List (Option Words) → List (Option (List ℕ)) → Type 0) → Type 0
+CrashLeavesOthers leaves = (c : Command) (power : Power) (loaded : ImageSet) (sets : List (List Mapping)) (outcome : Outcome) (n : ℕ) → power.steps ≡ Some n → ChangesLabels c → HasTable loaded → sets_in loaded ≡ Ok sets
+    → ChangeComes leaves c power loaded outcome → outcome.ending ≡ ending.PowerCut → recovery_steps sets loaded ≤ n
+    → (ns : Namespaces) × SavesMap sets loaded (makes_sectors c) ns outcome × EntriesApart ns
+    × ((other : List ℕ) → other ≢ uuid_of c → lookup other ns.entries ≡ lookup other (recovered (map_of sets loaded)).entries)

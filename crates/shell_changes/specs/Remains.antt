@@ -14,15 +14,22 @@ use Rattle.shell_changes.specs.declared.answer.Left.{Left}
 use Rattle.shell_changes.specs.declared.answer.Left.TheVariants.{Whole, Copied}
 use Rattle.shell_changes.specs.declared.saving.Remains.{Remains}
 use Rattle.shell_changes.specs.declared.saving.Remains.TheVariants as kind
+use Rattle.shell_changes.specs.declared.saving.Beside.{Beside}
+use Rattle.shell_changes.specs.declared.saving.Beside.TheVariants as beside
 use Rattle.shell_changes.specs.declared.saving.Rest.{Rest}
 
 -- ---- chosen
 
--- What a cut leaves of label areas, by a chooser that is begun from a seed and asked for each pending word, area by area, rising.
+-- What a cut leaves of rows of words, by a chooser that is begun from a seed and asked for each pending word, row by row.
 abbrev pub LeavesBy : {C : Type 0} → (C → ℕ → C → Type 0) → (C → ℕ → Bool → C → Type 0) → C → ℕ → List (Option Words) → List (Option (List ℕ)) → Type 0
 LeavesBy {C} begins picks choose seed areas rows = (begun after : C) × begins choose seed begun × InTurn (LeavesOption picks) areas rows begun after
 
 -- ---- what is left of what remains
+
+-- what remains of a set with these label areas
+abbrev pub remains_of : Beside → List (Option Words) → Remains
+remains_of (beside.Copied rest) labels = kind.Areas rest labels
+remains_of (beside.Whole rest) labels = kind.Whole rest labels
 
 -- there is one of each for each module
 pub record IsWholeRest (rest : Rest) (labels : List (Option Words)) : Type 0 where

@@ -1,73 +1,78 @@
 //! The commands `create`, `delete` and `rename`: recovery first, then the command, and what is saved then.
-ghost use Rattle.std.specs.Prelude.{◌≡◌, ◌<◌, ◌^◌, ℕ, false, List, Some, None, IfOk, length, map};
-ghost use Rattle.image_set.specs.Outline.{IsOutlined, IsOutlineRest, image_set_with};
+ghost use Rattle.std.specs.Prelude.{◌≡◌, ◌≢◌, true, false, ℕ, List, Some, None, Ok, Err, IfOk, map};
 ghost use Rattle.namespace_map.specs.declared.refused.OpRefused.{OpRefused as Refused};
-ghost use Rattle.namespace_map.specs.Changes.{changes_of};
 ghost use Rattle.namespace_map.specs.Commands.{refusal_of};
-ghost use Rattle.namespace_areas.specs.Seen.{AreHeld, areas_seen, words_of};
 ghost use Rattle.namespace_map.specs.Left.{AreRegions};
+ghost use Rattle.namespace_areas.specs.Seen.{AreHeld, words_of};
 ghost use Rattle.namespace_areas.specs.Refusals.{shown};
 ghost use Rattle.namespace_ops.specs.Carried.{HasGoodName};
-ghost use Rattle.shell_changes.specs.Answers.{HasSizes, outcome_with};
+ghost use Rattle.shell_changes.specs.Answers.{Fits, FitsRead, outcome_with};
 ghost use Rattle.shell_changes.specs.Going.{GoesFrom, GoesOn};
-ghost use Rattle.shell_changes.specs.Changes.{ChangeComes};
+ghost use Rattle.shell_changes.specs.Namespaces.{ChangeComes};
+ghost use Rattle.shell_changes.specs.Reading.{CanRun, IsParted, IsRead, reads_contents, set_parted, set_read};
 ghost use Rattle.shell_changes.specs.Refusals.{refused_outcome};
-ghost use Rattle.shell_changes.specs.Remains.{AnswersCut, LeavesBy};
-ghost use Rattle.shell_changes.specs.Rest.{objects_by};
+ghost use Rattle.shell_changes.specs.Remains.{AnswersCut, AnswersDone, CanLeave, LeavesBy, remains_of};
+ghost use Rattle.shell_changes.specs.Rest.{is_whole, objects_left, words_beside};
 ghost use Rattle.shell_changes.specs.Words.{makes_sectors};
 
 use crate::answer::Answer;
 use crate::refusals::{faulty_answer, refusing_answer};
-use crate::saving::{Remains, cut_answer, done_answer};
-use cut_words::{Fuse, PowerCut};
-use image_set::{Outline, OutlineRest};
+use crate::running::{Ran, run_command};
+use crate::saving::{Beside, Rest, cut_answer, done_answer, remaining};
+use cut_words::{CutWords, Fuse, PowerCut};
+use image_set::{Loaded, Outline, OutlineRest};
 use namespace_areas::{Area, into_words, open_areas};
-use namespace_map::Command;
-use namespace_ops::{Holding, NamespaceRegistry, Opening, Registry, Tag};
+use namespace_map::{Command, OpRefused};
+use namespace_ops::{Holding, Registry};
+use nfit_reader::Nfit;
 use nvd_media::Chooser;
+use nvd_words::Items;
+use sector_namespaces::loaded_sets_are_usable;
 use shell_reports::{Power, fuse_of};
 use std::alloc::{AllocError, Global};
-use std::marker::Brand;
 
-/// The tag of the one command of a command line.
-const TAG: Tag = Tag {
-    session: 0,
-    call: 0,
-};
+/// An image set as it was read for a command on namespaces.
+#[derive(Drop)]
+pub enum SetRead {
+    /// Without its contents, which labels alone don't need.
+    Outline(Outline),
+    /// With its contents, in which a command that makes sectors formats an arena.
+    Whole(Loaded),
+}
 
-/// The answer to a command on what is held, under a fuse. It is the first and last entry of a registry's journal.
-fn command_answer<O: Opening, C: Chooser>(
+/// Whether a refusal says that power was cut.
+fn is_cut(refused: OpRefused) -> bool
+    ensures cut { result ≡ true → refused ≡ OpRefused.PowerCut }
+    ensures not_cut { result ≡ false → refused ≢ OpRefused.PowerCut }
+{
+    matches!(refused, OpRefused::PowerCut)
+}
+
+/// The answer to a command that ran, by its reply.
+fn reply_answer<C: Chooser>(
     alloc: Global,
-    holding: Holding,
-    fuse: Fuse,
-    change: &Command,
+    ran: Ran,
     power: Power,
-    rest: OutlineRest,
     choose: &mut C,
 ) -> Result<Answer, AllocError>
-    requires running { holding.stopped ≡ false }
-    requires few_sets { length holding.sets < 2 ^ 32 }
-    requires sets { O.sets ≡ holding.sets }
-    requires areas { O.areas ≡ areas_seen holding.areas }
-    requires name { HasGoodName change.now }
-    requires rest { IsOutlineRest rest }
-    requires count { length holding.areas ≡ length rest.sizes }
-    ensures refused { IfOk result (λ answer. (contents : List (List ℕ)) (f : Refused) → refusal_of (shown holding.sets holding.areas) change.now ≡ Some f → outcome_with answer contents ≡ refused_outcome f) }
-    ensures went { IfOk result (λ answer. (contents : List (List ℕ)) → refusal_of (shown holding.sets holding.areas) change.now ≡ None
-        → GoesOn (LeavesBy C.begins C.picks choose.old) (objects_by rest contents) power holding.areas fuse (changes_of (shown holding.sets holding.areas) (areas_seen holding.areas) change.now) (outcome_with answer contents)) }
-    ensures sizes { IfOk result (HasSizes rest.sizes) }
+    requires can { CanLeave (remains_of ran.beside (map words_of ran.areas.items)) }
+    ensures done { IfOk result (λ answer. ran.reply ≡ Ok tt → AnswersDone C.picks (remains_of ran.beside (map words_of ran.areas.items)) choose.old answer) }
+    ensures cut { IfOk result (λ answer. ran.reply ≡ Err OpRefused.PowerCut → AnswersCut C.begins C.picks power (remains_of ran.beside (map words_of ran.areas.items)) choose.old answer) }
+    ensures refused { IfOk result (λ answer. (f : Refused) → ran.reply ≡ Err f → f ≢ OpRefused.PowerCut → (contents : List (List ℕ)) → outcome_with answer contents ≡ refused_outcome f) }
+    ensures fits { IfOk result (Fits ran.beside) }
 {
-    let mut fuse = fuse;
-    let mut registry = NamespaceRegistry::<O>::of(alloc, holding);
-    registry.reserve(alloc, &[1])?;
-    let reply = registry.carry_out(alloc, &mut fuse, TAG, change);
-    let is_cut = registry.is_stopped();
-    let labels = into_words(alloc, registry.into_areas())?;
+    let Ran {
+        areas,
+        beside,
+        reply,
+    } = ran;
+    let labels = into_words(alloc, areas)?;
+    let remains = remaining(beside, labels);
     match reply {
-        Ok(()) => done_answer(alloc, Remains::Areas(rest, labels), choose),
+        Ok(()) => done_answer(alloc, remains, choose),
         Err(refused) => {
-            if is_cut {
-                cut_answer(alloc, power, Remains::Areas(rest, labels), choose)
+            if is_cut(refused) {
+                cut_answer(alloc, power, remains, choose)
             } else {
                 refusing_answer(alloc, refused)
             }
@@ -75,20 +80,43 @@ fn command_answer<O: Opening, C: Chooser>(
     }
 }
 
+/// The answer to a command on what is held, under a fuse.
+fn command_answer<C: Chooser>(
+    alloc: Global,
+    holding: Holding,
+    fuse: Fuse,
+    change: &Command,
+    power: Power,
+    beside: Beside,
+    choose: &mut C,
+) -> Result<Answer, AllocError>
+    requires running { holding.stopped ≡ false }
+    requires run { CanRun holding.sets holding.areas beside change.now }
+    ensures refused { IfOk result (λ answer. (contents : List (List ℕ)) (f : Refused) → refusal_of (shown holding.sets holding.areas) change.now ≡ Some f → outcome_with answer contents ≡ refused_outcome f) }
+    ensures went { IfOk result (λ answer. (contents : List (List ℕ)) → refusal_of (shown holding.sets holding.areas) change.now ≡ None
+        → GoesOn (LeavesBy C.begins C.picks choose.old) (objects_left beside contents) power holding.sets holding.areas (words_beside beside) fuse change.now (outcome_with answer contents)) }
+    ensures fits { IfOk result (Fits beside) }
+{
+    let mut fuse = fuse;
+    let ran = run_command(alloc, holding, &mut fuse, change, beside)?;
+    reply_answer(alloc, ran, power, choose)
+}
+
 /// The answer where power was cut in recovery, with what the cut leaves of the label areas as they then are.
 fn stopped_answer<C: Chooser>(
     alloc: Global,
     power: Power,
-    rest: OutlineRest,
+    beside: Beside,
     areas: Vec<Area>,
     choose: &mut C,
 ) -> Result<Answer, AllocError>
-    requires rest { IsOutlineRest rest }
-    requires count { length areas.items ≡ length rest.sizes }
-    ensures { IfOk result (AnswersCut C.begins C.picks power (Remains.Areas rest (map words_of areas.items)) choose.old) }
+    requires can { CanLeave (remains_of beside (map words_of areas.items)) }
+    ensures cut { IfOk result (AnswersCut C.begins C.picks power (remains_of beside (map words_of areas.items)) choose.old) }
+    ensures fits { IfOk result (Fits beside) }
 {
     let labels = into_words(alloc, areas)?;
-    cut_answer(alloc, power, Remains::Areas(rest, labels), choose)
+    let remains = remaining(beside, labels);
+    cut_answer(alloc, power, remains, choose)
 }
 
 /// The answer to a command on a registry that is opened: recovery first.
@@ -97,45 +125,60 @@ fn opened_answer<C: Chooser>(
     registry: Registry,
     change: &Command,
     power: Power,
-    rest: OutlineRest,
+    beside: Beside,
     choose: &mut C,
 ) -> Result<Answer, AllocError>
-    requires few_sets { length registry.sets < 2 ^ 32 }
     requires regions { AreRegions registry.sets }
     requires held { AreHeld registry.areas }
-    requires name { HasGoodName change.now }
-    requires rest { IsOutlineRest rest }
-    requires count { length registry.areas ≡ length rest.sizes }
-    ensures comes { IfOk result (λ answer. (contents : List (List ℕ)) → GoesFrom (LeavesBy C.begins C.picks choose.old) (objects_by rest contents) power registry.sets registry.areas change.now (outcome_with answer contents)) }
-    ensures sizes { IfOk result (HasSizes rest.sizes) }
+    requires run { CanRun registry.sets registry.areas beside change.now }
+    ensures comes { IfOk result (λ answer. (contents : List (List ℕ))
+        → GoesFrom (LeavesBy C.begins C.picks choose.old) (objects_left beside contents) power registry.sets registry.areas (words_beside beside) change.now (outcome_with answer contents)) }
+    ensures fits { IfOk result (Fits beside) }
 {
     let mut holding = Holding::of(alloc, registry)?;
     let mut fuse = fuse_of(power);
     match holding.recover(&mut fuse) {
-        Ok(()) => command_answer::<Brand, C>(alloc, holding, fuse, change, power, rest, choose),
-        Err(PowerCut) => stopped_answer(alloc, power, rest, holding.into_areas(), choose),
+        Ok(()) => command_answer(alloc, holding, fuse, change, power, beside, choose),
+        Err(PowerCut) => stopped_answer(alloc, power, beside, holding.into_areas(), choose),
     }
 }
 
-/// The answer of `create`, `delete` or `rename` on an image set: `ok` and the set with the changes of recovery and of the
-/// command, `cut N` and what a power cut after N steps of these leaves of it, or the first reason for which the command
-/// is refused once recovery has made its changes, which saves nothing; or the first region that is no interleave set, or
-/// the least two UUIDs of which extents meet. The set was loaded but for its contents, so each of its label areas has a
-/// label area's size, and it is saved with whatever contents it has. Where power is cut the chooser is begun once, and
-/// asked area by area. The command makes no namespace of sectors: that takes more than labels.
-/// (UEFI 2.10, section 13.19; the refusals, the order of the changes and recovery are this project's rules.)
-pub fn change_answer<C: Chooser>(
+/// The answer to a command on a set of which this is the table's meaning, these are the label areas, and this is the rest.
+fn parted_answer<C: Chooser>(
+    alloc: Global,
+    nfit: Nfit,
+    labels: Items<Option<CutWords>>,
+    change: &Command,
+    power: Power,
+    beside: Beside,
+    choose: &mut C,
+) -> Result<Answer, AllocError>
+    requires parted { IsParted nfit labels beside }
+    requires name { HasGoodName change.now }
+    requires whole { makes_sectors change.now ≡ is_whole beside }
+    ensures comes { IfOk result (λ answer. (contents : List (List ℕ)) → ChangeComes (LeavesBy C.begins C.picks choose.old) change.now power (set_parted nfit labels beside contents) (outcome_with answer contents)) }
+    ensures fits { IfOk result (Fits beside) }
+{
+    let areas = open_areas(alloc, labels)?;
+    match Registry::open_all(alloc, nfit, areas) {
+        Ok(registry) => opened_answer(alloc, registry, change, power, beside, choose),
+        Err(fault) => faulty_answer(alloc, fault),
+    }
+}
+
+/// The answer to a command on labels alone.
+fn outline_answer<C: Chooser>(
     alloc: Global,
     change: &Command,
     power: Power,
     outline: Outline,
     choose: &mut C,
 ) -> Result<Answer, AllocError>
-    requires sound { IsOutlined outline }
+    requires read { IsRead (SetRead.Outline outline) }
     requires name { HasGoodName change.now }
-    requires plain { makes_sectors change.now ≡ false }
-    ensures comes { IfOk result (λ answer. (contents : List (List ℕ)) → ChangeComes (LeavesBy C.begins C.picks choose.old) change.now power (image_set_with outline contents) (outcome_with answer contents)) }
-    ensures sizes { IfOk result (HasSizes outline.sizes) }
+    requires whole { makes_sectors change.now ≡ reads_contents (SetRead.Outline outline) }
+    ensures comes { IfOk result (λ answer. (contents : List (List ℕ)) → ChangeComes (LeavesBy C.begins C.picks choose.old) change.now power (set_read (SetRead.Outline outline) contents) (outcome_with answer contents)) }
+    ensures fits { IfOk result (FitsRead (SetRead.Outline outline)) }
 {
     let Outline {
         nfit,
@@ -149,9 +192,80 @@ pub fn change_answer<C: Chooser>(
         sizes,
         bad,
     };
-    let areas = open_areas(alloc, labels)?;
-    match Registry::open_all(alloc, nfit, areas) {
-        Ok(registry) => opened_answer(alloc, registry, change, power, rest, choose),
-        Err(fault) => faulty_answer(alloc, fault),
+    parted_answer(
+        alloc,
+        nfit,
+        labels,
+        change,
+        power,
+        Beside::Copied(rest),
+        choose,
+    )
+}
+
+/// The answer to a command that needs contents.
+fn whole_answer<C: Chooser>(
+    alloc: Global,
+    change: &Command,
+    power: Power,
+    loaded: Loaded,
+    choose: &mut C,
+) -> Result<Answer, AllocError>
+    requires read { IsRead (SetRead.Whole loaded) }
+    requires name { HasGoodName change.now }
+    requires whole { makes_sectors change.now ≡ reads_contents (SetRead.Whole loaded) }
+    ensures comes { IfOk result (λ answer. (contents : List (List ℕ)) → ChangeComes (LeavesBy C.begins C.picks choose.old) change.now power (set_read (SetRead.Whole loaded) contents) (outcome_with answer contents)) }
+    ensures fits { IfOk result (FitsRead (SetRead.Whole loaded)) }
+{
+    loaded_sets_are_usable();
+    let Loaded {
+        nfit,
+        nfit_bytes,
+        labels,
+        contents,
+        bad,
+    } = loaded;
+    let rest = Rest {
+        nfit_bytes,
+        contents,
+        bad,
+    };
+    parted_answer(
+        alloc,
+        nfit,
+        labels,
+        change,
+        power,
+        Beside::Whole(rest),
+        choose,
+    )
+}
+
+/// The answer of `create`, `delete` or `rename` on an image set: `ok` and the set with the changes of recovery and of the
+/// command; `cut N` and what a power cut after N steps of these leaves of it; or the first reason for which the command
+/// is refused once recovery has made its changes, which saves nothing; or the first region that is no interleave set, or
+/// the least two UUIDs of which extents meet. A command that makes sectors formats an arena in the contents, between
+/// recovery and its labels; contents outside the namespace's extents are saved as they were read. All work burns one fuse.
+/// If power is cut the chooser is begun once, and asked about the label areas by module and then about the contents.
+/// (UEFI 2.10, sections 6.2 and 13.19; the refusals, the order of the work and recovery are this project's rules.)
+///
+/// The set was read, with its contents exactly if the command makes sectors. Without them it is saved with whatever contents
+/// it has. A name that the command gives has no zero byte. The one error is out of memory.
+pub fn change_answer<C: Chooser>(
+    alloc: Global,
+    change: &Command,
+    power: Power,
+    set: SetRead,
+    choose: &mut C,
+) -> Result<Answer, AllocError>
+    requires read { IsRead set }
+    requires name { HasGoodName change.now }
+    requires whole { makes_sectors change.now ≡ reads_contents set }
+    ensures comes { IfOk result (λ answer. (contents : List (List ℕ)) → ChangeComes (LeavesBy C.begins C.picks choose.old) change.now power (set_read set contents) (outcome_with answer contents)) }
+    ensures fits { IfOk result (FitsRead set) }
+{
+    match set {
+        SetRead::Outline(outline) => outline_answer(alloc, change, power, outline, choose),
+        SetRead::Whole(loaded) => whole_answer(alloc, change, power, loaded, choose),
     }
 }

@@ -1,5 +1,5 @@
 //! Laws about what the commands on namespaces come to. Each is a function that does nothing; what it ensures is the law.
-ghost use Rattle.shell_changes.specs.Maps.{AcceptedIsApart, ChangesKeepApart, CrashIsInEither, CrashRecovers, DoneIsTheCommand};
+ghost use Rattle.shell_changes.specs.Maps.{AcceptedIsApart, ChangesKeepApart, CrashIsInEither, CrashLeavesOthers, CrashRecovers, DoneIsTheCommand};
 ghost use Rattle.shell_changes.specs.Remains.{LeavesBy};
 
 use nvd_media::Chooser;
@@ -9,28 +9,38 @@ pub fn accepted_is_apart()
     ensures { AcceptedIsApart }
 {}
 
-/// A law: recovery of accepted images keeps the namespaces apart, and so does a command that isn't refused: carried out,
-/// or cut after any number of its steps.
+/// A law: recovery of accepted images keeps the namespaces apart, and so does a `create` of either mode, a `delete` or a
+/// `rename` that isn't refused: carried out to their end, or cut after any number of their label steps.
 pub fn changes_keep_apart()
     ensures { ChangesKeepApart }
 {}
 
-/// A law: after `create`, `delete` or `rename` with status 0 the namespaces of the saved set are the command applied to
-/// those that recovery makes of the set that was loaded (`done`, `recovered`). All else is as it was loaded.
+/// A law: after a `create` of either mode, a `delete` or a `rename` with status 0 the namespaces of the saved set are the
+/// command applied to those that recovery makes of the set that was loaded (`done`, `recovered`). All else is as it was
+/// loaded, but for the contents in which a `create --mode sector` formats its arena.
 pub fn done_is_the_command<C: Chooser>(choose: &C)
     ensures { DoneIsTheCommand (LeavesBy C.begins C.picks choose.now) }
 {}
 
 /// A law: with status 8 the namespaces of the saved set are those after so many steps of recovery's label changes; or,
-/// if power lasted for recovery, of the command's, on what recovery had made. What these leave of each namespace is said
-/// by the laws of `namespace_laws` (`create_is_cut`, `delete_is_cut`, `rename_is_cut`, `cut_recovery_resumes`).
+/// if power lasted for recovery but not for the format of an arena, those that recovery makes; or, if it lasted for both,
+/// those after so many steps of the command's label changes, on what recovery had made. The states of each namespace in
+/// between are those of the laws of `namespace_laws` (`create_is_cut`, `delete_is_cut`, `rename_is_cut`,
+/// `cut_recovery_resumes`).
 pub fn crash_is_in_either<C: Chooser>(choose: &C)
     ensures { CrashIsInEither (LeavesBy C.begins C.picks choose.now) }
 {}
 
+/// A law: with status 8, if power lasted for recovery, every other namespace is as recovery made it, and no two have extents
+/// that meet. It holds too of a `delete` or `rename` whose namespace is still pending after recovery, since a module has no
+/// free slot: a crash may then leave its labels with two names, or, in a `delete`, some of them.
+pub fn crash_leaves_others<C: Chooser>(choose: &C)
+    ensures { CrashLeavesOthers (LeavesBy C.begins C.picks choose.now) }
+{}
+
 /// A law: with status 8 the saved set recovers to the map that recovery makes of the set that was loaded, or to the
-/// recovery of the command applied to it. Of a delete or rename it asks that its namespace isn't pending once recovery is
-/// made.
+/// recovery of the command applied to it. Of a `delete` or `rename` it asks that its namespace isn't pending once recovery
+/// is made.
 pub fn crash_recovers<C: Chooser>(choose: &C)
     ensures { CrashRecovers (LeavesBy C.begins C.picks choose.now) }
 {}

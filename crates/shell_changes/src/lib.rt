@@ -1,83 +1,55 @@
 //! The commands of `nvdimm_shell` that change something, and the image set that they save.
 //!
 //! ```text
-//! set ──► label areas, interleave sets ──► recovery ──► the command ──► done_answer: ok, and the set with all changes
-//!                        │                     │              ├── refused ──► the reason; nothing is saved
-//!                        └── image fault       └── power cut ─┴── power cut ──► cut_answer: cut N, and what the cut leaves
+//! set ──► areas and sets ──► recovery ──► format ──► label changes ──► done_answer: ok, and the set
+//!               │                │          │              ├── refused: the reason, nothing is saved
+//!               └─ image fault   └─── power cut ───────────┴──► cut_answer: cut N, and the set
 //! ```
 //!
-//! Each command says what remains of the set as it ends (`Remains` of `saving`). `cut_answer` and `done_answer` make the
-//! [`Answer`] of that for all of them: `specs/Remains.antt` says what a chooser leaves. The set is in memory, or its contents
-//! are copied from the source as it is saved ([`SavedSet`], `specs/Saved.antt`).
+//! [`change_answer`] is the one way of `create`, `delete` and `rename`. Only `create --mode sector` formats an arena,
+//! so it alone needs contents in memory ([`SetRead`]). The others work on an outline of the set, and contents are
+//! copied from the source as the set is saved ([`SavedSet`]). [`init_answer`] changes one label area.
 //!
-//! # Changing namespaces
+//! One fuse counts all steps: recovery's, then the format's, then those of the labels. A refused command saves nothing,
+//! not even what recovery did. `cut_answer` and `done_answer` make the [`Answer`] of what remains (`Remains`). After a
+//! power loss the chooser is begun once from the stated seed. It is asked about the pending words of the label areas,
+//! module by module, and then about those of the contents.
 //!
-//! The commands `create`, `delete` and `rename`.
-//!
-//! | what | function | clause |
+//! | what | function | definition |
 //! |---|---|---|
-//! | what any command on namespaces comes to | [`change_answer`], [`sectors_answer`] | `ChangeComes` of `specs/Changes.antt` |
-//! | what one comes to that makes no sectors, whatever contents the set has | [`change_answer`] | `CommandComes` of `specs/Namespaces.antt` |
+//! | what a command may come to | [`change_answer`] | `ChangeComes` of `specs/Namespaces.antt` |
+//! | the saved label areas, to the byte | [`change_answer`] | `IsDone`, `IsCut` of `specs/Namespaces.antt` |
+//! | the saved contents | [`change_answer`] | `Formats`, `AreFormatted` of `specs/Work.antt` |
+//! | what `init` may come to | [`init_answer`] | `InitComes` of `specs/Init.antt` |
 //! | the commands that words say | [`create_in`], [`delete_in`], [`rename_in`] | `specs/Words.antt` |
-//! | what is printed of a refusal | `refusing_answer` | `refused_outcome` of `specs/Refusals.antt` |
-//! | the words of the label areas that are saved, to the byte | [`change_answer`] | `IsDone`, `IsCut` of `specs/Namespaces.antt` |
+//! | the text of a refusal | `refusing_answer` | `refused_outcome` of `specs/Refusals.antt` |
 //!
 //! Laws say what that means for the map of namespaces (`map_of` of `specs/Maps.antt`), whoever makes the answer:
 //!
 //! | what | law |
 //! |---|---|
-//! | no two namespaces of images that are accepted have extents that meet | [`accepted_is_apart`] |
+//! | no two namespaces of accepted images have extents that meet | [`accepted_is_apart`] |
 //! | recovery, a command and a crash in a command keep it so | [`changes_keep_apart`] |
 //! | after `ok` the map is the command applied to the map after recovery | [`done_is_the_command`] |
-//! | after a crash it is that of a cut in recovery, or in the command behind it | [`crash_is_in_either`] |
+//! | after a crash it is that of a cut in recovery, in the format or in the command's labels | [`crash_is_in_either`] |
+//! | every other namespace is as recovery made it | [`crash_leaves_others`] |
 //! | recovered, it is the map before or after the command | [`crash_recovers`] |
-//!
-//! Recovery and command burn one fuse, in this order. A refused command saves nothing, what recovery made neither.
-//!
-//! # Creating sector namespaces
-//!
-//! The command `create --mode sector` of `nvdimm_shell`, which makes a namespace of sectors and saves the set.
-//!
-//! ```text
-//! loaded set ──► recovery ──► refused: the reason; nothing is saved
-//!                   │     └─► the arena is formatted in the contents ──► labels name it ──► ok, and the whole set
-//!                   └─ power cut ────────── power cut ───────────────── power cut ──► cut N, and what the cut leaves
-//! ```
-//!
-//! | what | function | clause |
-//! |---|---|---|
-//! | what the command comes to on a set that is loaded | [`sectors_answer`] | `SectorsCome` of `specs/Sectors.antt` |
-//! | what is left of the contents | the same | `AreFormatted` of `specs/Sectors.antt` |
-//!
-//! Recovery, format and labels burn one fuse, in this order.
-//!
-//! # Initialising a label area
-//!
-//! The command `init` of `nvdimm_shell`, which changes one label area and saves the set.
-//!
-//! ```text
-//! outline ──► the module's label area ──► init_area under a fuse ──► ok, and the set with both blocks
-//!                                                  └── power cut ──► cut N, and what the cut leaves of the set
-//! ```
-//!
-//! [`init_answer`] is its handler; `InitComes` of `specs/Init.antt` is what it may come to. It needs no contents, so it
-//! works on an outline of the set, and answers for whatever contents the set has (`outcome_with` of `specs/Answers.antt`).
 #![tactic(auto)]
 
 mod answer;
-mod answering;
 mod changing;
 mod init;
 mod laws;
 mod refusals;
+mod running;
 mod saving;
 mod words;
 
 pub use answer::{Answer, Left, SavedSet, without_set};
-pub use answering::sectors_answer;
-pub use changing::change_answer;
+pub use changing::{SetRead, change_answer};
 pub use init::init_answer;
 pub use laws::{
-    accepted_is_apart, changes_keep_apart, crash_is_in_either, crash_recovers, done_is_the_command,
+    accepted_is_apart, changes_keep_apart, crash_is_in_either, crash_leaves_others, crash_recovers,
+    done_is_the_command,
 };
 pub use words::{create_in, delete_in, makes_sectors, rename_in};

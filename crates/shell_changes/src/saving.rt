@@ -2,7 +2,7 @@
 ghost use Rattle.std.specs.Prelude.{◌≡◌, ◌<◌, IfOk, length};
 ghost use Rattle.image_set.specs.declared.changing.OutlineLeft.{OutlineLeft as LeftOutline};
 ghost use Rattle.image_set.specs.Outline.{IsOutlined, IsOutlineRest, LeavesAreas, LeavesOutline};
-ghost use Rattle.shell_changes.specs.Remains.{AnswersCut, AnswersDone, CanLeave, IsWholeRest, LeavesSet, LeavesWhole, SavesLeft};
+ghost use Rattle.shell_changes.specs.Remains.{AnswersCut, AnswersDone, CanLeave, IsWholeRest, LeavesSet, LeavesWhole, SavesLeft, remains_of};
 
 use crate::answer::{Answer, Left, SavedSet};
 use cut_words::CutWords;
@@ -24,6 +24,15 @@ pub struct Rest {
     pub bad: Items<Option<Items<u8>>>,
 }
 
+/// What an image set has beside its table's meaning and its label areas.
+#[derive(Drop)]
+pub(crate) enum Beside {
+    /// Its contents are copied from the source as it is saved.
+    Copied(OutlineRest),
+    /// All of it is in memory.
+    Whole(Rest),
+}
+
 /// What remains of an image set as a command ends.
 #[derive(Drop)]
 pub(crate) enum Remains {
@@ -33,6 +42,16 @@ pub(crate) enum Remains {
     Areas(OutlineRest, Items<Option<CutWords>>),
     /// What a loaded set has beside its label areas, and the words of these.
     Whole(Rest, Items<Option<CutWords>>),
+}
+
+/// What remains of a set with these label areas.
+pub(crate) fn remaining(beside: Beside, labels: Items<Option<CutWords>>) -> Remains
+    ensures { result ≡ remains_of beside labels }
+{
+    match beside {
+        Beside::Copied(rest) => Remains::Areas(rest, labels),
+        Beside::Whole(rest) => Remains::Whole(rest, labels),
+    }
 }
 
 /// What a cut leaves of an outline with this label area of a module.

@@ -1,6 +1,6 @@
 -- The status is the one that is due.
 use Rattle.std.proofs.Common.{◌≡◌, ℕ, ◌/◌, Bool, true, false, List, [], length, Option, Some, None, Result, Ok, Err, refl, sym, ap, ◌∙◌, subst, inl, inr, arith}
-use Rattle.std.specs.Prelude.{◌⊎◌, ◌||◌, not, nat_lt, is_some, is_err, MatchBool, MatchOption, if◌then◌else◌}
+use Rattle.std.specs.Prelude.{◌⊎◌, ◌||◌, not, nat_lt, is_some, is_err, MatchBool, MatchOption}
 use Rattle.nvd_media.specs.Images.{Images}
 use Rattle.cut_words.specs.Words.{Words}
 use Rattle.cut_words.specs.Fuses.{lasts}
@@ -25,20 +25,13 @@ use Rattle.shell_run.specs.declared.words.Command.TheVariants as command
 use Rattle.shell_reports.specs.declared.power.Power.{Power}
 use Rattle.nfit_reader.specs.declared.table.Mapping.{Mapping}
 use Rattle.namespace_map.specs.declared.commands.Command.{Command as NamespaceCommand}
-use Rattle.namespace_map.specs.declared.commands.Command.TheVariants.{Create, Delete, Rename, Claim, Unclaim}
 use Rattle.namespace_map.specs.declared.refused.OpRefused.{OpRefused}
-use Rattle.namespace_map.specs.Areas.{Area, steps_of_all}
+use Rattle.namespace_map.specs.Areas.{Area}
 use Rattle.shell_changes.specs.Areas.{areas_in}
 use Rattle.shell_changes.specs.Refusals.{refused_outcome}
-use Rattle.shell_changes.specs.Namespaces as namespaces
-use Rattle.shell_changes.specs.Sectors as sectors
-use Rattle.shell_changes.specs.Sectors.{SectorsCome}
-use Rattle.shell_changes.specs.Changes as changes
-use Rattle.shell_changes.specs.Changes.{ChangeComes}
-use Rattle.sector_namespaces.specs.Creation.{has_sectors}
-use Rattle.namespace_map.specs.declared.commands.CreateSpec.{CreateSpec}
-use Rattle.shell_changes.proofs.Causes.{CreateCase, create_case, create_cut, create_faulty, create_made, create_refused}
-use Rattle.shell_changes.specs.Namespaces.{sets_in, refusal_in, changes_in, refuses_by}
+use Rattle.shell_changes.specs.Namespaces as changes
+use Rattle.shell_changes.specs.Namespaces.{sets_in, refusal_in, refuses_by, work_in}
+use Rattle.shell_changes.specs.Work.{steps_of_work}
 use Rattle.shell_run.specs.Words.{command_of}
 use Rattle.shell_reports.specs.Outcome.{Outcome, usage, printed, status_of}
 use Rattle.shell_reports.specs.Labels.{module_outcome, found_outcome, fault_outcome}
@@ -142,61 +135,26 @@ init_command m power loaded e (is_blank_short blank short cut) = is_cut_short bl
 
 -- ---- commands on namespaces
 
--- one that makes no sectors, so that its steps are those of its label changes
-module _ (leaves : ℕ → List (Option Words) → List (Option (List ℕ)) → Type 0) (c : NamespaceCommand) (power : Power) (loaded : ImageSet) (outcome : Outcome)
-    (plain : changes.is_short loaded c power.steps ≡ namespaces.is_short loaded c power.steps) where
+module _ (leaves : ℕ → List (Option Words) → List (Option (List ℕ)) → Type 0) (c : NamespaceCommand) (power : Power) (loaded : ImageSet) (outcome : Outcome) where
   abbrev seen : List (Option Area)
   seen = areas_in loaded.labels
 
   whole_case : (sets : List (List Mapping)) → sets_in loaded ≡ Ok sets → (refusal : Option OpRefused) → refusal_in sets seen c ≡ refusal → changes.is_short loaded c power.steps ≡ false
-      → namespaces.Ends loaded seen (changes_in sets seen c) refusal outcome → CommandCase (Change c power) (Ok loaded) outcome.ending
+      → changes.Ends loaded seen (work_in sets seen c) refusal outcome → CommandCase (Change c power) (Ok loaded) outcome.ending
   whole_case sets are None none long ends =
       is_done (ap (λ r. is_err r) are) long (ap (refuses_by seen c) are ∙ ap (λ (o : Option OpRefused). is_some o) none) (ends.saves.ends)
   whole_case sets are (Some f) some long ends =
       is_turned_down (ap (λ r. is_err r) are) long (ap (refuses_by seen c) are ∙ ap (λ (o : Option OpRefused). is_some o) some) (ending_of outcome (refused_outcome f) ends)
 
-  lasting_case : (sets : List (List Mapping)) → sets_in loaded ≡ Ok sets → (b : Bool) → lasts power.steps (steps_of_all seen (changes_in sets seen c)) ≡ b
-      → MatchBool b (namespaces.Ends loaded seen (changes_in sets seen c) (refusal_in sets seen c) outcome) (namespaces.IsCut leaves loaded seen (changes_in sets seen c) power outcome)
+  lasting_case : (sets : List (List Mapping)) → sets_in loaded ≡ Ok sets → (b : Bool) → lasts power.steps (steps_of_work seen (work_in sets seen c)) ≡ b
+      → MatchBool b (changes.Ends loaded seen (work_in sets seen c) (refusal_in sets seen c) outcome) (changes.IsCut leaves loaded seen (work_in sets seen c) power outcome)
       → CommandCase (Change c power) (Ok loaded) outcome.ending
-  lasting_case sets are true long ends = whole_case sets are (refusal_in sets seen c) refl (plain ∙ ap (namespaces.is_short_by seen c power.steps) are ∙ ap not long) ends
-  lasting_case sets are false short cut = is_cut_short (ap (λ r. is_err r) are) (plain ∙ ap (namespaces.is_short_by seen c power.steps) are ∙ ap not short) (cut.saves.ends)
+  lasting_case sets are true long ends = whole_case sets are (refusal_in sets seen c) refl (ap (changes.is_short_by seen c power.steps) are ∙ ap not long) ends
+  lasting_case sets are false short cut = is_cut_short (ap (λ r. is_err r) are) (ap (changes.is_short_by seen c power.steps) are ∙ ap not short) (cut.saves.ends)
 
-  change_case : (found : Result (List (List Mapping)) OpenFault) → sets_in loaded ≡ found → namespaces.OnSets leaves loaded c power found outcome → CommandCase (Change c power) (Ok loaded) outcome.ending
-  change_case (Ok sets) are comes = lasting_case sets are (lasts power.steps (steps_of_all seen (changes_in sets seen c))) refl comes
+  change_case : (found : Result (List (List Mapping)) OpenFault) → sets_in loaded ≡ found → changes.OnSets leaves loaded c power found outcome → CommandCase (Change c power) (Ok loaded) outcome.ending
+  change_case (Ok sets) are comes = lasting_case sets are (lasts power.steps (steps_of_work seen (work_in sets seen c))) refl comes
   change_case (Err fault) are comes = is_refused (ap (λ r. is_err r) are) (ending_of outcome (open_outcome fault) comes)
-
--- ---- a namespace of sectors that is made
-
--- its steps are those of a format too
-module _ (spec : CreateSpec) (power : Power) (loaded : ImageSet) (outcome : Outcome) (arena : has_sectors spec.make ≡ true) where
-  short_is : changes.is_short loaded (Create spec) power.steps ≡ sectors.is_short loaded spec power.steps
-  short_is = ap (λ (b : Bool). if b then sectors.is_short loaded spec power.steps else namespaces.is_short loaded (Create spec) power.steps) arena
-
-  sectors_made : CreateCase spec power loaded outcome → CommandCase (Change (Create spec) power) (Ok loaded) outcome.ending
-  sectors_made (create_faulty fault are e) = is_refused (ap (λ r. is_err r) are) e
-  sectors_made (create_made sets are long allowed e) = is_done (ap (λ r. is_err r) are) (short_is ∙ long) allowed e
-  sectors_made (create_refused sets are long refused e) = is_turned_down (ap (λ r. is_err r) are) (short_is ∙ long) refused e
-  sectors_made (create_cut sets are short e) = is_cut_short (ap (λ r. is_err r) are) (short_is ∙ short) e
-
--- ---- any command on namespaces
-
-module _ (leaves : ℕ → List (Option Words) → List (Option (List ℕ)) → Type 0) (power : Power) (loaded : ImageSet) (outcome : Outcome) where
-  plain_case : (c : NamespaceCommand) → changes.is_short loaded c power.steps ≡ namespaces.is_short loaded c power.steps → namespaces.CommandComes leaves c power loaded outcome
-      → CommandCase (Change c power) (Ok loaded) outcome.ending
-  plain_case c plain comes = change_case leaves c power loaded outcome plain (sets_in loaded) refl comes
-
-  create_by : (spec : CreateSpec) (b : Bool) → has_sectors spec.make ≡ b → MatchBool b (SectorsCome leaves spec power loaded outcome) (namespaces.CommandComes leaves (Create spec) power loaded outcome)
-      → CommandCase (Change (Create spec) power) (Ok loaded) outcome.ending
-  create_by spec true arena comes = sectors_made spec power loaded outcome arena (create_case leaves spec power loaded outcome comes)
-  create_by spec false raw comes =
-      plain_case (Create spec) (ap (λ (b : Bool). if b then sectors.is_short loaded spec power.steps else namespaces.is_short loaded (Create spec) power.steps) raw) comes
-
-  changed_case : (c : NamespaceCommand) → ChangeComes leaves c power loaded outcome → CommandCase (Change c power) (Ok loaded) outcome.ending
-  changed_case (Create spec) comes = create_by spec (has_sectors spec.make) refl comes
-  changed_case (Delete uuid) comes = plain_case (Delete uuid) refl comes
-  changed_case (Rename uuid name) comes = plain_case (Rename uuid name) refl comes
-  changed_case (Claim uuid) comes = plain_case (Claim uuid) refl comes
-  changed_case (Unclaim uuid) comes = plain_case (Unclaim uuid) refl comes
 
 -- ---- the arenas of a namespace
 
@@ -257,7 +215,7 @@ module _ (leaves : ℕ → List (Option Words) → List (Option (List ℕ)) → 
   command_case command.List (Ok loaded) outcome comes =
       subst (λ (e : Ending). CommandCase command.List (Ok loaded) e) (sym (ending_of outcome _ comes)) (list_case loaded (listed_of loaded) refl)
   command_case (Init m power) (Ok loaded) outcome comes = init_command m power loaded outcome.ending (init_case leaves m power loaded outcome (area_of loaded m) comes)
-  command_case (Change c power) (Ok loaded) outcome comes = changed_case leaves power loaded outcome c comes
+  command_case (Change c power) (Ok loaded) outcome comes = change_case leaves c power loaded outcome (sets_in loaded) refl comes
   command_case (Info uuid) (Ok loaded) outcome comes = info_case uuid loaded outcome (sectors_case (λ states. printed (arena_lines 0 states)) loaded uuid outcome comes)
   command_case (Read uuid sector) (Ok loaded) outcome comes = read_case uuid sector loaded outcome (sectors_case (sector_outcome sector) loaded uuid outcome comes)
 

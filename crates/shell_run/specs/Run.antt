@@ -17,15 +17,15 @@ use Rattle.shell_reports.specs.Labels.{labels_outcome}
 use Rattle.shell_reports.specs.Nfit.{nfit_outcome}
 use Rattle.shell_reports.specs.Saved.{Saves}
 use Rattle.shell_changes.specs.Init.{InitComes}
-use Rattle.shell_changes.specs.Changes.{ChangeComes}
+use Rattle.shell_changes.specs.Namespaces.{ChangeComes}
 use Rattle.shell_reports.specs.List.{list_outcome}
 use Rattle.shell_reports.specs.Sectors.{info_outcome, read_outcome}
 use Rattle.shell_changes.specs.Words.{makes_sectors}
 
 -- ---- a case for each command
 
--- what a command may come to on the set that it loads; `leaves` says what a power cut may leave of the words of label areas, by
--- the number from which the chooser is begun
+-- what a command may come to on the set that it loads; `leaves` says what a power cut may leave of rows of words, by the number from
+-- which the chooser is begun
 abbrev pub LoadedComes : (ℕ → List (Option Words) → List (Option (List ℕ)) → Type 0) → Command → ImageSet → Outcome → Type 0
 LoadedComes leaves (Labels m) loaded outcome = outcome ≡ labels_outcome m loaded
 LoadedComes leaves Nfit loaded outcome = outcome ≡ nfit_outcome loaded

@@ -16,7 +16,7 @@ use Rattle.shell_reports.specs.declared.status.Status.{Status}
 use Rattle.shell_reports.specs.declared.status.Status.TheVariants as status
 use Rattle.shell_reports.specs.List.{listed_of}
 use Rattle.shell_reports.specs.Causes.{is_broken, refuses_info, refuses_read}
-use Rattle.shell_changes.specs.Changes as changes
+use Rattle.shell_changes.specs.Namespaces as changes
 use Rattle.shell_changes.specs.Namespaces.{sets_in, refuses}
 use Rattle.shell_run.specs.declared.words.Command.{Command}
 use Rattle.shell_run.specs.declared.words.Command.TheVariants.{Labels, Nfit, Init, Change, Info, Read}

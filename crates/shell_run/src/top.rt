@@ -24,7 +24,7 @@ use command_words::WordsFault;
 use image_set::{CopyFault, LoadFault, Loaded, Outline, load, load_outline};
 use nvd_media::{Chooser, Gate, ImageSink, ImageSource, TextSink, TextSource};
 use shell_changes::{
-    Answer, SavedSet, change_answer, init_answer, makes_sectors, sectors_answer, without_set,
+    Answer, SavedSet, SetRead, change_answer, init_answer, makes_sectors, without_set,
 };
 use shell_reports::{
     Ending, Report, Status, Stop, info_answer, labels_answer, list_answer, load_answer,
@@ -146,7 +146,9 @@ fn outlined_answer<C: Chooser>(
         Command::Nfit => table_found(alloc, &outline),
         Command::List => list_found(alloc, outline),
         Command::Init(module, power) => init_answer(alloc, module, power, outline, choose),
-        Command::Change(change, power) => change_answer(alloc, &change, power, outline, choose),
+        Command::Change(change, power) => {
+            change_answer(alloc, &change, power, SetRead::Outline(outline), choose)
+        }
         Command::Info(_) => unreachable!(),
         Command::Read(_, _) => unreachable!(),
     }
@@ -170,7 +172,9 @@ fn loaded_answer<C: Chooser>(
         Command::Nfit => unreachable!(),
         Command::List => unreachable!(),
         Command::Init(_, _) => unreachable!(),
-        Command::Change(change, power) => sectors_answer(alloc, &change, power, loaded, choose),
+        Command::Change(change, power) => {
+            change_answer(alloc, &change, power, SetRead::Whole(loaded), choose)
+        }
         Command::Info(uuid) => arenas_found(alloc, &uuid, loaded),
         Command::Read(uuid, sector) => sector_found(alloc, &uuid, sector, loaded),
     }

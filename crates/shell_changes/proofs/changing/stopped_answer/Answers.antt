@@ -1,15 +1,32 @@
-use Rattle.std.proofs.Common.{◌∙◌, List, Option, length, ap, subst}
-use Rattle.std.specs.Prelude.{IfOk}
-use Rattle.std.proofs.lemmas.List.{length-map}
-use Rattle.cut_words.specs.Words.{Words}
+use Rattle.std.proofs.Common.{◌≡◌, ◌∙◌, ap, sym, subst}
+use Rattle.std.specs.Prelude.{map, IfOk}
 use Rattle.namespace_areas.specs.Seen.{words_of}
-use Rattle.shell_changes.specs.declared.saving.Remains.TheVariants as kind
-use Rattle.shell_changes.specs.Remains.{AnswersCut}
+use Rattle.shell_reports.specs.declared.status.Ending.TheVariants as ending
+use Rattle.shell_reports.specs.Cut.{cut_text}
+use Rattle.shell_reports.proofs.More.{if_more}
+use Rattle.shell_changes.specs.declared.saving.Remains.{Remains}
+use Rattle.shell_changes.specs.Answers.{Fits}
+use Rattle.shell_changes.specs.Remains.{AnswersCut, CanLeave, SavesLeft, remains_of}
+use Rattle.shell_changes.proofs.Remains.{fits_left}
 use Rattle.shell_changes.proofs.changing.stopped_answer.Goals as goal
 
 pub cut_answer-requires : goal.cut_answer-requires
-cut_answer-requires g c = (c.requires.rest, ap length c.in_ok-labels.ensures ∙ length-map c.args.areas.items words_of ∙ c.requires.count)
+cut_answer-requires g c =
+    let is : c.remaining-remains.result ≡ remains_of c.args.beside (map words_of c.args.areas.items) = c.remaining-remains.ensures ∙ ap (remains_of c.args.beside) c.in_ok-labels.ensures in
+    subst CanLeave (sym is) c.requires.can
 
-pub returns : goal.returns
-returns g c =
-    subst (λ (labels : List (Option Words)). IfOk c.cut_answer.result (AnswersCut g.C.Chooser.begins g.C.Chooser.picks c.args.power (kind.Areas c.args.rest labels) c.args.choose.now)) c.in_ok-labels.ensures c.cut_answer.ensures
+pub returns-clause-cut : goal.returns-clause-cut
+returns-clause-cut g c =
+    let is : c.remaining-remains.result ≡ remains_of c.args.beside (map words_of c.args.areas.items) = c.remaining-remains.ensures ∙ ap (remains_of c.args.beside) c.in_ok-labels.ensures in
+    subst (λ (r : Remains). IfOk c.cut_answer.result (AnswersCut g.C.Chooser.begins g.C.Chooser.picks c.args.power r c.args.choose.now)) is c.cut_answer.ensures
+
+pub returns-clause-fits : goal.returns-clause-fits
+returns-clause-fits g c =
+    let begins = g.C.Chooser.begins in
+    let picks = g.C.Chooser.picks in
+    let due = remains_of c.args.beside (map words_of c.args.areas.items) in
+    let is : c.remaining-remains.result ≡ due = c.remaining-remains.ensures ∙ ap (remains_of c.args.beside) c.in_ok-labels.ensures in
+    if_more (AnswersCut begins picks c.args.power c.remaining-remains.result c.args.choose.now) (Fits c.args.beside) c.cut_answer.result
+    (λ answer cut. fits_left picks ending.PowerCut (cut_text c.args.power.steps) answer cut.begun cut.after c.args.beside (map words_of c.args.areas.items)
+    (subst (λ (r : Remains). SavesLeft picks ending.PowerCut (cut_text c.args.power.steps) r answer cut.begun cut.after) is cut.saved))
+    c.cut_answer.ensures

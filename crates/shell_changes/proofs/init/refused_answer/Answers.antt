@@ -6,7 +6,7 @@ use Rattle.shell_changes.specs.Remains.{LeavesBy}
 use Rattle.shell_changes.specs.declared.answer.Answer.{Answer}
 use Rattle.shell_reports.proofs.More.{if_more}
 use Rattle.shell_changes.specs.Init.{RefusedArea, not_initialised}
-use Rattle.shell_changes.proofs.Carried.{if_both}
+use Rattle.shell_changes.proofs.Runs.{if_both}
 use Rattle.shell_changes.proofs.Parts.{kept_is}
 use Rattle.shell_changes.proofs.Remains.{no_sizes}
 use Rattle.shell_changes.specs.Answers.{HasSizes, outcome_with}

@@ -1,11 +1,12 @@
-use Rattle.std.proofs.Common.{◌≡◌, ◌∙◌, false, sym, ap, subst}
+use Rattle.std.proofs.Common.{◌≡◌, ◌∙◌, false, [], sym, ap, subst}
 use Rattle.shell_changes.specs.declared.answer.Answer.{Answer}
 use Rattle.shell_changes.specs.Remains.{LeavesBy}
 use Rattle.shell_changes.specs.Saved.{copies_contents}
 use Rattle.shell_changes.proofs.Remains.{copies_none}
 use Rattle.image_set.specs.Load.{image_set_in}
 use Rattle.shell_run.specs.declared.words.Command.TheVariants.{Change, Info, Read}
-use Rattle.shell_run.specs.Run.{needs_contents}
+use Rattle.shell_changes.specs.Answers.{whole_outcome}
+use Rattle.shell_run.specs.Run.{LoadedComes, needs_contents}
 use Rattle.shell_run.specs.Words.{GivesGoodName}
 use Rattle.shell_run.proofs.Comes.{if_then, loaded_by}
 use Rattle.shell_run.proofs.top.loaded_answer.Goals as goal
@@ -32,7 +33,9 @@ unreachable-requires-in-Init g c =
 
 pub returns-in-Change-clause-comes : goal.returns-in-Change-clause-comes
 returns-in-Change-clause-comes g c =
-    loaded_by (LeavesBy g.C.Chooser.begins g.C.Chooser.picks c.args.choose.now) c.args.command (Change c.in-Change.change c.in-Change.power) c.in-Change.is (image_set_in c.args.loaded) c.sectors_answer.result c.sectors_answer.ensures.comes
+    let leaves = LeavesBy g.C.Chooser.begins g.C.Chooser.picks c.args.choose.now in
+    loaded_by leaves c.args.command (Change c.in-Change.change c.in-Change.power) c.in-Change.is (image_set_in c.args.loaded) c.change_answer.result
+    (if_then _ (λ (answer : Answer). LoadedComes leaves (Change c.in-Change.change c.in-Change.power) (image_set_in c.args.loaded) (whole_outcome answer)) c.change_answer.result (λ answer comes. comes []) c.change_answer.ensures.comes)
 
 pub returns-in-Info-clause-comes : goal.returns-in-Info-clause-comes
 returns-in-Info-clause-comes g c =
@@ -48,8 +51,8 @@ returns-in-Read-clause-comes g c =
 pub returns-in-Read-clause-whole : goal.returns-in-Read-clause-whole
 returns-in-Read-clause-whole g c = if_then _ (λ (answer : Answer). copies_contents answer.saved ≡ false) c.sector_found.result (λ answer none. copies_none answer none) c.sector_found.ensures.saved
 
-pub sectors_answer-requires-clause-name : goal.sectors_answer-requires-clause-name
-sectors_answer-requires-clause-name g c = subst GivesGoodName c.in-Change.is c.requires.name
+pub change_answer-requires-clause-name : goal.change_answer-requires-clause-name
+change_answer-requires-clause-name g c = subst GivesGoodName c.in-Change.is c.requires.name
 
-pub sectors_answer-requires-clause-sectors : goal.sectors_answer-requires-clause-sectors
-sectors_answer-requires-clause-sectors g c = sym (ap needs_contents c.in-Change.is) ∙ c.requires.whole
+pub change_answer-requires-clause-whole : goal.change_answer-requires-clause-whole
+change_answer-requires-clause-whole g c = sym (ap needs_contents c.in-Change.is) ∙ c.requires.whole

@@ -1,4 +1,4 @@
-use Rattle.std.proofs.Common.{◌≡◌, ◌∙◌, true, false, refl, sym, ap, subst}
+use Rattle.std.proofs.Common.{◌∙◌, refl, sym, ap, subst}
 use Rattle.std.specs.Prelude.{IsTrue, not}
 use Rattle.shell_changes.specs.declared.answer.Answer.{Answer}
 use Rattle.shell_changes.specs.Answers.{HasSizes}
@@ -57,8 +57,8 @@ returns-in-Change-clause-copying g c = copies_by_it (LeavesBy g.C.Chooser.begins
 pub change_answer-requires-clause-name : goal.change_answer-requires-clause-name
 change_answer-requires-clause-name g c = subst GivesGoodName c.in-Change.is c.requires.name
 
-pub change_answer-requires-clause-plain : goal.change_answer-requires-clause-plain
-change_answer-requires-clause-plain g c = sym (ap needs_contents c.in-Change.is) ∙ c.requires.outlined
+pub change_answer-requires-clause-whole : goal.change_answer-requires-clause-whole
+change_answer-requires-clause-whole g c = sym (ap needs_contents c.in-Change.is) ∙ c.requires.outlined
 
 pub unreachable-requires : goal.unreachable-requires
 unreachable-requires g c =

@@ -1,0 +1,226 @@
+-- What became of label areas and contents by a command, by what carried it out.
+use Rattle.std.proofs.Common.{◌≡◌, ◌≢◌, ℕ, ◌<◌, ◌^◌, Bool, true, false, List, [], length, map, Option, Some, None, Result, Ok, Err, refl, sym, ap, ◌∙◌, subst, arith, inl, inr}
+use Rattle.std.specs.Prelude.{IfOk, is_ok}
+use Rattle.std.proofs.lemmas.Bool.{false≢true, le-leb, true≢false}
+use Rattle.std.proofs.lemmas.Option.{none-some}
+use Rattle.std.proofs.lemmas.List.{length-map}
+use Rattle.nvd_media.specs.Images.{Images}
+use Rattle.cut_words.specs.Words.{Words}
+use Rattle.cut_words.specs.Fuses.{burnt, lasts}
+use Rattle.nfit_reader.specs.declared.table.Mapping.{Mapping}
+use Rattle.namespace_areas.specs.declared.area.Area.{Area}
+use Rattle.namespace_map.specs.Namespaces.{Namespaces}
+use Rattle.namespace_map.specs.declared.commands.Command.{Command}
+use Rattle.namespace_map.specs.declared.commands.Command.TheVariants.{Create, Delete, Rename, Claim, Unclaim}
+use Rattle.namespace_map.specs.declared.commands.CreateSpec.{CreateSpec}
+use Rattle.namespace_map.specs.declared.refused.OpRefused.{OpRefused}
+use Rattle.namespace_map.specs.declared.refused.OpRefused.TheVariants.{OutOfMemory, PowerCut}
+use Rattle.namespace_map.specs.Areas.{Change}
+use Rattle.namespace_map.specs.Commands.{refusal_of}
+use Rattle.namespace_map.specs.Changes.{changes_of, recovery_changes}
+use Rattle.namespace_areas.specs.Seen.{areas_seen, words_of}
+use Rattle.namespace_areas.specs.Refusals.{shown}
+use Rattle.namespace_areas.specs.Went.{Went, size_of}
+use Rattle.namespace_ops.specs.Carried.{is_cut}
+use Rattle.namespace_ops.specs.Held.{Held}
+use Rattle.namespace_ops.proofs.Findings.{claim_finding, create_finding, delete_finding, not_cut as finding_uncut, rename_finding}
+use Rattle.namespace_ops.specs.Counted.{Answered, Counted}
+use Rattle.sector_namespaces.specs.Creation.{Creates, IsMade, has_sectors}
+use Rattle.shell_reports.specs.declared.power.Power.{Power}
+use Rattle.shell_reports.specs.Outcome.{Outcome}
+use Rattle.shell_changes.specs.Going.{FormatsIn, GoesFrom, GoesOn, Runs, SavesCut, SavesDone, Works}
+use Rattle.shell_changes.specs.Refusals.{refused_outcome}
+use Rattle.shell_changes.specs.declared.saving.Beside.{Beside}
+use Rattle.shell_changes.specs.declared.saving.Beside.TheVariants as beside
+use Rattle.shell_changes.specs.Remains.{CanLeave, remains_of}
+use Rattle.shell_changes.specs.Rest.{IsBeside, count_beside, with_words, words_beside}
+use Rattle.shell_changes.specs.Words.{makes_sectors}
+use Rattle.shell_changes.specs.Work.{Arena, arena_by, arena_of, count_of}
+
+-- ---- results
+
+-- what holds of an answer for two reasons, and for three
+pub if_both : {A E : Type 0} (P Q R : A → Type 0) (r : Result A E) → ((x : A) → P x → Q x → R x) → IfOk r P → IfOk r Q → IfOk r R
+if_both P Q R (Ok x) both p q = both x p q
+if_both P Q R (Err e) both p q = tt
+
+pub if_three : {A E : Type 0} (P Q R S : A → Type 0) (r : Result A E) → ((x : A) → P x → Q x → R x → S x) → IfOk r P → IfOk r Q → IfOk r R → IfOk r S
+if_three P Q R S (Ok x) all p q s = all x p q s
+if_three P Q R S (Err e) all p q s = tt
+
+pub err_same : (f g : OpRefused) → ◌≡◌ {A = Result (Unit {0}) OpRefused} (Err f) (Err g) → f ≡ g
+err_same f g e = let e' = e in cc
+
+-- a refusal doesn't say that power was cut
+finding_of : (ns : Namespaces) (c : Command) (f : OpRefused) → refusal_of ns c ≡ Some f → is_cut (Err f) ≡ false
+finding_of ns (Create spec) f some = finding_uncut f (create_finding ns spec f some)
+finding_of ns (Delete uuid) f some = finding_uncut f (delete_finding ns uuid f some)
+finding_of ns (Rename uuid name) f some = finding_uncut f (rename_finding ns uuid name f some)
+finding_of ns (Claim uuid) f some = finding_uncut f (claim_finding ns uuid f some)
+finding_of ns (Unclaim uuid) f some = absurd (none-some f some)
+
+-- ---- labels alone
+
+-- a command that makes no sectors formats no arena
+none_by : (ns : Namespaces) (spec : CreateSpec) (b : Bool) → b ≡ false → arena_by ns spec b ≡ None
+none_by ns spec false plain = refl
+none_by ns spec true plain = absurd (true≢false plain)
+
+pub no_arena : (ns : Namespaces) (c : Command) → makes_sectors c ≡ false → arena_of ns c ≡ None
+no_arena ns (Create spec) plain = none_by ns spec (has_sectors spec.make) plain
+no_arena ns (Delete uuid) plain = refl
+no_arena ns (Rename uuid name) plain = refl
+no_arena ns (Claim uuid) plain = refl
+no_arena ns (Unclaim uuid) plain = refl
+
+lasts_none : (fuse : Option ℕ) → lasts fuse 0 ≡ true
+lasts_none None = refl
+lasts_none (Some n) = le-leb 0 n (omega arith)
+
+burnt_none : (fuse : Option ℕ) → fuse ≡ burnt fuse 0
+burnt_none None = refl
+burnt_none (Some n) = ap (λ (k : ℕ). Some k) (omega arith)
+
+labels_alone : (arena : Option Arena) (old news : List Area) (contents : List Words) (fuse left : Option ℕ) (changes : List Change) (whole : Bool) → arena ≡ None → Went old news fuse left changes whole
+    → Works arena old news contents contents fuse left changes whole
+labels_alone arena old news contents fuse left changes whole none went =
+    subst (λ (a : Option Arena). Works a old news contents contents fuse left changes whole) (sym none)
+    (record {
+      formats = refl;
+      within = λ short. absurd (false≢true (sym short ∙ lasts_none fuse));
+      labels = λ long. subst (λ (f : Option ℕ). Went old news f left changes whole) (burnt_none fuse) went;
+    })
+
+-- a registry that counts no claims
+abbrev unclaimed : Held → Counted
+unclaimed held = record { held = held; claims = [] }
+
+answered_runs : (held : Held) (new : Counted) (contents : List Words) (fuse left : Option ℕ) (c : Command) (reply : Result (Unit {0}) OpRefused) → makes_sectors c ≡ false → held.stopped ≡ false → reply ≢ Err OutOfMemory
+    → Answered (unclaimed held) new fuse left c reply → Runs held.sets held.areas new.held.areas contents contents fuse left c reply
+answered_runs held new contents fuse left c reply plain running other is = record {
+  refused = λ f at. let it = is.refused (running, other) f at in (it.0, ap (λ (x : Counted). x.held.areas) it.1, refl);
+  went = λ allowed.
+      labels_alone (arena_of (shown held.sets held.areas) c) held.areas new.held.areas contents fuse left (changes_of (shown held.sets held.areas) (areas_seen held.areas) c) (is_ok reply)
+      (no_arena (shown held.sets held.areas) c plain) (is.went (running, other) allowed);
+  cut = λ allowed f err. is.cut (running, other) allowed f err;
+}
+
+-- by a registry without claims, while power is on and memory is found
+pub labels_run : (held : Held) (old new : Counted) (contents : List Words) (fuse left : Option ℕ) (c : Command) (reply : Result (Unit {0}) OpRefused) → old.held ≡ held → old.claims ≡ [] → makes_sectors c ≡ false → held.stopped ≡ false
+    → reply ≢ Err OutOfMemory → Answered old new fuse left c reply → Runs held.sets held.areas new.held.areas contents contents fuse left c reply
+labels_run held old new contents fuse left c reply is none plain running other answered =
+    let same : old ≡ unclaimed held = (λ i. record { held = is i; claims = none i }) in
+    answered_runs held new contents fuse left c reply plain running other (subst (λ (x : Counted). Answered x new fuse left c reply) same answered)
+
+-- ---- sectors
+
+module _ (sets : List (List Mapping)) (old news : List Area) (contents contents' : List Words) (fuse left : Option ℕ) (spec : CreateSpec) (reply : Result (Unit {0}) OpRefused) where
+  arena_made : (b : Bool) → b ≡ true → IsMade sets old news contents contents' fuse left spec reply
+      → Works (arena_by (shown sets old) spec b) old news contents contents' fuse left (changes_of (shown sets old) (areas_seen old) (Create spec)) (is_ok reply)
+  arena_made false sectors made = absurd (false≢true sectors)
+  arena_made true sectors made = record {
+    formats = made.formatted;
+    within = λ short. let it = made.within short in (ap (λ (r : Result (Unit {0}) OpRefused). is_ok r) it.0, it.1);
+    labels = λ long. made.labels long;
+  }
+
+  pub sectors_run : has_sectors spec.make ≡ true → Creates sets old news contents contents' fuse left spec reply → Runs sets old news contents contents' fuse left (Create spec) reply
+  sectors_run sectors creates = record {
+    refused = λ f at. let it = creates.refused f at in (it.0, it.1, it.2);
+    went = λ allowed. arena_made (has_sectors spec.make) sectors (creates.made allowed);
+    cut = λ allowed f err. (creates.made allowed).cut f err;
+  }
+
+-- ---- how many areas and modules there are
+
+rows_in : (arena : Option Arena) (contents contents' : List Words) (fuse : Option ℕ) → FormatsIn arena contents contents' fuse → length contents' ≡ length contents
+rows_in None contents contents' fuse same = ap (λ (ws : List Words). length ws) same
+rows_in (Some arena) contents contents' fuse it =
+    sym (length-map contents' (λ (w : Words). length w.kept)) ∙ ap (λ (ns : List ℕ). length ns) it.counts ∙ length-map contents (λ (w : Words). length w.kept)
+
+areas_in : (arena : Option Arena) (old news : List Area) (contents contents' : List Words) (fuse left : Option ℕ) (changes : List Change) (whole : Bool) → Works arena old news contents contents' fuse left changes whole → length news ≡ length old
+areas_in arena old news contents contents' fuse left changes whole works = by (lasts fuse (count_of arena)) refl
+  where
+    by : (b : Bool) → lasts fuse (count_of arena) ≡ b → length news ≡ length old
+    by true long = sym (length-map news size_of) ∙ ap (λ (ns : List ℕ). length ns) (works.labels long).sizes ∙ length-map old size_of
+    by false short = ap (λ (xs : List Area). length xs) (works.within short).1
+
+module _ (sets : List (List Mapping)) (old news : List Area) (contents contents' : List Words) (fuse left : Option ℕ) (c : Command) (reply : Result (Unit {0}) OpRefused) (runs : Runs sets old news contents contents' fuse left c reply) where
+  pub counts : (length news ≡ length old) × (length contents' ≡ length contents)
+  counts = by (refusal_of (shown sets old) c) refl
+    where
+      by : (o : Option OpRefused) → refusal_of (shown sets old) c ≡ o → (length news ≡ length old) × (length contents' ≡ length contents)
+      by (Some f) some = let it = runs.refused f some in (ap (λ (xs : List Area). length xs) it.1, ap (λ (ws : List Words). length ws) it.2)
+      by None none =
+          let works = runs.went none in
+          (areas_in _ old news contents contents' fuse left _ (is_ok reply) works, rows_in (arena_of (shown sets old) c) contents contents' fuse works.formats)
+
+  -- ---- the answer
+
+  -- a refusal says neither that power was cut
+  uncut : (f : OpRefused) → refusal_of (shown sets old) c ≡ Some f → f ≢ PowerCut
+  uncut f some is = true≢false (ap (λ (x : OpRefused). is_cut (Err x)) (sym is) ∙ finding_of (shown sets old) c f some)
+
+  pub refused_is : (outcome : Outcome) → ((f : OpRefused) → reply ≡ Err f → f ≢ PowerCut → outcome ≡ refused_outcome f) → (f : OpRefused) → refusal_of (shown sets old) c ≡ Some f → outcome ≡ refused_outcome f
+  refused_is outcome said f some = said f (runs.refused f some).0 (uncut f some)
+
+  ok_is : (r : Result (Unit {0}) OpRefused) → is_ok r ≡ true → r ≡ Ok tt
+  ok_is (Ok u) e = refl
+  ok_is (Err f) e = absurd (false≢true e)
+
+  cut_is : (r : Result (Unit {0}) OpRefused) → ((f : OpRefused) → r ≡ Err f → f ≡ PowerCut) → is_ok r ≡ false → r ≡ Err PowerCut
+  cut_is (Ok u) only e = absurd (true≢false e)
+  cut_is (Err f) only e = ap (λ (x : OpRefused). Err x) (only f refl)
+
+  pub went_is : (leaves : ℕ → List (Option Words) → List (Option (List ℕ)) → Type 0) (objects : List (Option (List ℕ)) → List (List ℕ) → Images) (power : Power) (outcome : Outcome)
+      → (reply ≡ Ok tt → SavesDone objects news contents' outcome) → (reply ≡ Err PowerCut → SavesCut leaves objects power news contents' outcome)
+      → refusal_of (shown sets old) c ≡ None → GoesOn leaves objects power sets old contents fuse c outcome
+  went_is leaves objects power outcome done cut none = record {
+    news = news;
+    made = contents';
+    left = left;
+    whole = is_ok reply;
+    works = runs.went none;
+    done = λ ok. done (ok_is reply ok);
+    cut = λ err. cut (cut_is reply (runs.cut none) err);
+  }
+
+-- what remains can be left
+pub can_leave : (beside : Beside) (made : List Words) (areas : List Area) → IsBeside beside → length areas ≡ count_beside beside → length made ≡ length (words_beside beside)
+    → CanLeave (remains_of (with_words beside made) (map words_of areas))
+can_leave (beside.Copied rest) made areas is count same = (is, length-map areas words_of ∙ count)
+can_leave (beside.Whole rest) made areas is count same = record {
+  bad = is.bad ∙ sym same;
+  few = subst (λ (n : ℕ). n < 2 ^ 32) (sym same) is.few;
+  count = length-map areas words_of ∙ count ∙ sym same;
+}
+
+pub can_stop : (beside : Beside) (areas : List Area) → IsBeside beside → length areas ≡ count_beside beside → CanLeave (remains_of beside (map words_of areas))
+can_stop (beside.Copied rest) areas is count = (is, length-map areas words_of ∙ count)
+can_stop (beside.Whole rest) areas is count = record { bad = is.bad; few = is.few; count = length-map areas words_of ∙ count }
+
+-- ---- behind recovery
+
+moved_went : (a a' mid : List Area) (f f' left : Option ℕ) (s s' : List (List Mapping)) (b b' : Bool) → a ≡ a' → f ≡ f' → s ≡ s' → b ≡ b'
+    → Went a mid f left (recovery_changes s (areas_seen a)) b → Went a' mid f' left (recovery_changes s' (areas_seen a')) b'
+moved_went a a' mid f f' left s s' b b' p q u v went =
+    subst (λ (x : List Area). Went x mid f' left (recovery_changes s' (areas_seen x)) b') p
+    (subst (λ (x : Option ℕ). Went a mid x left (recovery_changes s' (areas_seen a)) b') q
+    (subst (λ (x : List (List Mapping)). Went a mid f left (recovery_changes x (areas_seen a)) b') u
+    (subst (λ (x : Bool). Went a mid f left (recovery_changes s (areas_seen a)) x) v went)))
+
+module _ (leaves : ℕ → List (Option Words) → List (Option (List ℕ)) → Type 0) (objects : List (Option (List ℕ)) → List (List ℕ) → Images) (power : Power) (sets held : List (List Mapping)) (areas a mid : List Area) (contents : List Words) (f left : Option ℕ) (c : Command) (outcome : Outcome) (b : Bool)
+    (p : a ≡ areas) (q : f ≡ power.steps) (u : held ≡ sets) (went : Went a mid f left (recovery_changes held (areas_seen a)) b) where
+  pub goes_then : (now : List (List Mapping)) → now ≡ held → b ≡ true
+      → ((g : OpRefused) → refusal_of (shown now mid) c ≡ Some g → outcome ≡ refused_outcome g)
+      → (refusal_of (shown now mid) c ≡ None → GoesOn leaves objects power now mid contents left c outcome) → GoesFrom leaves objects power sets areas contents c outcome
+  goes_then now w v refused on = inr (record {
+    mid = mid;
+    left = left;
+    first = moved_went a areas mid f power.steps left held sets b true p q u v went;
+    refused = subst (λ (s : List (List Mapping)). (g : OpRefused) → refusal_of (shown s mid) c ≡ Some g → outcome ≡ refused_outcome g) (w ∙ u) refused;
+    went = subst (λ (s : List (List Mapping)). refusal_of (shown s mid) c ≡ None → GoesOn leaves objects power s mid contents left c outcome) (w ∙ u) on;
+  })
+
+  pub stops_first : b ≡ false → SavesCut leaves objects power mid contents outcome → GoesFrom leaves objects power sets areas contents c outcome
+  stops_first v cut = inl (record { news = mid; left = left; went = moved_went a areas mid f power.steps left held sets b false p q u v went; cut = cut })

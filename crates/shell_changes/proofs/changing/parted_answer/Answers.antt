@@ -1,0 +1,81 @@
+use Rattle.std.proofs.Common.{◌≡◌, ◌≢◌, ◌∙◌, ◌<◌, ◌^◌, ℕ, List, None, Ok, Err, ap, length, map, sym, subst}
+use Rattle.std.proofs.lemmas.List.{length-map}
+use Rattle.nfit_reader.specs.declared.table.Mapping.{Mapping}
+use Rattle.namespace_areas.specs.declared.area.Area.{Area}
+use Rattle.namespace_areas.specs.Areas.{AreRunning}
+use Rattle.namespace_areas.specs.Seen.{AreHeld}
+use Rattle.namespace_areas.specs.Opening.{opened_as}
+use Rattle.namespace_areas.proofs.Seen.{held_running}
+use Rattle.namespace_areas.proofs.Opening.{held_all}
+use Rattle.interleave.specs.Sets.{set_reading}
+use Rattle.namespace_ops.specs.Opening.{opening, set_in}
+use Rattle.namespace_ops.specs.declared.registry.OpenFault.TheVariants.{OutOfMemory}
+use Rattle.shell_reports.specs.List.{open_outcome}
+use Rattle.shell_reports.proofs.More.{if_more}
+use Rattle.shell_changes.specs.declared.answer.Answer.{Answer}
+use Rattle.shell_changes.specs.Answers.{Fits, outcome_with}
+use Rattle.shell_changes.specs.Namespaces.{ChangeComes}
+use Rattle.shell_changes.specs.Reading.{set_parted, table_beside}
+use Rattle.shell_changes.specs.Remains.{LeavesBy}
+use Rattle.shell_changes.specs.Rest.{IsUsableBeside}
+use Rattle.shell_changes.proofs.Remains.{fits_none}
+use Rattle.shell_changes.proofs.Runs.{if_both}
+use Rattle.shell_changes.proofs.Goes.{comes, comes_not, are_whole}
+use Rattle.shell_changes.proofs.Regions.{are_regions, was_opened}
+use Rattle.shell_changes.proofs.changing.parted_answer.Goals as goal
+
+pub open_areas-requires : goal.open_areas-requires
+open_areas-requires g c = are_whole c.args.labels c.requires.parted.areas
+
+pub open_all-requires-clause-running : goal.open_all-requires-clause-running
+open_all-requires-clause-running g c =
+    subst (λ (xs : List Area). AreRunning xs) (sym c.in_ok-areas.ensures) (held_running (map opened_as c.args.labels) (held_all c.args.labels (are_whole c.args.labels c.requires.parted.areas)))
+
+pub opened_answer-requires-clause-regions : goal.opened_answer-requires-clause-regions
+opened_answer-requires-clause-regions g c =
+    let is : Ok c.in-Ok.registry ≡ opening c.args.nfit c.in_ok-areas.areas = sym c.in-Ok.is ∙ c.open_all.ensures (λ e. absurd (let both = sym c.in-Ok.is ∙ e in cc)) in
+    are_regions (table_beside c.args.beside) c.args.nfit c.in_ok-areas.areas c.in-Ok.registry c.requires.parted.table c.requires.parted.counted is
+
+pub opened_answer-requires-clause-held : goal.opened_answer-requires-clause-held
+opened_answer-requires-clause-held g c =
+    let is : Ok c.in-Ok.registry ≡ opening c.args.nfit c.in_ok-areas.areas = sym c.in-Ok.is ∙ c.open_all.ensures (λ e. absurd (let both = sym c.in-Ok.is ∙ e in cc)) in
+    let same = sym c.in_ok-areas.ensures ∙ (was_opened c.args.nfit c.in_ok-areas.areas c.in-Ok.registry is).areas_are in
+    subst (λ (xs : List Area). AreHeld xs) same (held_all c.args.labels (are_whole c.args.labels c.requires.parted.areas))
+
+pub opened_answer-requires-clause-run : goal.opened_answer-requires-clause-run
+opened_answer-requires-clause-run g c =
+    let is : Ok c.in-Ok.registry ≡ opening c.args.nfit c.in_ok-areas.areas = sym c.in-Ok.is ∙ c.open_all.ensures (λ e. absurd (let both = sym c.in-Ok.is ∙ e in cc)) in
+    let was = was_opened c.args.nfit c.in_ok-areas.areas c.in-Ok.registry is in
+    let areas = sym c.in_ok-areas.ensures ∙ was.areas_are in
+    record {
+      few_sets = subst (λ (sets : List (List Mapping)). length sets < 2 ^ 32) was.sets (subst (λ (n : ℕ). n < 2 ^ 32) (sym (length-map c.args.nfit.regions (λ r. set_in (set_reading r)))) c.requires.parted.regions);
+      name = c.requires.name;
+      whole = c.requires.whole;
+      rest = c.requires.parted.rest;
+      usable = subst (λ (sets : List (List Mapping)). IsUsableBeside c.args.beside sets) was.sets (c.requires.parted.usable was.sound);
+      count = ap length (sym areas) ∙ length-map c.args.labels opened_as ∙ c.requires.parted.count;
+    }
+
+pub returns-in-Ok-clause-comes : goal.returns-in-Ok-clause-comes
+returns-in-Ok-clause-comes g c =
+    let leaves = LeavesBy g.C.Chooser.begins g.C.Chooser.picks c.args.choose.now in
+    let is : Ok c.in-Ok.registry ≡ opening c.args.nfit c.in_ok-areas.areas = sym c.in-Ok.is ∙ c.open_all.ensures (λ e. absurd (let both = sym c.in-Ok.is ∙ e in cc)) in
+    let is' : Ok c.in-Ok.registry ≡ opening c.args.nfit (map opened_as c.args.labels) = is ∙ ap (opening c.args.nfit) c.in_ok-areas.ensures in
+    if_more _ (λ (answer : Answer). (contents : List (List ℕ)) → ChangeComes leaves c.args.change.now c.args.power (set_parted c.args.nfit c.args.labels c.args.beside contents) (outcome_with answer contents)) c.opened_answer.result
+    (λ answer from contents.
+    comes leaves c.args.nfit c.args.labels c.args.beside contents c.args.power c.args.change.now (outcome_with answer contents) c.requires.parted c.in-Ok.registry is' c.requires.whole (from contents))
+    c.opened_answer.ensures.comes
+
+pub returns-in-Err-clause-comes : goal.returns-in-Err-clause-comes
+returns-in-Err-clause-comes g c =
+    let leaves = LeavesBy g.C.Chooser.begins g.C.Chooser.picks c.args.choose.now in
+    if_both (λ (answer : Answer). (contents : List (List ℕ)) → outcome_with answer contents ≡ open_outcome c.in-Err.fault) (λ _. c.in-Err.fault ≢ OutOfMemory)
+    (λ (answer : Answer). (contents : List (List ℕ)) → ChangeComes leaves c.args.change.now c.args.power (set_parted c.args.nfit c.args.labels c.args.beside contents) (outcome_with answer contents)) c.faulty_answer.result
+    (λ answer said finding contents.
+    let is : Err c.in-Err.fault ≡ opening c.args.nfit c.in_ok-areas.areas = sym c.in-Err.is ∙ c.open_all.ensures (λ e. finding (let both = sym c.in-Err.is ∙ e in cc)) in
+    comes_not leaves c.args.nfit c.args.labels c.args.beside contents c.args.power c.args.change.now (outcome_with answer contents) c.requires.parted c.in-Err.fault (is ∙ ap (opening c.args.nfit) c.in_ok-areas.ensures) (said contents))
+    c.faulty_answer.ensures.text c.faulty_answer.ensures.memory
+
+pub returns-in-Err-clause-fits : goal.returns-in-Err-clause-fits
+returns-in-Err-clause-fits g c =
+    if_more (λ (answer : Answer). answer.saved ≡ None) (Fits c.args.beside) c.faulty_answer.result (λ answer none. fits_none c.args.beside answer none) c.faulty_answer.ensures.saved
