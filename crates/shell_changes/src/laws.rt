@@ -32,8 +32,9 @@ pub fn crash_is_in_either<C: Chooser>(choose: &C)
 {}
 
 /// A law: with status 8, if power lasted for recovery, every other namespace is as recovery made it, and no two have extents
-/// that meet. It holds too of a `delete` or `rename` whose namespace is still pending after recovery, since a module has no
-/// free slot: a crash may then leave its labels with two names, or, in a `delete`, some of them.
+/// that meet. After a `delete` or `rename` its own namespace has no extent that it didn't have. That holds too if it is still
+/// pending after recovery, since a module has no free slot: a crash may then leave its labels with two names, or, in a
+/// `delete`, some of them.
 pub fn crash_leaves_others<C: Chooser>(choose: &C)
     ensures { CrashLeavesOthers (LeavesBy C.begins C.picks choose.now) }
 {}
