@@ -2,6 +2,7 @@
 use Rattle.std.proofs.Common.{◌≡◌, ◌⊎◌, ℕ, zero, suc, ◌+◌, ◌-◌, ◌<◌, ◌≤◌, Bool, true, false, cond, List, [], ◌∷◌, ◌++◌, map, take, Option, Some, None, Result, Ok, Err, refl, sym, ap, ◌∙◌, subst, inl, inr, arith}
 use Rattle.std.specs.Prelude.{MatchBool, nat_le, slice_get}
 use Rattle.std.specs.Option.{option_map}
+use Rattle.std.specs.Result.{result_ok}
 use Rattle.std.specs.List.{AllByRecursion, Contains, flat_map, list_any}
 use Rattle.std.proofs.lemmas.Bool.{cases_lt, le-leb, leb-false, lt-leb, true≢false}
 use Rattle.std.proofs.lemmas.Option.{none-some}
@@ -17,17 +18,17 @@ use Rattle.label_codec.specs.Grammar.{StandsFor}
 use Rattle.label_codec.proofs.Grammar.{reads_grammar}
 use Rattle.label_index.specs.declared.index.IndexBlock.{IndexBlock}
 use Rattle.label_area.specs.declared.fault.AreaFault.{AreaFault}
-use Rattle.label_area.specs.Area.{block_in, slot_bytes}
+use Rattle.label_area.specs.Area.{block_in, labels_in, slot_bytes, slots_with}
 use Rattle.region_space.specs.declared.extent.SpaceFault.{SpaceFault}
 use Rattle.region_space.specs.Space.{overlap_of}
 use Rattle.namespace_map.specs.declared.commands.Command.{Command}
 use Rattle.namespace_map.specs.declared.commands.Command.TheVariants.{Create, Delete, Rename, Claim, Unclaim}
 use Rattle.namespace_map.specs.declared.refused.OpRefused.{OpRefused}
-use Rattle.namespace_map.specs.Namespaces.{Entry, Namespaces, Part, extent_of, lookup}
+use Rattle.namespace_map.specs.Namespaces.{Entry, Namespaces, Part, extent_of, lookup, placed_of}
 use Rattle.namespace_map.specs.Laws.{IsRising}
 use Rattle.namespace_map.specs.Areas.{Area, Change, IsLeftBy, after_steps, all_changed, slots_of, slots_on, steps_of_all}
 use Rattle.namespace_map.specs.Commands.{done, recovered, refusal_of, settled_entry, unfinished_gone}
-use Rattle.namespace_map.specs.Changes.{changes_of, gone_changes, namespaces_of, placed_in_all, recovered_areas, recovery_changes, settling_changes}
+use Rattle.namespace_map.specs.Changes.{changes_of, gone_changes, labels_at, namespaces_of, placed_in_all, recovered_areas, recovery_changes, settling_changes}
 use Rattle.namespace_map.specs.Left.{AreRead, AreRegions}
 use Rattle.namespace_map.proofs.Fronts.{cut_is_front}
 use Rattle.namespace_map.proofs.Rising.{rising_entries}
@@ -58,10 +59,11 @@ use Rattle.image_set.specs.Load.{ImageSet}
 use Rattle.shell_reports.specs.declared.status.Ending.{Ending}
 use Rattle.shell_reports.specs.declared.status.Ending.TheVariants as ending
 use Rattle.shell_reports.specs.declared.power.Power.{Power}
+use Rattle.shell_reports.specs.List.{shown_by}
 use Rattle.shell_reports.specs.Outcome.{Outcome}
 use Rattle.shell_reports.specs.Saved.{IsSaving}
-use Rattle.shell_changes.specs.Areas.{HasAreas, HasRows, area_by, areas_in, rows_in}
-use Rattle.shell_changes.specs.Maps.{AcceptedIsApart, ChangesKeepApart, ChangesLabels, CrashIsInEither, CrashLeavesOthers, CrashRecovers, IsCutIn, IsSettled, CutInCommand, CutInFormat, CutInRecovery, DoneIsTheCommand, HasTable, LeavesOthers, SavesMap, map_of, uuid_of, with_bytes}
+use Rattle.shell_changes.specs.Areas.{HasAreas, HasRows, area_by, area_in, areas_in, rows_in}
+use Rattle.shell_changes.specs.Maps.{AcceptedIsApart, ChangesKeepApart, ChangesLabels, CrashIsInEither, CrashLeavesOthers, CrashRecovers, IsCutIn, IsSettled, ReportsShowTheMap, CutInCommand, CutInFormat, CutInRecovery, DoneIsTheCommand, HasTable, LeavesOthers, SavesMap, map_of, uuid_of, with_bytes}
 use Rattle.shell_changes.specs.Namespaces.{Ends, IsCut, IsDone, OnSets, refusal_in, sets_in, work_by, work_in}
 use Rattle.shell_changes.specs.Words.{makes_sectors}
 use Rattle.shell_changes.specs.Work.{Arena, Formats, Work, arena_of, begun, count_of, label_changes, label_steps, steps_of_work}
@@ -93,6 +95,23 @@ no_overlap (Some f) e = absurd (none-some _ (sym e))
 pub accepted_apart : AcceptedIsApart
 accepted_apart loaded sets are =
     labels_apart sets (areas_in loaded.labels) (no_overlap (overlap_of (map extent_of (placed_in_all (areas_in loaded.labels)))) (accepted loaded sets are).clear)
+
+-- ---- what reports show
+
+shown_with : (bytes : List ℕ) (b : Result IndexBlock AreaFault) → option_map labels_in (result_ok (slots_with bytes b)) ≡ labels_at (area_by bytes b)
+shown_with bytes (Ok block) = refl
+shown_with bytes (Err fault) = refl
+
+shown_one : (area : Option (List ℕ)) → shown_by area ≡ labels_at (area_in area)
+shown_one None = refl
+shown_one (Some bytes) = shown_with bytes (block_in bytes)
+
+shown_all : (labels : List (Option (List ℕ))) → map shown_by labels ≡ map labels_at (areas_in labels)
+shown_all [] = refl
+shown_all (area ∷ labels) = rw (shown_one area, shown_all labels) refl
+
+pub reports_show : ReportsShowTheMap
+reports_show loaded = ap placed_of (shown_all loaded.labels)
 
 -- ---- what the laws of namespaces ask
 

@@ -12,11 +12,12 @@ use Rattle.namespace_map.specs.declared.commands.Command.{Command}
 use Rattle.namespace_map.specs.declared.commands.Command.TheVariants.{Claim, Create, Delete, Rename, Unclaim}
 use Rattle.namespace_map.specs.Areas.{Area, after_steps, steps_of_all}
 use Rattle.namespace_map.specs.Commands.{done, recovered}
-use Rattle.namespace_map.specs.Changes.{changes_of, namespaces_of, recovered_areas, recovery_changes}
+use Rattle.namespace_map.specs.Changes.{changes_of, namespaces_of, placed_in_all, recovered_areas, recovery_changes}
 use Rattle.namespace_laws.specs.Apart.{EntriesApart}
 use Rattle.image_set.specs.Load.{ImageSet}
 use Rattle.shell_reports.specs.declared.status.Ending.TheVariants as ending
 use Rattle.shell_reports.specs.declared.power.Power.{Power}
+use Rattle.shell_reports.specs.List.{labels_in_set}
 use Rattle.shell_reports.specs.Outcome.{Outcome}
 use Rattle.shell_changes.specs.Areas.{HasAreas, areas_in}
 use Rattle.shell_changes.specs.Namespaces.{ChangeComes, refusal_in, sets_in}
@@ -45,6 +46,10 @@ pub record SavesMap (sets : List (List Mapping)) (loaded : ImageSet) (formats : 
   pub map : namespaces_of sets areas ≡ ns
 
 -- ---- laws
+
+-- a law: the labels that `list`, `info` and `read` look at are those of the map
+abbrev pub ReportsShowTheMap : Type 0
+ReportsShowTheMap = (loaded : ImageSet) → labels_in_set loaded ≡ placed_in_all (areas_in loaded.labels)
 
 -- the firmware's table is the one that its bytes spell, with the counts that `read_nfit` promises
 pub record HasTable (loaded : ImageSet) : Type 0 where

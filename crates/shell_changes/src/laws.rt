@@ -1,8 +1,13 @@
 //! Laws about what the commands on namespaces come to. Each is a function that does nothing; what it ensures is the law.
-ghost use Rattle.shell_changes.specs.Maps.{AcceptedIsApart, ChangesKeepApart, CrashIsInEither, CrashLeavesOthers, CrashRecovers, DoneIsTheCommand};
+ghost use Rattle.shell_changes.specs.Maps.{AcceptedIsApart, ChangesKeepApart, CrashIsInEither, CrashLeavesOthers, CrashRecovers, DoneIsTheCommand, ReportsShowTheMap};
 ghost use Rattle.shell_changes.specs.Remains.{LeavesBy};
 
 use nvd_media::Chooser;
+
+/// A law: the namespaces that `list`, `info` and `read` show are those of the map that the other laws speak of (`map_of`).
+pub fn reports_show_the_map()
+    ensures { ReportsShowTheMap }
+{}
 
 /// A law: if the images are accepted, no two of their namespaces have extents that meet.
 pub fn accepted_is_apart()
