@@ -75,7 +75,7 @@ parts_are sets labels u e is = by (slice_get (labels_with u labels) 0) is
     by (Some p) h = let same : entry_with sets (labels_with u labels) p ≡ e = cc in ap (λ (x : Entry). x.parts) (sym same)
 
 -- a part is that of a label of the UUID
-label_of : (sets : List (List Mapping)) (labels : List Placed) (u : List ℕ) (e : Entry) (a : Part) → entry_at sets labels u ≡ Some e → Contains e.parts a
+pub label_of : (sets : List (List Mapping)) (labels : List Placed) (u : List ℕ) (e : Entry) (a : Part) → entry_at sets labels u ≡ Some e → Contains e.parts a
     → (p : Placed) × In p labels × (uuid_of p ≡ u) × (part_of p ≡ a)
 label_of sets labels u e a is c =
     let parts = parts_are sets labels u e is in

@@ -1,7 +1,8 @@
 -- What the commands on namespaces make of the namespaces of an image set.
-use Rattle.std.proofs.Common.{◌≡◌, ◌≢◌, ◌⊎◌, ℕ, zero, suc, ◌+◌, ◌-◌, ◌<◌, ◌≤◌, Bool, true, false, cond, List, [], ◌∷◌, ◌++◌, map, take, Option, Some, None, Result, Ok, Err, refl, sym, ap, ◌∙◌, subst, inl, inr, arith}
+use Rattle.std.proofs.Common.{◌≡◌, ◌⊎◌, ℕ, zero, suc, ◌+◌, ◌-◌, ◌<◌, ◌≤◌, Bool, true, false, cond, List, [], ◌∷◌, ◌++◌, map, take, Option, Some, None, Result, Ok, Err, refl, sym, ap, ◌∙◌, subst, inl, inr, arith}
 use Rattle.std.specs.Prelude.{MatchBool, nat_le, slice_get}
 use Rattle.std.specs.Option.{option_map}
+use Rattle.std.specs.Result.{result_ok}
 use Rattle.std.specs.List.{AllByRecursion, Contains, flat_map, list_any}
 use Rattle.std.proofs.lemmas.Bool.{cases_lt, le-leb, leb-false, lt-leb, true≢false}
 use Rattle.std.proofs.lemmas.Option.{none-some}
@@ -17,21 +18,21 @@ use Rattle.label_codec.specs.Grammar.{StandsFor}
 use Rattle.label_codec.proofs.Grammar.{reads_grammar}
 use Rattle.label_index.specs.declared.index.IndexBlock.{IndexBlock}
 use Rattle.label_area.specs.declared.fault.AreaFault.{AreaFault}
-use Rattle.label_area.specs.Area.{block_in, slot_bytes}
+use Rattle.label_area.specs.Area.{block_in, labels_in, slot_bytes, slots_with}
 use Rattle.region_space.specs.declared.extent.SpaceFault.{SpaceFault}
 use Rattle.region_space.specs.Space.{overlap_of}
 use Rattle.namespace_map.specs.declared.commands.Command.{Command}
 use Rattle.namespace_map.specs.declared.commands.Command.TheVariants.{Create, Delete, Rename, Claim, Unclaim}
 use Rattle.namespace_map.specs.declared.refused.OpRefused.{OpRefused}
-use Rattle.namespace_map.specs.Namespaces.{Entry, Namespaces, Part, extent_of, lookup}
+use Rattle.namespace_map.specs.Namespaces.{Entry, Namespaces, Part, extent_of, lookup, placed_of}
 use Rattle.namespace_map.specs.Laws.{IsRising}
 use Rattle.namespace_map.specs.Areas.{Area, Change, IsLeftBy, after_steps, all_changed, slots_of, slots_on, steps_of_all}
 use Rattle.namespace_map.specs.Commands.{done, recovered, refusal_of, settled_entry, unfinished_gone}
-use Rattle.namespace_map.specs.Changes.{changes_of, gone_changes, namespaces_of, placed_in_all, recovered_areas, recovery_changes, settling_changes}
+use Rattle.namespace_map.specs.Changes.{changes_of, gone_changes, labels_at, namespaces_of, placed_in_all, recovered_areas, recovery_changes, settling_changes}
 use Rattle.namespace_map.specs.Left.{AreRead, AreRegions}
 use Rattle.namespace_map.proofs.Fronts.{cut_is_front}
 use Rattle.namespace_map.proofs.Rising.{rising_entries}
-use Rattle.namespace_laws.specs.Apart.{EntriesApart, KeepsApart, LeavesOthers}
+use Rattle.namespace_laws.specs.Apart.{EntriesApart, KeepsApart, LeavesOthers as KeepsOthers}
 use Rattle.namespace_laws.specs.Recovered.{RecoversToEither}
 use Rattle.namespace_laws.specs.Whole.{Agrees}
 use Rattle.namespace_laws.proofs.Allowed.{area_free}
@@ -58,16 +59,17 @@ use Rattle.image_set.specs.Load.{ImageSet}
 use Rattle.shell_reports.specs.declared.status.Ending.{Ending}
 use Rattle.shell_reports.specs.declared.status.Ending.TheVariants as ending
 use Rattle.shell_reports.specs.declared.power.Power.{Power}
+use Rattle.shell_reports.specs.List.{shown_by}
 use Rattle.shell_reports.specs.Outcome.{Outcome}
 use Rattle.shell_reports.specs.Saved.{IsSaving}
-use Rattle.shell_changes.specs.Areas.{HasAreas, HasRows, area_by, areas_in, rows_in}
-use Rattle.shell_changes.specs.Maps.{AcceptedIsApart, ChangesKeepApart, ChangesLabels, CrashIsInEither, CrashLeavesOthers, CrashRecovers, IsCutIn, IsSettled, CutInCommand, CutInFormat, CutInRecovery, DoneIsTheCommand, HasTable, SavesMap, map_of, uuid_of, with_bytes}
+use Rattle.shell_changes.specs.Areas.{HasAreas, HasRows, area_by, area_in, areas_in, rows_in}
+use Rattle.shell_changes.specs.Maps.{AcceptedIsApart, ChangesKeepApart, ChangesLabels, CrashIsInEither, CrashLeavesOthers, CrashRecovers, IsCutIn, IsSettled, ReportsShowTheMap, CutInCommand, CutInFormat, CutInRecovery, DoneIsTheCommand, HasTable, LeavesOthers, SavesMap, map_of, uuid_of, with_bytes}
 use Rattle.shell_changes.specs.Namespaces.{Ends, IsCut, IsDone, OnSets, refusal_in, sets_in, work_by, work_in}
 use Rattle.shell_changes.specs.Words.{makes_sectors}
 use Rattle.shell_changes.specs.Work.{Arena, Formats, Work, arena_of, begun, count_of, label_changes, label_steps, steps_of_work}
 use Rattle.shell_changes.specs.Refusals.{refused_outcome}
 use Rattle.shell_changes.proofs.Apart.{labels_apart}
-use Rattle.shell_changes.proofs.RecoveryApart.{stopped_apart}
+use Rattle.shell_changes.proofs.RecoveryApart.{extents_kept, stopped_apart}
 use Rattle.shell_changes.proofs.Areas.{rows_shown}
 use Rattle.shell_changes.proofs.Behind.{after_none, append_nil, format_left, label_long, label_short, none_left, rest_left, some_format, under_first, under_sum}
 use Rattle.shell_changes.proofs.Runs.{no_arena}
@@ -93,6 +95,23 @@ no_overlap (Some f) e = absurd (none-some _ (sym e))
 pub accepted_apart : AcceptedIsApart
 accepted_apart loaded sets are =
     labels_apart sets (areas_in loaded.labels) (no_overlap (overlap_of (map extent_of (placed_in_all (areas_in loaded.labels)))) (accepted loaded sets are).clear)
+
+-- ---- what reports show
+
+shown_with : (bytes : List ℕ) (b : Result IndexBlock AreaFault) → option_map labels_in (result_ok (slots_with bytes b)) ≡ labels_at (area_by bytes b)
+shown_with bytes (Ok block) = refl
+shown_with bytes (Err fault) = refl
+
+shown_one : (area : Option (List ℕ)) → shown_by area ≡ labels_at (area_in area)
+shown_one None = refl
+shown_one (Some bytes) = shown_with bytes (block_in bytes)
+
+shown_all : (labels : List (Option (List ℕ))) → map shown_by labels ≡ map labels_at (areas_in labels)
+shown_all [] = refl
+shown_all (area ∷ labels) = rw (shown_one area, shown_all labels) refl
+
+pub reports_show : ReportsShowTheMap
+reports_show loaded = ap placed_of (shown_all loaded.labels)
 
 -- ---- what the laws of namespaces ask
 
@@ -190,7 +209,7 @@ recovered_apart ns before u v e f differ at_u at_v a b in_e in_f =
     let (y, y_is, y_parts) = found_before ns v f at_v in
     before u v x y differ x_is y_is a b (subst (λ (ps : List Part). Contains ps a) x_parts in_e) (subst (λ (ps : List Part). Contains ps b) y_parts in_f)
 
-leaves_others : (sets : List (List Mapping)) (areas : List (Option Area)) (c : Command) → ChangesLabels c → AreRegions sets → AreRead areas → refusal_of (namespaces_of sets areas) c ≡ None → LeavesOthers sets areas (uuid_of c) c
+leaves_others : (sets : List (List Mapping)) (areas : List (Option Area)) (c : Command) → ChangesLabels c → AreRegions sets → AreRead areas → refusal_of (namespaces_of sets areas) c ≡ None → KeepsOthers sets areas (uuid_of c) c
 leaves_others sets areas (Create spec) changes regions read none = create_others sets areas spec.uuid spec.name spec.region spec.size spec.make regions none
 leaves_others sets areas (Delete uuid) changes regions read none = delete_others sets areas uuid regions read none
 leaves_others sets areas (Rename uuid name) changes regions read none = rename_others sets areas uuid name regions read none
@@ -495,8 +514,7 @@ module _ (leaves : ℕ → List (Option Words) → List (Option (List ℕ)) → 
   -- ---- other namespaces
 
   abbrev LeavesOthersAs : Type 0
-  LeavesOthersAs = (ns : Namespaces) × SavesMap sets loaded (makes_sectors c) ns outcome × EntriesApart ns
-      × ((other : List ℕ) → other ≢ uuid_of c → lookup other ns.entries ≡ lookup other (recovered (map_of sets loaded)).entries)
+  LeavesOthersAs = (ns : Namespaces) × SavesMap sets loaded (makes_sectors c) ns outcome × LeavesOthers (recovered (map_of sets loaded)) ns c
 
   others_by : (n : ℕ) → ChangesLabels c → HasTable loaded → sets_in loaded ≡ Ok sets → early ≤ n → IsCutIn sets loaded c n outcome → LeavesOthersAs
   others_by n changes table are le (inl (lt, saves)) = absurd (never n early lt le)
@@ -504,8 +522,11 @@ module _ (leaves : ℕ → List (Option Words) → List (Option (List ℕ)) → 
       let map_is : namespaces_of sets mid ≡ recovered (map_of sets loaded) = recovery_agrees sets seen (regions_of loaded sets table are) (areas_read loaded.labels) in (
         namespaces_of sets mid,
         subst (λ (b : Bool). SavesMap sets loaded b (namespaces_of sets mid) outcome) (sym (formats_sectors (some_format early format n le' lt))) saves,
-        subst EntriesApart (sym map_is) (recovered_apart (map_of sets loaded) (accepted_apart loaded sets are)),
-        λ other ne. ap (λ (ns : Namespaces). lookup other ns.entries) map_is,
+        record {
+          others = λ other ne. ap (λ (ns : Namespaces). lookup other ns.entries) map_is;
+          apart = subst EntriesApart (sym map_is) (recovered_apart (map_of sets loaded) (accepted_apart loaded sets are));
+          own = λ existing x is. (x, sym (ap (λ (ns : Namespaces). lookup (uuid_of c) ns.entries) map_is) ∙ is, λ a in_x. (a, in_x, refl));
+        },
       )
   others_by n changes table are le (inr (inr (far, none, (stays, saves)))) =
       let regions = regions_of loaded sets table are in
@@ -515,8 +536,13 @@ module _ (leaves : ℕ → List (Option Words) → List (Option (List ℕ)) → 
       let apart : EntriesApart (namespaces_of sets mid) = subst EntriesApart (sym map_is) (recovered_apart (map_of sets loaded) (accepted_apart loaded sets are)) in (
         namespaces_of sets (after_steps mid own (n - early - format) stays),
         saves,
-        keeps sets mid c changes regions read_mid none apart (n - early - format) stays,
-        λ other ne. leaves_others sets mid c changes regions read_mid none (n - early - format) stays other ne ∙ ap (λ (ns : Namespaces). lookup other ns.entries) map_is,
+        record {
+          others = λ other ne. leaves_others sets mid c changes regions read_mid none (n - early - format) stays other ne ∙ ap (λ (ns : Namespaces). lookup other ns.entries) map_is;
+          apart = keeps sets mid c changes regions read_mid none apart (n - early - format) stays;
+          own = λ existing x is.
+              let it = extents_kept sets mid c (n - early - format) stays existing x is in
+              (it.0, sym (ap (λ (ns : Namespaces). lookup (uuid_of c) ns.entries) map_is) ∙ it.1, it.2);
+        },
       )
 
 pub done_is : (leaves : ℕ → List (Option Words) → List (Option (List ℕ)) → Type 0) → DoneIsTheCommand leaves

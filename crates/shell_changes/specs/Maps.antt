@@ -1,21 +1,23 @@
 -- The namespaces of an image set, and what `create`, `delete` and `rename` make of them: UEFI 2.10, section 13.19, with this project's rules.
 use Rattle.std.specs.Prelude.{◌≡◌, ◌≢◌, ⊤, ◌⊎◌, ℕ, ◌+◌, ◌-◌, ◌<◌, ◌≤◌, Bool, true, false, List, Option, Some, None, Ok}
+use Rattle.std.specs.List.{Contains}
 use Rattle.nvd_media.specs.Images.{Images}
 use Rattle.cut_words.specs.Words.{Words}
 use Rattle.nfit_reader.specs.declared.table.Mapping.{Mapping}
 use Rattle.nfit_reader.specs.Table.{nfit_reading}
 use Rattle.nfit_reader.specs.Counted.{AreCounted}
 use Rattle.label_set.specs.declared.placed.SetStatus.TheVariants.{Complete}
-use Rattle.namespace_map.specs.Namespaces.{Entry, Namespaces, lookup}
+use Rattle.namespace_map.specs.Namespaces.{Entry, Namespaces, Part, lookup}
 use Rattle.namespace_map.specs.declared.commands.Command.{Command}
 use Rattle.namespace_map.specs.declared.commands.Command.TheVariants.{Claim, Create, Delete, Rename, Unclaim}
 use Rattle.namespace_map.specs.Areas.{Area, after_steps, steps_of_all}
 use Rattle.namespace_map.specs.Commands.{done, recovered}
-use Rattle.namespace_map.specs.Changes.{changes_of, namespaces_of, recovered_areas, recovery_changes}
+use Rattle.namespace_map.specs.Changes.{changes_of, namespaces_of, placed_in_all, recovered_areas, recovery_changes}
 use Rattle.namespace_laws.specs.Apart.{EntriesApart}
 use Rattle.image_set.specs.Load.{ImageSet}
 use Rattle.shell_reports.specs.declared.status.Ending.TheVariants as ending
 use Rattle.shell_reports.specs.declared.power.Power.{Power}
+use Rattle.shell_reports.specs.List.{labels_in_set}
 use Rattle.shell_reports.specs.Outcome.{Outcome}
 use Rattle.shell_changes.specs.Areas.{HasAreas, areas_in}
 use Rattle.shell_changes.specs.Namespaces.{ChangeComes, refusal_in, sets_in}
@@ -44,6 +46,10 @@ pub record SavesMap (sets : List (List Mapping)) (loaded : ImageSet) (formats : 
   pub map : namespaces_of sets areas ≡ ns
 
 -- ---- laws
+
+-- a law: the labels that `list`, `info` and `read` look at are those of the map
+abbrev pub ReportsShowTheMap : Type 0
+ReportsShowTheMap = (loaded : ImageSet) → labels_in_set loaded ≡ placed_in_all (areas_in loaded.labels)
 
 -- the firmware's table is the one that its bytes spell, with the counts that `read_nfit` promises
 pub record HasTable (loaded : ImageSet) : Type 0 where
@@ -139,10 +145,26 @@ uuid_of (Rename uuid name) = uuid
 uuid_of (Claim uuid) = uuid
 uuid_of (Unclaim uuid) = uuid
 
--- a law: if power lasts for recovery, a crash leaves every other namespace as recovery made it, and all of them apart, also where the
--- command's own was pending then
+-- a command about a namespace that exists
+abbrev pub IsOfExisting : Command → Type 0
+IsOfExisting (Delete uuid) = ⊤
+IsOfExisting (Rename uuid name) = ⊤
+IsOfExisting c = ⊥
+
+-- each extent of an entry is one of the other's
+abbrev pub ExtentsAmong : Entry → Entry → Type 0
+ExtentsAmong x e = (a : Part) → Contains x.parts a → (b : Part) × Contains e.parts b × (b.extent ≡ a.extent)
+
+-- what a crash leaves of a command on these namespaces, also if the command's own was pending
+pub record LeavesOthers (before ns : Namespaces) (c : Command) : Type 0 where
+  -- every other namespace is as it was, and no two have extents that meet
+  pub others : (other : List ℕ) → other ≢ uuid_of c → lookup other ns.entries ≡ lookup other before.entries
+  pub apart : EntriesApart ns
+  -- of a delete or rename, its own has no extent that it didn't have
+  pub own : IsOfExisting c → (x : Entry) → lookup (uuid_of c) ns.entries ≡ Some x → (e : Entry) × (lookup (uuid_of c) before.entries ≡ Some e) × ExtentsAmong x e
+
+-- a law: if power lasts for recovery, a crash leaves the other namespaces that recovery made
 abbrev pub CrashLeavesOthers : (ℕ → List (Option Words) → List (Option (List ℕ)) → Type 0) → Type 0
 CrashLeavesOthers leaves = (c : Command) (power : Power) (loaded : ImageSet) (sets : List (List Mapping)) (outcome : Outcome) (n : ℕ) → power.steps ≡ Some n → ChangesLabels c → HasTable loaded → sets_in loaded ≡ Ok sets
     → ChangeComes leaves c power loaded outcome → outcome.ending ≡ ending.PowerCut → recovery_steps sets loaded ≤ n
-    → (ns : Namespaces) × SavesMap sets loaded (makes_sectors c) ns outcome × EntriesApart ns
-    × ((other : List ℕ) → other ≢ uuid_of c → lookup other ns.entries ≡ lookup other (recovered (map_of sets loaded)).entries)
+    → (ns : Namespaces) × SavesMap sets loaded (makes_sectors c) ns outcome × LeavesOthers (recovered (map_of sets loaded)) ns c

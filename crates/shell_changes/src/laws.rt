@@ -1,8 +1,13 @@
 //! Laws about what the commands on namespaces come to. Each is a function that does nothing; what it ensures is the law.
-ghost use Rattle.shell_changes.specs.Maps.{AcceptedIsApart, ChangesKeepApart, CrashIsInEither, CrashLeavesOthers, CrashRecovers, DoneIsTheCommand};
+ghost use Rattle.shell_changes.specs.Maps.{AcceptedIsApart, ChangesKeepApart, CrashIsInEither, CrashLeavesOthers, CrashRecovers, DoneIsTheCommand, ReportsShowTheMap};
 ghost use Rattle.shell_changes.specs.Remains.{LeavesBy};
 
 use nvd_media::Chooser;
+
+/// A law: the namespaces that `list`, `info` and `read` show are those of the map that the other laws speak of (`map_of`).
+pub fn reports_show_the_map()
+    ensures { ReportsShowTheMap }
+{}
 
 /// A law: if the images are accepted, no two of their namespaces have extents that meet.
 pub fn accepted_is_apart()
@@ -32,8 +37,9 @@ pub fn crash_is_in_either<C: Chooser>(choose: &C)
 {}
 
 /// A law: with status 8, if power lasted for recovery, every other namespace is as recovery made it, and no two have extents
-/// that meet. It holds too of a `delete` or `rename` whose namespace is still pending after recovery, since a module has no
-/// free slot: a crash may then leave its labels with two names, or, in a `delete`, some of them.
+/// that meet. After a `delete` or `rename` its own namespace has no extent that it didn't have. That holds too if it is still
+/// pending after recovery, since a module has no free slot: a crash may then leave its labels with two names, or, in a
+/// `delete`, some of them.
 pub fn crash_leaves_others<C: Chooser>(choose: &C)
     ensures { CrashLeavesOthers (LeavesBy C.begins C.picks choose.now) }
 {}

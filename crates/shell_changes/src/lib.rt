@@ -28,6 +28,7 @@
 //!
 //! | what | law |
 //! |---|---|
+//! | it is the map that `list`, `info` and `read` show | [`reports_show_the_map`] |
 //! | no two namespaces of accepted images have extents that meet | [`accepted_is_apart`] |
 //! | recovery, a command and a crash in a command keep it so | [`changes_keep_apart`] |
 //! | after `ok` the map is the command applied to the map after recovery | [`done_is_the_command`] |
@@ -50,6 +51,6 @@ pub use changing::{SetRead, change_answer};
 pub use init::init_answer;
 pub use laws::{
     accepted_is_apart, changes_keep_apart, crash_is_in_either, crash_leaves_others, crash_recovers,
-    done_is_the_command,
+    done_is_the_command, reports_show_the_map,
 };
 pub use words::{create_in, delete_in, makes_sectors, rename_in};
