@@ -1,4 +1,4 @@
-//! Tests of a core: its lanes step by a stated schedule, and power is cut.
+//! Tests of lanes: of a core, whose lanes step by a stated schedule, and of lanes on words that they share.
 //!
 //! The contracts say what every step does and what every power cut leaves. Here stand whole calls with their numbers of
 //! steps, and the races that the algorithm's scan, its second look at the map and its order of stores are for.
@@ -6,3 +6,5 @@
 
 #[cfg(test)]
 mod core_tests;
+#[cfg(test)]
+mod table_tests;

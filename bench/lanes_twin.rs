@@ -1,0 +1,197 @@
+//! What lanes cost without proofs: the steps of lane_table's writes and reads on plain atomic words, with neither fuses nor logs.
+//! usage: lanes_twin THREADS CALLS APART LINE, as bench/lanes.rt.txt; reader words stand LINE words apart (1: side by side)
+use std::env;
+use std::hint::black_box;
+use std::sync::atomic::{AtomicU64, Ordering::SeqCst};
+use std::thread;
+use std::time::Instant;
+
+const SECTORS: u32 = 64_716;
+const LANES: u32 = 256;
+const WIDTH: usize = 64;
+/// The arena's layout, in words.
+const DATA_AT: usize = 4_096 / 8;
+const MAP_AT: usize = 33_271_808 / 8;
+const LOG_AT: usize = 33_533_952 / 8;
+const TOTAL: usize = 33_554_432 / 8;
+
+struct Arena {
+    words: Vec<AtomicU64>,
+    line: usize,
+}
+
+struct Lane {
+    number: u32,
+    /// Its free block.
+    block: u32,
+    /// The side and the sequence number of its current log half.
+    side: u32,
+    seq: u32,
+}
+
+impl Arena {
+    /// Every sector has zeros, and lane `l` has the free block behind the sectors'.
+    fn new(line: usize) -> (Arena, Vec<Lane>) {
+        let words = (0..2 * TOTAL + LANES as usize * (line + 1)).map(|_| AtomicU64::new(0)).collect();
+        let arena = Arena { words, line };
+        for sector in 0..SECTORS {
+            let word = arena.load(MAP_AT + sector as usize / 2);
+            arena.keep(MAP_AT + sector as usize / 2, with_entry(word, sector, sector | 0x8000_0000));
+        }
+        let lanes = (0..LANES).map(|number| Lane { number, block: SECTORS + number, side: 0, seq: 1 });
+        (arena, lanes.collect())
+    }
+
+    fn load(&self, at: usize) -> u64 {
+        self.words[at].load(SeqCst)
+    }
+
+    fn store(&self, at: usize, value: u64) {
+        self.words[at].store(value, SeqCst);
+    }
+
+    /// Stores a word, and keeps it.
+    fn keep(&self, at: usize, value: u64) {
+        self.store(at, value);
+        self.store(TOTAL + at, value);
+    }
+
+    fn reader(&self, lane: u32) -> usize {
+        2 * TOTAL + lane as usize * self.line
+    }
+
+    fn lock(&self, sector: u32) -> usize {
+        2 * TOTAL + LANES as usize * self.line + (sector / 2 % LANES) as usize
+    }
+
+    /// Whether no other lane reads the lane's free block.
+    fn scan(&self, lane: &Lane) -> bool {
+        (0..LANES - 1).all(|j| {
+            let other = if j < lane.number { j } else { j + 1 };
+            self.load(self.reader(other)) != u64::from(lane.block) + 1
+        })
+    }
+
+    fn try_stage(&self, lane: &Lane, words: &[u64; WIDTH]) -> bool {
+        if !self.scan(lane) {
+            return false;
+        }
+        let at = DATA_AT + lane.block as usize * WIDTH;
+        for (k, word) in words.iter().enumerate() {
+            self.store(at + k, *word);
+        }
+        for (k, word) in words.iter().enumerate() {
+            self.store(TOTAL + at + k, *word);
+        }
+        true
+    }
+
+    fn try_commit(&self, lane: &mut Lane, sector: u32) -> bool {
+        let lock = self.lock(sector);
+        if self.words[lock].compare_exchange(0, u64::from(lane.number) + 1, SeqCst, SeqCst).is_err() {
+            return false;
+        }
+        let map = MAP_AT + sector as usize / 2;
+        let word = self.load(map);
+        let old = block_of(entry_in(word, sector), sector);
+        let log = LOG_AT + 8 * lane.number as usize + 2 * (1 - lane.side) as usize;
+        let seq = lane.seq % 3 + 1;
+        self.keep(log, u64::from(sector) | u64::from(old) << 32);
+        self.keep(log + 1, u64::from(lane.block) | u64::from(seq) << 32);
+        self.keep(map, with_entry(word, sector, lane.block | 0xC000_0000));
+        self.store(lock, 0);
+        (lane.block, lane.side, lane.seq) = (old, 1 - lane.side, seq);
+        true
+    }
+
+    fn try_read(&self, lane: &Lane, sector: u32, into: &mut [u64; WIDTH]) -> bool {
+        let map = MAP_AT + sector as usize / 2;
+        let entry = entry_in(self.load(map), sector);
+        if entry >> 30 == 2 {
+            into.fill(0);
+            return true;
+        }
+        let block = block_of(entry, sector);
+        self.store(self.reader(lane.number), u64::from(block) + 1);
+        let same = entry_in(self.load(map), sector) == entry;
+        if same {
+            let at = DATA_AT + block as usize * WIDTH;
+            for (k, word) in into.iter_mut().enumerate() {
+                *word = self.load(at + k);
+            }
+        }
+        self.store(self.reader(lane.number), 0);
+        same
+    }
+
+    fn write(&self, lane: &mut Lane, sector: u32, words: &[u64; WIDTH]) {
+        while !self.try_stage(lane, words) {}
+        while !self.try_commit(lane, sector) {}
+    }
+}
+
+fn entry_in(word: u64, sector: u32) -> u32 {
+    (word >> (32 * (sector % 2))) as u32
+}
+
+fn with_entry(word: u64, sector: u32, entry: u32) -> u64 {
+    let shift = 32 * (sector % 2);
+    word & !(0xFFFF_FFFF << shift) | u64::from(entry) << shift
+}
+
+fn block_of(entry: u32, sector: u32) -> u32 {
+    if entry >> 30 == 0 { sector } else { entry & 0x3FFF_FFFF }
+}
+
+fn random(seed: u64) -> u64 {
+    seed.wrapping_mul(6_364_136_223_846_793_005).wrapping_add(1_442_695_040_888_963_407)
+}
+
+fn sector_of(random: u64) -> u32 {
+    ((random >> 33) % u64::from(SECTORS)) as u32
+}
+
+fn write_many(arena: &Arena, lane: &mut Lane, calls: u32) {
+    let mut seed = u64::from(lane.number);
+    let mut words = [7; WIDTH];
+    for _ in 0..calls {
+        seed = random(seed);
+        words[0] = seed;
+        arena.write(lane, sector_of(seed), &words);
+    }
+}
+
+fn read_many(arena: &Arena, lane: &mut Lane, calls: u32) {
+    let mut seed = u64::from(lane.number);
+    let mut words = [7; WIDTH];
+    for _ in 0..calls {
+        seed = random(seed);
+        while !arena.try_read(lane, sector_of(seed), &mut words) {}
+        black_box(&words);
+    }
+}
+
+/// All lanes make their calls, each in a thread. Returns how many nanoseconds that took.
+fn run(arena: &Arena, lanes: &mut [Lane], calls: u32, many: fn(&Arena, &mut Lane, u32)) -> u128 {
+    let start = Instant::now();
+    thread::scope(|scope| {
+        for lane in lanes {
+            scope.spawn(move || many(arena, lane, calls));
+        }
+    });
+    start.elapsed().as_nanos()
+}
+
+fn main() {
+    let numbers: Vec<u32> = env::args().skip(1).map(|word| word.parse().unwrap()).collect();
+    let [threads, calls, apart, line] = numbers[..] else { panic!("lanes_twin THREADS CALLS APART LINE") };
+    let (arena, lanes) = Arena::new(line as usize);
+    let mut lanes: Vec<Lane> = lanes.into_iter().step_by(apart as usize).take(threads as usize).collect();
+    for sector in 0..SECTORS {
+        arena.write(&mut lanes[0], sector, &[7; WIDTH]);
+    }
+    run(&arena, &mut lanes, calls, write_many);
+    println!("write: {}", run(&arena, &mut lanes, calls, write_many));
+    run(&arena, &mut lanes, calls, read_many);
+    println!("read: {}", run(&arena, &mut lanes, calls, read_many));
+}
