@@ -1,5 +1,3 @@
-pub mod Grouped
-pub mod Listed
 pub mod Sets
 pub mod Ordered
 pub mod Planned
@@ -23,3 +21,6 @@ pub mod Kept
 pub mod Shown
 pub mod Rows
 pub mod OpenSets
+pub mod Regions
+pub mod Lies
+pub mod Spent

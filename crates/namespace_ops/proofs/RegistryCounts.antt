@@ -9,7 +9,7 @@ use Rattle.namespace_map.specs.declared.commands.Command.{Command}
 use Rattle.namespace_map.specs.declared.commands.Command.TheVariants as command
 use Rattle.namespace_map.specs.Commands.{deleted_entry, done, renamed_entry}
 use Rattle.namespace_ops.specs.Claims.{count_of, with_count}
-use Rattle.namespace_ops.specs.Counted.{Answered, Counted, namespaces_in}
+use Rattle.namespace_ops.specs.Counted.{Answered, State, namespaces_in}
 use Rattle.namespace_ops.specs.Entries.{Reply}
 
 -- none of the counts is above a number
@@ -67,7 +67,7 @@ done_grows n ns (command.Rename uuid name) all = same_grows n ns.claims _ all (r
 done_grows n ns (command.Claim uuid) all = let at : count_of ns.claims uuid ≤ n = count_within n uuid ns.claims all in count_grows n ns.claims uuid (count_of ns.claims uuid + 1) all (omega (arith, at))
 done_grows n ns (command.Unclaim uuid) all = let at : count_of ns.claims uuid ≤ n = count_within n uuid ns.claims all in count_grows n ns.claims uuid (count_of ns.claims uuid - 1) all (omega (arith, at))
 
-pub answered_grows : (n : ℕ) (old new : Counted) (fuse left : Option ℕ) (c : Command) (reply : Reply) → Answered old new fuse left c reply → AreWithin n old.claims → Grows n old.claims new.claims
+pub answered_grows : (n : ℕ) (old new : State) (fuse left : Option ℕ) (c : Command) (reply : Reply) → Answered old new fuse left c reply → AreWithin n old.claims → Grows n old.claims new.claims
 answered_grows n old new fuse left c (Ok x) is all =
     subst (λ (cs : List (List ℕ × ℕ)). Grows n old.claims cs) (sym (ap (λ (ns : Namespaces). ns.claims) is.done)) (done_grows n (namespaces_in old) c all)
 answered_grows n old new fuse left c (Err f) is all = same_grows n old.claims new.claims all (is.claims refl)

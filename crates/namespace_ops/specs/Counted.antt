@@ -1,16 +1,22 @@
--- Commands on namespaces of which is counted how often each is claimed.
+-- What a command comes to on namespaces of which is counted how often each is claimed.
 use Rattle.std.specs.Prelude.{◌≡◌, ◌≢◌, ℕ, Bool, true, false, List, Option, Some, None, Err, is_ok, OnOk}
+use Rattle.cut_words.specs.Words.{Words}
+use Rattle.cut_words.specs.Fuses.{burnt, lasts}
+use Rattle.nfit_reader.specs.declared.table.Mapping.{Mapping}
+use Rattle.sector_namespaces.specs.Creation.{AreSettled, IsFormattedIn, arena_steps, has_sectors, layout_for, place_for}
+use Rattle.sector_namespaces.specs.View.{AreUsable}
 use Rattle.namespace_map.specs.Namespaces.{Namespaces}
+use Rattle.namespace_map.specs.declared.commands.CreateSpec.{CreateSpec}
 use Rattle.namespace_map.specs.declared.commands.Command.{Command}
 use Rattle.namespace_map.specs.declared.commands.Command.TheVariants.{Create}
 use Rattle.namespace_map.specs.declared.refused.OpRefused.{OpRefused}
 use Rattle.namespace_map.specs.declared.refused.OpRefused.TheVariants.{OutOfMemory, PowerCut}
 use Rattle.namespace_map.specs.Commands.{refusal_of, done}
 use Rattle.namespace_map.specs.Changes.{changes_of}
-use Rattle.namespace_areas.specs.Seen.{areas_seen}
+use Rattle.namespace_areas.specs.declared.area.Area.{Area}
+use Rattle.namespace_areas.specs.Seen.{AreHeld, areas_seen}
 use Rattle.namespace_areas.specs.Went.{Went}
 use Rattle.namespace_areas.specs.Refusals.{shown}
-use Rattle.namespace_ops.specs.Held.{Held}
 use Rattle.namespace_ops.specs.Carried.{is_cut}
 use Rattle.namespace_ops.specs.Entries.{Reply}
 
@@ -18,40 +24,72 @@ use Rattle.namespace_ops.specs.Entries.{Reply}
 abbrev pub with_claims : Namespaces → List (List ℕ × ℕ) → Namespaces
 with_claims ns claims = record ns { claims = claims }
 
--- what is held of an image set, and how often UUIDs are claimed
-pub record Counted : Type 0 where
-  pub held : Held
+-- what commands act on
+pub record State : Type 0 where
+  -- the interleave sets by region number, and the label areas by module number
+  pub sets : List (List Mapping)
+  pub areas : List Area
+  -- power was cut in a command or in recovery
+  pub stopped : Bool
+  -- how often UUIDs are claimed
   pub claims : List (List ℕ × ℕ)
 
 -- its namespaces
-abbrev pub namespaces_in : Counted → Namespaces
-namespaces_in c = with_claims (shown c.held.sets c.held.areas) c.claims
+abbrev pub namespaces_in : State → Namespaces
+namespaces_in s = with_claims (shown s.sets s.areas) s.claims
 
 -- power is on, and memory was found
-abbrev pub GoesOn : Counted → Reply → Type 0
-GoesOn c reply = (c.held.stopped ≡ false) × (reply ≢ Err OutOfMemory)
+abbrev pub GoesOn : State → Reply → Type 0
+GoesOn s reply = (s.stopped ≡ false) × (reply ≢ Err OutOfMemory)
 
 -- a command that may want memory
 abbrev pub takes_memory : Command → Bool
 takes_memory (Create spec) = true
 takes_memory other = false
 
+-- a create of a namespace with sectors, whose arena is formatted first
+abbrev pub makes_sectors : Command → Bool
+makes_sectors (Create spec) = has_sectors spec.make
+makes_sectors other = false
+
+-- the steps that a command makes before its label changes: those of the format of an arena
+abbrev pub steps_before : Command → ℕ
+steps_before (Create spec) = arena_steps spec
+steps_before other = 0
+
+-- What a command that makes sectors asks of the words of all modules: none is pending, and they reach to the ends of the mappings.
+abbrev pub HasContents : List (List Mapping) → Command → List Words → Type 0
+HasContents sets command rows = makes_sectors command ≡ true → AreSettled rows × AreUsable sets rows
+
 -- What a command comes to: its reply, and what became of the namespaces and of a fuse.
-pub record Answered (old new : Counted) (fuse left : Option ℕ) (command : Command) (reply : Reply) : Type 0 where
-  -- Where power was cut before, that is the reply, and nothing changes.
-  pub off : old.held.stopped ≡ true → (reply ≡ Err PowerCut) × (new ≡ old) × (left ≡ fuse)
-  -- Want of memory changes nothing.
+pub record Answered (old new : State) (fuse left : Option ℕ) (command : Command) (reply : Reply) : Type 0 where
+  -- If power was cut before, that is the reply, and nothing changes.
+  pub off : old.stopped ≡ true → (reply ≡ Err PowerCut) × (new ≡ old) × (left ≡ fuse)
+  -- After out of memory nothing has changed.
   pub memory : reply ≡ Err OutOfMemory → (new ≡ old) × (left ≡ fuse)
-  -- Else, where the command is refused on the namespaces, that is the reply, and nothing changes;
+  -- Else, if the command is refused on the namespaces, that is the reply, and nothing changes;
   pub refused : GoesOn old reply → (f : OpRefused) → refusal_of (namespaces_in old) command ≡ Some f → (reply ≡ Err f) × (new ≡ old) × (left ≡ fuse)
-  -- where it isn't, its label changes are made as far as the fuse lasts: Ok exactly where it lasts for all of them,
-  pub went : GoesOn old reply → refusal_of (namespaces_in old) command ≡ None
-      → Went old.held.areas new.held.areas fuse left (changes_of (namespaces_in old) (areas_seen old.held.areas) command) (is_ok reply)
+  -- if it isn't, and the fuse doesn't last for the format of its arena, the reply is PowerCut, and no label area was touched;
+  pub within : GoesOn old reply → refusal_of (namespaces_in old) command ≡ None → lasts fuse (steps_before command) ≡ false
+      → (reply ≡ Err PowerCut) × (new.areas ≡ old.areas) × AreHeld old.areas × (left ≡ burnt fuse (steps_before command))
+  -- if it does, the label changes are made as far as the rest of the fuse lasts: Ok exactly if it lasts for all of them,
+  pub went : GoesOn old reply → refusal_of (namespaces_in old) command ≡ None → lasts fuse (steps_before command) ≡ true
+      → Went old.areas new.areas (burnt fuse (steps_before command)) left (changes_of (namespaces_in old) (areas_seen old.areas) command) (is_ok reply)
   -- and PowerCut else.
   pub cut : GoesOn old reply → refusal_of (namespaces_in old) command ≡ None → (f : OpRefused) → reply ≡ Err f → f ≡ PowerCut
   -- After Ok the namespaces, with their claims, are what the command makes of them;
   pub done : OnOk reply (namespaces_in new ≡ done (namespaces_in old) command)
   -- else the claims are as they were.
   pub claims : is_ok reply ≡ false → new.claims ≡ old.claims
-  pub sets : new.held.sets ≡ old.held.sets
-  pub stopped : old.held.stopped ≡ false → new.held.stopped ≡ is_cut reply
+  pub sets : new.sets ≡ old.sets
+  pub stopped : old.stopped ≡ false → new.stopped ≡ is_cut reply
+
+-- What became of the words of all modules by a command. If it begins no arena none is touched; else the arena is formatted in the
+-- namespace's place, as far as the fuse lasts, and no word beside that place is touched.
+pub record Formats (old : State) (rows rows' : List Words) (fuse : Option ℕ) (command : Command) (reply : Reply) : Type 0 where
+  pub off : old.stopped ≡ true → rows' ≡ rows
+  pub memory : reply ≡ Err OutOfMemory → rows' ≡ rows
+  pub refused : GoesOn old reply → (f : OpRefused) → refusal_of (namespaces_in old) command ≡ Some f → rows' ≡ rows
+  pub plain : makes_sectors command ≡ false → rows' ≡ rows
+  pub formatted : GoesOn old reply → refusal_of (namespaces_in old) command ≡ None → (spec : CreateSpec) → command ≡ Create spec → has_sectors spec.make ≡ true
+      → IsFormattedIn (place_for old.sets old.areas spec) (layout_for spec) spec.uuid rows rows' fuse (burnt fuse (arena_steps spec)) (lasts fuse (arena_steps spec))

@@ -3,10 +3,10 @@ use Rattle.std.specs.Prelude.{Bool, true, false}
 use Rattle.namespace_map.specs.declared.refused.OpRefused.{OpRefused}
 use Rattle.namespace_map.specs.declared.refused.OpRefused.TheVariants.{NoSuch, NotComplete}
 use Rattle.namespace_ops.specs.declared.counted.CountedNamespaces.{CountedNamespaces}
-use Rattle.namespace_ops.specs.Counted.{Counted}
+use Rattle.namespace_ops.specs.Counted.{State}
 
-abbrev pub counted_in : CountedNamespaces → Counted
-counted_in n = record { held = n.holding; claims = n.claims.counts }
+abbrev pub state_in : CountedNamespaces → State
+state_in n = record { sets = n.store.sets; areas = n.store.areas; stopped = n.store.stopped; claims = n.claims.counts }
 
 -- a refusal of a delete that comes before that of a claimed namespace
 abbrev pub is_first : OpRefused → Bool

@@ -1,4 +1,4 @@
--- What is held of an image set while commands run on its namespaces.
+-- The label areas of an image set while commands run on their namespaces.
 use Rattle.std.specs.Prelude.{◌≡◌, ℕ, ◌*◌, ◌≤◌, ◌<◌, ◌^◌, Bool, false, List, length}
 use Rattle.nfit_reader.specs.declared.table.Mapping.{Mapping}
 use Rattle.namespace_map.specs.Left.{AreRegions}
@@ -26,7 +26,7 @@ pub record HasRoomFor (slots own changes : ℕ) : Type 0 where
   pub for_changes : 2 * slots ≤ changes
 
 -- what is kept, with room for so many labels of a UUID and so many changes
-pub record IsHolding (held : Held) (groups : Grouping) (own changes : ℕ) : Type 0 where
+pub record IsStore (held : Held) (groups : Grouping) (own changes : ℕ) : Type 0 where
   pub few_sets : length held.sets < 2 ^ 32
   pub few_areas : length held.areas < 2 ^ 32
   pub regions : AreRegions held.sets

@@ -1,6 +1,4 @@
 pub mod Opening
-pub mod Areas
-pub mod Groups
 pub mod Plans
 pub mod Carried
 pub mod Held
@@ -13,3 +11,4 @@ pub mod Counted
 pub mod Counting
 pub mod Replay
 pub mod Registered
+pub mod Steps

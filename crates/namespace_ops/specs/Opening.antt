@@ -1,11 +1,12 @@
 -- What a registry of namespaces is opened on, or why it isn't: UEFI 2.10, section 13.19, with this project's rules.
-use Rattle.std.specs.Prelude.{ℕ, ◌+◌, List, [], ◌∷◌, map, Option, None, Result, Ok, Err}
+use Rattle.std.specs.Prelude.{◌≡◌, ℕ, ◌+◌, List, [], ◌∷◌, map, Option, None, Result, Ok, Err}
 use Rattle.std.specs.Option.{option_map}
 use Rattle.std.specs.Result.{result_err}
 use Rattle.nvd_words.specs.Checks.{first_fault, value_unless}
 use Rattle.nfit_reader.specs.declared.table.Mapping.{Mapping}
 use Rattle.nfit_reader.specs.declared.table.Nfit.{Nfit}
 use Rattle.nfit_reader.specs.declared.table.Region.{Region}
+use Rattle.nfit_reader.specs.Table.{nfit_reading}
 use Rattle.interleave.specs.declared.set.SetFault.{SetFault}
 use Rattle.interleave.specs.declared.set.SetFault.TheVariants as set
 use Rattle.interleave.specs.Sets.{set_reading}
@@ -13,19 +14,16 @@ use Rattle.label_set.specs.declared.placed.Placed.{Placed}
 use Rattle.region_space.specs.declared.extent.SpaceFault.{SpaceFault}
 use Rattle.region_space.specs.declared.extent.SpaceFault.TheVariants as space
 use Rattle.region_space.specs.Space.{overlap_of}
-use Rattle.namespace_map.specs.declared.listed.Namespace.{Namespace}
-use Rattle.namespace_map.specs.declared.refused.OpRefused.{OpRefused}
-use Rattle.namespace_areas.specs.declared.found.Found.{Found}
-use Rattle.namespace_areas.specs.Finding.{found_of}
-use Rattle.namespace_map.specs.Namespaces.{entry_at, extent_of, entries_of, namespace_of}
+use Rattle.namespace_map.specs.Namespaces.{extent_of}
 use Rattle.namespace_areas.specs.declared.area.Area.{Area}
 use Rattle.namespace_areas.specs.Areas.{labels_of}
 use Rattle.namespace_ops.specs.declared.registry.OpenFault.{OpenFault}
 use Rattle.namespace_ops.specs.declared.registry.OpenFault.TheVariants.{Set, Overlap, OutOfMemory}
+use Rattle.namespace_ops.specs.Registered.{Registered, opened_on}
 
 -- ---- opening
 
--- the fault of a region that is no interleave set; want of memory is no finding
+-- the fault of a region that is no interleave set; out of memory is no finding
 abbrev pub set_fault_as : ℕ → SetFault → OpenFault
 set_fault_as number set.OutOfMemory = OutOfMemory
 set_fault_as number fault = Set number fault
@@ -59,23 +57,10 @@ overlap_as space.OutOfMemory = OutOfMemory
 abbrev pub overlap_fault : List Placed → Option OpenFault
 overlap_fault labels = option_map overlap_as (overlap_of (map extent_of labels))
 
--- what a registry holds: the interleave sets by region number, and the areas by module number
-pub record Opened : Type 0 where
-  pub sets : List (List Mapping)
-  pub areas : List Area
+-- a registry on the sets and the areas, or the first of these faults: a region that is no set; extents that meet
+unfoldable pub opening : Nfit → List Area → Result Registered OpenFault
+opening nfit areas = value_unless (opened_on (sets_of nfit) areas) (first_fault (set_fault_from 0 nfit.regions ∷ overlap_fault (labels_of areas) ∷ []))
 
--- a registry, or the first of these faults: a region that is no set; extents that meet
-unfoldable pub opening : Nfit → List Area → Result Opened OpenFault
-opening nfit areas = value_unless (record { sets = sets_of nfit; areas = areas }) (first_fault (set_fault_from 0 nfit.regions ∷ overlap_fault (labels_of areas) ∷ []))
-
--- ---- listing
-
--- the namespaces of a registry, rising by UUID; none is claimed
-unfoldable pub listing : Opened → List Namespace
-listing opened = map (λ e. namespace_of e 0) (entries_of opened.sets (labels_of opened.areas))
-
--- ---- finding
-
--- the complete sector namespace of a UUID, or why there is none
-unfoldable pub finding : Opened → List ℕ → Result Found OpRefused
-finding opened uuid = found_of opened.sets (entry_at opened.sets (labels_of opened.areas) uuid)
+-- the table was read from bytes
+abbrev pub WasRead : Nfit → Type 0
+WasRead nfit = (bytes : List ℕ) × (nfit_reading bytes ≡ Ok nfit)

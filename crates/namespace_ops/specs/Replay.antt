@@ -21,7 +21,7 @@ abbrev pub is_memory : Reply → Bool
 is_memory (Err OutOfMemory) = true
 is_memory reply = false
 
--- what an entry leaves: its command's step, but want of memory changes nothing
+-- what an entry leaves: its command's step; without memory nothing changes
 abbrev pub after_entry : Namespaces → Entry → Namespaces
 after_entry ns e = if is_memory e.reply then ns else (step ns e.command).1
 
@@ -30,7 +30,7 @@ unfoldable pub replayed : Namespaces → List Entry → Namespaces
 replayed ns [] = ns
 replayed ns (e ∷ es) = replayed (after_entry ns e) es
 
--- each reply is that of its command's step, but for want of memory
+-- each reply is that of its command's step, unless memory ran out
 unfoldable pub AreReplies : Namespaces → List Entry → Type 0
 AreReplies ns [] = ⊤
 AreReplies ns (e ∷ es) = (e.reply ≢ Err OutOfMemory → e.reply ≡ value_unless tt (refusal_of ns e.command)) × AreReplies (after_entry ns e) es

@@ -4,39 +4,49 @@ ghost use Rattle.namespace_map.specs.declared.commands.Command.TheVariants as co
 ghost use Rattle.namespace_map.specs.Commands.{named_of};
 ghost use Rattle.namespace_ops.specs.Carried.{HasGoodName, IsGoodName};
 ghost use Rattle.namespace_ops.specs.Claims.{count_of};
-ghost use Rattle.namespace_ops.specs.Counted.{Answered, takes_memory};
-ghost use Rattle.namespace_ops.specs.Registered.{Entered};
+ghost use Rattle.namespace_ops.specs.Counted.{Answered, Formats, HasContents, takes_memory};
+ghost use Rattle.namespace_ops.specs.Registered.{Entered, state_of};
 ghost use Rattle.namespace_ops.specs.Room.{room_of};
 
 use crate::journal::JournalEntry;
-use crate::journaling::{NamespaceRegistry, Opening};
 use crate::names::named;
-use cut_words::Fuse;
+use crate::registry::Registry;
+use cut_words::{CutWords, Fuse};
 use namespace_map::{Command, CreateSpec, OpRefused};
 use nvd_words::Tag;
 use std::alloc::Global;
 use uuid::Uuid;
 
-impl<O: Opening> NamespaceRegistry<O> {
-    /// Creates a namespace on all modules of a region, as `Holding::create` does.
+impl Registry {
+    /// Creates a namespace on all modules of a region. It lies at the least offset, the same on each module, at which it fits
+    /// beside the extents of all labels. On several modules a label is put with UPDATING on each, by position, and then each
+    /// without it; on a single module the label is put at once. The arena of a namespace with sectors is formatted before:
+    /// its UUID and that of its parent are the namespace's, and its sectors read as zeros.
     ///
     /// The tag's session has room for one more call, and the name has no zero byte, as `name_of` of `label_codec` makes
-    /// it. Refusals, after which nothing has changed: `BadName`, `NoRegion`, `ModuleLabels`, `Exists`, `BadSize`, `NoSlot`, `NoSpace`; `OutOfMemory` in place of any other answer. Else `PowerCut`
-    /// comes exactly where the fuse has fewer steps left than the label changes take, or where an earlier call answered
-    /// it. Of a namespace with sectors the labels alone are made; its arenas are whatever the modules have there.
+    /// it. For a namespace with sectors `modules` has the contents of all modules by number, up to the ends of the mappings,
+    /// and none of their words is pending; for a raw one it may be empty, and stays as it was.
+    ///
+    /// Refusals, after which nothing has changed: `BadName`, `NoRegion`, `ModuleLabels`, `Exists`, `BadSize`, `NoSlot`,
+    /// `NoSpace`; `OutOfMemory` in place of any other answer, since all memory is taken before the first store. Else
+    /// `PowerCut` comes exactly if the fuse has fewer steps left than the format and the label changes take, or if an
+    /// earlier call or recovery answered it. After a cut in the format the label areas are as they were.
     pub fn create(
         &mut self,
         alloc: Global,
+        modules: &mut Vec<CutWords>,
         fuse: &mut Fuse,
         tag: Tag,
         spec: &CreateSpec,
     ) -> Result<(), OpRefused>
         requires room { 1 ≤ room_of self.old.room tag.session }
         requires name { IsGoodName spec.now.name }
+        requires contents { HasContents self.old.sets (command.Create spec.now) modules.old.items }
         ensures entered { Entered self.old self.new tag (command.Create spec.now) result }
-        ensures answered { Answered self.old.counted self.new.counted fuse.old fuse.new (command.Create spec.now) result }
+        ensures answered { Answered (state_of self.old) (state_of self.new) fuse.old fuse.new (command.Create spec.now) result }
+        ensures formats { Formats (state_of self.old) modules.old.items modules.new.items fuse.old (command.Create spec.now) result }
     {
-        let reply = self.namespaces.create(alloc, fuse, spec);
+        let reply = self.namespaces.create(alloc, modules, fuse, spec);
         self.journal.enter(JournalEntry {
             tag,
             command: Command::Create(*spec),
@@ -45,14 +55,15 @@ impl<O: Opening> NamespaceRegistry<O> {
         reply
     }
 
-    /// Deletes a namespace that isn't claimed, as `Holding::delete` does.
+    /// Deletes a namespace that isn't claimed: its labels get UPDATING, by position, and then each is removed. A single label
+    /// is removed at once.
     ///
     /// The tag's session has room for one more call. Refusals, after which nothing has changed: `NoSuch`, `NotComplete`,
-    /// `Busy`, `ReadOnlyLabel`, `NoSlot`. Else `PowerCut` as for [`NamespaceRegistry::create`]. It takes no memory.
+    /// `Busy`, `ReadOnlyLabel`, `NoSlot`. Else `PowerCut` as for [`Registry::create`]. It takes no memory.
     pub fn delete(&mut self, fuse: &mut Fuse, tag: Tag, uuid: &Uuid) -> Result<(), OpRefused>
         requires room { 1 ≤ room_of self.old.room tag.session }
         ensures entered { Entered self.old self.new tag (command.Delete uuid.now) result }
-        ensures answered { Answered self.old.counted self.new.counted fuse.old fuse.new (command.Delete uuid.now) result }
+        ensures answered { Answered (state_of self.old) (state_of self.new) fuse.old fuse.new (command.Delete uuid.now) result }
         ensures memory { result ≢ Err OpRefused.OutOfMemory }
     {
         let reply = self.namespaces.delete(fuse, uuid);
@@ -64,10 +75,11 @@ impl<O: Opening> NamespaceRegistry<O> {
         reply
     }
 
-    /// Renames a namespace, as `Holding::rename` does.
+    /// Renames a namespace: its labels get the name and UPDATING, by position, and then the name without UPDATING. A single
+    /// label gets the name at once.
     ///
     /// The tag's session has room for one more call. Refusals, after which nothing has changed: `BadName`, `NoSuch`,
-    /// `NotComplete`, `ReadOnlyLabel`, `NoSlot`. Else `PowerCut` as for [`NamespaceRegistry::create`]. It takes no memory.
+    /// `NotComplete`, `ReadOnlyLabel`, `NoSlot`. Else `PowerCut` as for [`Registry::create`]. It takes no memory.
     pub fn rename(
         &mut self,
         fuse: &mut Fuse,
@@ -77,7 +89,7 @@ impl<O: Opening> NamespaceRegistry<O> {
     ) -> Result<(), OpRefused>
         requires room { 1 ≤ room_of self.old.room tag.session }
         ensures entered { Entered self.old self.new tag (command.Rename uuid.now (named_of name.now)) result }
-        ensures answered { Answered self.old.counted self.new.counted fuse.old fuse.new (command.Rename uuid.now (named_of name.now)) result }
+        ensures answered { Answered (state_of self.old) (state_of self.new) fuse.old fuse.new (command.Rename uuid.now (named_of name.now)) result }
         ensures memory { result ≢ Err OpRefused.OutOfMemory }
     {
         let name = named(name);
@@ -93,11 +105,11 @@ impl<O: Opening> NamespaceRegistry<O> {
     /// Claims a complete namespace of sectors once more.
     ///
     /// The tag's session has room for one more call. Refusals, after which nothing has changed: `NoSuch`, `NotComplete`,
-    /// `NotSector`. `PowerCut` comes exactly where an earlier call answered it. It takes no memory.
+    /// `NotSector`. `PowerCut` comes exactly if an earlier call or recovery answered it. It takes no memory.
     pub fn claim(&mut self, tag: Tag, uuid: &Uuid) -> Result<(), OpRefused>
         requires room { 1 ≤ room_of self.old.room tag.session }
         ensures entered { Entered self.old self.new tag (command.Claim uuid.now) result }
-        ensures answered { (fuse : Option ℕ) → Answered self.old.counted self.new.counted fuse fuse (command.Claim uuid.now) result }
+        ensures answered { (fuse : Option ℕ) → Answered (state_of self.old) (state_of self.new) fuse fuse (command.Claim uuid.now) result }
         ensures memory { result ≢ Err OpRefused.OutOfMemory }
     {
         let reply = self.namespaces.claim(uuid);
@@ -111,13 +123,13 @@ impl<O: Opening> NamespaceRegistry<O> {
 
     /// Gives a claim of a namespace back, which is held.
     ///
-    /// The tag's session has room for one more call. `PowerCut` comes exactly where an earlier call answered it, and the
+    /// The tag's session has room for one more call. `PowerCut` comes exactly if an earlier call or recovery answered it, and the
     /// claim stays then. It takes no memory.
     pub fn unclaim(&mut self, tag: Tag, uuid: &Uuid) -> Result<(), OpRefused>
         requires room { 1 ≤ room_of self.old.room tag.session }
-        requires held { 0 < count_of self.old.counted.claims uuid.now }
+        requires held { 0 < count_of self.old.claims uuid.now }
         ensures entered { Entered self.old self.new tag (command.Unclaim uuid.now) result }
-        ensures answered { (fuse : Option ℕ) → Answered self.old.counted self.new.counted fuse fuse (command.Unclaim uuid.now) result }
+        ensures answered { (fuse : Option ℕ) → Answered (state_of self.old) (state_of self.new) fuse fuse (command.Unclaim uuid.now) result }
         ensures memory { result ≢ Err OpRefused.OutOfMemory }
     {
         let reply = self.namespaces.unclaim(uuid);
@@ -131,24 +143,27 @@ impl<O: Opening> NamespaceRegistry<O> {
 
     /// Carries a command out, whichever it is.
     ///
-    /// The tag's session has room for one more call, and a name that is given has no zero byte, as `name_of` of
-    /// `label_codec` makes it. The answer is that of [`NamespaceRegistry::create`], [`NamespaceRegistry::delete`],
-    /// [`NamespaceRegistry::rename`] or [`NamespaceRegistry::claim`]; a claim that is given back is always granted while
-    /// power is on, and of a namespace that isn't claimed none is given. Only a create takes memory.
+    /// The tag's session has room for one more call, a name that is given has no zero byte, as `name_of` of `label_codec`
+    /// makes it, and `modules` is as for [`Registry::create`]. The answer is that of [`Registry::create`],
+    /// [`Registry::delete`], [`Registry::rename`] or [`Registry::claim`]. A claim that is given back is always granted while
+    /// power is on; of a namespace that isn't claimed none is given back. Only a create takes memory.
     pub fn carry_out(
         &mut self,
         alloc: Global,
+        modules: &mut Vec<CutWords>,
         fuse: &mut Fuse,
         tag: Tag,
         command: &Command,
     ) -> Result<(), OpRefused>
         requires room { 1 ≤ room_of self.old.room tag.session }
         requires name { HasGoodName command.now }
+        requires contents { HasContents self.old.sets command.now modules.old.items }
         ensures entered { Entered self.old self.new tag command.now result }
-        ensures answered { Answered self.old.counted self.new.counted fuse.old fuse.new command.now result }
+        ensures answered { Answered (state_of self.old) (state_of self.new) fuse.old fuse.new command.now result }
+        ensures formats { Formats (state_of self.old) modules.old.items modules.new.items fuse.old command.now result }
         ensures memory { takes_memory command.now ≡ false → result ≢ Err OpRefused.OutOfMemory }
     {
-        let reply = self.namespaces.carry_out(alloc, fuse, command);
+        let reply = self.namespaces.carry_out(alloc, modules, fuse, command);
         self.journal.enter(JournalEntry {
             tag,
             command: *command,

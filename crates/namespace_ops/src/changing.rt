@@ -72,7 +72,7 @@ fn make_rounds(
 ///
 /// It is refused as `delete_refusal` of `namespace_areas` says, and nothing has changed then. Else the one error is
 /// `PowerCut`: the fuse has fewer steps left than all changes take. As many were made as there were, and one area is
-/// stopped; what a cut leaves is what is left of the changes after these steps (`Went`). No area was stopped before, the
+/// stopped; what a crash leaves is what is left of the changes after these steps (`Went`). No area was stopped before, the
 /// groups are those of the areas' labels, and there is room for them. It takes no memory.
 pub(crate) fn delete(
     sets: &[InterleaveSet],

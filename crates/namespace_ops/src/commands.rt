@@ -1,7 +1,8 @@
-//! The commands on what is held.
-ghost use Rattle.std.specs.Prelude.{◌≡◌, ◌≢◌, false, Some, Err, IfOk, OnOk};
+//! The commands on label areas.
+ghost use Rattle.std.specs.Prelude.{◌≡◌, ◌≢◌, ℕ, Option, false, Some, Err, IfOk, OnOk};
+ghost use Rattle.nvd_words.specs.Checks.{value_unless};
 ghost use Rattle.namespace_map.specs.declared.commands.Command.TheVariants as command;
-ghost use Rattle.namespace_map.specs.Commands.{done, refusal_of};
+ghost use Rattle.namespace_map.specs.Commands.{claim_refusal, done, refusal_of};
 ghost use Rattle.namespace_map.specs.declared.refused.OpRefused.{OpRefused as Refused};
 ghost use Rattle.namespace_areas.specs.Refusals.{shown};
 ghost use Rattle.namespace_ops.specs.Carried.{Carried, IsGoodName, is_cut};
@@ -9,8 +10,9 @@ ghost use Rattle.namespace_ops.specs.Created.{IsNew};
 
 use crate::changing::{delete, rename};
 use crate::creating::{NewNamespace, create, plan_create};
-use crate::holding::Holding;
+use crate::label_store::LabelStore;
 use cut_words::Fuse;
+use namespace_areas::find;
 use namespace_map::{CreateSpec, Named, OpRefused};
 use std::alloc::Global;
 use uuid::Uuid;
@@ -22,12 +24,16 @@ fn is_cut(answer: &Result<(), OpRefused>) -> bool
     matches!(answer, Err(OpRefused::PowerCut))
 }
 
-impl Holding {
+impl LabelStore {
     /// Plans a namespace: finds its place, and the label changes by which it is made. Nothing changes, and all memory that
-    /// making it takes is taken here.
+    /// a create needs is allocated here.
     ///
-    /// It isn't stopped. Refusals are those of [`Holding::create`]; `OutOfMemory` may come in place of any other answer.
-    pub fn plan_create(&self, alloc: Global, spec: &CreateSpec) -> Result<NewNamespace, OpRefused>
+    /// It isn't stopped. Refusals are those of [`LabelStore::create`]; `OutOfMemory` may come in place of any other answer.
+    pub(crate) fn plan_create(
+        &self,
+        alloc: Global,
+        spec: &CreateSpec,
+    ) -> Result<NewNamespace, OpRefused>
         requires running { self.now.stopped ≡ false }
         ensures planned { IfOk result (IsNew self.now.sets self.now.areas spec.now) }
         ensures refused { (f : Refused) → result ≡ Err f → f ≢ OpRefused.OutOfMemory → refusal_of (shown self.now.sets self.now.areas) (command.Create spec.now) ≡ Some f }
@@ -35,11 +41,11 @@ impl Holding {
         plan_create(alloc, self.sets.as_slice(), &self.areas, &self.groups, spec)
     }
 
-    /// Makes a namespace that was planned on what is held now. It takes no memory.
+    /// Makes a namespace that was planned on the areas of now. It takes no memory.
     ///
     /// It isn't stopped, and the name has no zero byte, as `name_of` of `label_codec` makes it. `PowerCut` as for
-    /// [`Holding::delete`].
-    pub fn create_planned(
+    /// [`LabelStore::delete`].
+    pub(crate) fn create_planned(
         &mut self,
         fuse: &mut Fuse,
         spec: &CreateSpec,
@@ -65,15 +71,15 @@ impl Holding {
         created
     }
 
-    /// Creates a namespace on all modules of a region: a label is put with UPDATING on each, by position, and then each
+    /// Creates the labels of a namespace on all modules of a region: a label is put with UPDATING on each, by position, and then each
     /// without it. On a single module the label is put at once. It lies at the least offset, the same on each module, at
     /// which it fits beside the extents of all labels.
     ///
     /// It isn't stopped, and the name has no zero byte, as `name_of` of `label_codec` makes it. Refusals, after which
     /// nothing has changed (`create_offset` of `namespace_areas`): `BadName`, `NoRegion`, `ModuleLabels`, `Exists`,
     /// `BadSize`, `NoSlot`, `NoSpace`. `OutOfMemory` may come in place of any other answer, and nothing has changed then.
-    /// Else `PowerCut`, as for [`Holding::delete`].
-    pub fn create(
+    /// Else `PowerCut`, as for [`LabelStore::delete`].
+    pub(crate) fn create(
         &mut self,
         alloc: Global,
         fuse: &mut Fuse,
@@ -98,10 +104,10 @@ impl Holding {
     /// is removed at once.
     ///
     /// It isn't stopped. Refusals, after which nothing has changed (`delete_refusal` of `namespace_areas`): `NoSuch`,
-    /// `NotComplete`, `ReadOnlyLabel`, `NoSlot`. Else `PowerCut` comes exactly where the fuse has fewer steps left than
-    /// these changes take, and then it is stopped: what a cut leaves of the areas is what it leaves of the changes. It
+    /// `NotComplete`, `ReadOnlyLabel`, `NoSlot`. Else `PowerCut` comes exactly if the fuse has fewer steps left than
+    /// these changes take, and then it is stopped: what a crash leaves of the areas is what it leaves of the changes. It
     /// takes no memory.
-    pub fn delete(&mut self, fuse: &mut Fuse, uuid: &Uuid) -> Result<(), OpRefused>
+    pub(crate) fn delete(&mut self, fuse: &mut Fuse, uuid: &Uuid) -> Result<(), OpRefused>
         requires running { self.old.stopped ≡ false }
         ensures carried { Carried self.old.sets self.old.areas self.new.areas fuse.old fuse.new (command.Delete uuid.now) result }
         ensures unchanged { (f : Refused) → refusal_of (shown self.old.sets self.old.areas) (command.Delete uuid.now) ≡ Some f → (self.new ≡ self.old) × (fuse.new ≡ fuse.old) }
@@ -126,8 +132,13 @@ impl Holding {
     ///
     /// It isn't stopped, and the name has no zero byte, as `name_of` of `label_codec` makes it. Refusals, after which
     /// nothing has changed (`rename_refusal` of `namespace_areas`): `BadName`, `NoSuch`, `NotComplete`,
-    /// `ReadOnlyLabel`, `NoSlot`. Else as for [`Holding::delete`].
-    pub fn rename(&mut self, fuse: &mut Fuse, uuid: &Uuid, name: &Named) -> Result<(), OpRefused>
+    /// `ReadOnlyLabel`, `NoSlot`. Else as for [`LabelStore::delete`].
+    pub(crate) fn rename(
+        &mut self,
+        fuse: &mut Fuse,
+        uuid: &Uuid,
+        name: &Named,
+    ) -> Result<(), OpRefused>
         requires running { self.old.stopped ≡ false }
         requires name { IsGoodName name.now }
         ensures carried { Carried self.old.sets self.old.areas self.new.areas fuse.old fuse.new (command.Rename uuid.now name.now) result }
@@ -147,5 +158,21 @@ impl Holding {
         );
         self.stopped = is_cut(&renamed);
         renamed
+    }
+
+    /// Whether the namespace of a UUID may be claimed; nothing changes here. It takes no memory.
+    ///
+    /// It isn't stopped. Refusals, of which the first that holds is answered: `NoSuch`, no label has the UUID;
+    /// `NotComplete`, its labels make no complete namespace; `NotSector`, its mode isn't that of sectors.
+    pub(crate) fn claim(&self, uuid: &Uuid) -> Result<(), OpRefused>
+        requires running { self.now.stopped ≡ false }
+        ensures answer { result ≡ value_unless tt (claim_refusal (shown self.now.sets self.now.areas) uuid.now) }
+        ensures carried { (fuse : Option ℕ) → Carried self.now.sets self.now.areas self.now.areas fuse fuse (command.Claim uuid.now) result }
+        ensures uncut { is_cut result ≡ false }
+    {
+        match find(self.sets.as_slice(), &self.groups, uuid) {
+            Ok(_found) => Ok(()),
+            Err(refused) => Err(refused),
+        }
     }
 }

@@ -1,23 +1,24 @@
 //! Commands on namespaces of which is counted how often each is claimed.
-ghost use Rattle.std.specs.Prelude.{◌≡◌, ◌≢◌, ◌+◌, ◌<◌, ◌^◌, ℕ, List, Option, Some, Err, false, length};
+ghost use Rattle.std.specs.Prelude.{◌≡◌, ◌≢◌, ◌+◌, ◌<◌, ◌^◌, ℕ, List, Option, Some, Err, true, false, length};
 ghost use Rattle.namespace_map.specs.declared.commands.Command.TheVariants as command;
 ghost use Rattle.namespace_map.specs.Commands.{refusal_of};
 ghost use Rattle.namespace_ops.specs.Carried.{HasGoodName, IsGoodName};
 ghost use Rattle.namespace_ops.specs.Claims.{count_of};
-ghost use Rattle.namespace_ops.specs.Counted.{Answered, namespaces_in, takes_memory};
-ghost use Rattle.namespace_ops.specs.Counting.{counted_in, is_first};
+ghost use Rattle.namespace_ops.specs.Counted.{Answered, Formats, HasContents, makes_sectors, namespaces_in, takes_memory};
+ghost use Rattle.namespace_ops.specs.Counting.{is_first, state_in};
 
-use crate::Holding;
 use crate::claims::Claims;
-use cut_words::Fuse;
-use namespace_map::{Command, CreateSpec, Named, OpRefused};
+use crate::label_store::LabelStore;
+use crate::sectors::create_sectors;
+use cut_words::{CutWords, Fuse};
+use namespace_map::{Command, CreateSpec, Make, Named, OpRefused};
 use std::alloc::Global;
 use uuid::Uuid;
 
-/// Namespaces that are held, and how often each is claimed.
+/// Label areas, and how often each UUID is claimed.
 #[derive(Debug, Drop)]
 pub(crate) struct CountedNamespaces {
-    pub(crate) holding: Holding,
+    pub(crate) store: LabelStore,
     pub(crate) claims: Claims,
 }
 
@@ -31,19 +32,19 @@ fn is_first(refused: &OpRefused) -> bool
 impl CountedNamespaces {
     /// Whether power was cut in a command.
     fn is_off(&self) -> bool
-        ensures { result ≡ self.now.holding.stopped }
+        ensures { result ≡ self.now.store.stopped }
     {
-        self.holding.is_stopped()
+        self.store.is_stopped()
     }
 
     /// Why a namespace that is claimed so often isn't deleted.
     fn busy(&self, uuid: &Uuid, claims: u32) -> OpRefused
-        requires running { self.now.holding.stopped ≡ false }
+        requires running { self.now.store.stopped ≡ false }
         requires count { claims ≡ count_of self.now.claims.counts uuid.now }
         requires claimed { 0 < claims }
-        ensures { refusal_of (namespaces_in (counted_in self.now)) (command.Delete uuid.now) ≡ Some result }
+        ensures { refusal_of (namespaces_in (state_in self.now)) (command.Delete uuid.now) ≡ Some result }
     {
-        match self.holding.claim(uuid) {
+        match self.store.claim(uuid) {
             Err(refused) => {
                 if is_first(&refused) {
                     refused
@@ -55,26 +56,32 @@ impl CountedNamespaces {
         }
     }
 
-    /// Creates a namespace, unless power was cut.
+    /// Creates a namespace, unless power was cut. The arena of one with sectors is formatted first.
     pub(crate) fn create(
         &mut self,
         alloc: Global,
+        modules: &mut Vec<CutWords>,
         fuse: &mut Fuse,
         spec: &CreateSpec,
     ) -> Result<(), OpRefused>
         requires name { IsGoodName spec.now.name }
-        ensures answered { Answered (counted_in self.old) (counted_in self.new) fuse.old fuse.new (command.Create spec.now) result }
+        requires contents { HasContents self.old.store.sets (command.Create spec.now) modules.old.items }
+        ensures answered { Answered (state_in self.old) (state_in self.new) fuse.old fuse.new (command.Create spec.now) result }
+        ensures formats { Formats (state_in self.old) modules.old.items modules.new.items fuse.old (command.Create spec.now) result }
         ensures claims { self.new.claims ≡ self.old.claims }
     {
         if self.is_off() {
             return Err(OpRefused::PowerCut);
         }
-        self.holding.create(alloc, fuse, spec)
+        match spec.make {
+            Make::Raw => self.store.create(alloc, fuse, spec),
+            Make::Sector { .. } => create_sectors(alloc, &mut self.store, modules, fuse, spec),
+        }
     }
 
     /// Deletes a namespace that isn't claimed, unless power was cut. It takes no memory.
     pub(crate) fn delete(&mut self, fuse: &mut Fuse, uuid: &Uuid) -> Result<(), OpRefused>
-        ensures answered { Answered (counted_in self.old) (counted_in self.new) fuse.old fuse.new (command.Delete uuid.now) result }
+        ensures answered { Answered (state_in self.old) (state_in self.new) fuse.old fuse.new (command.Delete uuid.now) result }
         ensures claims { self.new.claims ≡ self.old.claims }
         ensures memory { result ≢ Err OpRefused.OutOfMemory }
     {
@@ -85,7 +92,7 @@ impl CountedNamespaces {
         if claims > 0 {
             return Err(self.busy(uuid, claims));
         }
-        self.holding.delete(fuse, uuid)
+        self.store.delete(fuse, uuid)
     }
 
     /// Renames a namespace, unless power was cut. It takes no memory.
@@ -96,28 +103,28 @@ impl CountedNamespaces {
         name: &Named,
     ) -> Result<(), OpRefused>
         requires name { IsGoodName name.now }
-        ensures answered { Answered (counted_in self.old) (counted_in self.new) fuse.old fuse.new (command.Rename uuid.now name.now) result }
+        ensures answered { Answered (state_in self.old) (state_in self.new) fuse.old fuse.new (command.Rename uuid.now name.now) result }
         ensures claims { self.new.claims ≡ self.old.claims }
         ensures memory { result ≢ Err OpRefused.OutOfMemory }
     {
         if self.is_off() {
             return Err(OpRefused::PowerCut);
         }
-        self.holding.rename(fuse, uuid, name)
+        self.store.rename(fuse, uuid, name)
     }
 
     /// Claims a namespace once more, unless power was cut. There is room for a count, and it takes no memory.
     pub(crate) fn claim(&mut self, uuid: &Uuid) -> Result<(), OpRefused>
         requires room { length self.old.claims.counts < self.old.claims.room }
         requires few { count_of self.old.claims.counts uuid.now + 1 < 2 ^ 32 }
-        ensures answered { (fuse : Option ℕ) → Answered (counted_in self.old) (counted_in self.new) fuse fuse (command.Claim uuid.now) result }
+        ensures answered { (fuse : Option ℕ) → Answered (state_in self.old) (state_in self.new) fuse fuse (command.Claim uuid.now) result }
         ensures room { self.new.claims.room ≡ self.old.claims.room }
         ensures memory { result ≢ Err OpRefused.OutOfMemory }
     {
         if self.is_off() {
             return Err(OpRefused::PowerCut);
         }
-        self.holding.claim(uuid)?;
+        self.store.claim(uuid)?;
         let claims = self.claims.count(uuid);
         self.claims.set(uuid, claims + 1);
         Ok(())
@@ -127,7 +134,7 @@ impl CountedNamespaces {
     /// and it takes no memory.
     pub(crate) fn unclaim(&mut self, uuid: &Uuid) -> Result<(), OpRefused>
         requires room { length self.old.claims.counts < self.old.claims.room }
-        ensures answered { (fuse : Option ℕ) → Answered (counted_in self.old) (counted_in self.new) fuse fuse (command.Unclaim uuid.now) result }
+        ensures answered { (fuse : Option ℕ) → Answered (state_in self.old) (state_in self.new) fuse fuse (command.Unclaim uuid.now) result }
         ensures room { self.new.claims.room ≡ self.old.claims.room }
         ensures memory { result ≢ Err OpRefused.OutOfMemory }
     {
@@ -135,7 +142,7 @@ impl CountedNamespaces {
             return Err(OpRefused::PowerCut);
         }
         // No area is stopped, which the clause on them says, so making no change of them leaves them as they are.
-        let _areas = self.holding.areas();
+        let _areas = self.store.areas();
         let claims = self.claims.count(uuid);
         self.claims.set(uuid, claims.saturating_sub(1));
         Ok(())
@@ -145,18 +152,21 @@ impl CountedNamespaces {
     pub(crate) fn carry_out(
         &mut self,
         alloc: Global,
+        modules: &mut Vec<CutWords>,
         fuse: &mut Fuse,
         command: &Command,
     ) -> Result<(), OpRefused>
         requires name { HasGoodName command.now }
+        requires contents { HasContents self.old.store.sets command.now modules.old.items }
         requires room { length self.old.claims.counts < self.old.claims.room }
         requires few { (uuid : List ℕ) → count_of self.old.claims.counts uuid + 1 < 2 ^ 32 }
-        ensures answered { Answered (counted_in self.old) (counted_in self.new) fuse.old fuse.new command.now result }
+        ensures answered { Answered (state_in self.old) (state_in self.new) fuse.old fuse.new command.now result }
+        ensures formats { Formats (state_in self.old) modules.old.items modules.new.items fuse.old command.now result }
         ensures room { self.new.claims.room ≡ self.old.claims.room }
         ensures memory { takes_memory command.now ≡ false → result ≢ Err OpRefused.OutOfMemory }
     {
         match command {
-            Command::Create(spec) => self.create(alloc, fuse, spec),
+            Command::Create(spec) => self.create(alloc, modules, fuse, spec),
             Command::Delete { uuid } => self.delete(fuse, uuid),
             Command::Rename { uuid, name } => self.rename(fuse, uuid, name),
             Command::Claim { uuid } => self.claim(uuid),

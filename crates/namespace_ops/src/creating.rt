@@ -119,7 +119,7 @@ impl NewLabels {
 }
 
 /// The set of a region that is there.
-fn set_at(sets: &[InterleaveSet], region: u32) -> &InterleaveSet
+pub(crate) fn set_at(sets: &[InterleaveSet], region: u32) -> &InterleaveSet
     requires { region < length sets.now }
     ensures { result.now ≡ unwrap_or (slice_get sets.now region) [] }
 {
@@ -129,11 +129,11 @@ fn set_at(sets: &[InterleaveSet], region: u32) -> &InterleaveSet
 /// Where a namespace that nothing refuses will lie, and the label changes by which it is made. All memory that a create
 /// takes is in it.
 #[derive(Debug, Drop)]
-pub struct NewNamespace {
+pub(crate) struct NewNamespace {
     /// How far its extents lie from the start of each mapping, in bytes.
-    pub offset: u64,
+    pub(crate) offset: u64,
     /// Each label is put with UPDATING, by position, and then without it; a single one is put at once.
-    pub changes: Vec<Change>,
+    pub(crate) changes: Vec<Change>,
 }
 
 /// The label changes of a namespace of this name at an offset.

@@ -86,8 +86,8 @@ impl Journal {
         self.room.of(session)
     }
 
-    /// Its room, and so many entries more for each session. Want of memory is answered too where the journal would come to
-    /// 2^32 entries.
+    /// Its room, and so many entries more for each session. The one error is out of memory, also if the journal would come
+    /// to 2^32 entries.
     pub(crate) fn room_with(&self, alloc: Global, calls: &[u32]) -> Result<Room, AllocError>
         ensures room { IfOk result (λ room. room ≡ with_room self.now.room calls.now) }
         ensures few { IfOk result (λ room. length self.now.entries + sum room < 2 ^ 32) }

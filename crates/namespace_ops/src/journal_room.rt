@@ -77,7 +77,7 @@ impl Room {
         self.total
     }
 
-    /// This room, and so many entries more for each session. Want of memory is answered too where together that is more
+    /// This room, and so many entries more for each session. The one error is out of memory, also if together that is more
     /// than a number of 32 bits.
     pub(crate) fn with(&self, alloc: Global, calls: &[u32]) -> Result<Room, AllocError>
         ensures { IfOk result (λ room. room ≡ with_room self.now calls.now) }

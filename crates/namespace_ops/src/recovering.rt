@@ -1,4 +1,4 @@
-//! Recovery: what a cut left of commands is finished, or taken back.
+//! Recovery: interrupted commands are finished, or taken back.
 ghost use Rattle.std.specs.Prelude.{◌≡◌, ◌<◌, ◌^◌, length, is_ok, OnOk};
 ghost use Rattle.std.specs.Vec.{vec_capacity};
 ghost use Rattle.namespace_map.specs.Left.{AreRegions};

@@ -1,21 +1,32 @@
-ghost use Rattle.std.specs.Prelude.{◌≡◌, ◌<◌, ◌^◌, IfOk, length, slice_index_or};
-ghost use Rattle.nfit_reader.specs.declared.table.Region.{Region};
+//! The registry, and how it is opened.
+ghost use Rattle.std.specs.Prelude.{◌≡◌, ◌<◌, ◌^◌, false, not, [], IfOk, OnOk, OnErr, is_ok, length, slice_index_or};
 ghost use Rattle.nvd_words.specs.Checks.{Answers, value_unless};
+ghost use Rattle.nfit_reader.specs.declared.table.Region.{Region};
 ghost use Rattle.nfit_reader.specs.Counted.{AreCounted};
-ghost use Rattle.namespace_ops.specs.Opening.{finding, listing, opening, overlap_as, overlap_fault, set_fault_as, set_fault_from, set_or_fault, sets_of};
-ghost use Rattle.namespace_areas.specs.Finding.{LiesIn, set_at};
+ghost use Rattle.namespace_map.specs.Left.{AreRegions};
+ghost use Rattle.namespace_map.specs.Commands.{recovered};
+ghost use Rattle.namespace_map.specs.Changes.{namespaces_of, recovery_changes};
 ghost use Rattle.namespace_areas.specs.Areas.{AreRunning, labels_of};
+ghost use Rattle.namespace_areas.specs.Seen.{AreHeld, areas_seen};
+ghost use Rattle.namespace_areas.specs.Went.{Went};
+ghost use Rattle.namespace_ops.specs.Held.{Held};
+ghost use Rattle.namespace_ops.specs.Opening.{WasRead, opening, overlap_as, overlap_fault, set_fault_as, set_fault_from, set_or_fault, sets_of};
+ghost use Rattle.namespace_ops.specs.Registered.{opened_on, state_of};
+ghost use Rattle.namespace_ops.specs.Room.{with_room};
 
-use crate::listing::listed;
+use crate::claims::Claims;
+use crate::counted::CountedNamespaces;
+use crate::journal::Journal;
+use crate::label_store::LabelStore;
+use cut_words::{Fuse, PowerCut};
 use interleave::{InterleaveSet, SetFault, interleave_set};
-use label_codec::Mode;
-use namespace_areas::{Area, Found, LabelGroups, Regions, extents_of, find, gathered};
-use namespace_map::{Namespace, OpRefused};
+use namespace_areas::{Area, extents_of, gathered};
 use nfit_reader::Nfit;
 use nvd_words::Items;
 use region_space::{Space, SpaceFault};
 use std::alloc::{AllocError, Global};
 use std::marker::Model;
+use std::snapshot::Snapshot;
 use uuid::Uuid;
 
 /// Why a registry isn't opened.
@@ -40,25 +51,27 @@ impl From<AllocError> for OpenFault {
     }
 }
 
-/// The namespaces of an image set: the interleave sets of its regions, and the label areas of its modules.
-#[derive(Debug, Drop)]
+/// The namespaces of an image set: its interleave sets and label areas, how often each namespace is claimed, and a journal
+/// of the calls with a tag.
+///
+/// Replayed on the label areas that it began with (its *opening*), the journal gives those of now (`IsJournaled`).
+#[derive(Drop)]
 pub struct Registry {
-    pub(crate) sets: Regions,
-    pub(crate) areas: Items<Area>,
-    // The labels of all areas by UUID.
-    pub(crate) groups: LabelGroups,
+    pub(crate) namespaces: CountedNamespaces,
+    pub(crate) journal: Journal,
+    // The label areas from which the journal replays. Only contracts look at it.
+    opening: Snapshot<Vec<Area>>,
 }
 
 impl Model for Registry {
-    ghost use Rattle.namespace_ops.specs.Opening.{Opened};
+    ghost use Rattle.namespace_ops.specs.Counting.{state_in};
+    ghost use Rattle.namespace_ops.specs.Registered.{IsKept, Registered, registered};
 
-    ghost Value = { Opened };
+    ghost Value = { Registered };
 
-    ghost use Rattle.namespace_ops.specs.Areas.{IsOpen};
+    ghost view = { λ r. registered (state_in r.namespaces) r.journal.entries r.journal.room r.opening.value.items };
 
-    ghost view = { λ registry. record { sets = registry.sets; areas = registry.areas } };
-
-    ghost invariant = { λ registry. IsOpen registry.sets registry.areas registry.groups };
+    ghost invariant = { λ r. IsKept (registered (state_in r.namespaces) r.journal.entries r.journal.room r.opening.value.items) r.namespaces.claims.room };
 }
 
 /// The fault of a region that is no interleave set.
@@ -125,40 +138,56 @@ fn check_overlap(alloc: Global, areas: &[Area]) -> Result<(), OpenFault>
 }
 
 impl Registry {
+    /// A registry that begins with these label areas: no namespace is claimed, and the journal is empty and without room.
+    fn first(alloc: Global, store: LabelStore) -> Registry
+        requires running { store.stopped ≡ false }
+        ensures { result ≡ opened_on store.sets store.areas }
+    {
+        let opening = store.snapshot();
+        Registry {
+            namespaces: CountedNamespaces {
+                store,
+                claims: Claims::new(alloc),
+            },
+            journal: Journal::new(alloc),
+            opening,
+        }
+    }
+
     /// The registry of areas over interleave sets, unless extents of two UUIDs meet.
     fn over(
         alloc: Global,
         sets: Items<InterleaveSet>,
         areas: Items<Area>,
     ) -> Result<Registry, OpenFault>
-        requires regions { length sets < 2 ^ 32 }
-        requires running { AreRunning areas }
+        requires few_sets { length sets < 2 ^ 32 }
+        requires regions { AreRegions sets }
+        requires held { AreHeld areas }
         requires few { length areas < 2 ^ 32 }
-        ensures { Answers OpenFault.OutOfMemory result (value_unless (record { sets = sets; areas = areas }) (overlap_fault (labels_of areas))) }
+        ensures { Answers OpenFault.OutOfMemory result (value_unless (opened_on sets areas) (overlap_fault (labels_of areas))) }
     {
         check_overlap(alloc, areas.as_slice())?;
-        let groups = LabelGroups::of(alloc, areas.as_slice())?;
-        let sets = Regions::of(alloc, sets, areas.len() as u32)?;
-        Ok(Registry {
-            sets,
-            areas,
-            groups,
-        })
+        let store = LabelStore::of(alloc, sets, areas.into_vec())?;
+        Ok(Registry::first(alloc, store))
     }
 
-    /// Opens the namespaces of an image set.
+    /// Opens the namespaces of an image set. The journal is empty, and will replay from these areas.
     ///
-    /// The table is as `read_nfit` gives it, and no area was stopped by a power cut. The areas stand by
-    /// the modules' numbers; those that aren't there, or weren't read, have no labels. Refusals, of which
-    /// the first that holds is answered, and which drop the areas:
+    /// The table is as `read_nfit` gives it. The areas stand by the modules' numbers, and none was changed since it was read;
+    /// those that aren't there, or weren't read, have no labels. Refusals, of which the first that holds is answered, and
+    /// which drop the areas:
     ///
     /// 1. `Set`: a region is no interleave set; it is the first such.
     /// 2. `Overlap`: extents of labels of two UUIDs meet on a module, whatever their status.
     /// 3. `OutOfMemory`, in place of any other answer.
+    ///
+    /// It allocates room for two labels and two changes for each slot of the areas, so that of all commands only a create
+    /// takes memory.
     pub fn open_all(alloc: Global, nfit: Nfit, areas: Items<Area>) -> Result<Registry, OpenFault>
+        requires table { WasRead nfit }
         requires counted { AreCounted nfit }
         requires regions { length nfit.regions < 2 ^ 32 }
-        requires running { AreRunning areas }
+        requires held { AreHeld areas }
         requires few { length areas < 2 ^ 32 }
         ensures { Answers OpenFault.OutOfMemory result (opening nfit areas) }
     {
@@ -168,39 +197,46 @@ impl Registry {
         }
     }
 
-    /// The namespaces, rising by the bytes of their UUIDs: one for each UUID that a label names.
-    #[tactic(auto, unfolding(crate::specs::Opening::listing))]
-    pub fn list(&self, alloc: Global) -> Result<Items<Namespace>, AllocError>
-        ensures { IfOk result (λ namespaces. namespaces ≡ listing self.now) }
-    {
-        let labels = gathered(alloc, self.areas.as_slice())?;
-        listed(alloc, &self.sets, &labels)
-    }
-
-    /// Finds the complete sector namespace of a UUID. It takes no memory.
+    /// Makes room in the journal for so many calls more of each session, `calls[q]` of session q.
     ///
-    /// Refusals, of which the first that holds is answered: NoSuch, no label has the UUID; NotComplete, its labels make no
-    /// complete namespace; NotSector, its mode isn't Sector. What is found lies in its region's set in whole units.
-    pub fn find(&self, uuid: &Uuid) -> Result<Found, OpRefused>
-        ensures found { result ≡ finding self.now uuid.now }
-        ensures lies { IfOk result (LiesIn self.now.sets) }
-        ensures sector { IfOk result (λ found. found.mode ≡ Mode.Sector) }
+    /// After an error nothing has changed. It is out of memory, also if the journal would come to 2^32 entries.
+    pub fn reserve(&mut self, alloc: Global, calls: &[u32]) -> Result<(), AllocError>
+        ensures room { OnOk result (self.new.room ≡ with_room self.old.room calls.now) }
+        ensures same { OnErr result (self.new.room ≡ self.old.room) }
+        ensures state { state_of self.new ≡ state_of self.old }
+        ensures journal { self.new.journal ≡ self.old.journal }
+        ensures opening { self.new.opening ≡ self.old.opening }
     {
-        find(self.sets.as_slice(), &self.groups, uuid)
+        let room = self.journal.room_with(alloc, calls)?;
+        self.namespaces.claims.reserve(room.total() as usize)?;
+        self.journal.give(room)
     }
 
-    /// The interleave set of a region that is there.
-    pub fn set(&self, region: u32) -> &InterleaveSet
-        requires { region < length self.now.sets }
-        ensures { result.now ≡ set_at self.now.sets region }
+    /// Finishes, or takes back, the commands that a power cut interrupted: first every unfinished namespace, rising by UUID,
+    /// loses its labels; then every complete one that is pending, rising, has each label with UPDATING rewritten under the
+    /// namespace's name and without it, on each module with a free slot. All else of a label is kept.
+    ///
+    /// Power wasn't cut, and the journal is empty; after `Ok` it will replay from the areas as they are then. It takes no
+    /// memory. `PowerCut` comes exactly if the fuse has fewer steps left than the changes take. What a crash leaves of the
+    /// areas is then what it leaves of the changes (`Went`), and the registry is stopped.
+    pub fn recover(&mut self, fuse: &mut Fuse) -> Result<(), PowerCut>
+        requires running { self.old.stopped ≡ false }
+        requires first { self.old.journal ≡ [] }
+        ensures went { Went self.old.areas self.new.areas fuse.old fuse.new (recovery_changes self.old.sets (areas_seen self.old.areas)) (is_ok result) }
+        ensures map { OnOk result (namespaces_of self.old.sets (areas_seen self.new.areas) ≡ recovered (namespaces_of self.old.sets (areas_seen self.old.areas))) }
+        ensures opening { OnOk result (self.new.opening ≡ self.new.areas) }
+        ensures began { OnErr result (self.new.opening ≡ self.old.opening) }
+        ensures stopped { self.new.stopped ≡ not (is_ok result) }
+        ensures sets { self.new.sets ≡ self.old.sets }
+        ensures claims { self.new.claims ≡ self.old.claims }
+        ensures calls { (self.new.journal ≡ self.old.journal) × (self.new.room ≡ self.old.room) }
     {
-        &self.sets.as_slice()[region as usize]
-    }
-
-    /// The label areas, by the modules' numbers.
-    pub fn into_areas(self) -> Items<Area>
-        ensures { result ≡ self.areas }
-    {
-        self.areas
+        match self.namespaces.store.recover(fuse) {
+            Ok(()) => {
+                self.opening = self.namespaces.store.snapshot();
+                Ok(())
+            }
+            Err(PowerCut) => Err(PowerCut),
+        }
     }
 }

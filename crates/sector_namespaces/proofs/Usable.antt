@@ -1,10 +1,10 @@
 -- In the set of each region of an image set that was loaded a namespace can be opened.
-use Rattle.std.proofs.Common.{◌≡◌, ℕ, zero, suc, ◌+◌, ◌-◌, ◌*◌, ◌^◌, ◌<◌, ◌≤◌, max, List, [], ◌∷◌, length, map, get_or, None, Result, Ok, Err, refl, sym, ap, ◌∙◌, subst, inl, inr, arith}
-use Rattle.std.specs.Prelude.{sum, Contains}
-use Rattle.std.specs.Result.{result_err}
+use Rattle.std.proofs.Common.{◌≡◌, ℕ, zero, suc, ◌+◌, ◌-◌, ◌*◌, ◌^◌, ◌<◌, ◌≤◌, max, List, [], ◌∷◌, length, map, get_or, Some, Ok, refl, sym, ap, ◌∙◌, subst, inl, inr, arith}
+use Rattle.std.specs.Prelude.{sum, slice_get, Contains}
 use Rattle.std.specs.List.{All}
 use Rattle.std.proofs.Math.Nat.{max-eq_left, max-eq_right}
 use Rattle.std.proofs.lemmas.Bool.{cases_lt}
+use Rattle.std.proofs.lemmas.Option.{none-some}
 use Rattle.std.proofs.lemmas.Nat.{pow_pos, pow-add, pow_below}
 use Rattle.std.proofs.lemmas.List.{get_or-map, length-map}
 use Rattle.std.proofs.lemmas.List.Elements.{All-contains, All-get_or}
@@ -13,16 +13,14 @@ use Rattle.nvd_words.specs.Checks.{first_fault}
 use Rattle.cut_words.specs.Words.{Words}
 use Rattle.nfit_reader.specs.declared.table.Mapping.{Mapping}
 use Rattle.nfit_reader.specs.declared.table.Region.{Region}
-use Rattle.nfit_reader.specs.declared.table.Nfit.{Nfit}
-use Rattle.interleave.specs.declared.set.SetFault.{SetFault}
 use Rattle.interleave.specs.Places.{line_size_of, line_count_of, by_offset, unit_of}
 use Rattle.interleave.specs.Sets.{faults_of, set_reading}
 use Rattle.interleave.specs.Sound.{IsShare, IsSound, span_of}
 use Rattle.interleave.proofs.Holders.{In, in_from, in_to}
-use Rattle.interleave.proofs.Checked.{no_first, no_fault}
+use Rattle.interleave.proofs.Checked.{no_fault}
 use Rattle.interleave.proofs.Sorted.{Sound, sound_set, in_by_offset}
 use Rattle.image_set.specs.Sound.{size_of, IsMapped, AreMapped}
-use Rattle.namespace_ops.specs.Opening.{set_as, set_or_fault, set_fault_from, set_in, sets_of}
+use Rattle.namespace_laws.specs.Regions.{AreSetsOf}
 use Rattle.namespace_areas.specs.Finding.{set_at}
 use Rattle.power_cut.specs.Namespace.{HasBytes, row_of}
 use Rattle.sector_namespaces.specs.View.{IsUsable, AreUsable}
@@ -93,29 +91,20 @@ module _ (rows : List Words) where
 
 -- ---- all regions
 
-set_by : (number : ℕ) (read : Result (List Mapping) SetFault) → result_err (set_as number read) ≡ None → read ≡ Ok (set_in read)
-set_by number (Ok set) e = refl
-set_by number (Err fault) e = absurd (let f = e in cc)
+got : {X : Type 0} (xs : List X) (k : ℕ) (d : X) → k < length xs → slice_get xs k ≡ Some (get_or xs k d)
+got [] k d lt = absurd (omega arith)
+got (x ∷ xs) zero d lt = refl
+got (x ∷ xs) (suc k) d lt = got xs k d (omega arith)
 
-read_at : (regions : List Region) (number k : ℕ) (d : Region) → set_fault_from number regions ≡ None → k < length regions
-    → set_reading (get_or regions k d) ≡ Ok (set_in (set_reading (get_or regions k d)))
-unfolding set_fault_from
-read_at [] number k d e lt = absurd (omega arith)
-read_at (r ∷ regions) number zero d e lt =
-    set_by number (set_reading r) (no_first (result_err (set_or_fault number r)) (set_fault_from (number + 1) regions ∷ []) e).0
-read_at (r ∷ regions) number (suc k) d e lt =
-    let behind = (no_first (result_err (set_or_fault number r)) (set_fault_from (number + 1) regions ∷ []) e).1 in
-    read_at regions (number + 1) k d (no_first (set_fault_from (number + 1) regions) [] behind).0 (omega arith)
+there : {X : Type 0} (xs : List X) (k : ℕ) (d x : X) → slice_get xs k ≡ Some x → (k < length xs) × (get_or xs k d ≡ x)
+there [] k d x e = absurd (none-some x e)
+there (y ∷ ys) zero d x e = (omega arith, (let h = e in cc))
+there (y ∷ ys) (suc k) d x e = let h = there ys k d x e in (omega (arith, h.0), h.1)
 
-no_region : Region
-no_region = record { index = 0; base = 0; length = 0; mappings = [] }
-
-pub usable_sets : (nfit : Nfit) (rows : List Words) → All (AreMapped (map size_of rows)) nfit.regions → sum (map size_of rows) ≤ 536870912
-    → set_fault_from 0 nfit.regions ≡ None → AreUsable (sets_of nfit) rows
-usable_sets nfit rows mapped total none region lt =
-    let lt' : region < length nfit.regions = omega (arith, length-map nfit.regions (λ r. set_in (set_reading r))) in
-    let is : set_at (sets_of nfit) region ≡ set_in (set_reading (get_or nfit.regions region no_region)) =
-    get_or-map (λ r. set_in (set_reading r)) nfit.regions region no_region [] lt' in
-    subst (λ (set : List Mapping). IsUsable set rows) (sym is)
-    (usable rows (get_or nfit.regions region no_region) (set_in (set_reading (get_or nfit.regions region no_region))) (read_at nfit.regions 0 region no_region none lt')
-    (All-get_or (AreMapped (map size_of rows)) nfit.regions region no_region lt' mapped) total)
+pub usable_sets : (regions : List Region) (sets : List (List Mapping)) (rows : List Words) → All (AreMapped (map size_of rows)) regions → sum (map size_of rows) ≤ 536870912
+    → AreSetsOf regions sets → AreUsable sets rows
+usable_sets regions sets rows mapped total are region lt =
+    let own = are region (set_at sets region) (got sets region [] lt) in
+    let at_it = there regions region own.0 own.0 own.1 in
+    usable rows own.0 (set_at sets region) own.2
+    (subst (AreMapped (map size_of rows)) at_it.1 (All-get_or (AreMapped (map size_of rows)) regions region own.0 at_it.0 mapped)) total

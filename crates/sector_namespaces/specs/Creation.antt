@@ -1,28 +1,23 @@
--- A sector namespace is created: its arena is formatted, and only then are its labels put. The arena is that of UEFI 2.10, section 6.2 (BTT
--- Info Block), the labels those of section 13.19; that the labels come last, and that one fuse counts the steps of both, is this project's rule.
-use Rattle.std.specs.Prelude.{◌≡◌, ℕ, Bool, true, false, List, length, map, Option, Some, None, Result, Err, is_ok}
+-- The arena of a new sector namespace is formatted in its place. UEFI 2.10, section 6.2 (BTT Info Block); that the format's steps count
+-- like those of labels is this project's rule.
+use Rattle.std.specs.Prelude.{◌≡◌, ℕ, ◌+◌, ◌*◌, ◌%◌, ◌≤◌, Bool, true, false, List, length, map, Option}
 use Rattle.std.specs.List.{All}
 use Rattle.cut_words.specs.Words.{Words, settled}
 use Rattle.cut_words.specs.Fuses.{Makes, burnt, lasts}
 use Rattle.nfit_reader.specs.declared.table.Mapping.{Mapping}
+use Rattle.interleave.specs.Places.{unit_of}
+use Rattle.interleave.specs.Sound.{span_of}
 use Rattle.arena_layout.specs.declared.layout.Layout.{Layout}
 use Rattle.arena_layout.specs.Plan.{plan_of}
 use Rattle.arena_open.specs.Writes.{IsSettled}
 use Rattle.arena_open.specs.Format.{IsNewArena, KeepsOutside, format_count, format_steps}
 use Rattle.power_cut.specs.Namespace.{Namespace, beside_of, over, words_of}
-use Rattle.namespace_areas.specs.declared.area.Area.{Area}
 use Rattle.namespace_map.specs.Namespaces.{Namespaces}
-use Rattle.namespace_map.specs.declared.commands.Command.{Command}
-use Rattle.namespace_map.specs.declared.commands.Command.TheVariants as command
 use Rattle.namespace_map.specs.declared.commands.CreateSpec.{CreateSpec}
 use Rattle.namespace_map.specs.declared.commands.Make.{Make}
 use Rattle.namespace_map.specs.declared.commands.Make.TheVariants as make
-use Rattle.namespace_map.specs.declared.refused.OpRefused.{OpRefused}
-use Rattle.namespace_map.specs.declared.refused.OpRefused.TheVariants.{PowerCut}
-use Rattle.namespace_map.specs.Commands.{refusal_of, set_of, share_of}
-use Rattle.namespace_map.specs.Changes.{changes_of}
-use Rattle.namespace_areas.specs.Seen.{areas_seen}
-use Rattle.namespace_areas.specs.Went.{Went}
+use Rattle.namespace_map.specs.Commands.{has_no_plan, set_of, share_of}
+use Rattle.namespace_areas.specs.declared.area.Area.{Area}
 use Rattle.namespace_areas.specs.Refusals.{offset_for, shown}
 
 -- none of the modules' words is pending
@@ -36,10 +31,6 @@ abbrev pub has_sectors : Make → Bool
 has_sectors make.Raw = false
 has_sectors (make.Sector sector lanes) = true
 
--- the first reason for which it is refused, on sets and the areas of all modules
-abbrev pub refusal_for : List (List Mapping) → List Area → CreateSpec → Option OpRefused
-refusal_for sets areas spec = refusal_of (shown sets areas) (command.Create spec)
-
 -- the layout of an arena of so many bytes; a raw namespace has none, so what stands for it is never looked at
 abbrev pub layout_of : ℕ → Make → Layout
 layout_of size make.Raw = plan_of size 0 0
@@ -48,12 +39,31 @@ layout_of size (make.Sector sector lanes) = plan_of size sector lanes
 abbrev pub layout_for : CreateSpec → Layout
 layout_for spec = layout_of spec.size spec.make
 
+-- the steps of the format of its arena: two for each word of the map, the log and both info blocks; a raw namespace has none
+abbrev pub arena_steps_of : ℕ → Make → ℕ
+arena_steps_of size make.Raw = 0
+arena_steps_of size (make.Sector sector lanes) = format_count (plan_of size sector lanes)
+
+abbrev pub arena_steps : CreateSpec → ℕ
+arena_steps spec = arena_steps_of spec.size spec.make
+
 -- its place among namespaces: the least offset at which it fits, the same on each module of its region's set, over the words of all modules
 abbrev pub place_in : Namespaces → CreateSpec → List Words → Namespace
 place_in ns spec rows = over (set_of ns spec.region) (offset_for ns spec) (share_of (set_of ns spec.region) spec.size) rows
 
 abbrev pub place_for : List (List Mapping) → List Area → CreateSpec → List Words → Namespace
 place_for sets areas spec rows = place_in (shown sets areas) spec rows
+
+-- A sector namespace can lie in a set, at an offset from the start of each mapping.
+pub record CanLie (set : List Mapping) (offset : ℕ) (spec : CreateSpec) : Type 0 where
+  -- an arena is planned for its size
+  pub sectors : has_sectors spec.make ≡ true
+  pub planned : has_no_plan spec.make spec.size ≡ false
+  -- it has the same share of each module, in whole units, inside all mappings
+  pub shares : length set * share_of set spec.size ≡ spec.size
+  pub from : offset % unit_of set ≡ 0
+  pub to : share_of set spec.size % unit_of set ≡ 0
+  pub inside : offset + share_of set spec.size ≤ span_of set
 
 -- ---- the format
 
@@ -76,22 +86,3 @@ pub record IsFormattedIn (place : List Words → Namespace) (l : Layout) (uuid :
   pub formatted : IsFormatted l uuid (words_of (place rows)) (words_of (place rows')) fuse left whole
   pub beside : beside_of (place rows') ≡ beside_of (place rows)
   pub counts : map (λ words. length words.kept) rows' ≡ map (λ words. length words.kept) rows
-
--- ---- a create
-
--- What became of label areas, of the words of all modules and of a fuse by a create that nothing refuses.
-pub record IsMade (sets : List (List Mapping)) (old now : List Area) (rows rows' : List Words) (fuse left : Option ℕ) (spec : CreateSpec) (result : Result (Unit {0}) OpRefused) : Type 0 where
-  -- the arena is formatted as far as the fuse lasts, and no word beside the namespace is touched
-  pub formatted : IsFormattedIn (place_for sets old spec) (layout_for spec) spec.uuid rows rows' fuse (burnt fuse (format_count (layout_for spec))) (lasts fuse (format_count (layout_for spec)))
-  -- where power was cut within the format no label area was touched
-  pub within : lasts fuse (format_count (layout_for spec)) ≡ false → (result ≡ Err PowerCut) × (now ≡ old) × (left ≡ burnt fuse (format_count (layout_for spec)))
-  -- where the arena is whole the label changes of the command were made, as far as what is left of the fuse lasts
-  pub labels : lasts fuse (format_count (layout_for spec)) ≡ true → Went old now (burnt fuse (format_count (layout_for spec))) left (changes_of (shown sets old) (areas_seen old) (command.Create spec)) (is_ok result)
-  -- the one error is that power was cut
-  pub cut : (f : OpRefused) → result ≡ Err f → f ≡ PowerCut
-
--- What became of them by any create.
-pub record Creates (sets : List (List Mapping)) (old now : List Area) (rows rows' : List Words) (fuse left : Option ℕ) (spec : CreateSpec) (result : Result (Unit {0}) OpRefused) : Type 0 where
-  -- where it is refused the refusal is answered, and nothing has changed
-  pub refused : (f : OpRefused) → refusal_for sets old spec ≡ Some f → (result ≡ Err f) × (now ≡ old) × (rows' ≡ rows) × (left ≡ fuse)
-  pub made : refusal_for sets old spec ≡ None → IsMade sets old now rows rows' fuse left spec result

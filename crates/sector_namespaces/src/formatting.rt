@@ -1,14 +1,12 @@
 //! The arena of a new namespace is formatted in its place.
-ghost use Rattle.std.specs.Prelude.{◌≡◌, ◌+◌, ◌*◌, ◌/◌, ◌%◌, ◌<◌, ◌≤◌, [], true, false, None, is_err, is_ok, length, slice_get, unwrap_or};
+ghost use Rattle.std.specs.Prelude.{◌≡◌, ◌+◌, ◌*◌, ◌/◌, ◌%◌, ◌≤◌, true, false, is_err, is_ok, length};
 ghost use Rattle.interleave.specs.Places.{unit_of};
 ghost use Rattle.interleave.specs.Sound.{span_of};
 ghost use Rattle.arena_layout.specs.Layout.{IsLayout};
 ghost use Rattle.arena_layout.specs.Plan.{plan_of, planned};
 ghost use Rattle.power_cut.specs.Namespace.{ReachEnds, over};
-ghost use Rattle.namespace_map.specs.Commands.{has_no_plan};
-ghost use Rattle.namespace_areas.specs.Refusals.{offset_for, shown};
-ghost use Rattle.sector_namespaces.specs.View.{AreUsable};
-ghost use Rattle.sector_namespaces.specs.Creation.{AreSettled, IsFormattedIn, has_sectors, layout_for, place_for, refusal_for};
+ghost use Rattle.namespace_map.specs.Commands.{has_no_plan, share_of};
+ghost use Rattle.sector_namespaces.specs.Creation.{AreSettled, CanLie, IsFormattedIn, has_sectors, layout_for};
 
 use arena_layout::{Layout, plan};
 use arena_open::{format_arena, format_takes_two_steps_a_word};
@@ -17,7 +15,6 @@ use interleave::InterleaveSet;
 use label_codec::Mode;
 use namespace_areas::first_arena;
 use namespace_map::{CreateSpec, Make};
-use namespace_ops::Holding;
 use power_cut::{SetWords, beside_tells_the_place};
 use std::alloc::Global;
 use std::mem;
@@ -52,7 +49,7 @@ fn planned_layout(size: u64, sector: u32, lanes: u32) -> Layout
 }
 
 /// Formats an arena at the first word of the namespace that has a place in each mapping of a set. It is its own parent.
-/// `PowerCut` comes exactly where the fuse has fewer steps left than the format takes.
+/// `PowerCut` comes exactly if the fuse has fewer steps left than the format takes.
 fn format_at(
     alloc: Global,
     set: &InterleaveSet,
@@ -94,32 +91,29 @@ fn layout_for(spec: &CreateSpec) -> Layout
     }
 }
 
-/// The set of a region that is there.
-fn set_at(sets: &[InterleaveSet], region: u32) -> &InterleaveSet
-    requires { region < length sets.now }
-    ensures { result.now ≡ unwrap_or (slice_get sets.now region) [] }
-{
-    &sets[region as usize]
-}
-
-/// Formats the arena of a new namespace whose place was found, since nothing refuses it.
-pub(crate) fn format(
+/// Formats the arena of a new sector namespace in its place of a set, before any label names it. The arena begins at the
+/// namespace's first word; its UUID and that of its parent are the namespace's. Its sectors read as zeros.
+///
+/// `offset` is how far the namespace lies from the start of each mapping, in bytes (`CanLie`). `modules` has the contents of
+/// all modules by number, up to the ends of the set's mappings, and none of their words is pending.
+///
+/// The format takes two steps for each word of the map, the log and both info blocks (`arena_steps`). `PowerCut` comes
+/// exactly if the fuse has fewer left. Words outside the namespace stay as they were in each case. It takes no memory.
+/// (UEFI 2.10, section 6.2.)
+pub fn format_sectors(
     alloc: Global,
-    holding: &Holding,
+    set: &InterleaveSet,
     offset: u64,
     modules: &mut Vec<CutWords>,
     fuse: &mut Fuse,
     spec: &CreateSpec,
 ) -> Result<(), PowerCut>
-    requires good { refusal_for holding.now.sets holding.now.areas spec.now ≡ None }
-    requires sectors { has_sectors spec.now.make ≡ true }
-    requires place { offset ≡ offset_for (shown holding.now.sets holding.now.areas) spec.now }
+    requires place { CanLie set.now offset spec.now }
     requires settled { AreSettled modules.old.items }
-    requires usable { AreUsable holding.now.sets modules.old.items }
-    ensures { IsFormattedIn (place_for holding.now.sets holding.now.areas spec.now) (layout_for spec.now) spec.now.uuid modules.old.items modules.new.items fuse.old fuse.new (is_ok result) }
+    requires reach { ReachEnds set.now modules.old.items }
+    ensures { IsFormattedIn (over set.now offset (share_of set.now spec.now.size)) (layout_for spec.now) spec.now.uuid modules.old.items modules.new.items fuse.old fuse.new (is_ok result) }
 {
     let layout = layout_for(spec);
-    let set = set_at(holding.sets(), spec.region);
     let place = Place {
         offset,
         raw: spec.size / u64::from(set.ways()),

@@ -9,39 +9,30 @@
 //! contents of module 1  | line 1 | line 3 | ..  ┘──>  words 0, 1, 2, ..  ──>  arena 0, arena 1, ..
 //! ```
 //!
-//! `specs/View.antt` defines these words (`view_words`) and what they open as (`opened_view`); [`open_sectors`] opens them
-//! where they lie. [`open_arenas`] opens them to change one, and [`put_words`] puts its words back
+//! `view_words` of `specs/View.antt` defines these words, and `opened_view` the arenas in them. [`open_sectors`] opens the
+//! arenas in place, without a copy. [`open_arenas`] opens them to change one, and [`put_words`] puts its words back
 //! (`specs/Changing.antt`).
 //!
-//! # Creating sector namespaces
-//!
-//! A sector namespace is created: its arena is formatted in its words, and only then do labels name it.
+//! [`format_sectors`] writes the arena of a new namespace into its words, before any label names it. It stores and flushes
+//! word after word, and each store and each flush is one step of the fuse:
 //!
 //! ```text
-//! words of the namespace    map | log | backup | info        each word stored, then kept
-//! labels                                            | put with UPDATING .. | without it ..
-//! one fuse                  ------------------------------------------------------------>
-//! a cut here leaves         no label: no namespace    unfinished, pending, or complete
+//! map | log | backup info block | info block
 //! ```
 //!
-//! So what a cut leaves of a namespace that is found has its whole arena, all of whose sectors read as zeros. That the labels
-//! come last, and that one fuse counts the steps of both, is this project's rule; the arena is that of UEFI 2.10, section 6.2,
-//! the labels those of section 13.19.
-//!
-//! | definition | stands in |
+//! | definition of `specs/Creation.antt` | says |
 //! |---|---|
-//! | whether it has sectors, where the namespace lies, its arena's layout | `has_sectors`, `place_for`, `layout_for` of `specs/Creation.antt` |
-//! | what the format makes of the namespace's words, cut or not | `IsFormatted` |
-//! | what becomes of label areas, words and fuse | `Creates`, `IsMade` |
+//! | `has_sectors`, `layout_for`, `arena_steps` | whether a namespace has sectors, its arena's layout, the steps of the format |
+//! | `CanLie`, `place_in` | which places a namespace can have, and the place that it gets |
+//! | `IsFormatted`, `IsFormattedIn` | the words after the format, whole or cut |
 #![tactic(auto)]
 
 mod changing;
-mod creating;
 mod formatting;
 mod law;
 mod view;
 
 pub use changing::{OpenArenas, one_arena_changes, open_arenas, put_words, start_of};
-pub use creating::create_sectors;
+pub use formatting::format_sectors;
 pub use law::loaded_sets_are_usable;
 pub use view::open_sectors;

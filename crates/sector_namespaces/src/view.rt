@@ -2,15 +2,14 @@ ghost use Rattle.std.specs.Prelude.{◌≡◌, ◌*◌, ◌+◌, ◌≤◌, ◌%
 ghost use Rattle.std.specs.List.{All};
 ghost use Rattle.arena_open.specs.Chain.{HasMemory};
 ghost use Rattle.image_set.specs.Sound.{IsContents};
-ghost use Rattle.namespace_areas.specs.Finding.{LiesIn};
-ghost use Rattle.sector_namespaces.specs.View.{AreUsable, opened_view, view_words};
+ghost use Rattle.sector_namespaces.specs.View.{IsUsable, LiesOn, opened_view, view_words};
 
 use arena_layout::InfoFault;
 use arena_open::{ChainRefused, OpenRefused, ReadChain, read_chain};
 use cut_words::{CutWords, WordSpace};
+use interleave::InterleaveSet;
 use label_codec::Mode;
 use namespace_areas::{Found, first_arena};
-use namespace_ops::Registry;
 use nvd_words::Items;
 use power_cut::SetWords;
 use std::alloc::Global;
@@ -26,25 +25,24 @@ pub(crate) fn no_block() -> ChainRefused
     }
 }
 
-/// Opens the arenas of a sector namespace that was found, with power that stays on, to read its sectors. They are read where
-/// they lie in the contents: what is pending is made good in the maps that are held in memory, and no word is copied.
+/// Opens the arenas of a sector namespace that was found, with power that stays on, to read its sectors. They are read
+/// in place: pending moves are completed in the maps in memory, and no word is copied.
 ///
-/// The registry is the one in which the namespace was found, `contents` are those of all modules by number, and the UUID is
-/// the namespace's. Refusals name the first arena that isn't opened; OutOfMemory may come in place of any answer.
+/// `set` is the interleave set of the namespace's region, `contents` are those of all modules by number, and the UUID is
+/// the namespace's. A refusal names the first arena that isn't opened; `OutOfMemory` may come in place of any answer.
 pub fn open_sectors<'a>(
     alloc: Global,
-    registry: &'a Registry,
+    set: &'a InterleaveSet,
     found: &Found,
     contents: Items<CutWords>,
     uuid: &Uuid,
 ) -> Result<ReadChain<SetWords<'a>>, ChainRefused>
-    requires lies { LiesIn registry.now.sets found.now }
+    requires lies { LiesOn set.now found.now }
     requires sector { found.now.mode ≡ Mode.Sector }
     requires rows { All IsContents contents }
-    requires usable { AreUsable registry.now.sets contents }
-    ensures { HasMemory result → result ≡ opened_view (view_words registry.now.sets found.now contents) uuid.now }
+    requires usable { IsUsable set.now contents }
+    ensures { HasMemory result → result ≡ opened_view (view_words set.now found.now contents) uuid.now }
 {
-    let set = registry.set(found.region);
     let _few = set.ways();
     let space = SetWords::of(set, found.offset, found.raw, contents.into_vec());
     if space.count() == 0 {

@@ -24,7 +24,7 @@ use Rattle.sector_namespaces.specs.View.{rows_of}
 use Rattle.sector_namespaces.specs.Creation.{IsFormattedIn, has_sectors, layout_for, place_in}
 use Rattle.shell_changes.specs.Areas.{with_labels}
 use Rattle.shell_changes.specs.Going.{FormatsIn}
-use Rattle.shell_changes.specs.Words.{makes_sectors}
+use Rattle.namespace_ops.specs.Counted.{makes_sectors}
 use Rattle.shell_changes.specs.Work.{Arena, AreFormatted, Formats, arena_by, arena_of, count_of, with_contents}
 use Rattle.shell_changes.proofs.Areas.{HasWhole, IsSavedAs}
 use Rattle.shell_changes.proofs.Behind.{append_nil}

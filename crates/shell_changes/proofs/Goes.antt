@@ -22,7 +22,8 @@ use Rattle.namespace_areas.specs.Went.{Went}
 use Rattle.namespace_areas.proofs.Seen.{seen_labels}
 use Rattle.namespace_areas.proofs.Opening.{held_all, row_of}
 use Rattle.namespace_ops.specs.declared.registry.OpenFault.{OpenFault}
-use Rattle.namespace_ops.specs.Opening.{Opened, opening, overlap_fault, set_fault_from, sets_of}
+use Rattle.namespace_ops.specs.Registered.{Registered, opened_on}
+use Rattle.namespace_ops.specs.Opening.{opening, overlap_fault, set_fault_from, sets_of}
 use Rattle.nvd_media.specs.Images.{Images}
 use Rattle.image_set.specs.Load.{ImageSet, bytes_kept}
 use Rattle.image_set.specs.Sound.{IsArea}
@@ -35,12 +36,12 @@ use Rattle.shell_changes.specs.Going.{GoesOn, GoesThen, GoesFrom, SavesCut, Stop
 use Rattle.shell_changes.specs.Namespaces.{sets_in, refusal_in, work_by, work_in, ChangeComes, Goes, OnSets}
 use Rattle.shell_changes.specs.Reading.{IsParted, set_parted}
 use Rattle.shell_changes.specs.Rest.{is_whole, objects_left, words_beside}
-use Rattle.shell_changes.specs.Words.{makes_sectors}
+use Rattle.namespace_ops.specs.Counted.{makes_sectors}
 use Rattle.shell_changes.specs.Work.{arena_of, count_of}
 use Rattle.shell_changes.proofs.Areas.{HasWhole, IsSavedAs, opened_in, parted_as, parted_labels, parted_nfit, parted_whole, rows_are}
 use Rattle.shell_changes.proofs.Ends.{cut_after, cut_in_recovery, cut_within, done_after, refused_after}
 use Rattle.shell_changes.proofs.Formats.{SavedAs, saved_as}
-use Rattle.shell_changes.proofs.Regions.{was_opened}
+use Rattle.namespace_ops.proofs.Regions.{was_opened}
 
 module _ (leaves : ℕ → List (Option Words) → List (Option (List ℕ)) → Type 0) (set : ImageSet) (words : List (Option Words)) (contents : List Words) (objects : List (Option (List ℕ)) → List (List ℕ) → Images) (is_set : IsSavedAs set words contents objects) (fit : rows_in set ≡ map row_of words) (power : Power) (outcome : Outcome)
     (sets : List (List Mapping)) (c : Command) (whole : makes_sectors c ≡ true → HasWhole set contents objects) where
@@ -121,7 +122,7 @@ err_by {F = F} v w (Some g) f is = ap (λ (x : F). Err x) (let e = is in cc)
 
 read_err : (nfit : Nfit) (areas : List Area) (f : OpenFault) → Err f ≡ opening nfit areas → reading nfit (overlap_fault (labels_of areas)) ≡ Err f
 unfolding reading opening
-read_err nfit areas f is = err_by (record { sets = sets_of nfit; areas = areas }) (sets_of nfit) (first_fault (set_fault_from 0 nfit.regions ∷ overlap_fault (labels_of areas) ∷ [])) f is
+read_err nfit areas f is = err_by (opened_on (sets_of nfit) areas) (sets_of nfit) (first_fault (set_fault_from 0 nfit.regions ∷ overlap_fault (labels_of areas) ∷ [])) f is
 
 module _ (set : ImageSet) (words : List (Option Words)) (nfit : Nfit) (labels : set.labels ≡ map (option_map bytes_kept) words) (is_nfit : set.nfit ≡ nfit) where
   pub labels_are : areas_seen (map opened_as words) ≡ areas_in set.labels
@@ -136,7 +137,7 @@ module _ (set : ImageSet) (words : List (Option Words)) (nfit : Nfit) (labels : 
   sets_are whole = ap (λ (n : Nfit). reading n (overlap_fault (placed_in_all (areas_in set.labels)))) is_nfit ∙ ap (reading nfit) (sym (overlap_is whole))
 
   -- so the sets are those of a registry that is opened
-  pub sets_ok : (registry : Opened) → AreWhole words → Ok registry ≡ opening nfit (map opened_as words) → sets_in set ≡ Ok registry.sets
+  pub sets_ok : (registry : Registered) → AreWhole words → Ok registry ≡ opening nfit (map opened_as words) → sets_in set ≡ Ok registry.sets
   sets_ok registry whole is =
       let was = was_opened nfit (map opened_as words) registry is in
       sets_are whole ∙ read_ok nfit (overlap_fault (labels_of (map opened_as words))) was.sound was.clear ∙ ap (λ (s : List (List Mapping)). Ok s) was.sets
@@ -153,7 +154,7 @@ module _ (leaves : ℕ → List (Option Words) → List (Option (List ℕ)) → 
   set = set_parted nfit labels beside contents
 
   -- a registry that is opened, and a command on what it has
-  pub comes : (registry : Opened) → Ok registry ≡ opening nfit (map opened_as labels) → (makes_sectors c ≡ is_whole beside)
+  pub comes : (registry : Registered) → Ok registry ≡ opening nfit (map opened_as labels) → (makes_sectors c ≡ is_whole beside)
       → GoesFrom leaves (objects_left beside contents) power registry.sets registry.areas (words_beside beside) c outcome → ChangeComes leaves c power set outcome
   comes registry is needs from =
       let was = was_opened nfit (map opened_as labels) registry is in

@@ -65,7 +65,7 @@ use Rattle.shell_reports.specs.Saved.{IsSaving}
 use Rattle.shell_changes.specs.Areas.{HasAreas, HasRows, area_by, area_in, areas_in, rows_in}
 use Rattle.shell_changes.specs.Maps.{AcceptedIsApart, ChangesKeepApart, ChangesLabels, CrashIsInEither, CrashLeavesOthers, CrashRecovers, IsCutIn, IsSettled, ReportsShowTheMap, CutInCommand, CutInFormat, CutInRecovery, DoneIsTheCommand, HasTable, LeavesOthers, SavesMap, map_of, uuid_of, with_bytes}
 use Rattle.shell_changes.specs.Namespaces.{Ends, IsCut, IsDone, OnSets, refusal_in, sets_in, work_by, work_in}
-use Rattle.shell_changes.specs.Words.{makes_sectors}
+use Rattle.namespace_ops.specs.Counted.{makes_sectors}
 use Rattle.shell_changes.specs.Work.{Arena, Formats, Work, arena_of, begun, count_of, label_changes, label_steps, steps_of_work}
 use Rattle.shell_changes.specs.Refusals.{refused_outcome}
 use Rattle.shell_changes.proofs.Apart.{labels_apart}
@@ -73,7 +73,7 @@ use Rattle.shell_changes.proofs.RecoveryApart.{extents_kept, stopped_apart}
 use Rattle.shell_changes.proofs.Areas.{rows_shown}
 use Rattle.shell_changes.proofs.Behind.{after_none, append_nil, format_left, label_long, label_short, none_left, rest_left, some_format, under_first, under_sum}
 use Rattle.shell_changes.proofs.Runs.{no_arena}
-use Rattle.shell_changes.proofs.Regions.{no_first, parts_of, sets_are}
+use Rattle.namespace_ops.proofs.Regions.{no_first, parts_of, sets_are}
 
 -- ---- images that are accepted
 

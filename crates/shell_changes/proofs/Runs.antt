@@ -1,7 +1,7 @@
 -- What became of label areas and contents by a command, by what carried it out.
-use Rattle.std.proofs.Common.{◌≡◌, ◌≢◌, ℕ, ◌<◌, ◌^◌, Bool, true, false, List, [], length, map, Option, Some, None, Result, Ok, Err, refl, sym, ap, ◌∙◌, subst, arith, inl, inr}
+use Rattle.std.proofs.Common.{◌≡◌, ◌≢◌, ℕ, ◌<◌, ◌^◌, Bool, true, false, List, [], length, map, Option, Some, None, Result, Ok, Err, refl, sym, ap, ◌∙◌, subst, inl, inr}
 use Rattle.std.specs.Prelude.{IfOk, is_ok}
-use Rattle.std.proofs.lemmas.Bool.{false≢true, le-leb, true≢false}
+use Rattle.std.proofs.lemmas.Bool.{false≢true, true≢false}
 use Rattle.std.proofs.lemmas.Option.{none-some}
 use Rattle.std.proofs.lemmas.List.{length-map}
 use Rattle.nvd_media.specs.Images.{Images}
@@ -22,10 +22,10 @@ use Rattle.namespace_areas.specs.Seen.{areas_seen, words_of}
 use Rattle.namespace_areas.specs.Refusals.{shown}
 use Rattle.namespace_areas.specs.Went.{Went, size_of}
 use Rattle.namespace_ops.specs.Carried.{is_cut}
-use Rattle.namespace_ops.specs.Held.{Held}
 use Rattle.namespace_ops.proofs.Findings.{claim_finding, create_finding, delete_finding, not_cut as finding_uncut, rename_finding}
-use Rattle.namespace_ops.specs.Counted.{Answered, Counted}
-use Rattle.sector_namespaces.specs.Creation.{Creates, IsMade, has_sectors}
+use Rattle.namespace_ops.specs.Counted.{Answered, Formats, GoesOn as Goes, State, namespaces_in, steps_before, with_claims}
+use Rattle.sector_namespaces.specs.Creation.{IsFormattedIn, arena_steps, has_sectors, layout_for, place_for}
+use Rattle.namespace_ops.proofs.Answers.{arena_count, plain_steps}
 use Rattle.shell_reports.specs.declared.power.Power.{Power}
 use Rattle.shell_reports.specs.Outcome.{Outcome}
 use Rattle.shell_changes.specs.Going.{FormatsIn, GoesFrom, GoesOn, Runs, SavesCut, SavesDone, Works}
@@ -34,7 +34,7 @@ use Rattle.shell_changes.specs.declared.saving.Beside.{Beside}
 use Rattle.shell_changes.specs.declared.saving.Beside.TheVariants as beside
 use Rattle.shell_changes.specs.Remains.{CanLeave, remains_of}
 use Rattle.shell_changes.specs.Rest.{IsBeside, count_beside, with_words, words_beside}
-use Rattle.shell_changes.specs.Words.{makes_sectors}
+use Rattle.namespace_ops.specs.Counted.{makes_sectors}
 use Rattle.shell_changes.specs.Work.{Arena, arena_by, arena_of, count_of}
 
 -- ---- results
@@ -59,7 +59,7 @@ finding_of ns (Rename uuid name) f some = finding_uncut f (rename_finding ns uui
 finding_of ns (Claim uuid) f some = finding_uncut f (claim_finding ns uuid f some)
 finding_of ns (Unclaim uuid) f some = absurd (none-some f some)
 
--- ---- labels alone
+-- ---- by a registry
 
 -- a command that makes no sectors formats no arena
 none_by : (ns : Namespaces) (spec : CreateSpec) (b : Bool) → b ≡ false → arena_by ns spec b ≡ None
@@ -73,63 +73,52 @@ no_arena ns (Rename uuid name) plain = refl
 no_arena ns (Claim uuid) plain = refl
 no_arena ns (Unclaim uuid) plain = refl
 
-lasts_none : (fuse : Option ℕ) → lasts fuse 0 ≡ true
-lasts_none None = refl
-lasts_none (Some n) = le-leb 0 n (omega arith)
+-- the arena's steps come before the label changes
+count_is : (ns : Namespaces) (c : Command) → count_of (arena_of ns c) ≡ steps_before c
+count_is ns (Create spec) = by (has_sectors spec.make) refl
+  where
+    by : (b : Bool) → has_sectors spec.make ≡ b → count_of (arena_by ns spec b) ≡ arena_steps spec
+    by false raw = sym (plain_steps spec.size spec.make raw)
+    by true sectors = arena_count spec.size spec.make sectors
+count_is ns (Delete uuid) = refl
+count_is ns (Rename uuid name) = refl
+count_is ns (Claim uuid) = refl
+count_is ns (Unclaim uuid) = refl
 
-burnt_none : (fuse : Option ℕ) → fuse ≡ burnt fuse 0
-burnt_none None = refl
-burnt_none (Some n) = ap (λ (k : ℕ). Some k) (omega arith)
+formats_in : (s : State) (contents contents' : List Words) (fuse : Option ℕ) (c : Command) (reply : Result (Unit {0}) OpRefused) → Goes s reply → refusal_of (namespaces_in s) c ≡ None → Formats s contents contents' fuse c reply
+    → FormatsIn (arena_of (shown s.sets s.areas) c) contents contents' fuse
+formats_in s contents contents' fuse (Create spec) reply goes none is = by (has_sectors spec.make) refl
+  where
+    by : (b : Bool) → has_sectors spec.make ≡ b → FormatsIn (arena_by (shown s.sets s.areas) spec b) contents contents' fuse
+    by false raw = is.plain raw
+    by true sectors =
+        subst (λ (n : ℕ). IsFormattedIn (place_for s.sets s.areas spec) (layout_for spec) spec.uuid contents contents' fuse (burnt fuse n) (lasts fuse n)) (sym (arena_count spec.size spec.make sectors))
+        (is.formatted goes none spec refl sectors)
+formats_in s contents contents' fuse (Delete uuid) reply goes none is = is.plain refl
+formats_in s contents contents' fuse (Rename uuid name) reply goes none is = is.plain refl
+formats_in s contents contents' fuse (Claim uuid) reply goes none is = is.plain refl
+formats_in s contents contents' fuse (Unclaim uuid) reply goes none is = is.plain refl
 
-labels_alone : (arena : Option Arena) (old news : List Area) (contents : List Words) (fuse left : Option ℕ) (changes : List Change) (whole : Bool) → arena ≡ None → Went old news fuse left changes whole
-    → Works arena old news contents contents fuse left changes whole
-labels_alone arena old news contents fuse left changes whole none went =
-    subst (λ (a : Option Arena). Works a old news contents contents fuse left changes whole) (sym none)
-    (record {
-      formats = refl;
-      within = λ short. absurd (false≢true (sym short ∙ lasts_none fuse));
-      labels = λ long. subst (λ (f : Option ℕ). Went old news f left changes whole) (burnt_none fuse) went;
-    })
-
--- a registry that counts no claims
-abbrev unclaimed : Held → Counted
-unclaimed held = record { held = held; claims = [] }
-
-answered_runs : (held : Held) (new : Counted) (contents : List Words) (fuse left : Option ℕ) (c : Command) (reply : Result (Unit {0}) OpRefused) → makes_sectors c ≡ false → held.stopped ≡ false → reply ≢ Err OutOfMemory
-    → Answered (unclaimed held) new fuse left c reply → Runs held.sets held.areas new.held.areas contents contents fuse left c reply
-answered_runs held new contents fuse left c reply plain running other is = record {
-  refused = λ f at. let it = is.refused (running, other) f at in (it.0, ap (λ (x : Counted). x.held.areas) it.1, refl);
-  went = λ allowed.
-      labels_alone (arena_of (shown held.sets held.areas) c) held.areas new.held.areas contents fuse left (changes_of (shown held.sets held.areas) (areas_seen held.areas) c) (is_ok reply)
-      (no_arena (shown held.sets held.areas) c plain) (is.went (running, other) allowed);
-  cut = λ allowed f err. is.cut (running, other) allowed f err;
-}
-
--- by a registry without claims, while power is on and memory is found
-pub labels_run : (held : Held) (old new : Counted) (contents : List Words) (fuse left : Option ℕ) (c : Command) (reply : Result (Unit {0}) OpRefused) → old.held ≡ held → old.claims ≡ [] → makes_sectors c ≡ false → held.stopped ≡ false
-    → reply ≢ Err OutOfMemory → Answered old new fuse left c reply → Runs held.sets held.areas new.held.areas contents contents fuse left c reply
-labels_run held old new contents fuse left c reply is none plain running other answered =
-    let same : old ≡ unclaimed held = (λ i. record { held = is i; claims = none i }) in
-    answered_runs held new contents fuse left c reply plain running other (subst (λ (x : Counted). Answered x new fuse left c reply) same answered)
-
--- ---- sectors
-
-module _ (sets : List (List Mapping)) (old news : List Area) (contents contents' : List Words) (fuse left : Option ℕ) (spec : CreateSpec) (reply : Result (Unit {0}) OpRefused) where
-  arena_made : (b : Bool) → b ≡ true → IsMade sets old news contents contents' fuse left spec reply
-      → Works (arena_by (shown sets old) spec b) old news contents contents' fuse left (changes_of (shown sets old) (areas_seen old) (Create spec)) (is_ok reply)
-  arena_made false sectors made = absurd (false≢true sectors)
-  arena_made true sectors made = record {
-    formats = made.formatted;
-    within = λ short. let it = made.within short in (ap (λ (r : Result (Unit {0}) OpRefused). is_ok r) it.0, it.1);
-    labels = λ long. made.labels long;
-  }
-
-  pub sectors_run : has_sectors spec.make ≡ true → Creates sets old news contents contents' fuse left spec reply → Runs sets old news contents contents' fuse left (Create spec) reply
-  sectors_run sectors creates = record {
-    refused = λ f at. let it = creates.refused f at in (it.0, it.1, it.2);
-    went = λ allowed. arena_made (has_sectors spec.make) sectors (creates.made allowed);
-    cut = λ allowed f err. (creates.made allowed).cut f err;
-  }
+-- that counts no claims, while power is on and memory is found
+pub answered_runs : (s new : State) (contents contents' : List Words) (fuse left : Option ℕ) (c : Command) (reply : Result (Unit {0}) OpRefused) → s.claims ≡ [] → s.stopped ≡ false → reply ≢ Err OutOfMemory
+    → Answered s new fuse left c reply → Formats s contents contents' fuse c reply → Runs s.sets s.areas new.areas contents contents' fuse left c reply
+answered_runs s new contents contents' fuse left c reply none running other is formats =
+    let goes : Goes s reply = (running, other) in
+    let same : namespaces_in s ≡ shown s.sets s.areas = ap (with_claims (shown s.sets s.areas)) none in
+    let refusal : refusal_of (namespaces_in s) c ≡ refusal_of (shown s.sets s.areas) c = ap (λ (ns : Namespaces). refusal_of ns c) same in
+    let count : count_of (arena_of (shown s.sets s.areas) c) ≡ steps_before c = count_is (shown s.sets s.areas) c in
+    record {
+      refused = λ f at. let it = is.refused goes f (refusal ∙ at) in (it.0, ap (λ (x : State). x.areas) it.1, formats.refused goes f (refusal ∙ at));
+      went = λ allowed. record {
+        formats = formats_in s contents contents' fuse c reply goes (refusal ∙ allowed) formats;
+        within = λ short. let it = is.within goes (refusal ∙ allowed) (ap (lasts fuse) (sym count) ∙ short) in (ap (λ (r : Result (Unit {0}) OpRefused). is_ok r) it.0, it.1);
+        labels = λ long.
+            subst (λ (n : ℕ). Went s.areas new.areas (burnt fuse n) left (changes_of (shown s.sets s.areas) (areas_seen s.areas) c) (is_ok reply)) (sym count)
+            (subst (λ (ns : Namespaces). Went s.areas new.areas (burnt fuse (steps_before c)) left (changes_of ns (areas_seen s.areas) c) (is_ok reply)) same
+            (is.went goes (refusal ∙ allowed) (ap (lasts fuse) (sym count) ∙ long)));
+      };
+      cut = λ allowed f err. is.cut goes (refusal ∙ allowed) f err;
+    }
 
 -- ---- how many areas and modules there are
 

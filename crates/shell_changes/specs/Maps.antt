@@ -21,7 +21,7 @@ use Rattle.shell_reports.specs.List.{labels_in_set}
 use Rattle.shell_reports.specs.Outcome.{Outcome}
 use Rattle.shell_changes.specs.Areas.{HasAreas, areas_in}
 use Rattle.shell_changes.specs.Namespaces.{ChangeComes, refusal_in, sets_in}
-use Rattle.shell_changes.specs.Words.{makes_sectors}
+use Rattle.namespace_ops.specs.Counted.{makes_sectors}
 use Rattle.shell_changes.specs.Work.{arena_of, count_of}
 
 -- ---- the map of an image set

@@ -1,5 +1,5 @@
 -- An image set as it was read for a command on namespaces: with its contents, or without them.
-use Rattle.std.specs.Prelude.{◌≡◌, ℕ, ◌<◌, ◌^◌, Bool, true, false, List, length, Option, None, Ok}
+use Rattle.std.specs.Prelude.{◌≡◌, ℕ, ◌<◌, ◌^◌, Bool, true, false, List, length, Option, None, Ok, []}
 use Rattle.std.specs.List.{All}
 use Rattle.cut_words.specs.Words.{Words}
 use Rattle.nfit_reader.specs.declared.table.Mapping.{Mapping}
@@ -9,6 +9,7 @@ use Rattle.nfit_reader.specs.Counted.{AreCounted}
 use Rattle.namespace_areas.specs.declared.area.Area.{Area}
 use Rattle.namespace_map.specs.declared.commands.Command.{Command}
 use Rattle.namespace_ops.specs.Carried.{HasGoodName}
+use Rattle.namespace_ops.specs.Registered.{Registered}
 use Rattle.namespace_ops.specs.Opening.{set_fault_from, sets_of}
 use Rattle.image_set.specs.Load.{ImageSet, image_set_in}
 use Rattle.image_set.specs.Outline.{IsOutlined, image_set_with}
@@ -18,7 +19,7 @@ use Rattle.shell_changes.specs.declared.changing.SetRead.TheVariants.{Outline, W
 use Rattle.shell_changes.specs.declared.saving.Beside.{Beside}
 use Rattle.shell_changes.specs.declared.saving.Beside.TheVariants as beside
 use Rattle.shell_changes.specs.Rest.{IsBeside, IsUsableBeside, count_beside, is_whole}
-use Rattle.shell_changes.specs.Words.{makes_sectors}
+use Rattle.namespace_ops.specs.Counted.{makes_sectors}
 
 -- it was loaded, or its outline was
 abbrev pub IsRead : SetRead → Type 0
@@ -67,3 +68,10 @@ pub record CanRun (sets : List (List Mapping)) (areas : List Area) (beside : Bes
   pub rest : IsBeside beside
   pub usable : IsUsableBeside beside sets
   pub count : length areas ≡ count_beside beside
+
+-- a registry with which a run begins: no namespace is claimed, the journal is empty and without room, and power is on
+pub record IsFresh (r : Registered) : Type 0 where
+  pub running : r.stopped ≡ false
+  pub claims : r.claims ≡ []
+  pub journal : r.journal ≡ []
+  pub room : r.room ≡ []

@@ -1,15 +1,14 @@
 -- The commands on namespaces that the words of a command line say.
-use Rattle.std.specs.Prelude.{ℕ, Bool, false, if◌then◌else◌, List, option_map, option_and_then, Option, Some, None, codes, unwrap_or}
+use Rattle.std.specs.Prelude.{ℕ, if◌then◌else◌, List, option_map, option_and_then, Option, Some, None, codes, unwrap_or}
 use Rattle.std.specs.Str.{bytes_eq}
 use Rattle.clap.specs.Words.{Row, first_of}
 use Rattle.command_words.specs.Parsed.{number_in, optional_number_in, uuid_in}
 use Rattle.namespace_map.specs.declared.commands.Command.{Command}
-use Rattle.namespace_map.specs.declared.commands.Command.TheVariants.{Create, Delete, Rename}
+use Rattle.namespace_map.specs.declared.commands.Command.TheVariants.{Delete, Rename}
 use Rattle.namespace_map.specs.declared.commands.CreateSpec.{CreateSpec}
 use Rattle.namespace_map.specs.declared.commands.Make.{Make}
 use Rattle.namespace_map.specs.declared.commands.Make.TheVariants.{Raw, Sector}
 use Rattle.namespace_map.specs.Commands.{named_of}
-use Rattle.sector_namespaces.specs.Creation.{has_sectors}
 
 -- the greatest number of a region, and of a size in bytes
 abbrev pub last_region : ℕ
@@ -17,11 +16,6 @@ last_region = 4294967295
 
 abbrev pub most_bytes : ℕ
 most_bytes = 18446744073709551615
-
--- whether a command makes sectors, whose arena is formatted first
-abbrev pub makes_sectors : Command → Bool
-makes_sectors (Create spec) = has_sectors spec.make
-makes_sectors other = false
 
 -- the bytes of a sector: 512 if the words say none
 abbrev pub sector_in : List Row → Option ℕ

@@ -2,18 +2,17 @@
 ghost use Rattle.std.specs.Prelude.{◌≡◌, ◌≢◌, true, false, ℕ, List, Some, None, Ok, Err, IfOk, map};
 ghost use Rattle.namespace_map.specs.declared.refused.OpRefused.{OpRefused as Refused};
 ghost use Rattle.namespace_map.specs.Commands.{refusal_of};
-ghost use Rattle.namespace_map.specs.Left.{AreRegions};
-ghost use Rattle.namespace_areas.specs.Seen.{AreHeld, words_of};
+ghost use Rattle.namespace_areas.specs.Seen.{words_of};
 ghost use Rattle.namespace_areas.specs.Refusals.{shown};
 ghost use Rattle.namespace_ops.specs.Carried.{HasGoodName};
 ghost use Rattle.shell_changes.specs.Answers.{Fits, FitsRead, outcome_with};
 ghost use Rattle.shell_changes.specs.Going.{GoesFrom, GoesOn};
 ghost use Rattle.shell_changes.specs.Namespaces.{ChangeComes};
-ghost use Rattle.shell_changes.specs.Reading.{CanRun, IsParted, IsRead, reads_contents, set_parted, set_read};
+ghost use Rattle.shell_changes.specs.Reading.{CanRun, IsFresh, IsParted, IsRead, reads_contents, set_parted, set_read};
 ghost use Rattle.shell_changes.specs.Refusals.{refused_outcome};
 ghost use Rattle.shell_changes.specs.Remains.{AnswersCut, AnswersDone, CanLeave, LeavesBy, remains_of};
 ghost use Rattle.shell_changes.specs.Rest.{is_whole, objects_left, words_beside};
-ghost use Rattle.shell_changes.specs.Words.{makes_sectors};
+ghost use Rattle.namespace_ops.specs.Counted.{makes_sectors};
 
 use crate::answer::Answer;
 use crate::refusals::{faulty_answer, refusing_answer};
@@ -23,7 +22,7 @@ use cut_words::{CutWords, Fuse, PowerCut};
 use image_set::{Loaded, Outline, OutlineRest};
 use namespace_areas::{Area, into_words, open_areas};
 use namespace_map::{Command, OpRefused};
-use namespace_ops::{Holding, Registry};
+use namespace_ops::Registry;
 use nfit_reader::Nfit;
 use nvd_media::Chooser;
 use nvd_words::Items;
@@ -80,25 +79,25 @@ fn reply_answer<C: Chooser>(
     }
 }
 
-/// The answer to a command on what is held, under a fuse.
+/// The answer to a command on a registry that was recovered, under a fuse.
 fn command_answer<C: Chooser>(
     alloc: Global,
-    holding: Holding,
+    registry: Registry,
     fuse: Fuse,
     change: &Command,
     power: Power,
     beside: Beside,
     choose: &mut C,
 ) -> Result<Answer, AllocError>
-    requires running { holding.stopped ≡ false }
-    requires run { CanRun holding.sets holding.areas beside change.now }
-    ensures refused { IfOk result (λ answer. (contents : List (List ℕ)) (f : Refused) → refusal_of (shown holding.sets holding.areas) change.now ≡ Some f → outcome_with answer contents ≡ refused_outcome f) }
-    ensures went { IfOk result (λ answer. (contents : List (List ℕ)) → refusal_of (shown holding.sets holding.areas) change.now ≡ None
-        → GoesOn (LeavesBy C.begins C.picks choose.old) (objects_left beside contents) power holding.sets holding.areas (words_beside beside) fuse change.now (outcome_with answer contents)) }
+    requires fresh { IsFresh registry }
+    requires run { CanRun registry.sets registry.areas beside change.now }
+    ensures refused { IfOk result (λ answer. (contents : List (List ℕ)) (f : Refused) → refusal_of (shown registry.sets registry.areas) change.now ≡ Some f → outcome_with answer contents ≡ refused_outcome f) }
+    ensures went { IfOk result (λ answer. (contents : List (List ℕ)) → refusal_of (shown registry.sets registry.areas) change.now ≡ None
+        → GoesOn (LeavesBy C.begins C.picks choose.old) (objects_left beside contents) power registry.sets registry.areas (words_beside beside) fuse change.now (outcome_with answer contents)) }
     ensures fits { IfOk result (Fits beside) }
 {
     let mut fuse = fuse;
-    let ran = run_command(alloc, holding, &mut fuse, change, beside)?;
+    let ran = run_command(alloc, registry, &mut fuse, change, beside)?;
     reply_answer(alloc, ran, power, choose)
 }
 
@@ -128,18 +127,17 @@ fn opened_answer<C: Chooser>(
     beside: Beside,
     choose: &mut C,
 ) -> Result<Answer, AllocError>
-    requires regions { AreRegions registry.sets }
-    requires held { AreHeld registry.areas }
+    requires fresh { IsFresh registry }
     requires run { CanRun registry.sets registry.areas beside change.now }
     ensures comes { IfOk result (λ answer. (contents : List (List ℕ))
         → GoesFrom (LeavesBy C.begins C.picks choose.old) (objects_left beside contents) power registry.sets registry.areas (words_beside beside) change.now (outcome_with answer contents)) }
     ensures fits { IfOk result (Fits beside) }
 {
-    let mut holding = Holding::of(alloc, registry)?;
+    let mut registry = registry;
     let mut fuse = fuse_of(power);
-    match holding.recover(&mut fuse) {
-        Ok(()) => command_answer(alloc, holding, fuse, change, power, beside, choose),
-        Err(PowerCut) => stopped_answer(alloc, power, beside, holding.into_areas(), choose),
+    match registry.recover(&mut fuse) {
+        Ok(()) => command_answer(alloc, registry, fuse, change, power, beside, choose),
+        Err(PowerCut) => stopped_answer(alloc, power, beside, registry.into_areas(), choose),
     }
 }
 

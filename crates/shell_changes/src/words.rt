@@ -1,7 +1,8 @@
 //! The commands on namespaces that the words of a command line say.
 ghost use Rattle.std.specs.Prelude.{◌≡◌, ◌≤◌, IfSome};
 ghost use Rattle.command_words.specs.Parsed.{rows};
-ghost use Rattle.shell_changes.specs.Words.{create_in, delete_in, lanes_in, make_in, make_of, makes_sectors, rename_in, sector_in};
+ghost use Rattle.namespace_ops.specs.Counted.{makes_sectors};
+ghost use Rattle.shell_changes.specs.Words.{create_in, delete_in, lanes_in, make_in, make_of, rename_in, sector_in};
 ghost use Rattle.namespace_ops.specs.Carried.{HasGoodName, IsGoodName};
 
 use command_words::Parsed;

@@ -5,3 +5,4 @@ pub mod Regions
 pub mod Listing
 pub mod Arenas
 pub mod Causes
+mod Opened

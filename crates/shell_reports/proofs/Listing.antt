@@ -4,12 +4,17 @@ use Rattle.std.specs.Prelude.{IfOk}
 use Rattle.nvd_words.specs.Checks.{first_fault, value_unless}
 use Rattle.nfit_reader.specs.declared.table.Nfit.{Nfit}
 use Rattle.namespace_map.specs.declared.listed.Namespace.{Namespace}
-use Rattle.namespace_map.specs.Namespaces.{entries_of, namespace_of}
+use Rattle.namespace_map.specs.Namespaces.{entries_of, listed, namespace_of}
 use Rattle.namespace_areas.specs.declared.area.Area.{Area}
+use Rattle.label_set.specs.declared.placed.Placed.{Placed}
 use Rattle.namespace_areas.specs.Areas.{labels_of}
+use Rattle.namespace_areas.specs.Seen.{AreHeld}
+use Rattle.namespace_areas.proofs.Seen.{seen_labels}
 use Rattle.namespace_ops.specs.declared.registry.OpenFault.{OpenFault}
 use Rattle.namespace_ops.specs.declared.registry.OpenFault.TheVariants.{OutOfMemory}
-use Rattle.namespace_ops.specs.Opening.{Opened, listing, opening, overlap_fault, set_fault_from, sets_of}
+use Rattle.namespace_ops.specs.Opening.{opening, overlap_fault, set_fault_from, sets_of}
+use Rattle.namespace_ops.specs.Counted.{namespaces_in}
+use Rattle.namespace_ops.specs.Registered.{Registered, opened_on, state_of}
 use Rattle.shell_reports.specs.declared.outcome.Report.{Report}
 use Rattle.shell_reports.specs.Outcome.{Outcome}
 use Rattle.shell_reports.specs.Saved.{outcome_of}
@@ -19,25 +24,29 @@ module _ (nfit : Nfit) (areas : List Area) where
   abbrev fault : Option OpenFault
   fault = first_fault (set_fault_from 0 nfit.regions ∷ overlap_fault (labels_of areas) ∷ [])
 
-  abbrev all : Opened
-  all = record { sets = sets_of nfit; areas = areas }
+  abbrev all : Registered
+  all = opened_on (sets_of nfit) areas
 
   abbrev names : List Namespace
   names = map (λ e. namespace_of e 0) (entries_of (sets_of nfit) (labels_of areas))
 
-  lists_by : (o : Option OpenFault) (r : Opened) → Ok r ≡ value_unless all o → value_unless names o ≡ Ok (listing r)
-  unfolding listing
-  lists_by None r is = let same : r ≡ all = (let e = is in cc) in ap (λ (x : Opened). Ok (map (λ e. namespace_of e 0) (entries_of x.sets (labels_of x.areas)))) (sym same)
-  lists_by (Some f) r is = absurd (let e = is in cc)
+  listed_here : AreHeld areas → names ≡ listed (namespaces_in (state_of all))
+  listed_here held = ap (λ (ls : List Placed). map (λ e. namespace_of e 0) (entries_of (sets_of nfit) ls)) (sym (seen_labels areas held))
+
+  lists_by : AreHeld areas → (o : Option OpenFault) (r : Registered) → Ok r ≡ value_unless all o → value_unless names o ≡ Ok (listed (namespaces_in (state_of r)))
+  lists_by held None r is =
+      let same : r ≡ all = (let e = is in cc) in
+      ap (λ (ns : List Namespace). Ok ns) (listed_here held) ∙ ap (λ (x : Registered). Ok (listed (namespaces_in (state_of x)))) (sym same)
+  lists_by held (Some f) r is = absurd (let e = is in cc)
 
   refuses_by : (o : Option OpenFault) (f : OpenFault) → Err f ≡ value_unless all o → value_unless names o ≡ Err f
   refuses_by None f is = absurd (let e = is in cc)
   refuses_by (Some g) f is = ap (λ (x : OpenFault). Err x) (let e = is in cc)
 
   -- an open registry lists the namespaces of the labels
-  pub lists : (r : Opened) → Ok r ≡ opening nfit areas → listed_by nfit (labels_of areas) ≡ Ok (listing r)
+  pub lists : AreHeld areas → (r : Registered) → Ok r ≡ opening nfit areas → listed_by nfit (labels_of areas) ≡ Ok (listed (namespaces_in (state_of r)))
   unfolding opening
-  lists r is = lists_by fault r is
+  lists held r is = lists_by held fault r is
 
   -- a registry that isn't opened is refused for the same fault
   pub refuses : (f : OpenFault) → Err f ≡ opening nfit areas → listed_by nfit (labels_of areas) ≡ Err f

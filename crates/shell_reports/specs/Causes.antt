@@ -6,7 +6,7 @@ use Rattle.arena_open.specs.ChainCells.{sectors_of}
 use Rattle.namespace_map.specs.Namespaces.{entry_at}
 use Rattle.namespace_map.specs.declared.refused.OpRefused.{OpRefused}
 use Rattle.namespace_areas.specs.declared.found.Found.{Found}
-use Rattle.namespace_areas.specs.Finding.{found_of}
+use Rattle.namespace_areas.specs.Finding.{found_of, set_at}
 use Rattle.namespace_ops.specs.declared.registry.OpenFault.{OpenFault}
 use Rattle.namespace_ops.specs.Opening.{sets_of}
 use Rattle.image_set.specs.Load.{ImageSet}
@@ -24,7 +24,7 @@ found_in loaded uuid = found_of (sets_of loaded.nfit) (entry_at (sets_of loaded.
 
 -- its arenas
 abbrev pub opened_in : ImageSet → List ℕ → Found → Result (List ArenaState) ChainRefused
-opened_in loaded uuid found = opened_view (view_words (sets_of loaded.nfit) found (rows_of loaded.contents)) uuid
+opened_in loaded uuid found = opened_view (view_words (set_at (sets_of loaded.nfit) found.region) found (rows_of loaded.contents)) uuid
 
 abbrev pub breaks : ImageSet → List ℕ → Result Found OpRefused → Bool
 breaks loaded uuid (Ok found) = is_err (opened_in loaded uuid found)

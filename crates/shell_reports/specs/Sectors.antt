@@ -18,7 +18,7 @@ use Rattle.arena_open.specs.ChainCells.{contents_of, sectors_of}
 use Rattle.namespace_map.specs.Namespaces.{entry_at}
 use Rattle.namespace_map.specs.declared.refused.OpRefused.{OpRefused}
 use Rattle.namespace_areas.specs.declared.found.Found.{Found}
-use Rattle.namespace_areas.specs.Finding.{found_of}
+use Rattle.namespace_areas.specs.Finding.{found_of, set_at}
 use Rattle.namespace_ops.specs.declared.registry.OpenFault.{OpenFault}
 use Rattle.namespace_ops.specs.Opening.{set_fault_from, sets_of, overlap_fault}
 use Rattle.image_set.specs.Load.{ImageSet}
@@ -40,7 +40,7 @@ on_arenas uuid f (Err fault) = arena_outcome uuid fault
 
 -- continues with the namespace, or answers why it isn't found
 abbrev pub on_found : List ℕ → (List ArenaState → Outcome) → List (List Mapping) → List (List ℕ) → Result Found OpRefused → Outcome
-on_found uuid f sets contents (Ok found) = on_arenas uuid f (opened_view (view_words sets found (rows_of contents)) uuid)
+on_found uuid f sets contents (Ok found) = on_arenas uuid f (opened_view (view_words (set_at sets found.region) found (rows_of contents)) uuid)
 on_found uuid f sets contents (Err refusal) = refused_outcome (find_refusal refusal)
 
 abbrev pub unless_fault : Option OpenFault → Outcome → Outcome

@@ -62,7 +62,7 @@ mod texts;
 
 pub use info::info_answer;
 pub use labels::{fault_answer, labels_answer, missing_answer};
-pub use list::{areas_of, list_answer, open_fault_answer};
+pub use list::{list_answer, open_fault_answer};
 pub use load_faults::load_answer;
 pub use nfit::{nfit_answer, set_fault_text};
 pub use outcome::{Report, image_answer, printed_answer, usage_answer};

@@ -1,83 +1,23 @@
 //! The command `list`: the namespaces in the labels of all modules.
-ghost use Rattle.std.specs.Prelude.{◌≡◌, ◌≢◌, ◌*◌, ◌++◌, ◌≤◌, ◌<◌, ◌^◌, ℕ, List, IfOk, OnOk, Result, Ok, Err, length, map, string_bytes};
-ghost use Rattle.std.specs.Option.{option_map};
-ghost use Rattle.std.specs.List.{All};
-ghost use Rattle.cut_words.specs.Words.{settled};
-ghost use Rattle.label_index.specs.Area.{IsAreaSize};
-ghost use Rattle.label_area.specs.Opened.{opened};
-ghost use Rattle.image_set.specs.Load.{bytes_kept};
+ghost use Rattle.std.specs.Prelude.{◌≡◌, ◌≢◌, ◌++◌, ◌<◌, ◌^◌, ℕ, List, IfOk, OnOk, false, length, string_bytes};
 ghost use Rattle.image_set.specs.Outline.{IsOutlined, image_set_with};
-ghost use Rattle.image_set.specs.Sound.{IsArea};
-ghost use Rattle.namespace_areas.specs.Areas.{AreRunning, IsRunning, shown_in};
-ghost use Rattle.namespace_ops.specs.Opening.{listing};
+ghost use Rattle.namespace_map.specs.Namespaces.{listed};
+ghost use Rattle.namespace_ops.specs.Counted.{namespaces_in};
+ghost use Rattle.namespace_ops.specs.Registered.{state_of};
 ghost use Rattle.shell_reports.specs.Outcome.{printed};
 ghost use Rattle.shell_reports.specs.Saved.{outcome_of};
-ghost use Rattle.shell_reports.specs.List.{shown_by, why_text, field_text, status_text, region_text, size_in, facts_text, namespace_line, extent_line, extent_lines, namespace_lines, list_text, open_fault_text, open_outcome, list_outcome};
+ghost use Rattle.shell_reports.specs.List.{why_text, field_text, status_text, region_text, size_in, facts_text, namespace_line, extent_line, extent_lines, namespace_lines, list_text, open_fault_text, open_outcome, list_outcome};
 
 use crate::nfit::set_fault_text;
 use crate::{Report, image_answer, mode_text, name_text, printed_answer};
-use cut_words::CutWords;
 use image_set::Outline;
 use interleave::SetFault;
-use label_area::{AreaFault, AreaRefused, open_area};
 use label_set::{Field, SetStatus, Why};
+use namespace_areas::open_areas;
 use namespace_map::Namespace;
-use namespace_ops::{Area, OpenFault, Registry};
-use nvd_words::Items;
+use namespace_ops::{OpenFault, Registry};
 use region_space::Extent;
 use std::alloc::{AllocError, Global};
-
-/// Returns an area that isn't open. Out of memory isn't a finding about it.
-fn refused_area(refused: AreaRefused) -> Result<Area, AllocError>
-    ensures same { IfOk result (λ area. area ≡ Area.Refused refused) }
-    ensures finding { IfOk result (λ _. refused.fault ≢ AreaFault.OutOfMemory) }
-{
-    match refused.fault {
-        AreaFault::OutOfMemory => Err(AllocError),
-        _ => Ok(Area::Refused(refused)),
-    }
-}
-
-/// The label area of a module that has one.
-fn opened_area(alloc: Global, words: CutWords) -> Result<Area, AllocError>
-    requires settled { words ≡ settled words.kept }
-    requires size { IsAreaSize (8 * length words.kept) }
-    ensures shown { IfOk result (λ area. shown_in area ≡ shown_by (Some (bytes_kept words))) }
-    ensures running { IfOk result IsRunning }
-{
-    match open_area(alloc, words) {
-        Ok(area) => Ok(Area::Ready(area)),
-        Err(refused) => refused_area(refused),
-    }
-}
-
-/// The label area of a module, if it has one.
-fn area_of(alloc: Global, area: Option<CutWords>) -> Result<Area, AllocError>
-    requires { IsArea area }
-    ensures shown { IfOk result (λ opened. shown_in opened ≡ shown_by (option_map bytes_kept area)) }
-    ensures running { IfOk result IsRunning }
-{
-    match area {
-        Some(words) => opened_area(alloc, words),
-        None => Ok(Area::Absent),
-    }
-}
-
-/// Opens the label areas of all modules of a loaded set. Each has a valid size, and no word of it
-/// is pending. An area without a valid index block is refused and keeps its words. The call fails
-/// only if memory runs out.
-pub fn areas_of(alloc: Global, labels: Items<Option<CutWords>>) -> Result<Items<Area>, AllocError>
-    requires { All IsArea labels }
-    ensures shown { IfOk result (λ areas. map shown_in areas ≡ map shown_by (map (option_map bytes_kept) labels)) }
-    ensures running { IfOk result AreRunning }
-    ensures count { IfOk result (λ areas. length areas ≡ length labels) }
-{
-    let mut areas = Items::new(alloc);
-    for area in labels.into_vec() {
-        areas.push(area_of(alloc, area)?)?;
-    }
-    Ok(areas)
-}
 
 fn field_text(field: Field) -> &'static str
     ensures { result.now ≡ field_text field }
@@ -215,7 +155,8 @@ fn list_text(alloc: Global, namespaces: &[Namespace]) -> Result<Vec<u8>, AllocEr
 
 /// Answers on an open registry.
 fn open_answer(alloc: Global, registry: &Registry) -> Result<Report, AllocError>
-    ensures { IfOk result (λ answer. outcome_of answer ≡ printed (list_text (listing registry.now))) }
+    requires running { registry.now.stopped ≡ false }
+    ensures { IfOk result (λ answer. outcome_of answer ≡ printed (list_text (listed (namespaces_in (state_of registry.now))))) }
 {
     let namespaces = registry.list(alloc)?;
     Ok(printed_answer(list_text(alloc, namespaces.as_slice())?))
@@ -261,7 +202,7 @@ pub fn list_answer(alloc: Global, outline: Outline) -> Result<Report, AllocError
     ensures { IfOk result (λ answer. (contents : List (List ℕ)) → outcome_of answer ≡ list_outcome (image_set_with outline contents)) }
 {
     let Outline { nfit, labels, .. } = outline;
-    let areas = areas_of(alloc, labels)?;
+    let areas = open_areas(alloc, labels)?;
     match Registry::open_all(alloc, nfit, areas) {
         Ok(registry) => open_answer(alloc, &registry),
         Err(fault) => open_fault_answer(alloc, fault),

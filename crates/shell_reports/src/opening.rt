@@ -1,11 +1,13 @@
 //! The arenas of a namespace, read in the loaded set, and the answers of commands on them.
-ghost use Rattle.std.specs.Prelude.{◌≡◌, IfOk, map};
+ghost use Rattle.std.specs.Prelude.{◌≡◌, IfOk, false, map};
 ghost use Rattle.std.specs.List.{All};
 ghost use Rattle.image_set.specs.Load.{bytes_kept, image_set_in};
 ghost use Rattle.image_set.specs.Sound.{IsContents, IsSound};
-ghost use Rattle.namespace_areas.specs.Finding.{LiesIn};
-ghost use Rattle.namespace_ops.specs.Opening.{finding};
-ghost use Rattle.sector_namespaces.specs.View.{AreUsable, opened_view, view_words};
+ghost use Rattle.namespace_map.specs.Namespaces.{lookup};
+ghost use Rattle.namespace_areas.specs.Finding.{found_of};
+ghost use Rattle.namespace_ops.specs.Counted.{namespaces_in};
+ghost use Rattle.namespace_ops.specs.Registered.{state_of};
+ghost use Rattle.sector_namespaces.specs.View.{AreUsable, IsUsable, LiesOn, opened_view, view_words};
 ghost use Rattle.shell_reports.specs.Saved.{outcome_of};
 ghost use Rattle.shell_reports.specs.Asked.{asked};
 ghost use Rattle.shell_reports.specs.Sectors.{on_arenas, on_found, on_sectors};
@@ -13,12 +15,13 @@ ghost use Rattle.shell_reports.specs.Sectors.{on_arenas, on_found, on_sectors};
 use crate::info::lines_answer;
 use crate::read::sector_answer;
 use crate::sector_faults::{arena_answer, unfound_answer};
-use crate::{Report, areas_of, open_fault_answer};
+use crate::{Report, open_fault_answer};
 use arena_open::ReadChain;
 use cut_words::{CutWords, WordSpace};
 use image_set::Loaded;
+use interleave::InterleaveSet;
 use label_codec::Mode;
-use namespace_areas::Found;
+use namespace_areas::{Found, open_areas};
 use namespace_ops::Registry;
 use nvd_words::Items;
 use sector_namespaces::open_sectors;
@@ -48,22 +51,22 @@ fn asked_answer<W: WordSpace>(
     }
 }
 
-/// Reads the arenas of a namespace that was found, and answers with them.
+/// Reads the arenas of a namespace that was found in a set, and answers with them.
 fn found_answer(
     alloc: Global,
-    registry: &Registry,
+    set: &InterleaveSet,
     found: &Found,
     contents: Items<CutWords>,
     uuid: &Uuid,
     ask: Ask,
 ) -> Result<Report, AllocError>
-    requires lies { LiesIn registry.now.sets found.now }
+    requires lies { LiesOn set.now found.now }
     requires sector { found.now.mode ≡ Mode.Sector }
     requires rows { All IsContents contents }
-    requires usable { AreUsable registry.now.sets contents }
-    ensures { IfOk result (λ answer. outcome_of answer ≡ on_arenas uuid.now (asked ask) (opened_view (view_words registry.now.sets found.now contents) uuid.now)) }
+    requires usable { IsUsable set.now contents }
+    ensures { IfOk result (λ answer. outcome_of answer ≡ on_arenas uuid.now (asked ask) (opened_view (view_words set.now found.now contents) uuid.now)) }
 {
-    match open_sectors(alloc, registry, found, contents, uuid) {
+    match open_sectors(alloc, set, found, contents, uuid) {
         Ok(chain) => asked_answer(alloc, &chain, ask),
         Err(refused) => arena_answer(alloc, uuid, refused),
     }
@@ -77,12 +80,16 @@ fn named_answer(
     uuid: &Uuid,
     ask: Ask,
 ) -> Result<Report, AllocError>
+    requires running { registry.now.stopped ≡ false }
     requires rows { All IsContents contents }
     requires usable { AreUsable registry.now.sets contents }
-    ensures { IfOk result (λ answer. outcome_of answer ≡ on_found uuid.now (asked ask) registry.now.sets (map bytes_kept contents) (finding registry.now uuid.now)) }
+    ensures { IfOk result (λ answer. outcome_of answer ≡ on_found uuid.now (asked ask) registry.now.sets (map bytes_kept contents) (found_of registry.now.sets (lookup uuid.now (namespaces_in (state_of registry.now)).entries))) }
 {
     match registry.find(uuid) {
-        Ok(found) => found_answer(alloc, registry, &found, contents, uuid, ask),
+        Ok(found) => {
+            let set = registry.set(found.region);
+            found_answer(alloc, set, &found, contents, uuid, ask)
+        }
         Err(refused) => unfound_answer(alloc, refused),
     }
 }
@@ -103,7 +110,7 @@ pub(crate) fn set_answer(
         contents,
         ..
     } = loaded;
-    let areas = areas_of(alloc, labels)?;
+    let areas = open_areas(alloc, labels)?;
     match Registry::open_all(alloc, nfit, areas) {
         Ok(registry) => named_answer(alloc, &registry, contents, uuid, ask),
         Err(fault) => open_fault_answer(alloc, fault),

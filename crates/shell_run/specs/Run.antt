@@ -20,7 +20,7 @@ use Rattle.shell_changes.specs.Init.{InitComes}
 use Rattle.shell_changes.specs.Namespaces.{ChangeComes}
 use Rattle.shell_reports.specs.List.{list_outcome}
 use Rattle.shell_reports.specs.Sectors.{info_outcome, read_outcome}
-use Rattle.shell_changes.specs.Words.{makes_sectors}
+use Rattle.namespace_ops.specs.Counted.{makes_sectors}
 
 -- ---- a case for each command
 

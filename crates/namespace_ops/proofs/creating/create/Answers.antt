@@ -1,4 +1,3 @@
-use Rattle.namespace_map.specs.declared.commands.Command.TheVariants as command
 use Rattle.namespace_map.specs.Commands.{create_refusal}
 use Rattle.namespace_areas.specs.Refusals.{shown}
 use Rattle.std.specs.List.{AllByRecursion}

@@ -18,7 +18,7 @@ use Rattle.shell_changes.proofs.changing.command_answer.Goals as goal
 pub reply_answer-requires : goal.reply_answer-requires
 reply_answer-requires g c =
     let ran = c.in_ok-ran.ran in
-    let count = counts c.args.holding.sets c.args.holding.areas ran.areas.items (words_beside c.args.beside) (words_beside ran.beside) c.args.fuse c.run_command.new.fuse c.args.change.now ran.reply c.in_ok-ran.ensures.runs in
+    let count = counts c.args.registry.sets c.args.registry.areas ran.areas.items (words_beside c.args.beside) (words_beside ran.beside) c.args.fuse c.run_command.new.fuse c.args.change.now ran.reply c.in_ok-ran.ensures.runs in
     record {
       can = subst (λ (b : Beside). CanLeave (remains_of b (map words_of ran.areas.items))) (sym c.in_ok-ran.ensures.beside)
           (can_leave c.args.beside (words_beside ran.beside) ran.areas.items c.requires.run.rest (count.0 ∙ c.requires.run.count) count.1);
@@ -29,7 +29,7 @@ returns-clause-refused g c =
     let ran = c.in_ok-ran.ran in
     if_more _ _ c.reply_answer.result
     (λ answer said contents.
-    refused_is c.args.holding.sets c.args.holding.areas ran.areas.items (words_beside c.args.beside) (words_beside ran.beside) c.args.fuse c.run_command.new.fuse c.args.change.now ran.reply c.in_ok-ran.ensures.runs
+    refused_is c.args.registry.sets c.args.registry.areas ran.areas.items (words_beside c.args.beside) (words_beside ran.beside) c.args.fuse c.run_command.new.fuse c.args.change.now ran.reply c.in_ok-ran.ensures.runs
     (outcome_with answer contents) (λ f err other. said f err other contents))
     c.reply_answer.ensures.refused
 
@@ -38,7 +38,7 @@ returns-clause-went g c =
     let begins = g.C.Chooser.begins in
     let picks = g.C.Chooser.picks in
     let ran = c.in_ok-ran.ran in
-    let h = c.args.holding in
+    let h = c.args.registry in
     let leaves = LeavesBy g.C.Chooser.begins g.C.Chooser.picks c.args.choose.now in
     if_both _ _ (λ (answer : Answer). (contents : List (List ℕ)) → refusal_of (shown h.sets h.areas) c.args.change.now ≡ None
     → GoesOn leaves (objects_left c.args.beside contents) c.args.power h.sets h.areas (words_beside c.args.beside) c.args.fuse c.args.change.now (outcome_with answer contents)) c.reply_answer.result

@@ -2,12 +2,11 @@ use Rattle.std.proofs.Common.{◌≡◌, ◌≢◌, ◌∙◌, ◌<◌, ◌^◌,
 use Rattle.std.proofs.lemmas.List.{length-map}
 use Rattle.nfit_reader.specs.declared.table.Mapping.{Mapping}
 use Rattle.namespace_areas.specs.declared.area.Area.{Area}
-use Rattle.namespace_areas.specs.Areas.{AreRunning}
 use Rattle.namespace_areas.specs.Seen.{AreHeld}
 use Rattle.namespace_areas.specs.Opening.{opened_as}
-use Rattle.namespace_areas.proofs.Seen.{held_running}
 use Rattle.namespace_areas.proofs.Opening.{held_all}
 use Rattle.interleave.specs.Sets.{set_reading}
+use Rattle.namespace_ops.specs.Registered.{Registered}
 use Rattle.namespace_ops.specs.Opening.{opening, set_in}
 use Rattle.namespace_ops.specs.declared.registry.OpenFault.TheVariants.{OutOfMemory}
 use Rattle.shell_reports.specs.List.{open_outcome}
@@ -21,26 +20,28 @@ use Rattle.shell_changes.specs.Rest.{IsUsableBeside}
 use Rattle.shell_changes.proofs.Remains.{fits_none}
 use Rattle.shell_changes.proofs.Runs.{if_both}
 use Rattle.shell_changes.proofs.Goes.{comes, comes_not, are_whole}
-use Rattle.shell_changes.proofs.Regions.{are_regions, was_opened}
+use Rattle.namespace_ops.proofs.Regions.{was_opened}
 use Rattle.shell_changes.proofs.changing.parted_answer.Goals as goal
 
 pub open_areas-requires : goal.open_areas-requires
 open_areas-requires g c = are_whole c.args.labels c.requires.parted.areas
 
-pub open_all-requires-clause-running : goal.open_all-requires-clause-running
-open_all-requires-clause-running g c =
-    subst (λ (xs : List Area). AreRunning xs) (sym c.in_ok-areas.ensures) (held_running (map opened_as c.args.labels) (held_all c.args.labels (are_whole c.args.labels c.requires.parted.areas)))
+pub open_all-requires-clause-table : goal.open_all-requires-clause-table
+open_all-requires-clause-table g c = (table_beside c.args.beside, c.requires.parted.table)
 
-pub opened_answer-requires-clause-regions : goal.opened_answer-requires-clause-regions
-opened_answer-requires-clause-regions g c =
-    let is : Ok c.in-Ok.registry ≡ opening c.args.nfit c.in_ok-areas.areas = sym c.in-Ok.is ∙ c.open_all.ensures (λ e. absurd (let both = sym c.in-Ok.is ∙ e in cc)) in
-    are_regions (table_beside c.args.beside) c.args.nfit c.in_ok-areas.areas c.in-Ok.registry c.requires.parted.table c.requires.parted.counted is
+pub open_all-requires-clause-held : goal.open_all-requires-clause-held
+open_all-requires-clause-held g c = subst (λ (xs : List Area). AreHeld xs) (sym c.in_ok-areas.ensures) (held_all c.args.labels (are_whole c.args.labels c.requires.parted.areas))
 
-pub opened_answer-requires-clause-held : goal.opened_answer-requires-clause-held
-opened_answer-requires-clause-held g c =
+pub opened_answer-requires-clause-fresh : goal.opened_answer-requires-clause-fresh
+opened_answer-requires-clause-fresh g c =
     let is : Ok c.in-Ok.registry ≡ opening c.args.nfit c.in_ok-areas.areas = sym c.in-Ok.is ∙ c.open_all.ensures (λ e. absurd (let both = sym c.in-Ok.is ∙ e in cc)) in
-    let same = sym c.in_ok-areas.ensures ∙ (was_opened c.args.nfit c.in_ok-areas.areas c.in-Ok.registry is).areas_are in
-    subst (λ (xs : List Area). AreHeld xs) same (held_all c.args.labels (are_whole c.args.labels c.requires.parted.areas))
+    let was = (was_opened c.args.nfit c.in_ok-areas.areas c.in-Ok.registry is).is in
+    record {
+      running = ap (λ (r : Registered). r.stopped) was;
+      claims = ap (λ (r : Registered). r.claims) was;
+      journal = ap (λ (r : Registered). r.journal) was;
+      room = ap (λ (r : Registered). r.room) was;
+    }
 
 pub opened_answer-requires-clause-run : goal.opened_answer-requires-clause-run
 opened_answer-requires-clause-run g c =

@@ -1,39 +1,19 @@
-use Rattle.std.proofs.Common.{◌∙◌, ap, sym, subst}
-use Rattle.std.specs.Prelude.{IfOk}
-use Rattle.namespace_map.specs.declared.commands.Command.{Command}
-use Rattle.namespace_ops.specs.Carried.{HasGoodName}
+use Rattle.std.proofs.Common.{List, sym, subst}
+use Rattle.cut_words.specs.Words.{Words}
+use Rattle.namespace_areas.specs.declared.area.Area.{Area}
+use Rattle.namespace_ops.specs.Counted.{HasContents}
 use Rattle.shell_changes.specs.Going.{Runs}
-use Rattle.shell_changes.specs.Rest.{words_beside}
-use Rattle.shell_changes.specs.Words.{makes_sectors}
 use Rattle.shell_changes.proofs.running.run_sectors.Goals as goal
 
-pub run_create-requires-clause-name : goal.run_create-requires-clause-name
-run_create-requires-clause-name c = subst HasGoodName c.in-Create.is c.requires.name
-
-pub run_create-requires-clause-sectors : goal.run_create-requires-clause-sectors
-run_create-requires-clause-sectors c = sym (ap makes_sectors c.in-Create.is) ∙ c.requires.sectors
+pub carry_out-requires-clause-contents : goal.carry_out-requires-clause-contents
+carry_out-requires-clause-contents c =
+    subst (HasContents c.args.registry.sets c.args.change.now) (sym c.into_vec-modules.ensures) (λ _. (λ k d lt. (c.requires.rest.words k d lt).kept, c.requires.usable))
 
 pub returns-clause-runs : goal.returns-clause-runs
 returns-clause-runs c =
-    let h = c.args.holding in
-    subst (λ (x : Command). IfOk c.run_create.result (λ ran. Runs h.sets h.areas ran.areas.items c.args.rest.contents (words_beside ran.beside) c.args.fuse.now c.run_create.new.fuse x ran.reply)) (sym c.in-Create.is) c.run_create.ensures.runs
-
-pub unreachable-requires : goal.unreachable-requires
-unreachable-requires c =
-    let both = sym c.requires.sectors ∙ ap makes_sectors c.in-Delete.is in
-    (let e = both in cc)
-
-pub unreachable-requires-in-Rename : goal.unreachable-requires-in-Rename
-unreachable-requires-in-Rename c =
-    let both = sym c.requires.sectors ∙ ap makes_sectors c.in-Rename.is in
-    (let e = both in cc)
-
-pub unreachable-requires-in-Claim : goal.unreachable-requires-in-Claim
-unreachable-requires-in-Claim c =
-    let both = sym c.requires.sectors ∙ ap makes_sectors c.in-Claim.is in
-    (let e = both in cc)
-
-pub unreachable-requires-in-Unclaim : goal.unreachable-requires-in-Unclaim
-unreachable-requires-in-Unclaim c =
-    let both = sym c.requires.sectors ∙ ap makes_sectors c.in-Unclaim.is in
-    (let e = both in cc)
+    let r = c.args.registry in
+    let now = c.carry_out.new in
+    let reply = c.in_ok-reply.reply in
+    subst (λ (xs : List Area). Runs r.sets r.areas xs c.args.rest.contents c.from_vec.result c.args.fuse.now now.fuse c.args.change.now reply) (sym c.into_areas.ensures.areas)
+    (subst (λ (ws : List Words). Runs r.sets r.areas now.registry.areas c.args.rest.contents ws c.args.fuse.now now.fuse c.args.change.now reply) (sym c.from_vec.ensures)
+    (subst (λ (ws : List Words). Runs r.sets r.areas now.registry.areas ws now.modules.items c.args.fuse.now now.fuse c.args.change.now reply) c.into_vec-modules.ensures c.in_ok-reply.ensures.runs))

@@ -1,7 +1,12 @@
 use Rattle.std.proofs.Common.{◌∙◌, Err, ap, sym}
 use Rattle.namespace_ops.specs.declared.registry.OpenFault.{OpenFault}
 use Rattle.namespace_ops.proofs.OpenSets.{set_refused, set_accepted}
+use Rattle.namespace_ops.proofs.Regions.{regions_read}
 use Rattle.namespace_ops.proofs.registry.Registry.open_all.Goals as goal
+
+pub over-requires-clause-regions : goal.over-requires-clause-regions
+over-requires-clause-regions c =
+    regions_read c.args.nfit c.in-Ok.sets c.requires.table c.requires.counted (sym c.in-Ok.is ∙ c.sets_of.ensures.sets (λ wanting. (let e = sym c.in-Ok.is ∙ wanting in cc)))
 
 pub returns-in-Ok : goal.returns-in-Ok
 returns-in-Ok c =
