@@ -3,3 +3,4 @@ pub mod Lines
 pub mod Load
 pub mod Schedule
 pub mod Script
+pub mod Texts

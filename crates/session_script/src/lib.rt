@@ -25,6 +25,8 @@
 //! - **A text** is read exactly if each of its lines is in the grammar and within the limits. Else
 //!   the first line that isn't decides (`specs/Script.antt`, `specs/Schedule.antt`).
 //! - **A load** is a script that [`make_load`] makes from a number (`specs/Load.antt`).
+//! - **A value** is printed as it is written in a script; a cell that was read has a line
+//!   (`specs/Texts.antt`).
 //!
 //! These rules are this project's own.
 #![tactic(auto)]
@@ -38,6 +40,7 @@ mod reading;
 mod schedule;
 mod script;
 mod sessions;
+mod texts;
 mod verbs;
 mod words;
 
@@ -48,3 +51,4 @@ pub use reading::read_replay;
 pub use schedule::{Replay, ReplayLine};
 pub use script::{Line, Order, Script, SessionLines};
 pub use sessions::read_script;
+pub use texts::{cell_text, value_text, words_text};

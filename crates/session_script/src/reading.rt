@@ -146,6 +146,7 @@ impl ReadLines {
         ensures ok { OnOk result (with_reading self.old 0 (Ok line) ≡ Ok self.new) }
         ensures err { IfErr result (λ fault. fault ≢ ScriptFault.OutOfMemory → with_reading self.old 0 (Ok line) ≡ Err fault) }
         ensures within { OnOk result (self.new.calls ≤ 65536) }
+        ensures more { OnOk result (length self.new.lines ≡ length self.old.lines + 1) }
     {
         let calls = self.calls + calls_in(&line);
         if calls > MOST_CALLS {
@@ -166,6 +167,7 @@ impl ReadLines {
         ensures ok { OnOk result (with_line self.old number text.now ≡ Ok self.new) }
         ensures err { IfErr result (λ fault. fault ≢ ScriptFault.OutOfMemory → with_line self.old number text.now ≡ Err fault) }
         ensures within { OnOk result (self.new.calls ≤ 65536) }
+        ensures more { OnOk result (length self.new.lines ≡ length self.old.lines + 1) }
     {
         if text.len() > MOST_BYTES {
             return Err(ScriptFault::TooMany {
@@ -194,6 +196,7 @@ impl ReadLines {
         ensures err { IfErr result (λ fault. fault ≢ ScriptFault.OutOfMemory → lines_read with_line number (lines_in text.now) (Ok self.old) ≡ Err fault) }
         ensures less { IfOk result (λ rest. length rest.now < length text.now) }
         ensures within { IfOk result (λ rest. self.new.calls ≤ 65536) }
+        ensures more { IfOk result (λ rest. length self.new.lines ≡ length self.old.lines + 1) }
     {
         match self.read(alloc, number, first_line(text)) {
             Ok(()) => Ok(after_line(text)),
@@ -207,9 +210,10 @@ impl ReadLines {
 /// It returns `Line` or `TooMany` for the first line that isn't in the grammar or passes a limit:
 /// a line of more than 32,768 bytes without its LF, or the 65,537th call. On one line its length
 /// comes first, then the grammar, then the number of calls. Else it returns `Ok`, unless memory
-/// runs out.
+/// runs out. A line has a byte at least.
 pub fn read_replay(alloc: Global, text: &[u8]) -> Result<Replay, ScriptFault>
-    ensures { Answers ScriptFault.OutOfMemory result (replay_reading text.now) }
+    ensures replay { Answers ScriptFault.OutOfMemory result (replay_reading text.now) }
+    ensures count { IfOk result (λ replay. length replay.lines ≤ length text.now) }
 {
     let mut read = ReadLines::new(alloc);
     let mut number = 1;

@@ -7,6 +7,7 @@ abbrev pub invariant-loop-rest : goal.invariant-loop-rest
 invariant-loop-rest l = record {
   calls : l.read.calls ≤ 65536;
   number : l.number + length l.rest ≤ length l.text + 1;
+  lines : length l.read.lines + 1 ≡ l.number;
   same : lines_read with_line l.number (lines_in l.rest) (Ok l.read) ≡ lines_read with_line 1 (lines_in l.text) (Ok nothing_read);
 }
 

@@ -1,0 +1,10 @@
+pub mod LaneLists
+pub mod OneStep
+pub mod ManySteps
+pub mod Rounds
+pub mod Tries
+pub mod Begun
+pub mod Parts
+pub mod Eights
+pub mod Asked
+pub mod Rows

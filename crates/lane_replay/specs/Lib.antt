@@ -1,0 +1,8 @@
+pub mod Lanes
+pub mod Keeping
+pub mod Texts
+pub mod Steps
+pub mod Scanning
+pub mod Calls
+pub mod Playing
+pub mod Asking
