@@ -52,3 +52,4 @@ pub use schedule::{Replay, ReplayLine};
 pub use script::{Line, Order, Script, SessionLines};
 pub use sessions::read_script;
 pub use texts::{cell_text, value_text, words_text};
+pub use words::value_in;

@@ -140,7 +140,7 @@ fn hex_in(alloc: Global, digits: &[u8]) -> Result<Option<Payload>, AllocError>
 /// Returns the value that a word denotes: `fill:` and two hexadecimal digits, or `hex:` and an even
 /// number of them, in either case. It returns `None` for other words.
 #[tactic(auto, using(nvd_words::proofs::Checks::choices))]
-pub(crate) fn value_in(alloc: Global, word: &[u8]) -> Result<Option<Payload>, AllocError>
+pub fn value_in(alloc: Global, word: &[u8]) -> Result<Option<Payload>, AllocError>
     ensures { IfOk result (λ value. value ≡ value_of word.now) }
 {
     if word.starts_with(b"fill:") {

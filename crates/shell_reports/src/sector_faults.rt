@@ -82,7 +82,7 @@ fn open_refused_text(alloc: Global, refused: OpenRefused) -> Result<String, Allo
 }
 
 /// The answer on a namespace whose arenas aren't opened.
-pub(crate) fn arena_answer(
+pub fn arena_answer(
     alloc: Global,
     uuid: &Uuid,
     refused: ChainRefused,
@@ -107,7 +107,7 @@ fn find_refusal(refused: OpRefused) -> &'static str
 }
 
 /// The answer of a command that is refused.
-pub(crate) fn refused_answer(alloc: Global, refusal: &str) -> Result<Report, AllocError>
+pub fn refused_answer(alloc: Global, refusal: &str) -> Result<Report, AllocError>
     ensures { IfOk result (λ answer. outcome_of answer ≡ refused_outcome refusal.now) }
 {
     let text = format!(in alloc; "refused {}\n", refusal)?;
@@ -118,7 +118,7 @@ pub(crate) fn refused_answer(alloc: Global, refusal: &str) -> Result<Report, All
 }
 
 /// The answer on a namespace that isn't found.
-pub(crate) fn unfound_answer(alloc: Global, refused: OpRefused) -> Result<Report, AllocError>
+pub fn unfound_answer(alloc: Global, refused: OpRefused) -> Result<Report, AllocError>
     ensures { IfOk result (λ answer. outcome_of answer ≡ refused_outcome (find_refusal refused)) }
 {
     refused_answer(alloc, find_refusal(refused))
