@@ -6,3 +6,5 @@
 
 #[cfg(test)]
 mod core_tests;
+#[cfg(test)]
+mod replay_tests;
