@@ -51,7 +51,7 @@ pub(crate) fn new_words(alloc: Global) -> Result<Vec<u64>, Fail> {
 }
 
 /// The core of a new arena.
-fn new_core(alloc: Global) -> Result<Core, Fail>
+pub(crate) fn new_core(alloc: Global) -> Result<Core, Fail>
     ensures { IfOk result IsSomeCore }
 {
     let mut space = CutWords::new(alloc, new_words(alloc)?)?;
