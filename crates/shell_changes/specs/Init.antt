@@ -1,4 +1,4 @@
--- The command `init`: fresh index blocks in a module's label area, and what a power cut leaves of them.
+-- The command `init`: fresh index blocks in a module's label area, whole or after a crash.
 use Rattle.std.specs.Prelude.{◌≡◌, ℕ, List, [], ◌∷◌, Option, Some, None, Result, Ok, Err, codes}
 use Rattle.std.specs.Fmt.{decimal}
 use Rattle.cut_words.specs.Words.{Words}

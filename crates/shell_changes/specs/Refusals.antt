@@ -6,7 +6,7 @@ use Rattle.namespace_map.specs.declared.refused.OpRefused.TheVariants.{NoSuch, E
 use Rattle.shell_reports.specs.declared.status.Ending.TheVariants as ending
 use Rattle.shell_reports.specs.Outcome.{Outcome, lf}
 
--- the refusal's name and its numbers; want of memory and a power cut are none
+-- the refusal's name and its numbers; out of memory and a power cut have none
 abbrev pub refusal_text : OpRefused → List ℕ
 refusal_text NoSuch = codes "NoSuch"
 refusal_text Exists = codes "Exists"

@@ -89,7 +89,7 @@ impl SavedSet {
         SavedSet { left }
     }
 
-    /// Saves it: `out` was not written to, where it tells. Contents that aren't in memory are those of the source,
+    /// Saves it. Nothing was written to `out` before, if it tells. Contents that aren't in memory are those of the source,
     /// and have the sizes that are stated.
     ///
     /// - `saved`: after `Ok` the sink has exactly the set's objects and the mark, as far as the source tells its contents.

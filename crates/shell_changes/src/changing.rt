@@ -101,7 +101,7 @@ fn command_answer<C: Chooser>(
     reply_answer(alloc, ran, power, choose)
 }
 
-/// The answer where power was cut in recovery, with what the cut leaves of the label areas as they then are.
+/// The answer after a crash in recovery, with the label areas after it.
 fn stopped_answer<C: Chooser>(
     alloc: Global,
     power: Power,

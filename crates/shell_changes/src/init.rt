@@ -1,4 +1,4 @@
-//! The command `init`: fresh index blocks in a module's label area, and what a power cut leaves of them.
+//! The command `init`: fresh index blocks in a module's label area, whole or after a crash.
 ghost use Rattle.std.specs.Prelude.{◌≡◌, ◌≢◌, ◌<◌, ◌*◌, ℕ, List, None, IfOk, length};
 ghost use Rattle.cut_words.specs.Words.{settled};
 ghost use Rattle.cut_words.specs.WordBytes.{bytes_of};
@@ -22,7 +22,7 @@ use nvd_media::Chooser;
 use shell_reports::{Ending, Power, Report, fault_answer, fuse_of, image_answer, missing_answer};
 use std::alloc::{AllocError, Global};
 
-/// The answer where power was cut, with the words as they then are.
+/// The answer after a crash, with the words as they were then.
 fn cut_area_answer<C: Chooser>(
     alloc: Global,
     power: Power,
@@ -39,7 +39,7 @@ fn cut_area_answer<C: Chooser>(
     cut_answer(alloc, power, Remains::Area(rest, module, words), choose)
 }
 
-/// The answer where both blocks stand.
+/// The answer if both blocks were written.
 fn done_area_answer<C: Chooser>(
     alloc: Global,
     rest: Outline,
@@ -130,7 +130,7 @@ fn area_answer<C: Chooser>(
     }
 }
 
-/// The answer where the module has no label area.
+/// The answer if the module has no label area.
 fn no_area_answer(alloc: Global, module: u32) -> Result<Answer, AllocError>
     ensures text { IfOk result (λ answer. (contents : List (List ℕ)) → outcome_with answer contents ≡ module_outcome «module» None) }
     ensures saved { IfOk result (λ answer. answer.saved ≡ None) }
@@ -139,13 +139,11 @@ fn no_area_answer(alloc: Global, module: u32) -> Result<Answer, AllocError>
     Ok(without_set(report))
 }
 
-/// The answer of `init` on an image set: the set in which the module's label area, which had no index
-/// block, has two; or what a power cut leaves of that, where power doesn't last for all steps. The set was
-/// loaded but for its contents, so each of its label areas has a label area's size, and it is saved with whatever
-/// contents it has.
+/// The answer of `init` on an image set: the set with two index blocks in the module's label area; or, if power doesn't
+/// last for all steps, the set after the crash. The set was loaded without its contents, so each label area has a label
+/// area's size, and it is saved with whatever contents it has.
 ///
-/// An area that has an index block, or one of another version, is refused, and so is a module without an
-/// area; nothing is saved then.
+/// An area that has an index block, of any version, is refused, and so is a module without an area. Nothing is saved then.
 pub fn init_answer<C: Chooser>(
     alloc: Global,
     module: u32,

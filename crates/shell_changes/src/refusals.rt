@@ -11,7 +11,7 @@ use namespace_ops::OpenFault;
 use shell_reports::{Ending, Report, open_fault_answer};
 use std::alloc::{AllocError, Global};
 
-/// The refusal's name and its numbers. A power cut and want of memory are none.
+/// The refusal's name and its numbers. A power cut and out of memory have none.
 fn refusal_text(alloc: Global, refused: OpRefused) -> Result<String, AllocError>
     ensures text { IfOk result (λ text. string_bytes text ≡ refusal_text refused) }
     ensures memory { IfOk result (λ _. refused ≢ OpRefused.OutOfMemory) }
@@ -34,7 +34,7 @@ fn refusal_text(alloc: Global, refused: OpRefused) -> Result<String, AllocError>
     }
 }
 
-/// The text on a command that is refused. Want of memory is no finding.
+/// The text on a command that is refused. Out of memory is no finding.
 fn refused_answer(alloc: Global, refused: OpRefused) -> Result<Report, AllocError>
     ensures text { IfOk result (λ answer. outcome_of answer ≡ refused_outcome refused) }
     ensures memory { IfOk result (λ _. refused ≢ OpRefused.OutOfMemory) }
@@ -46,7 +46,7 @@ fn refused_answer(alloc: Global, refused: OpRefused) -> Result<Report, AllocErro
     })
 }
 
-/// The answer to a command that is refused: nothing is saved. Want of memory is no finding.
+/// The answer to a command that is refused: nothing is saved. Out of memory is no finding.
 pub(crate) fn refusing_answer(alloc: Global, refused: OpRefused) -> Result<Answer, AllocError>
     ensures text { IfOk result (λ answer. (contents : List (List ℕ)) → outcome_with answer contents ≡ refused_outcome refused) }
     ensures memory { IfOk result (λ _. refused ≢ OpRefused.OutOfMemory) }
@@ -56,7 +56,7 @@ pub(crate) fn refusing_answer(alloc: Global, refused: OpRefused) -> Result<Answe
     Ok(without_set(report))
 }
 
-/// The answer on a set whose namespaces can't be told: nothing is saved. Want of memory is no finding.
+/// The answer on a set whose namespaces can't be told: nothing is saved. Out of memory is no finding.
 pub(crate) fn faulty_answer(alloc: Global, fault: OpenFault) -> Result<Answer, AllocError>
     ensures text { IfOk result (λ answer. (contents : List (List ℕ)) → outcome_with answer contents ≡ open_outcome fault) }
     ensures memory { IfOk result (λ _. fault ≢ OpenFault.OutOfMemory) }

@@ -143,7 +143,7 @@ fn saved_answer<C: Chooser>(
     })
 }
 
-/// The answer where power was cut, with what the cut leaves.
+/// The answer after a crash, with the set after it.
 pub(crate) fn cut_answer<C: Chooser>(
     alloc: Global,
     power: Power,
@@ -158,7 +158,7 @@ pub(crate) fn cut_answer<C: Chooser>(
     saved_answer(alloc, Ending::PowerCut, text.into_bytes(), remains, choose)
 }
 
-/// The answer where the command was carried out to its end.
+/// The answer if the command was carried out to its end.
 pub(crate) fn done_answer<C: Chooser>(
     alloc: Global,
     remains: Remains,

@@ -93,7 +93,7 @@ pub fn create_in(values: &Parsed<'_>) -> Option<CreateSpec>
     })
 }
 
-/// The command `delete`, by its argument `uuid`. `None` where that is no UUID in one of its forms of text.
+/// The command `delete`, by its argument `uuid`. `None` if that is no UUID in one of its forms of text.
 pub fn delete_in(values: &Parsed<'_>) -> Option<Command>
     ensures change { result ≡ delete_in (rows values.now) }
     ensures name { IfSome result HasGoodName }
@@ -102,7 +102,7 @@ pub fn delete_in(values: &Parsed<'_>) -> Option<Command>
     Some(Command::Delete { uuid })
 }
 
-/// The command `rename`, by its arguments `uuid` and `name`. `None` where the first is no UUID in one of its forms of
+/// The command `rename`, by its arguments `uuid` and `name`. `None` if the first is no UUID in one of its forms of
 /// text.
 pub fn rename_in(values: &Parsed<'_>) -> Option<Command>
     ensures change { result ≡ rename_in (rows values.now) }

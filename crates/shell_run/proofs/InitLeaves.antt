@@ -46,7 +46,7 @@ module _ (values : List ℕ) (fuse : Option ℕ) (ok : IsInit values (size_for (
   makes : Makes (settled values) reached fuse (burnt fuse (length steps)) steps (lasts fuse (length steps))
   makes = record { words = refl; fuse_left = refl; all_made = refl }
 
-  -- what a cut leaves of the words that the steps made
+  -- the words after a crash in these steps
   pub short_whole : (left : List ℕ) → IsLeft reached left → IsInitCut size slots (steps_under fuse (init_count (length values))) left
   short_whole left cut = both_whole values size slots ok (settled values) reached fuse (burnt fuse (length steps)) (lasts fuse (length steps)) refl makes left cut
 

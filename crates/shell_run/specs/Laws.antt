@@ -18,7 +18,7 @@ use Rattle.shell_changes.specs.Remains.{LeavesBy}
 use Rattle.shell_run.specs.Run.{IsDue, Ends, copies_by}
 use Rattle.shell_run.specs.Statuses.{IsFromOutside, ending_due}
 
--- a law: the status is the one that is due by the table, unless something outside failed or memory was wanting
+-- a law: the status is the one that is due by the table, unless something outside failed or memory ran out
 abbrev pub StatusIsDue : (ℕ → List (Option Words) → List (Option (List ℕ)) → Type 0) → Type 0
 StatusIsDue leaves = (words : List (List ℕ)) (set : Images) (left : Option (List ℕ)) (made made' : Option Images) (text text' : Option (List ℕ)) (before now : ℕ) (s : Status)
     → Ends (Rose before now) (copies_by words) (IsDue leaves words (Some set) left) made made' text text' s → (s ≡ status_of (ending_due words set)) ⊎ IsFromOutside s

@@ -96,7 +96,7 @@ const CUT: Argument = Argument {
     form: Form::Optional,
 };
 
-/// From which seed the chooser begins that says what a power cut leaves.
+/// The seed of the chooser that says which unflushed words survive a power cut.
 const EVICT: Argument = Argument {
     name: "evict",
     form: Form::Optional,

@@ -5,7 +5,7 @@ ghost use Rattle.shell_run.specs.Laws.{InitLeavesWhole, StatusIsDue};
 use nvd_media::Chooser;
 
 /// A law: if the images are told, the exit status is the one that the table of statuses gives (`ending_due`), unless
-/// something outside failed or memory was wanting. So each of 0, 2, 3, 4 and 8 comes only if its condition holds, and if
+/// something outside failed or memory ran out. So each of 0, 2, 3, 4 and 8 comes only if its condition holds, and if
 /// it holds no other of them comes.
 ///
 /// The first of these that holds decides. 2: the words are no command line. 3: the image set isn't loaded, or the command
@@ -18,7 +18,7 @@ pub fn status_is_due<C: Chooser>(choose: &C)
 
 /// A law: a set that `init` saves, cut or not, is the one that was loaded but for the label area that it
 /// names; and that area has no index block until the steps of the first block are made, and is an empty one
-/// from then on, as the chooser says where one step alone is missing.
+/// from then on; if one step alone is missing the chooser says which.
 #[tactic(auto, using(crate::proofs::InitLeaves::init_leaves))]
 pub fn init_leaves_whole<C: Chooser>(choose: &C)
     ensures { InitLeavesWhole C.begins C.picks choose.now }

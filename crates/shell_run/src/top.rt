@@ -35,7 +35,7 @@ use std::sync::Wait;
 use std::thread::Threads;
 use uuid::Uuid;
 
-/// The answer of a handler, or the stop for want of memory.
+/// The answer of a handler, or the stop if memory ran out.
 fn found_memory(answer: Result<Answer, AllocError>) -> Result<Answer, Stop>
     ensures same { IfOk result (λ x. answer ≡ Ok x) }
     ensures memory { result ≢ Err Stop.ReadFault }
@@ -180,7 +180,7 @@ fn loaded_answer<C: Chooser>(
     }
 }
 
-/// The answer on a set that isn't loaded, or the stop where that is no finding about its objects.
+/// The answer on a set that isn't loaded, or the stop if that is no finding about its objects.
 fn unloaded(alloc: Global, fault: LoadFault) -> Result<Answer, Stop>
     ensures text { IfOk result (λ answer. (contents : List (List ℕ)) → outcome_with answer contents ≡ load_outcome fault) }
     ensures saved { IfOk result (λ answer. answer.saved ≡ None) }
@@ -379,20 +379,19 @@ fn conclude<S: ImageSource, K: ImageSink, O: TextSink>(
     }
 }
 
-/// Does what the words ask for, and answers how it ended.
+/// Carries out a command, and returns its exit status.
 ///
-/// The words are those after the two directories of the command line: a command's name and what follows
-/// it. `out` was not written to, where it tells.
+/// The words are those after the two directories of the command line: the command's name and its arguments. Nothing was
+/// written to `out` before, if it tells.
 ///
-/// - `ends`: what is printed and saved is what is due for the words, the images and the script, as far
-///   as they are told (`specs/Run.antt`). Status 2 is due exactly where the words aren't a command line,
-///   3 where the images show a fault, 0 else; after 5 the text is `read fault`, and nothing was written, or, of
-///   `init`, `create --mode raw`, `delete` and `rename`, which copy contents as they save (`copies`), a set that isn't
-///   finished; 6 with a front of that text comes only if reading failed; 7 is the one status that is free, and prints nothing. Where power is cut the chooser is begun once, and
-///   what is left is what it picks.
-/// - `read_fault`, `write_fault`: status 5 comes only where the count of faults of the images rose in this
-///   call, 6 only where that of `out` or of the text did.
-/// - `kept`, `unread`: the images are never written, and a script is left that the command doesn't read.
+/// - `ends`: the text and the saved set are those that are due for the words, the images and the script, as far as these
+///   are told (`specs/Run.antt`). The table of statuses says which status is due (`status_is_due`). After 5 the text is
+///   `read fault`, and nothing was written; or a set that isn't finished, of a command that copies contents as it saves
+///   (`copies`). After 6 the set isn't finished, or the text stopped before its end. 7 means out of memory, may always come,
+///   and prints nothing. If power is cut, the chooser is begun once and picks what survives.
+/// - `read_fault`, `write_fault`: 5 comes only if the count of faults of the images rose in this call, 6 only if that of
+///   `out` or of the text did.
+/// - `kept`, `unread`: the images are never written. A script that the command doesn't read is left as it was.
 #[tactic(auto, using(crate::proofs::Ending::endings))]
 pub fn run<
     R: Threads + Wait + Sync,

@@ -108,8 +108,8 @@ fn command_with(alloc: Global, kind: Kind, words: &[String]) -> Result<Command, 
     }
 }
 
-/// The command that the words say; `Usage` exactly where they aren't a command line, unless memory is
-/// wanting.
+/// The command that the words say. `Usage` means that they aren't a command line; it comes for all such words, unless
+/// memory runs out.
 pub fn command_from(alloc: Global, words: &[String]) -> Result<Command, WordsFault>
     ensures command { IfOk result (λ command. command_of (map string_bytes words.now) ≡ Some command) }
     ensures usage { result ≡ Err WordsFault.Usage → command_of (map string_bytes words.now) ≡ None }
