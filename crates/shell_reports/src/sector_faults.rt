@@ -82,11 +82,7 @@ fn open_refused_text(alloc: Global, refused: OpenRefused) -> Result<String, Allo
 }
 
 /// The answer on a namespace whose arenas aren't opened.
-pub fn arena_answer(
-    alloc: Global,
-    uuid: &Uuid,
-    refused: ChainRefused,
-) -> Result<Report, AllocError>
+pub fn arena_answer(alloc: Global, uuid: &Uuid, refused: ChainRefused) -> Result<Report, AllocError>
     ensures text { IfOk result (λ answer. outcome_of answer ≡ arena_outcome uuid.now refused) }
     ensures finding { IfOk result (λ _. refused.fault ≢ OpenRefused.OutOfMemory) }
 {
