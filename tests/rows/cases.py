@@ -237,7 +237,7 @@ def seeded():
     The chooser is begun from the number of `--evict`, and asked for each pending word, rising. For 4 its first answers are no and yes, for 13 yes
     and no; of a rename's third and thirty-second word it is the other way round. Another program worked them out."""
     # checksum and free bits of the first block, of which all words from there on are stored
-    yield "empty", ["OUT", "init", "0"], "40", (320, 328), {"0": (False, False), "7": (False, True)}
+    yield "bare", ["OUT", "init", "0"], "40", (320, 328), {"0": (False, False), "7": (False, True)}
     # the UUID in the first label, of which 20 words are stored
     yield "fresh", create(FIRST, name="a"), "20", (512, 520), {"4": (False, True), "13": (True, False)}
     # the name in the first label, and its checksum
