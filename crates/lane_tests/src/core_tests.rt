@@ -27,12 +27,12 @@ const STAGED: u32 = 129;
 /// The steps of a read of a sector that has a block.
 const READ: u32 = 68;
 
-pub(crate) fn parent() -> Uuid {
+fn parent() -> Uuid {
     Uuid::from_u128(2)
 }
 
 /// The words of a new arena.
-pub(crate) fn new_words(alloc: Global) -> Result<Vec<u64>, Fail> {
+fn new_words(alloc: Global) -> Result<Vec<u64>, Fail> {
     let layout = plan(16 << 20, 512, 2)?;
     let mut space = CutWords::new(alloc, vec![in alloc; 0; WORDS]?)?;
     if layout.size / 8 > space.count() {
@@ -125,7 +125,7 @@ fn phase(core: &Core, lane: u32) -> Option<Phase>
 }
 
 /// The value of all words of a sector, if they are the same.
-pub(crate) fn value_of(words: &[u64]) -> Option<u64> {
+fn value_of(words: &[u64]) -> Option<u64> {
     let first = *words.first()?;
     words.iter().all(|word| *word == first).then_some(first)
 }

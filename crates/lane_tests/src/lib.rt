@@ -1,5 +1,4 @@
-//! Tests of lanes: of a core, whose lanes step by a stated schedule, of schedules that are read and played, and of lanes on
-//! words that they share.
+//! Tests of lanes: of a core, whose lanes step by a stated schedule, and of schedules that are read and played.
 //!
 //! The contracts say what every step does and what every power cut leaves. Here stand whole calls with their numbers of
 //! steps, and the races that the algorithm's scan, its second look at the map and its order of stores are for.
@@ -9,5 +8,3 @@
 mod core_tests;
 #[cfg(test)]
 mod replay_tests;
-#[cfg(test)]
-mod table_tests;

@@ -1,5 +1,5 @@
 //! Each call on the outside fails in turn.
-use crate::world::{Fails, Made, NEVER, SMALL_TEXT, TWO_SLOTS, initialised, pair, run_on};
+use crate::world::{Fails, Made, NEVER, SMALL_TEXT, initialised, pair, run_on};
 use nvd_media::{ListChooser, Object, Stored};
 use shell_reports::Status;
 use std::alloc::{AllocError, Global};
@@ -22,8 +22,8 @@ fn failing<R: Threads + Wait + Sync>(
 #[test]
 fn each_call_on_the_source_fails_in_turn(rt: HostRuntime) -> Result<(), AllocError> {
     let alloc = rt.alloc();
-    let blank = pair(alloc, TWO_SLOTS)?;
-    let ready = initialised(&rt, alloc, pair(alloc, TWO_SLOTS)?)?;
+    let blank = pair(alloc)?;
+    let ready = initialised(&rt, alloc, pair(alloc)?)?;
     let commands: [(&[&str], &[Stored], &str); 4] = [
         (&["nfit"], &ready, SMALL_TEXT),
         (&["labels", "0"], &ready, "index 0 seq 3 slots 2 free 2\n"),
@@ -58,7 +58,7 @@ fn each_call_on_the_source_fails_in_turn(rt: HostRuntime) -> Result<(), AllocErr
 #[test]
 fn each_call_on_the_sink_fails_in_turn(rt: HostRuntime) -> Result<(), AllocError> {
     let alloc = rt.alloc();
-    let blank = pair(alloc, TWO_SLOTS)?;
+    let blank = pair(alloc)?;
     let mut failed = 0;
     for call in 0..10 {
         let fails = Fails {
@@ -84,7 +84,7 @@ fn each_call_on_the_sink_fails_in_turn(rt: HostRuntime) -> Result<(), AllocError
 #[test]
 fn each_call_on_the_text_fails_in_turn(rt: HostRuntime) -> Result<(), AllocError> {
     let alloc = rt.alloc();
-    let objects = pair(alloc, TWO_SLOTS)?;
+    let objects = pair(alloc)?;
     for (source, text_fails, status, want) in [
         ([].as_slice(), [0].as_slice(), Status::WriteFault, ""),
         ([].as_slice(), [1].as_slice(), Status::Ok, SMALL_TEXT),

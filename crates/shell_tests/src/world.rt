@@ -8,12 +8,10 @@ use std::sync::Wait;
 use std::thread::Threads;
 
 /// Bytes at an offset.
-pub type Patch = (usize, &'static [u8]);
+type Patch = (usize, &'static [u8]);
 
-/// The size of a label area with two slots, and of one with four, in bytes.
+/// The size of a label area with two slots, in bytes.
 pub const TWO_SLOTS: usize = 1024;
-
-pub const FOUR_SLOTS: usize = 1536;
 
 /// The bytes of each module that lie in the region of [`SMALL`].
 const BYTES: usize = 8192;
@@ -32,10 +30,10 @@ const SMALL: &[Patch] = &[
 pub const SMALL_TEXT: &str =
     "module 0 handle 16\nmodule 1 handle 32\nregion 0 index 1 base 4294967296 length 16384 modules 0 1 cookie 0002e2420000346b unit 4096\n";
 
-/// A table with some bytes changed, and its checksum set right.
-pub fn table_of(alloc: Global, table: &[u8], changes: &[Patch]) -> Result<Vec<u8>, AllocError> {
-    let mut bytes = Vec::from_slice(alloc, table)?;
-    for (at, new) in changes {
+/// [`TWO_WAY`] with [`SMALL`], and its checksum set right.
+fn small_table(alloc: Global) -> Result<Vec<u8>, AllocError> {
+    let mut bytes = Vec::from_slice(alloc, TWO_WAY)?;
+    for (at, new) in SMALL {
         for (slot, byte) in bytes.iter_mut().skip(*at).zip(*new) {
             *slot = *byte;
         }
@@ -47,43 +45,24 @@ pub fn table_of(alloc: Global, table: &[u8], changes: &[Patch]) -> Result<Vec<u8
     Ok(bytes)
 }
 
-/// A set of modules of so many bytes under a table, each with a label area of zeros of a size.
-pub fn modules(
-    alloc: Global,
-    nfit: Vec<u8>,
-    count: u32,
-    bytes: usize,
-    area: usize,
-) -> Result<Vec<Stored>, AllocError> {
+/// A set of two modules of 8,192 bytes, each with a label area of zeros of two slots.
+pub fn pair(alloc: Global) -> Result<Vec<Stored>, AllocError> {
     let mut objects = Vec::new(alloc);
-    objects.push(Stored {
-        object: Object::Mark,
-        bytes: Vec::new(alloc),
-    })?;
-    objects.push(Stored {
-        object: Object::Nfit,
-        bytes: nfit,
-    })?;
-    for module in 0..count {
-        objects.push(Stored {
-            object: Object::Labels(module),
-            bytes: vec![in alloc; 0; area]?,
-        })?;
-        objects.push(Stored {
-            object: Object::Contents(module),
-            bytes: vec![in alloc; 0xa5; bytes]?,
-        })?;
+    for (object, bytes) in [
+        (Object::Mark, Vec::new(alloc)),
+        (Object::Nfit, small_table(alloc)?),
+        (Object::Labels(0), vec![in alloc; 0; TWO_SLOTS]?),
+        (Object::Contents(0), vec![in alloc; 0xa5; BYTES]?),
+        (Object::Labels(1), vec![in alloc; 0; TWO_SLOTS]?),
+        (Object::Contents(1), vec![in alloc; 0xa5; BYTES]?),
+    ] {
+        objects.push(Stored { object, bytes })?;
     }
     Ok(objects)
 }
 
-/// A set of two modules of 8,192 bytes.
-pub fn pair(alloc: Global, area: usize) -> Result<Vec<Stored>, AllocError> {
-    modules(alloc, table_of(alloc, TWO_WAY, SMALL)?, 2, BYTES, area)
-}
-
 /// The same objects again.
-pub fn copied(alloc: Global, objects: &[Stored]) -> Result<Vec<Stored>, AllocError> {
+fn copied(alloc: Global, objects: &[Stored]) -> Result<Vec<Stored>, AllocError> {
     let mut again = Vec::new(alloc);
     for stored in objects {
         again.push(Stored {
@@ -151,7 +130,7 @@ pub fn run_on<R: Threads + Wait + Sync>(
 }
 
 /// The objects of a set that was saved.
-pub fn objects_of(alloc: Global, set: &MemImages) -> Result<Vec<Stored>, AllocError> {
+fn objects_of(alloc: Global, set: &MemImages) -> Result<Vec<Stored>, AllocError> {
     let mut objects = Vec::new(alloc);
     for object in [
         Object::Mark,
@@ -171,53 +150,18 @@ pub fn objects_of(alloc: Global, set: &MemImages) -> Result<Vec<Stored>, AllocEr
     Ok(objects)
 }
 
-/// The status, the text and the saved objects of a run.
-#[derive(Drop)]
-pub struct AfterRun {
-    pub status: Status,
-    pub text: String,
-    pub objects: Vec<Stored>,
-}
-
-/// A run with a chooser that always answers so, in which nothing fails.
-pub fn ran<R: Threads + Wait + Sync>(
-    rt: &R,
-    alloc: Global,
-    words: &[&str],
-    objects: &[Stored],
-    stays: bool,
-) -> Result<AfterRun, AllocError> {
-    let mut choose = ListChooser::new(vec![in alloc; stays; 64]?);
-    let Made { status, text, set } = run_on(rt, alloc, words, objects, &mut choose, NEVER)?;
-    let objects = objects_of(alloc, &set)?;
-    Ok(AfterRun {
-        status,
-        text,
-        objects,
-    })
-}
-
-/// What a command prints of a set.
-pub fn shown<R: Threads + Wait + Sync>(
-    rt: &R,
-    alloc: Global,
-    words: &[&str],
-    objects: &[Stored],
-) -> Result<String, AllocError> {
-    Ok(ran(rt, alloc, words, objects, false)?.text)
-}
-
 /// A set with fresh index blocks in the label areas of its modules.
 pub fn initialised<R: Threads + Wait + Sync>(
     rt: &R,
     alloc: Global,
     objects: Vec<Stored>,
 ) -> Result<Vec<Stored>, AllocError> {
-    let objects = ran(rt, alloc, &["init", "0"], &objects, false)?.objects;
-    let second = ran(rt, alloc, &["init", "1"], &objects, false)?;
-    Ok(if second.status == Status::Ok {
-        second.objects
-    } else {
-        objects
-    })
+    let mut objects = objects;
+    for module in ["0", "1"] {
+        let mut choose = ListChooser::new(Vec::new(alloc));
+        let words = ["init", module];
+        let made = run_on(rt, alloc, &words, &objects, &mut choose, NEVER)?;
+        objects = objects_of(alloc, &made.set)?;
+    }
+    Ok(objects)
 }

@@ -5,7 +5,7 @@ ghost use Rattle.arena_open.specs.Moves.{IsOpenState};
 ghost use Rattle.lane_table.specs.declared.lanes.Lane.{Lane as Lane_at};
 ghost use Rattle.lane_table.specs.Kits.{arena_id, kit_in, IsOf};
 
-use crate::core_tests::{new_words, parent, value_of};
+use crate::words::{new_words, parent, value_of};
 use arena_layout::plan;
 use arena_open::{ArenaState, CellKind, open_arena};
 use cut_words::{CutWords, Fuse, WordSpace};

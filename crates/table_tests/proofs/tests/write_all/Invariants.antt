@@ -1,6 +1,6 @@
 use Rattle.std.proofs.Common.{◌≡◌}
 use Rattle.lane_table.specs.Kits.{IsOf}
-use Rattle.lane_tests.proofs.table_tests.write_all.Given as goal
+use Rattle.table_tests.proofs.tests.write_all.Given as goal
 
 abbrev pub invariant-loop-value : goal.invariant-loop-value
 invariant-loop-value l = IsOf l.arena l.lane.kit × (l.lane.kit.number ≡ l.initial.lane.kit.number)
