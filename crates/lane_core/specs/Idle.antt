@@ -1,4 +1,4 @@
--- A lane of a core without a call.
+-- An idle lane of a core.
 use Rattle.std.specs.Prelude.{[]}
 use Rattle.arena_open.specs.declared.opened.LaneState.{LaneState}
 use Rattle.lane_core.specs.declared.now.LaneNow.{LaneNow}

@@ -1,4 +1,4 @@
--- What an arena leaves when it is closed.
+-- What a closed arena leaves.
 use Rattle.std.specs.Prelude.{◌≡◌, ℕ, ◌<◌, ◌≤◌, List, [], length, map, take, drop}
 use mathlib.Core.Option.{some}
 use lib.ListN.{get_elem?}
