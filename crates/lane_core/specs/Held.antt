@@ -16,6 +16,6 @@ pub record Held : Type 0 where
 abbrev pub held_by : Core → Held
 held_by core = record { shape = core.shape; row = core.row; lanes = core.lanes.items; entries = core.history.entries }
 
--- a history with room for this many more entries
+-- a history with room for so many entries more
 abbrev pub recorded : List Entry → ℕ → Recorded
 recorded entries room = record { entries = entries; room = room }

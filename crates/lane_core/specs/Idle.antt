@@ -1,4 +1,4 @@
--- An idle lane of a core.
+-- A lane of a core without a call.
 use Rattle.std.specs.Prelude.{[]}
 use Rattle.arena_open.specs.declared.opened.LaneState.{LaneState}
 use Rattle.lane_core.specs.declared.now.LaneNow.{LaneNow}

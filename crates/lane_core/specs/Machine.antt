@@ -12,7 +12,7 @@ use Rattle.arena_open.specs.declared.cell.Cell.TheVariants as cell
 use Rattle.lane_core.specs.declared.history.Act.TheVariants as act
 
 pub record State : Type 0 where
-  pub seen : Areas  -- what a load returns
+  pub seen : Areas  -- what a load gives
   pub kept : Areas  -- what stands on the medium if power is cut, but for what is stored and not yet kept
   pub readers : ℕ → ℕ  -- the reader table: of each lane 0, or a block and 1
   pub locks : ℕ → ℕ  -- the map locks: of each 0, or a lane and 1

@@ -103,7 +103,7 @@ StepsArePaid =
 abbrev pub in_call : Shape → ℕ → LaneNow → InCall
 in_call x l p = record { lane = l; tag = tag_of p; sector = sector_of p; act = act_of p; steps = least_steps x p.phase; entered = is_entered p.phase }
 
--- the lanes in calls; the first lane has this number
+-- the lanes in calls, the first of which has a number
 abbrev pub calls_from : Shape → ℕ → List LaneNow → List InCall
 calls_from x l [] = []
 calls_from x l (p ∷ ps) = (if is_idle p.phase then [] else in_call x l p ∷ []) ++ calls_from x (l + 1) ps

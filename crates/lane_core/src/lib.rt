@@ -38,7 +38,7 @@
 //! | promise | law | definition |
 //! |---|---|---|
 //! | each line keeps the invariant | [`data_store_keeps_the_invariant`] and 19 more | `IsSound` |
-//! | in whatever order lanes step, the history is legal and ends in the sectors' cells | [`every_run_keeps_the_invariant`] | `IsLegal`, `end_of` |
+//! | whatever lanes step in whatever order, the history is legal and gives the sectors' cells | [`every_run_keeps_the_invariant`] | `IsLegal`, `end_of` |
 //! | whenever power is cut, each sector is as at the end of the history, or has the words of one write in flight | [`every_cut_survives`] | `Recovers`, `Survives` |
 //! | a write whose second log word was never stored is lost | [`unlogged_writes_are_lost`] | the same |
 //! | the state after a crash opens again, with these contents | [`cuts_reopen`] | `IsReopened` |

@@ -36,7 +36,7 @@ pub struct Core {
     pub(crate) history: History,
 }
 
-/// An idle lane.
+/// A lane without a call.
 fn idle_lane(alloc: Global, lane: &LaneState) -> LaneNow
     ensures { result ≡ idle_of lane.now }
 {

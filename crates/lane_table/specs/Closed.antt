@@ -1,4 +1,4 @@
--- What a closed arena leaves.
+-- What an arena leaves when it is closed.
 use Rattle.std.specs.Prelude.{◌≡◌, ℕ, ◌<◌, ◌≤◌, List, [], length, map, take, drop}
 use mathlib.Core.Option.{some}
 use lib.ListN.{get_elem?}

@@ -27,7 +27,7 @@
 //! meets that crate's invariant, that the words show, and whose lanes are what the seats know. No
 //! view has the history: it stands in that state alone. proofs/WriteLines.antt and
 //! proofs/ReadLines.antt show for each kind of step that it is a step of that state; so every run
-//! of lanes in threads is a run of the machine, whose theorem `lane_core` proves.
+//! of lanes in threads is a run of the machine, of which `lane_core` has the theorem.
 //!
 //! A write's call joins its lane's view at LockTake, and its words one by one as they are stored:
 //! until then no step can tell them. A read's call joins as the read begins. A view counts its

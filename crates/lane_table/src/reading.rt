@@ -1,4 +1,4 @@
-//! Reads: an idle lane reads a sector.
+//! Reads: a lane without a call reads a sector.
 ghost use Rattle.std.specs.Prelude.{◌≡◌};
 ghost use Rattle.lane_core.specs.declared.history.Act.TheVariants as act;
 ghost use Rattle.lane_table.specs.Reads.{cell_of_kind};
