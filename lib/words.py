@@ -5,7 +5,7 @@ UUID = re.compile(r"(?:urn:uuid:)?[0-9a-fA-F]{8}(?:-[0-9a-fA-F]{4}){3}-[0-9a-fA-
 UNITS = {"K": 1 << 10, "M": 1 << 20, "G": 1 << 30}
 MOST = (1 << 64) - 1
 CUT = {"--cut": ("a number", 0, MOST), "--evict": ("a number", 0, MOST)}
-# Each command: its places by name, and its options. A kind is "UUID", "text", or a number with its least and greatest value.
+# Each command: its places by name, and its options. A kind is "UUID", "text", "value", or a number with its least and greatest value.
 COMMANDS = {
     "labels": ([("MODULE", ("a number", 0, 63))], {}),
     "nfit": ([], {}),
@@ -18,6 +18,7 @@ COMMANDS = {
     "rename": ([("UUID", "UUID"), ("NAME", "text")], CUT),
     "info": ([("UUID", "UUID")], {}),
     "read": ([("UUID", "UUID"), ("SECTOR", ("a number", 0, MOST))], {}),
+    "write": ([("UUID", "UUID"), ("SECTOR", ("a number", 0, MOST)), ("VALUE", "value")], {}),
 }
 NEEDED = ["--uuid", "--name", "--region", "--size", "--mode"]
 
@@ -75,6 +76,10 @@ def fault_of_value(command, name, value):
         return None
     if kind == "UUID":
         return None if is_uuid(value) else f"'{value}' is no UUID, and no namespace alone has this name: 'nvd IN - list' shows both"
+    if kind == "value":
+        if re.fullmatch(r"fill:[0-9a-fA-F]{2}|hex:(?:[0-9a-fA-F]{2})*", value):
+            return None
+        return f"'{value}' is no value: it is fill: and two hexadecimal digits, or hex: and two digits for each byte"
     if kind == "mode":
         if value in ("raw", "sector"):
             return None

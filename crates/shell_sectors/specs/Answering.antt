@@ -1,0 +1,91 @@
+-- From the words of a namespace to the answer of `write`.
+use Rattle.std.specs.Prelude.{◌≡◌, ◌⊎◌, ℕ, ◌<◌, ◌^◌, List, length, map, slice_index, Option, Some, None, Ok, Err}
+use Rattle.std.specs.Option.{option_map}
+use Rattle.std.specs.List.{All}
+use Rattle.cut_words.specs.Words.{Words, IsLeft}
+use Rattle.cut_words.specs.WordBytes.{words_in}
+use Rattle.nfit_reader.specs.declared.table.Mapping.{Mapping}
+use Rattle.arena_open.specs.declared.chain_refused.ChainRefused.{ChainRefused}
+use Rattle.arena_open.specs.declared.state.ArenaState.{ArenaState}
+use Rattle.arena_open.specs.ChainCells.{LiesIn, sizes_of}
+use Rattle.arena_open.specs.Writes.{IsSettled}
+use Rattle.power_cut.specs.Left.{Each}
+use Rattle.power_cut.specs.Namespace.{Namespace, beside_of, words_of}
+use Rattle.image_set.specs.Changed.{objects_of}
+use Rattle.image_set.specs.Load.{ImageSet, bytes_kept}
+use Rattle.namespace_areas.specs.declared.area.Area.{Area}
+use Rattle.namespace_areas.specs.Seen.{words_of as area_words}
+use Rattle.namespace_ops.specs.Opening.{sets_of}
+use Rattle.sector_namespaces.specs.View.{opened_view, rows_of}
+use Rattle.session_script.specs.declared.payload.Payload.{Payload}
+use Rattle.shell_reports.specs.declared.status.Ending.TheVariants as ending
+use Rattle.shell_reports.specs.Cut.{done_text}
+use Rattle.shell_reports.specs.Faults.{arena_outcome, refused_outcome}
+use Rattle.shell_reports.specs.Outcome.{Outcome}
+use Rattle.shell_reports.specs.Saved.{IsSaving, outcome_of}
+use Rattle.shell_sectors.specs.declared.saving.Rest.{Rest}
+use Rattle.shell_sectors.specs.declared.write.Written.{Written}
+use Rattle.shell_sectors.specs.declared.write.Written.TheVariants as written
+use Rattle.shell_sectors.specs.Changed.{IsChanged, moved_to}
+use Rattle.shell_sectors.specs.Value.{bytes_for}
+use Rattle.shell_sectors.specs.Write.{HasSector, with_contents, write_refusal}
+
+-- ---- on arenas that are open
+
+-- the words that a value has for a sector
+abbrev pub words_at : List ArenaState → ℕ → Payload → List ℕ
+words_at states sector value = words_in (bytes_for (slice_index (sizes_of states) sector) value)
+
+-- a write on these arenas: the words are changed, or it is refused
+abbrev pub WritesInto : Namespace → List ArenaState → ℕ → Payload → Written → Type 0
+WritesInto n states sector value (written.Done modules) =
+    (write_refusal sector value states ≡ None)
+    × ((which own : ℕ) × LiesIn states sector which own × IsChanged n states which own (words_at states sector value) modules.items)
+WritesInto n states sector value (written.Not report) = (refusal : List ℕ) × (write_refusal sector value states ≡ Some refusal) × (outcome_of report ≡ refused_outcome refusal)
+
+-- ---- on a namespace
+
+-- the sector has the value, no word is pending, and nothing beside the namespace has changed
+pub record IsWrittenTo (n : Namespace) (uuid : List ℕ) (states : List ArenaState) (sector : ℕ) (value : Payload) (modules : List Words) : Type 0 where
+  pub accepted : write_refusal sector value states ≡ None
+  pub has : HasSector uuid sector (words_at states sector value) states (words_of (moved_to n modules)).kept
+  pub settled : IsSettled (words_of (moved_to n modules))
+  pub beside : beside_of (moved_to n modules) ≡ beside_of n
+
+-- why nothing is written
+abbrev pub IsTurnedDown : Namespace → List ℕ → ℕ → Payload → Outcome → Type 0
+IsTurnedDown n uuid sector value outcome =
+    ((states : List ArenaState) × (opened_view (words_of n).kept uuid ≡ Ok states)
+    × ((refusal : List ℕ) × (write_refusal sector value states ≡ Some refusal) × (outcome ≡ refused_outcome refusal)))
+    ⊎ ((fault : ChainRefused) × (opened_view (words_of n).kept uuid ≡ Err fault) × (outcome ≡ arena_outcome uuid fault))
+
+abbrev pub WritesOn : Namespace → List ℕ → ℕ → Payload → Written → Type 0
+WritesOn n uuid sector value (written.Done modules) =
+    (states : List ArenaState) × (opened_view (words_of n).kept uuid ≡ Ok states) × IsWrittenTo n uuid states sector value modules.items
+WritesOn n uuid sector value (written.Not report) = IsTurnedDown n uuid sector value (outcome_of report)
+
+-- ---- what is saved
+
+-- a set has these parts
+pub record HasParts (loaded : ImageSet) (rest : Rest) (labels : List (Option Words)) : Type 0 where
+  pub nfit : loaded.nfit_bytes ≡ rest.nfit_bytes
+  pub labels_are : loaded.labels ≡ map (option_map bytes_kept) labels
+  pub bad : loaded.bad ≡ rest.bad
+
+-- there is one of each for each module
+pub record AreParts (rest : Rest) (labels : List (Option Words)) : Type 0 where
+  pub bad : length rest.bad ≡ length rest.contents
+  pub few : length rest.contents < 2 ^ 32
+  pub count : length labels ≡ length rest.contents
+
+-- the set is saved with the words of the contents, each as it is kept or as it was stored since
+abbrev pub IsSavedWith : Rest → List (Option Words) → Outcome → Type 0
+IsSavedWith rest labels outcome =
+    (rows : List (List ℕ)) × Each IsLeft rest.contents rows
+    × ((loaded : ImageSet) → HasParts loaded rest labels → IsSaving ending.Done done_text (objects_of (with_contents loaded rows)) outcome)
+
+-- a loaded set has these interleave sets, label areas and other parts
+pub record IsLoadedAs (loaded : ImageSet) (sets : List (List Mapping)) (areas : List Area) (rest : Rest) : Type 0 where
+  pub sets_are : sets_of loaded.nfit ≡ sets
+  pub contents : rows_of loaded.contents ≡ rest.contents
+  pub parts : HasParts loaded rest (map area_words areas)

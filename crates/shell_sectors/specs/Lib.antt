@@ -1,0 +1,6 @@
+pub mod Alone
+pub mod Value
+pub mod Write
+pub mod Causes
+pub mod Changed
+pub mod Answering
