@@ -47,7 +47,8 @@ use Rattle.shell_reports.specs.Causes.{breaks, fault_in, found_in, is_broken, is
 use Rattle.shell_reports.proofs.Causes.{SectorsCase, faulty, unfound, broken, opened, sectors_case}
 use Rattle.session_script.specs.declared.payload.Payload.{Payload}
 use Rattle.shell_sectors.specs.Causes.{bars, bars_found}
-use Rattle.shell_sectors.specs.Write.{OnArenas, OnFound, Writes, write_refusal}
+use Rattle.shell_sectors.specs.Write.{Writes, WritesArenas, write_refusal}
+use Rattle.shell_sectors.proofs.Causes.{SetCase, set_broken, set_case, set_faulty, set_opened, set_unfound}
 use Rattle.shell_run.specs.Run.{LoadedComes, OnLoaded, ComesTold}
 use Rattle.shell_run.specs.Statuses.{ending_by, ending_due, ending_with, has_block, is_barred, is_cut, is_short, keeps_area, refuses_area, refuses_images}
 use Rattle.shell_run.specs.Laws.{StatusIsDue}
@@ -217,23 +218,15 @@ taken_case uuid sector value loaded outcome found states readable is read (Some 
     is_turned_down readable refl (ap (bars_found loaded uuid sector value) is ∙ ap (bars sector value) read ∙ ap (λ (o : Option (List ℕ)). is_some o) some)
     (ending_of outcome (sector_refusal refusal) said)
 
-on_arenas_case : (uuid : List ℕ) (sector : ℕ) (value : Payload) (loaded : ImageSet) (outcome : Outcome) (found : Found) → fault_in loaded ≡ None → found_in loaded uuid ≡ Ok found
-    → (r : Result (List ArenaState) ChainRefused) → opened_in loaded uuid found ≡ r → OnArenas found uuid sector value loaded outcome r → CommandCase (Write uuid sector value) (Ok loaded) outcome.ending
-on_arenas_case uuid sector value loaded outcome found none is (Ok states) read on =
+write_case : (uuid : List ℕ) (sector : ℕ) (value : Payload) (loaded : ImageSet) (outcome : Outcome) → SetCase (WritesArenas uuid sector value loaded outcome) loaded uuid outcome
+    → CommandCase (Write uuid sector value) (Ok loaded) outcome.ending
+write_case uuid sector value loaded outcome (set_faulty fault is e) = is_refused (table_broken uuid loaded fault is) (ending_of outcome (open_outcome fault) e)
+write_case uuid sector value loaded outcome (set_unfound refusal none is e) =
+    is_turned_down (unfound_reads uuid loaded refusal none is) refl (ap (bars_found loaded uuid sector value) is) (ending_of outcome (sector_refusal (find_refusal refusal)) e)
+write_case uuid sector value loaded outcome (set_broken found fault is read e) =
+    is_refused (arena_broken uuid loaded found fault is read) (ending_of outcome (arena_outcome uuid fault) e)
+write_case uuid sector value loaded outcome (set_opened found states none is read on) =
     taken_case uuid sector value loaded outcome found states (opened_reads uuid loaded found states none is read) is read (write_refusal sector value states) refl on
-on_arenas_case uuid sector value loaded outcome found none is (Err fault) read said =
-    is_refused (arena_broken uuid loaded found fault is read) (ending_of outcome (arena_outcome uuid fault) said)
-
-on_found_case : (uuid : List ℕ) (sector : ℕ) (value : Payload) (loaded : ImageSet) (outcome : Outcome) → fault_in loaded ≡ None → (r : Result Found OpRefused) → found_in loaded uuid ≡ r
-    → OnFound uuid sector value loaded outcome r → CommandCase (Write uuid sector value) (Ok loaded) outcome.ending
-on_found_case uuid sector value loaded outcome none (Ok found) is on = on_arenas_case uuid sector value loaded outcome found none is (opened_in loaded uuid found) refl on
-on_found_case uuid sector value loaded outcome none (Err refusal) is said =
-    is_turned_down (unfound_reads uuid loaded refusal none is) refl (ap (bars_found loaded uuid sector value) is) (ending_of outcome (sector_refusal (find_refusal refusal)) said)
-
-write_case : (uuid : List ℕ) (sector : ℕ) (value : Payload) (loaded : ImageSet) (outcome : Outcome) (o : Option OpenFault) → fault_in loaded ≡ o
-    → MatchOption o (OnFound uuid sector value loaded outcome (found_in loaded uuid)) (λ fault. outcome ≡ open_outcome fault) → CommandCase (Write uuid sector value) (Ok loaded) outcome.ending
-write_case uuid sector value loaded outcome None none on = on_found_case uuid sector value loaded outcome none (found_in loaded uuid) refl on
-write_case uuid sector value loaded outcome (Some fault) is said = is_refused (table_broken uuid loaded fault is) (ending_of outcome (open_outcome fault) said)
 
 -- ---- any command
 
@@ -249,7 +242,8 @@ module _ (leaves : ℕ → List (Option Words) → List (Option (List ℕ)) → 
   command_case (Change c power) (Ok loaded) outcome comes = change_case leaves c power loaded outcome (sets_in loaded) refl comes
   command_case (Info uuid) (Ok loaded) outcome comes = info_case uuid loaded outcome (sectors_case (λ states. printed (arena_lines 0 states)) loaded uuid outcome comes)
   command_case (Read uuid sector) (Ok loaded) outcome comes = read_case uuid sector loaded outcome (sectors_case (sector_outcome sector) loaded uuid outcome comes)
-  command_case (Write uuid sector value) (Ok loaded) outcome comes = write_case uuid sector value loaded outcome (fault_in loaded) refl comes
+  command_case (Write uuid sector value) (Ok loaded) outcome comes =
+      write_case uuid sector value loaded outcome (set_case (WritesArenas uuid sector value loaded outcome) loaded uuid outcome comes)
 
   -- what is due for a command, whatever the script
   command_due : (command : Command) (set : Images) (left : Option (List ℕ)) (outcome : Outcome) → ComesTold leaves command (Some set) left outcome
