@@ -6,9 +6,9 @@ from commands import commands
 UUID = re.compile(r"(?:urn:uuid:)?[0-9a-fA-F]{8}(?:-[0-9a-fA-F]{4}){3}-[0-9a-fA-F]{12}|\{[0-9a-fA-F]{8}(?:-[0-9a-fA-F]{4}){3}-[0-9a-fA-F]{12}\}|[0-9a-fA-F]{32}")
 UNITS = {"K": 1 << 10, "M": 1 << 20, "G": 1 << 30}
 MOST = (1 << 64) - 1
-# What the value of a place (in capitals) or an option is: "UUID", "text", or a number with its least and greatest value.
+# What the value of a place (in capitals) or an option is: "UUID", "text", "value", or a number with its least and greatest value.
 KINDS = {
-    "MODULE": ("a number", 0, 63), "SECTOR": ("a number", 0, MOST), "UUID": "UUID",
+    "MODULE": ("a number", 0, 63), "SECTOR": ("a number", 0, MOST), "UUID": "UUID", "VALUE": "value",
     "--uuid": "UUID", "--region": ("a number", 0, (1 << 32) - 1), "--size": ("a size", 0, MOST), "--mode": "mode",
     "--sector": ("a number", 0, (1 << 32) - 1), "--lanes": ("a number", 1, 256), "--cut": ("a number", 0, MOST), "--evict": ("a number", 0, MOST),
 }
@@ -74,6 +74,10 @@ def fault_of_value(command, name, value):
         return None
     if kind == "UUID":
         return None if is_uuid(value) else f"'{value}' is no UUID, and no namespace alone has this name: 'nvd IN - list' shows both"
+    if kind == "value":
+        if re.fullmatch(r"fill:[0-9a-fA-F]{2}|hex:(?:[0-9a-fA-F]{2})*", value):
+            return None
+        return f"'{value}' is no value: it is fill: and two hexadecimal digits, or hex: and two digits for each byte"
     if kind == "mode":
         if value in ("raw", "sector"):
             return None

@@ -7,6 +7,7 @@ from sets import sectors, spa, table, two
 
 CREATE = ["OUT", "create", "--uuid", str(THIRD), "--name", "c", "--region", "0", "--size", "8192", "--mode", "raw"]
 LIST, NFIT, LABELS, INFO, READ = ["-", "list"], ["-", "nfit"], ["-", "labels", "0"], ["-", "info", str(FIRST)], ["-", "read", str(FIRST), "0"]
+WRITE = ["OUT", "write", str(FIRST), "0", "fill:5a"]
 RENAME, DELETE, INIT = ["OUT", "rename", str(FIRST), "b"], ["OUT", "delete", str(FIRST)], ["OUT", "init", "0"]
 
 
@@ -148,11 +149,12 @@ def refusals():
             ("BadSize 4096", whole(), create("--size", "4096")),
             ("BadSize 8192", whole(), create("--mode", "sector")), (f"NoSpace {SIZE}", whole(), create("--size", str(2 * SIZE))),
             ("NoSlot 0", full, CREATE), ("NoSlot 0", full, RENAME), ("NoSlot 0", full, DELETE),
-            ("NoSuch", pair(), DELETE), ("NoSuch", pair(), RENAME), ("NoSuch", pair(), INFO), ("NoSuch", pair(), READ),
-            ("NotComplete", half, DELETE), ("NotComplete", half, RENAME), ("NotComplete", half, INFO), ("NotComplete", half, READ),
+            ("NoSuch", pair(), DELETE), ("NoSuch", pair(), RENAME), ("NoSuch", pair(), INFO), ("NoSuch", pair(), READ), ("NoSuch", pair(), WRITE),
+            ("NotComplete", half, DELETE), ("NotComplete", half, RENAME), ("NotComplete", half, INFO), ("NotComplete", half, READ), ("NotComplete", half, WRITE),
             ("ReadOnlyLabel 1", locked, DELETE), ("ReadOnlyLabel 1", locked, RENAME),
-            ("NotSector", whole(), INFO), ("NotSector", whole(), READ),
-            (f"Range {OUTER}", sectors(), [*READ[:-1], str(OUTER)])):
+            ("NotSector", whole(), INFO), ("NotSector", whole(), READ), ("NotSector", whole(), WRITE),
+            (f"Range {OUTER}", sectors(), [*READ[:-1], str(OUTER)]), (f"Range {OUTER}", sectors(), [*WRITE[:-2], str(OUTER), "hex:"]),
+            ("Length 0 512", sectors(), [*WRITE[:-1], "hex:"]), ("Length 513 512", sectors(), [*WRITE[:-1], "hex:" + 513 * "5a"])):
         yield refused(text, files, words)
 
 
@@ -165,6 +167,7 @@ def arenas():
     yield sectors(), INFO, 0, "lanes 256 moves 0", None
     yield sectors(), READ, 0, "ok fill:00", None
     yield sectors(entries={0: 1 << 30}), READ, 0, "bad", None
+    yield sectors(), WRITE, 0, "ok", None
     for text, fields in (
             ("Signature", {"signature": bytes(16)}), ("Checksum", {"seal": False}), ("Version 3 0", {"major": 3}), ("Parent", {"parent": SECOND.bytes}),
             ("ErrorState", {"flags": 1}), ("Layout Sector", {"sector": 100}), ("Layout Inner", {"block": 4100}), ("Layout Free", {"lanes": 257}),

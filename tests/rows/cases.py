@@ -141,7 +141,9 @@ def command_lines():
             ["init"], ["init", "64"], ["init", "00"], ["init", "0", "1"], ["init", "0", "--cut"], ["init", "0", "--cut", "-1"],
             ["init", "0", "--cut", "01"], ["init", "0", "--cut", "1", "--cut", "1"], ["init", "0", "--evict", "18446744073709551616"],
             ["init", "0", "--help"], ["info"], ["info", "0"], ["info", NONE, "0"], ["read", NONE], ["read", NONE, "01"],
-            ["read", NONE, "18446744073709551616"], ["delete", "1"], ["rename", FIRST], ["create", "--uuid", SECOND, "--name", "v"],
+            ["read", NONE, "18446744073709551616"], ["write", NONE, "0"], ["write", NONE, "0", "5a"], ["write", NONE, "0", "fill:5"],
+            ["write", NONE, "0", "fill:5a5a"], ["write", NONE, "0", "fill:xx"], ["write", NONE, "0", "hex:5"], ["write", NONE, "01", "fill:00"],
+            ["write", NONE, "0", "fill:00", "--cut", "1"], ["delete", "1"], ["rename", FIRST], ["create", "--uuid", SECOND, "--name", "v"],
             create(SECOND, mode="Raw")[1:])
     for words in none:
         yield pair(), ["OUT", *words], USAGE, "usage\n"
@@ -152,6 +154,8 @@ def command_lines():
     for words in (["--cut", "5", "0", "--evict", "18446744073709551615"], ["--evict=1", "--cut=5", "0"], ["0", "--cut=5"]):
         yield with_area(bytes(AREA_SIZE)), ["OUT", "init", *words], CUT, "cut 5\n"
     yield pair(), ["-", "read", NONE, "18446744073709551615"], REFUSED, "refused NoSuch\n"
+    for value in ("fill:aF", "hex:", "hex:0aF1"):
+        yield pair(), ["OUT", "write", NONE, "18446744073709551615", value], REFUSED, "refused NoSuch\n"
     yield pair(), ["-", "info", "{11111111-1111-4111-8111-111111111112}"], REFUSED, "refused NoSuch\n"
     # the ranges of --sector and --lanes count in either mode
     for mode in ("raw", "sector"):
@@ -193,7 +197,7 @@ def sectors():
             (with_areas(first, None, TWO_LINES), NONE, IMAGE, "image region 0 Cover 1\n"),
             # zeros aren't an arena, and no sector is read
             (with_areas(first, second), FIRST, IMAGE, f"image arena {FIRST} 0 Info Signature\n")):
-        for words in (["-", "info", uuid], ["-", "read", uuid, "99"]):
+        for words in (["-", "info", uuid], ["-", "read", uuid, "99"], ["OUT", "write", uuid, "99", "hex:"]):
             yield files, words, status, text
 
 

@@ -20,7 +20,7 @@ use Rattle.shell_reports.specs.declared.status.Ending.{Ending}
 use Rattle.shell_reports.specs.declared.status.Ending.TheVariants as ending
 use Rattle.shell_reports.specs.declared.status.Status.TheVariants as status
 use Rattle.shell_run.specs.declared.words.Command.{Command}
-use Rattle.shell_run.specs.declared.words.Command.TheVariants.{Labels, Nfit, Init, Change, Info, Read}
+use Rattle.shell_run.specs.declared.words.Command.TheVariants.{Labels, Nfit, Init, Change, Info, Read, Write}
 use Rattle.shell_run.specs.declared.words.Command.TheVariants as command
 use Rattle.shell_reports.specs.declared.power.Power.{Power}
 use Rattle.nfit_reader.specs.declared.table.Mapping.{Mapping}
@@ -45,6 +45,10 @@ use Rattle.shell_reports.specs.Faults.{arena_outcome, find_refusal, refused_outc
 use Rattle.shell_reports.specs.Sectors.{arena_lines, sector_outcome}
 use Rattle.shell_reports.specs.Causes.{breaks, fault_in, found_in, is_broken, is_unfound, lacks, lacks_found, opened_in}
 use Rattle.shell_reports.proofs.Causes.{SectorsCase, faulty, unfound, broken, opened, sectors_case}
+use Rattle.session_script.specs.declared.payload.Payload.{Payload}
+use Rattle.shell_sectors.specs.Causes.{bars, bars_found}
+use Rattle.shell_sectors.specs.Write.{Writes, WritesArenas, write_refusal}
+use Rattle.shell_sectors.proofs.Causes.{SetCase, set_broken, set_case, set_faulty, set_opened, set_unfound}
 use Rattle.shell_run.specs.Run.{LoadedComes, OnLoaded, ComesTold}
 use Rattle.shell_run.specs.Statuses.{ending_by, ending_due, ending_with, has_block, is_barred, is_cut, is_short, keeps_area, refuses_area, refuses_images}
 use Rattle.shell_run.specs.Laws.{StatusIsDue}
@@ -204,6 +208,26 @@ read_case uuid sector loaded outcome (broken found fault is read e) = is_refused
 read_case uuid sector loaded outcome (opened found states none is read e) =
     sector_case uuid sector loaded outcome found states (opened_reads uuid loaded found states none is read) is read e (nat_lt sector (sectors_of states)) refl
 
+-- the arenas take the value at the sector, or they don't
+taken_case : (uuid : List ℕ) (sector : ℕ) (value : Payload) (loaded : ImageSet) (outcome : Outcome) (found : Found) (states : List ArenaState) → is_broken loaded uuid ≡ false → found_in loaded uuid ≡ Ok found
+    → opened_in loaded uuid found ≡ Ok states → (o : Option (List ℕ)) → write_refusal sector value states ≡ o
+    → MatchOption o (Writes found uuid sector value loaded states outcome) (λ refusal. outcome ≡ sector_refusal refusal) → CommandCase (Write uuid sector value) (Ok loaded) outcome.ending
+taken_case uuid sector value loaded outcome found states readable is read None none writes =
+    is_done readable refl (ap (bars_found loaded uuid sector value) is ∙ ap (bars sector value) read ∙ ap (λ (o : Option (List ℕ)). is_some o) none) writes.saves.ends
+taken_case uuid sector value loaded outcome found states readable is read (Some refusal) some said =
+    is_turned_down readable refl (ap (bars_found loaded uuid sector value) is ∙ ap (bars sector value) read ∙ ap (λ (o : Option (List ℕ)). is_some o) some)
+    (ending_of outcome (sector_refusal refusal) said)
+
+write_case : (uuid : List ℕ) (sector : ℕ) (value : Payload) (loaded : ImageSet) (outcome : Outcome) → SetCase (WritesArenas uuid sector value loaded outcome) loaded uuid outcome
+    → CommandCase (Write uuid sector value) (Ok loaded) outcome.ending
+write_case uuid sector value loaded outcome (set_faulty fault is e) = is_refused (table_broken uuid loaded fault is) (ending_of outcome (open_outcome fault) e)
+write_case uuid sector value loaded outcome (set_unfound refusal none is e) =
+    is_turned_down (unfound_reads uuid loaded refusal none is) refl (ap (bars_found loaded uuid sector value) is) (ending_of outcome (sector_refusal (find_refusal refusal)) e)
+write_case uuid sector value loaded outcome (set_broken found fault is read e) =
+    is_refused (arena_broken uuid loaded found fault is read) (ending_of outcome (arena_outcome uuid fault) e)
+write_case uuid sector value loaded outcome (set_opened found states none is read on) =
+    taken_case uuid sector value loaded outcome found states (opened_reads uuid loaded found states none is read) is read (write_refusal sector value states) refl on
+
 -- ---- any command
 
 module _ (leaves : ℕ → List (Option Words) → List (Option (List ℕ)) → Type 0) where
@@ -218,6 +242,8 @@ module _ (leaves : ℕ → List (Option Words) → List (Option (List ℕ)) → 
   command_case (Change c power) (Ok loaded) outcome comes = change_case leaves c power loaded outcome (sets_in loaded) refl comes
   command_case (Info uuid) (Ok loaded) outcome comes = info_case uuid loaded outcome (sectors_case (λ states. printed (arena_lines 0 states)) loaded uuid outcome comes)
   command_case (Read uuid sector) (Ok loaded) outcome comes = read_case uuid sector loaded outcome (sectors_case (sector_outcome sector) loaded uuid outcome comes)
+  command_case (Write uuid sector value) (Ok loaded) outcome comes =
+      write_case uuid sector value loaded outcome (set_case (WritesArenas uuid sector value loaded outcome) loaded uuid outcome comes)
 
   -- what is due for a command, whatever the script
   command_due : (command : Command) (set : Images) (left : Option (List ℕ)) (outcome : Outcome) → ComesTold leaves command (Some set) left outcome
@@ -229,6 +255,7 @@ module _ (leaves : ℕ → List (Option Words) → List (Option (List ℕ)) → 
   command_due (Change c power) set left outcome comes = comes set [] refl (λ reads. absurd (let e = reads in cc))
   command_due (Info uuid) set left outcome comes = comes set [] refl (λ reads. absurd (let e = reads in cc))
   command_due (Read uuid sector) set left outcome comes = comes set [] refl (λ reads. absurd (let e = reads in cc))
+  command_due (Write uuid sector value) set left outcome comes = comes set [] refl (λ reads. absurd (let e = reads in cc))
 
   -- ---- the ending that is due
 

@@ -18,6 +18,7 @@ kind_of name =
     else if bytes_eq name (codes "rename") then Some kind.Rename
     else if bytes_eq name (codes "info") then Some kind.Info
     else if bytes_eq name (codes "read") then Some kind.Read
+    else if bytes_eq name (codes "write") then Some kind.Write
     else None
 
 -- the options on power cuts
@@ -37,3 +38,4 @@ arguments_of kind.Delete = (codes "uuid", Place) ∷ power_arguments
 arguments_of kind.Rename = (codes "uuid", Place) ∷ (codes "name", Place) ∷ power_arguments
 arguments_of kind.Info = (codes "uuid", Place) ∷ []
 arguments_of kind.Read = (codes "uuid", Place) ∷ (codes "sector", Place) ∷ []
+arguments_of kind.Write = (codes "uuid", Place) ∷ (codes "sector", Place) ∷ (codes "value", Place) ∷ []

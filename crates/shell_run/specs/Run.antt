@@ -8,7 +8,7 @@ use Rattle.image_set.specs.Load.{ImageSet, loading}
 use Rattle.shell_reports.specs.declared.status.Status.{Status}
 use Rattle.shell_reports.specs.declared.status.Status.TheVariants as status
 use Rattle.shell_run.specs.declared.words.Command.{Command}
-use Rattle.shell_run.specs.declared.words.Command.TheVariants.{Labels, Nfit, Init, Change, Info, Read}
+use Rattle.shell_run.specs.declared.words.Command.TheVariants.{Labels, Nfit, Init, Change, Info, Read, Write}
 use Rattle.shell_run.specs.declared.words.Command.TheVariants as command
 use Rattle.shell_run.specs.Words.{command_of}
 use Rattle.shell_reports.specs.Outcome.{Outcome, usage, lf, status_of}
@@ -21,6 +21,7 @@ use Rattle.shell_changes.specs.Namespaces.{ChangeComes}
 use Rattle.shell_reports.specs.List.{list_outcome}
 use Rattle.shell_reports.specs.Sectors.{info_outcome, read_outcome}
 use Rattle.namespace_ops.specs.Counted.{makes_sectors}
+use Rattle.shell_sectors.specs.Write.{WriteComes}
 
 -- ---- a case for each command
 
@@ -34,6 +35,7 @@ LoadedComes leaves (Init m power) loaded outcome = InitComes leaves m power load
 LoadedComes leaves (Change c power) loaded outcome = ChangeComes leaves c power loaded outcome
 LoadedComes leaves (Info uuid) loaded outcome = outcome ≡ info_outcome uuid loaded
 LoadedComes leaves (Read uuid sector) loaded outcome = outcome ≡ read_outcome uuid sector loaded
+LoadedComes leaves (Write uuid sector value) loaded outcome = WriteComes uuid sector value loaded outcome
 
 -- by the set that is loaded, or by why none is
 abbrev pub OnLoaded : (ImageSet → Outcome → Type 0) → Result ImageSet LoadFault → Outcome → Type 0
@@ -53,6 +55,7 @@ reads_script (Init m power) = false
 reads_script (Change c power) = false
 reads_script (Info uuid) = false
 reads_script (Read uuid sector) = false
+reads_script (Write uuid sector value) = false
 
 -- whether a command copies contents as it saves, so that reading may fail then
 abbrev pub copies : Command → Bool
@@ -63,6 +66,7 @@ copies (Init m power) = true
 copies (Change c power) = not (makes_sectors c)
 copies (Info uuid) = false
 copies (Read uuid sector) = false
+copies (Write uuid sector value) = false
 
 -- whether a command works on the contents of modules, so that they are loaded
 abbrev pub needs_contents : Command → Bool
@@ -73,6 +77,7 @@ needs_contents (Init m power) = false
 needs_contents (Change c power) = makes_sectors c
 needs_contents (Info uuid) = true
 needs_contents (Read uuid sector) = true
+needs_contents (Write uuid sector value) = true
 
 -- whether the words are those of a command that copies contents
 abbrev pub copies_found : Option Command → Bool

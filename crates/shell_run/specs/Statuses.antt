@@ -18,8 +18,9 @@ use Rattle.shell_reports.specs.List.{listed_of}
 use Rattle.shell_reports.specs.Causes.{is_broken, refuses_info, refuses_read}
 use Rattle.shell_changes.specs.Namespaces as changes
 use Rattle.shell_changes.specs.Namespaces.{sets_in, refuses}
+use Rattle.shell_sectors.specs.Causes.{refuses_write}
 use Rattle.shell_run.specs.declared.words.Command.{Command}
-use Rattle.shell_run.specs.declared.words.Command.TheVariants.{Labels, Nfit, Init, Change, Info, Read}
+use Rattle.shell_run.specs.declared.words.Command.TheVariants.{Labels, Nfit, Init, Change, Info, Read, Write}
 use Rattle.shell_run.specs.declared.words.Command.TheVariants as command
 use Rattle.shell_run.specs.Words.{command_of}
 
@@ -49,6 +50,7 @@ refuses_images (Init m power) (Ok loaded) = keeps_area (area_of loaded m)
 refuses_images (Change c power) (Ok loaded) = is_err (sets_in loaded)
 refuses_images (Info uuid) (Ok loaded) = is_broken loaded uuid
 refuses_images (Read uuid sector) (Ok loaded) = is_broken loaded uuid
+refuses_images (Write uuid sector value) (Ok loaded) = is_broken loaded uuid
 
 -- ---- steps and refusals
 
@@ -68,6 +70,7 @@ abbrev pub is_barred : Command → Result ImageSet LoadFault → Bool
 is_barred (Change c power) (Ok loaded) = refuses loaded c
 is_barred (Info uuid) (Ok loaded) = refuses_info loaded uuid
 is_barred (Read uuid sector) (Ok loaded) = refuses_read loaded uuid sector
+is_barred (Write uuid sector value) (Ok loaded) = refuses_write loaded uuid sector value
 is_barred command found = false
 
 -- ---- the table

@@ -1,16 +1,17 @@
 -- The words of a command line: a name, and the words after it.
 use Rattle.std.specs.Prelude.{⊤, List, [], ◌∷◌, ℕ, Option, Some, None, unwrap_or, codes}
 use Rattle.std.specs.Option.{option_map, option_and_then}
-use Rattle.clap.specs.Words.{Row}
+use Rattle.clap.specs.Words.{Row, first_of}
 use Rattle.command_words.specs.Parsed.{parsed, number_in, optional_number_in, uuid_in}
 use Rattle.shell_run.specs.declared.commands.Kind.{Kind}
 use Rattle.shell_run.specs.declared.commands.Kind.TheVariants as kind
 use Rattle.shell_run.specs.declared.words.Command.{Command}
-use Rattle.shell_run.specs.declared.words.Command.TheVariants.{Labels, Nfit, Init, Change, Info, Read}
+use Rattle.shell_run.specs.declared.words.Command.TheVariants.{Labels, Nfit, Init, Change, Info, Read, Write}
 use Rattle.shell_run.specs.declared.words.Command.TheVariants as command
 use Rattle.shell_reports.specs.declared.power.Power.{Power}
 use Rattle.namespace_ops.specs.Carried.{HasGoodName}
 use Rattle.namespace_map.specs.declared.commands.Command.TheVariants.{Create}
+use Rattle.session_script.specs.Fields.{value_of}
 use Rattle.shell_changes.specs.Words.{create_in, delete_in, rename_in}
 use Rattle.shell_run.specs.Commands.{kind_of, arguments_of}
 
@@ -25,6 +26,12 @@ power_of steps seed = record { steps = steps; seed = unwrap_or seed 0 }
 abbrev pub power_in : List Row → Option Power
 power_in values = option_and_then (λ steps. option_map (power_of steps) (optional_number_in 0 most (codes "evict") values)) (optional_number_in 0 most (codes "cut") values)
 
+-- write UUID SECTOR VALUE
+abbrev pub write_in : List Row → Option Command
+write_in values =
+    option_and_then (λ uuid. option_and_then (λ sector. option_map (λ value. Write uuid sector value) (option_and_then value_of (first_of (codes "value") values)))
+    (number_in 0 most (codes "sector") values)) (uuid_in (codes "uuid") values)
+
 -- the command that the values of its arguments make; modules are numbered 0 to 63
 abbrev pub command_in : Kind → List Row → Option Command
 command_in kind.Labels values = option_map (λ m. Labels m) (number_in 0 63 (codes "module") values)
@@ -35,6 +42,7 @@ command_in kind.Delete values = option_and_then (λ c. option_map (λ power. Cha
 command_in kind.Rename values = option_and_then (λ c. option_map (λ power. Change c power) (power_in values)) (rename_in values)
 command_in kind.Info values = option_map (λ uuid. Info uuid) (uuid_in (codes "uuid") values)
 command_in kind.Read values = option_and_then (λ uuid. option_map (λ sector. Read uuid sector) (number_in 0 most (codes "sector") values)) (uuid_in (codes "uuid") values)
+command_in kind.Write values = write_in values
 command_in kind.Init values = option_and_then (λ m. option_map (λ power. Init m power) (power_in values)) (number_in 0 63 (codes "module") values)
 
 -- the command of a name with the words after it
@@ -55,3 +63,4 @@ GivesGoodName (Init m power) = ⊤
 GivesGoodName (Change c power) = HasGoodName c
 GivesGoodName (Info uuid) = ⊤
 GivesGoodName (Read uuid sector) = ⊤
+GivesGoodName (Write uuid sector value) = ⊤

@@ -22,6 +22,8 @@ pub enum Kind {
     Info,
     /// Prints a sector of a namespace.
     Read,
+    /// Writes a sector of a namespace.
+    Write,
 }
 
 /// The number of a module.
@@ -39,6 +41,12 @@ const UUID: Argument = Argument {
 /// The number of a sector.
 const SECTOR: Argument = Argument {
     name: "sector",
+    form: Form::Place,
+};
+
+/// The value of a sector.
+const VALUE: Argument = Argument {
+    name: "value",
     form: Form::Place,
 };
 
@@ -139,6 +147,9 @@ impl Kind {
         if name == "read" {
             return Some(Kind::Read);
         }
+        if name == "write" {
+            return Some(Kind::Write);
+        }
         None
     }
 
@@ -166,6 +177,7 @@ impl Kind {
             Kind::Rename => &[UUID, NAME, CUT, EVICT],
             Kind::Info => &[UUID],
             Kind::Read => &[UUID, SECTOR],
+            Kind::Write => &[UUID, SECTOR, VALUE],
         }
     }
 }

@@ -6,7 +6,7 @@
 //!      │   labels, nfit, list, info, read
 //!      │
 //!      ├──► a changed set, or its state after a crash ──► image set
-//!      │       init, create, delete, rename
+//!      │       init, create, delete, rename, write
 //!      └──► the first object that is missing or outside its limits
 //! ```
 //!
@@ -15,7 +15,7 @@
 //! A command is an entry of the table in `specs/Commands.antt`, a case of `Comes` in `specs/Run.antt`, and a handler that
 //! makes an answer from the set that was loaded, without a source or a sink. Loading, faults of reading and writing and
 //! running out of memory are handled once, for all commands, by `OnLoaded`, by `Ends` and in `top`. Contents are loaded for
-//! `info`, `read` and `create --mode sector` alone (`needs_contents`); the other commands that save copy them (`copies`).
+//! `info`, `read`, `write` and `create --mode sector` alone (`needs_contents`); the other commands that save copy them (`copies`).
 #![tactic(auto)]
 
 mod commands;

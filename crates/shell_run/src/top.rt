@@ -30,6 +30,7 @@ use shell_reports::{
     Ending, Report, Status, Stop, info_answer, labels_answer, list_answer, load_answer,
     nfit_answer, read_answer, usage_answer,
 };
+use shell_sectors::write_answer;
 use std::alloc::{AllocError, Global};
 use std::sync::Wait;
 use std::thread::Threads;
@@ -124,6 +125,7 @@ fn needs_contents(command: &Command) -> bool
         Command::Change(change, _) => makes_sectors(change),
         Command::Info(_) => true,
         Command::Read(_, _) => true,
+        Command::Write(_, _, _) => true,
     }
 }
 
@@ -151,6 +153,7 @@ fn outlined_answer<C: Chooser>(
         }
         Command::Info(_) => unreachable!(),
         Command::Read(_, _) => unreachable!(),
+        Command::Write(_, _, _) => unreachable!(),
     }
 }
 
@@ -177,6 +180,7 @@ fn loaded_answer<C: Chooser>(
         }
         Command::Info(uuid) => arenas_found(alloc, &uuid, loaded),
         Command::Read(uuid, sector) => sector_found(alloc, &uuid, sector, loaded),
+        Command::Write(uuid, sector, value) => write_answer(alloc, &uuid, sector, value, loaded),
     }
 }
 

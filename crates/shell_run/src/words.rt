@@ -1,17 +1,18 @@
 //! What the words of a command line ask for.
-ghost use Rattle.std.specs.Prelude.{◌≡◌, ◌≢◌, IfOk, IfSome, Some, None, Err, map, string_bytes};
+ghost use Rattle.std.specs.Prelude.{◌≡◌, ◌≢◌, true, false, IfOk, IfSome, Some, None, Err, map, string_bytes};
 ghost use Rattle.command_words.specs.Parsed.{rows};
-ghost use Rattle.shell_run.specs.Words.{command_of, command_with, command_in, power_in, GivesGoodName};
+ghost use Rattle.shell_run.specs.Words.{command_of, command_with, command_in, power_in, write_in, GivesGoodName};
 
 use crate::commands::Kind;
 use command_words::{Parsed, WordsFault, parse};
+use session_script::{Payload, value_in};
 use shell_changes::{create_in, delete_in, rename_in};
 use shell_reports::Power;
-use std::alloc::Global;
+use std::alloc::{AllocError, Global};
 use uuid::Uuid;
 
 /// What the words ask for.
-#[derive(Clone, Copy, Debug)]
+#[derive(Debug, Drop)]
 pub enum Command {
     /// Print the current index block and the labels of a module.
     Labels(u32),
@@ -27,6 +28,8 @@ pub enum Command {
     Info(Uuid),
     /// Print a sector of a namespace.
     Read(Uuid, u64),
+    /// Write a sector of a namespace.
+    Write(Uuid, u64, Payload),
 }
 
 /// The greatest number of a module.
@@ -44,8 +47,37 @@ fn power_in(values: &Parsed<'_>) -> Option<Power>
     })
 }
 
-/// The command that the values of its arguments make.
+/// The command `write`.
+fn write_in(alloc: Global, values: &Parsed<'_>) -> Result<Option<Command>, AllocError>
+    ensures command { IfOk result (λ command. command ≡ write_in (rows values.now)) }
+    ensures name { IfOk result (λ command. IfSome command GivesGoodName) }
+{
+    let Some(uuid) = values.uuid("uuid") else {
+        return Ok(None);
+    };
+    let Some(sector) = values.number("sector", 0, u64::MAX) else {
+        return Ok(None);
+    };
+    let Some(word) = values.value("value") else {
+        return Ok(None);
+    };
+    match value_in(alloc, word.as_bytes())? {
+        Some(value) => Ok(Some(Command::Write(uuid, sector, value))),
+        None => Ok(None),
+    }
+}
+
+/// Whether a command has a value among its arguments.
+fn has_value(kind: Kind) -> bool
+    ensures yes { result ≡ true → kind ≡ Kind.Write }
+    ensures no { result ≡ false → kind ≢ Kind.Write }
+{
+    matches!(kind, Kind::Write)
+}
+
+/// The command that the values of its arguments make, if it has no value of a sector.
 fn command_in(kind: Kind, values: &Parsed<'_>) -> Option<Command>
+    requires plain { kind ≢ Kind.Write }
     ensures command { result ≡ command_in kind (rows values.now) }
     ensures name { IfSome result GivesGoodName }
 {
@@ -79,6 +111,23 @@ fn command_in(kind: Kind, values: &Parsed<'_>) -> Option<Command>
             let uuid = values.uuid("uuid")?;
             Some(Command::Read(uuid, values.number("sector", 0, u64::MAX)?))
         }
+        Kind::Write => unreachable!(),
+    }
+}
+
+/// The command that the values of its arguments make.
+fn command_found(
+    alloc: Global,
+    kind: Kind,
+    values: &Parsed<'_>,
+) -> Result<Option<Command>, AllocError>
+    ensures command { IfOk result (λ found. found ≡ command_in kind (rows values.now)) }
+    ensures name { IfOk result (λ found. IfSome found GivesGoodName) }
+{
+    if has_value(kind) {
+        write_in(alloc, values)
+    } else {
+        Ok(command_in(kind, values))
     }
 }
 
@@ -103,7 +152,10 @@ fn command_with(alloc: Global, kind: Kind, words: &[String]) -> Result<Command, 
     ensures name { IfOk result GivesGoodName }
 {
     match parse(alloc, kind.arguments(), words) {
-        Ok(values) => command_or_usage(command_in(kind, &values)),
+        Ok(values) => match command_found(alloc, kind, &values) {
+            Ok(command) => command_or_usage(command),
+            Err(_) => Err(WordsFault::OutOfMemory),
+        },
         Err(fault) => Err(fault),
     }
 }

@@ -4,7 +4,7 @@ use Rattle.shell_changes.specs.Remains.{LeavesBy}
 use Rattle.shell_changes.specs.Saved.{copies_contents}
 use Rattle.shell_changes.proofs.Remains.{copies_none}
 use Rattle.image_set.specs.Load.{image_set_in}
-use Rattle.shell_run.specs.declared.words.Command.TheVariants.{Change, Info, Read}
+use Rattle.shell_run.specs.declared.words.Command.TheVariants.{Change, Info, Read, Write}
 use Rattle.shell_changes.specs.Answers.{whole_outcome}
 use Rattle.shell_run.specs.Run.{LoadedComes, needs_contents}
 use Rattle.shell_run.specs.Words.{GivesGoodName}
@@ -50,6 +50,10 @@ returns-in-Read-clause-comes g c =
 
 pub returns-in-Read-clause-whole : goal.returns-in-Read-clause-whole
 returns-in-Read-clause-whole g c = if_then _ (λ (answer : Answer). copies_contents answer.saved ≡ false) c.sector_found.result (λ answer none. copies_none answer none) c.sector_found.ensures.saved
+
+pub returns-in-Write-clause-comes : goal.returns-in-Write-clause-comes
+returns-in-Write-clause-comes g c =
+    loaded_by (LeavesBy g.C.Chooser.begins g.C.Chooser.picks c.args.choose.now) c.args.command (Write c.in-Write.uuid c.in-Write.sector c.in-Write.value) c.in-Write.is (image_set_in c.args.loaded) c.write_answer.result c.write_answer.ensures.comes
 
 pub change_answer-requires-clause-name : goal.change_answer-requires-clause-name
 change_answer-requires-clause-name g c = subst GivesGoodName c.in-Change.is c.requires.name

@@ -69,3 +69,8 @@ pub unreachable-requires-in-Read : goal.unreachable-requires-in-Read
 unreachable-requires-in-Read g c =
     let both = sym c.requires.outlined ∙ ap needs_contents c.in-Read.is in
     (let e = both in cc)
+
+pub unreachable-requires-in-Write : goal.unreachable-requires-in-Write
+unreachable-requires-in-Write g c =
+    let both = sym c.requires.outlined ∙ ap needs_contents c.in-Write.is in
+    (let e = both in cc)

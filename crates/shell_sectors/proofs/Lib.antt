@@ -1,0 +1,7 @@
+pub mod Changes
+pub mod Placing
+pub mod Coming
+pub mod Saves
+pub mod Answered
+pub mod Loaded
+pub mod Causes

@@ -1,0 +1,114 @@
+-- From a loaded set to one whose labels are read.
+use Rattle.std.proofs.Common.{◌≡◌, ℕ, List, [], ◌∷◌, length, map, Option, Some, None, Result, Ok, Err, refl, sym, ap, ◌∙◌, subst, arith}
+use Rattle.std.specs.Option.{option_map}
+use Rattle.std.specs.Result.{result_ok}
+use Rattle.std.specs.List.{All}
+use Rattle.cut_words.specs.Words.{Words}
+use Rattle.cut_words.specs.WordBytes.{bytes_of}
+use Rattle.label_index.specs.declared.index.IndexBlock.{IndexBlock}
+use Rattle.label_area.specs.declared.fault.AreaFault.{AreaFault}
+use Rattle.label_area.specs.Area.{block_in, labels_in, slots_with}
+use Rattle.label_area.specs.Opened.{opened_by}
+use Rattle.nfit_reader.specs.declared.table.Mapping.{Mapping}
+use Rattle.label_set.specs.declared.placed.Placed.{Placed}
+use Rattle.image_set.specs.declared.loading.Loaded.{Loaded}
+use Rattle.image_set.specs.Load.{bytes_kept, image_set_in}
+use Rattle.image_set.specs.Sound.{IsArea, IsSound}
+use Rattle.namespace_areas.specs.declared.area.Area.{Area}
+use Rattle.namespace_areas.specs.Areas.{labels_of, shown_in}
+use Rattle.namespace_areas.specs.Finding.{found_of}
+use Rattle.namespace_areas.specs.Opening.{AreWhole, as_area, opened_as}
+use Rattle.namespace_areas.specs.Seen.{AreHeld, words_of}
+use Rattle.namespace_areas.proofs.Opening.{held_all, words_all}
+use Rattle.namespace_map.specs.Namespaces.{Entry, entry_at, lookup, placed_of}
+use Rattle.namespace_ops.specs.declared.registry.OpenFault.{OpenFault}
+use Rattle.namespace_ops.specs.Counted.{namespaces_in}
+use Rattle.namespace_ops.specs.Opening.{opening, sets_of}
+use Rattle.namespace_ops.specs.Registered.{Registered, state_of}
+use Rattle.namespace_ops.proofs.Regions.{sets_are as sets_checked}
+use Rattle.namespace_ops.proofs.Shown.{shown_at}
+use Rattle.sector_namespaces.specs.View.{AreUsable}
+use Rattle.sector_namespaces.proofs.Usable.{usable_sets}
+use Rattle.shell_reports.specs.Causes.{fault_in, found_in}
+use Rattle.shell_reports.specs.List.{labels_in_set, shown_by}
+use Rattle.shell_reports.specs.Sectors.{registry_fault}
+use Rattle.shell_reports.proofs.Arenas.{IsOpened, fault_is, opened_is, rows_back, set_none}
+use Rattle.shell_sectors.specs.Found.{IsOpenOn}
+
+shown_by_block : (values : List ℕ) (b : Result IndexBlock AreaFault) → shown_in (as_area (opened_by values b)) ≡ option_map labels_in (result_ok (slots_with (bytes_of values) b))
+shown_by_block values (Ok block) = refl
+shown_by_block values (Err fault) = refl
+
+shown_one : (words : Option Words) → shown_in (opened_as words) ≡ shown_by (option_map bytes_kept words)
+shown_one None = refl
+shown_one (Some words) = shown_by_block words.kept (block_in (bytes_of words.kept))
+
+shown_all : (labels : List (Option Words)) → map shown_in (map opened_as labels) ≡ map shown_by (map (option_map bytes_kept) labels)
+shown_all [] = refl
+shown_all (words ∷ labels) = λ i. shown_one words i ∷ shown_all labels i
+
+pub are_whole : (labels : List (Option Words)) → All IsArea labels → AreWhole labels
+are_whole labels all = λ k d lt. let it = all k d lt in record { sized = it.sized; kept = it.kept }
+
+module _ (loaded : Loaded) (sound : IsSound loaded) (uuid : List ℕ) (areas : List Area) (are : areas ≡ map opened_as loaded.labels) where
+  labels_are : labels_of areas ≡ labels_in_set (image_set_in loaded)
+  unfolding image_set_in
+  labels_are = ap placed_of (ap (map shown_in) are ∙ shown_all loaded.labels)
+
+  fault_was : fault_in (image_set_in loaded) ≡ registry_fault loaded.nfit (labels_of areas)
+  unfolding image_set_in
+  fault_was = ap (registry_fault loaded.nfit) (sym labels_are)
+
+  pub fault_found : (fault : OpenFault) → Err fault ≡ opening loaded.nfit areas → fault_in (image_set_in loaded) ≡ Some fault
+  fault_found fault is = fault_was ∙ fault_is loaded.nfit areas fault is
+
+  pub held : AreHeld areas
+  held = subst (λ (xs : List Area). AreHeld xs) (sym are) (held_all loaded.labels (are_whole loaded.labels sound.areas))
+
+  module _ (registry : Registered) (is : Ok registry ≡ opening loaded.nfit areas) where
+    o : IsOpened loaded.nfit areas registry
+    o = opened_is loaded.nfit areas registry is
+
+    sets_are : registry.sets ≡ sets_of loaded.nfit
+    sets_are = ap (λ (r : Registered). r.sets) o.is
+
+    words_are : map words_of registry.areas ≡ loaded.labels
+    words_are =
+        ap (λ (r : Registered). map words_of r.areas) o.is
+        ∙ ap (map words_of) are
+        ∙ words_all loaded.labels (are_whole loaded.labels sound.areas)
+
+    found_is : found_of registry.sets (lookup uuid (namespaces_in (state_of registry)).entries) ≡ found_in (image_set_in loaded) uuid
+    unfolding image_set_in
+    found_is =
+        ap (λ (r : Registered). found_of r.sets (lookup uuid (namespaces_in (state_of r)).entries)) o.is
+        ∙ ap (λ (entry : Option Entry). found_of (sets_of loaded.nfit) entry) (sym (shown_at (sets_of loaded.nfit) areas (labels_of areas) uuid held (λ u. refl)))
+        ∙ ap (λ (labels : List Placed). found_of (sets_of loaded.nfit) (entry_at (sets_of loaded.nfit) labels uuid)) labels_are
+
+    usable : AreUsable registry.sets loaded.contents
+    usable =
+        subst (λ (sets : List (List Mapping)). AreUsable sets loaded.contents) (sym sets_are)
+        (usable_sets loaded.nfit.regions (sets_of loaded.nfit) loaded.contents sound.mapped sound.total
+        (sets_checked loaded.nfit.regions 0 (set_none loaded.nfit (labels_of areas) o.none)))
+
+    pub open_on : IsOpenOn (image_set_in loaded) uuid loaded.contents (record { registry = registry; nfit_bytes = loaded.nfit_bytes; bad = loaded.bad })
+    unfolding image_set_in
+    open_on = record {
+      none = fault_was ∙ o.none;
+      running = ap (λ (r : Registered). r.stopped) o.is;
+      sets = sets_are;
+      is = found_is;
+      contents_are = sym (rows_back loaded.contents sound.words);
+      usable = usable;
+      unchanged = record {
+        nfit = refl;
+        labels = ap (map (option_map bytes_kept)) (sym words_are);
+        bad = refl;
+        whole = subst AreWhole (sym words_are) (are_whole loaded.labels sound.areas);
+      };
+      modules = record {
+        labels = ap length words_are ∙ sound.labels ∙ sym sound.contents;
+        bad = sound.bad ∙ sym sound.contents;
+        few = omega (arith, sound.contents, sound.modules.few);
+      };
+    }

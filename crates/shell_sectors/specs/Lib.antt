@@ -1,0 +1,7 @@
+pub mod Value
+pub mod Found
+pub mod Saving
+pub mod Write
+pub mod Causes
+pub mod Changed
+pub mod Answering
