@@ -7,12 +7,12 @@ use Rattle.image_set.specs.declared.fault.CopyFault.{CopyFault}
 use Rattle.image_set.specs.Outline.{CopiesSet, objects_with}
 use Rattle.shell_reports.specs.Saved.{Saves}
 use Rattle.shell_changes.specs.declared.answer.Left.TheVariants.{Copied}
-use Rattle.shell_changes.specs.Saved.{AreObjects}
+use Rattle.shell_changes.specs.Saved.{AreObjects, Stores}
 
 module _ {T : Type 0} (held : Option Images) (left : OutlineLeft) (made made' kept kept' : Option Images) where
   -- the set that is saved has the contents of the source
-  pub copied_saves : (r : Result T CopyFault) → CopiesSet held left made made' kept kept' r → OnOk r ((objects : Images) × AreObjects held (Copied left) objects × Saves (Some objects) made made')
-  copied_saves (Ok x) copies = (objects_with left copies.contents, (λ source at. ap (objects_with left) (copies.read source at)), copies.told)
+  pub copied_saves : (r : Result T CopyFault) → CopiesSet held left made made' kept kept' r → OnOk r ((objects : Images) × AreObjects held (Copied left) objects × Saves (Some objects) made made' × Stores (Some objects) kept kept')
+  copied_saves (Ok x) copies = (objects_with left copies.contents, (λ source at. ap (objects_with left) (copies.read source at)), copies.told, copies.holds)
   copied_saves (Err fault) copies = tt
 
   -- after a fault it isn't finished

@@ -1,7 +1,7 @@
 -- The image set that an answer saves: it is in memory, or its contents are copied from the source.
 use Rattle.std.specs.Prelude.{◌≡◌, ℕ, ⊤, Bool, true, false, List, length, Option, Some, None, IfSome}
 use Rattle.std.specs.Option.{ForSome}
-use Rattle.nvd_media.specs.Images.{Images}
+use Rattle.nvd_media.specs.Images.{Images, IsEmptySet, IsSameSet, Keeps}
 use Rattle.image_set.specs.Changed.{IsSavable, objects_in}
 use Rattle.image_set.specs.Outline.{HasContents, IsCopyable, contents_in, objects_with}
 use Rattle.shell_changes.specs.declared.answer.Left.{Left}
@@ -26,6 +26,11 @@ AreObjects held (Copied left) set = ForSome held (λ source. set ≡ objects_wit
 abbrev pub AreSaved : Option Images → Option Left → Option Images → Type 0
 AreSaved held None saved = saved ≡ None
 AreSaved held (Some left) saved = (set : Images) × AreObjects held left set × (saved ≡ Some set)
+
+-- a sink that tells that it stored everything has this set, if it was empty; none was saved, and it is as it was
+abbrev pub Stores : Option Images → Option Images → Option Images → Type 0
+Stores None kept kept' = kept' ≡ kept
+Stores (Some set) kept kept' = Keeps kept kept' (λ was now. IsEmptySet was → IsSameSet now set)
 
 -- the contents that are copied have the sizes that are stated
 abbrev pub HasItsContents : Left → Images → Type 0

@@ -7,7 +7,7 @@ ghost use Rattle.image_set.specs.Changed.{IsSavable, objects_in};
 ghost use Rattle.image_set.specs.Outline.{HasContents, IsCopyable};
 ghost use Rattle.shell_reports.specs.Saved.{Saves, outcome_of};
 ghost use Rattle.shell_changes.specs.Answers.{outcome_with};
-ghost use Rattle.shell_changes.specs.Saved.{AreObjects, CanBeSaved, HasItsContents, is_copied};
+ghost use Rattle.shell_changes.specs.Saved.{AreObjects, CanBeSaved, HasItsContents, Stores, is_copied};
 
 use image_set::{CopyFault, OutlineLeft, SaveFault, SetLeft};
 use nvd_media::{ImageSink, ImageSource};
@@ -29,6 +29,7 @@ fn save_whole<K: ImageSink>(alloc: Global, set: &SetLeft, out: &mut K) -> Result
     requires empty { ForSome (K.made out.old) IsEmptySet }
     requires savable { IsSavable set.now }
     ensures saved { OnOk result (Saves (Some (objects_in set.now)) (K.made out.old) (K.made out.new)) }
+    ensures stored { OnOk result (Stores (Some (objects_in set.now)) (K.kept out.old) (K.kept out.new)) }
     ensures no_read { result ≢ Err CopyFault.ReadFault }
     ensures unwritten { result ≡ Err CopyFault.WriteFault → Becomes (K.made out.old) (K.made out.new) IsUnfinished }
     ensures memory { result ≡ Err CopyFault.OutOfMemory → K.made out.new ≡ K.made out.old }
@@ -51,7 +52,7 @@ fn save_copied<S: ImageSource, K: ImageSink>(
     requires empty { ForSome (K.made out.old) IsEmptySet }
     requires copyable { IsCopyable set.now }
     requires there { ForSome (S.held images.old) (HasContents set.now.sizes) }
-    ensures saved { OnOk result ((objects : Images) × AreObjects (S.held images.old) (Left.Copied set.now) objects × Saves (Some objects) (K.made out.old) (K.made out.new)) }
+    ensures saved { OnOk result ((objects : Images) × AreObjects (S.held images.old) (Left.Copied set.now) objects × Saves (Some objects) (K.made out.old) (K.made out.new) × Stores (Some objects) (K.kept out.old) (K.kept out.new)) }
     ensures unread { result ≡ Err CopyFault.ReadFault → Becomes (K.made out.old) (K.made out.new) IsUnfinished }
     ensures unwritten { result ≡ Err CopyFault.WriteFault → Becomes (K.made out.old) (K.made out.new) IsUnfinished }
     ensures memory { result ≡ Err CopyFault.OutOfMemory → K.made out.new ≡ K.made out.old }
@@ -92,7 +93,8 @@ impl SavedSet {
     /// Saves it. Nothing was written to `out` before, if it tells. Contents that aren't in memory are those of the source,
     /// and have the sizes that are stated.
     ///
-    /// - `saved`: after `Ok` the sink has exactly the set's objects and the mark, as far as the source tells its contents.
+    /// - `saved`: after `Ok` the sink has exactly the set's objects and the mark, as far as the source tells its contents. So has
+    ///   one that tells that everything was stored.
     /// - `unread`, `unwritten`: after a fault of the source or the sink the set isn't finished. The source is read only
     ///   for contents that are copied.
     pub fn save<S: ImageSource, K: ImageSink>(
@@ -103,7 +105,7 @@ impl SavedSet {
     ) -> Result<(), CopyFault>
         requires empty { ForSome (K.made out.old) IsEmptySet }
         requires there { ForSome (S.held images.old) (HasItsContents self.now) }
-        ensures saved { OnOk result ((objects : Images) × AreObjects (S.held images.old) self.now objects × Saves (Some objects) (K.made out.old) (K.made out.new)) }
+        ensures saved { OnOk result ((objects : Images) × AreObjects (S.held images.old) self.now objects × Saves (Some objects) (K.made out.old) (K.made out.new) × Stores (Some objects) (K.kept out.old) (K.kept out.new)) }
         ensures unread { result ≡ Err CopyFault.ReadFault → IsTrue (is_copied self.now) × Becomes (K.made out.old) (K.made out.new) IsUnfinished }
         ensures unwritten { result ≡ Err CopyFault.WriteFault → Becomes (K.made out.old) (K.made out.new) IsUnfinished }
         ensures memory { result ≡ Err CopyFault.OutOfMemory → K.made out.new ≡ K.made out.old }

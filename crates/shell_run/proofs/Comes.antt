@@ -18,7 +18,7 @@ use Rattle.shell_changes.specs.declared.answer.Answer.{Answer}
 use Rattle.shell_changes.specs.declared.answer.Left.{Left}
 use Rattle.shell_changes.specs.declared.answer.Left.TheVariants.{Whole, Copied}
 use Rattle.shell_changes.specs.Answers.{ComesFrom, HasSizes, outcome_with, whole_outcome}
-use Rattle.shell_changes.specs.Saved.{AreObjects, AreSaved, HasContentsOf, HasItsContents, HasSize, copies_contents, objects_saved}
+use Rattle.shell_changes.specs.Saved.{AreObjects, AreSaved, HasContentsOf, HasItsContents, HasSize, Stores, copies_contents, objects_saved}
 use Rattle.shell_run.specs.declared.words.Command.{Command}
 use Rattle.shell_run.specs.Run.{ComesTold, IsDue, LoadedComes, OnLoaded, copies, copies_by, copies_found, needs_contents}
 use Rattle.shell_run.specs.Words.{command_of}
@@ -147,11 +147,12 @@ pub set_there : (held : Option Images) (saved : Option Left) (set : Left) → sa
 set_there held saved set is there = λ source told. subst (λ (s : Option Left). IfSome s (λ left. HasItsContents left source)) is (there source told)
 
 -- its objects are those of the answer
-pub set_saved : {T E : Type 0} (held : Option Images) (saved : Option Left) (set : Left) (made made' : Option Images) → saved ≡ Some set → (r : Result T E)
-    → OnOk r ((objects : Images) × AreObjects held set objects × Saves (Some objects) made made') → OnOk r ((all : Option Images) × AreSaved held saved all × Saves all made made')
-set_saved held saved set made made' is (Ok x) (objects, are, saves) =
-    subst (λ (s : Option Left). (all : Option Images) × AreSaved held s all × Saves all made made') (sym is) (Some objects, (objects, are, refl), saves)
-set_saved held saved set made made' is (Err e) none = tt
+pub set_saved : {T E : Type 0} (held : Option Images) (saved : Option Left) (set : Left) (made made' kept kept' : Option Images) → saved ≡ Some set → (r : Result T E)
+    → OnOk r ((objects : Images) × AreObjects held set objects × Saves (Some objects) made made' × Stores (Some objects) kept kept')
+    → OnOk r ((all : Option Images) × AreSaved held saved all × Saves all made made' × Stores all kept kept')
+set_saved held saved set made made' kept kept' is (Ok x) (objects, are, saves, stores) =
+    subst (λ (s : Option Left). (all : Option Images) × AreSaved held s all × Saves all made made' × Stores all kept kept') (sym is) (Some objects, (objects, are, refl), saves, stores)
+set_saved held saved set made made' kept kept' is (Err e) none = tt
 
 -- ---- a command
 

@@ -3,6 +3,7 @@ use Rattle.std.proofs.Common.{◌≡◌, ◌≢◌, ℕ, Bool, List, ◌++◌, O
 use Rattle.std.specs.Prelude.{◌⊎◌, IsSome, IsTrue}
 use Rattle.std.specs.Io.KnownBytes.{Keeps, Appends}
 use Rattle.nvd_media.specs.Images.{Images, Becomes, IsUnfinished}
+use Rattle.nvd_media.specs.Images.{Keeps as StillTells}
 use Rattle.shell_reports.specs.declared.status.Ending.{Ending}
 use Rattle.shell_reports.specs.declared.status.Ending.TheVariants as ending
 use Rattle.shell_reports.specs.declared.status.Status.{Status}
@@ -11,7 +12,8 @@ use Rattle.shell_reports.specs.declared.status.Stop.{Stop}
 use Rattle.shell_reports.specs.declared.status.Stop.TheVariants as stop
 use Rattle.shell_reports.specs.Outcome.{Outcome, lf, status_of}
 use Rattle.shell_reports.specs.Saved.{Saves}
-use Rattle.shell_run.specs.Run.{Ends, FailedToRead, AppendsPart}
+use Rattle.shell_changes.specs.Saved.{Stores}
+use Rattle.shell_run.specs.Run.{Ends, FailedToRead, AppendsPart, Holds}
 
 -- what is due may be said of more, and so may what copies contents
 failed_more : (copying copying' : Bool) (due wider : Outcome → Type 0) (made made' : Option Images)
@@ -124,5 +126,38 @@ module _ (faulted : Type 0) (copying : Bool) (due : Outcome → Type 0) (made ma
   pub ends_printed : (s : Status) → (s ≡ status_of outcome.ending → Appends text text' outcome.text)
       → (s ≢ status_of outcome.ending → (s ≡ status.WriteFault) × AppendsPart text text' outcome.text) → Ends faulted copying due made made' text text' s
   ends_printed s all part = ends_by s (same_or_other s outcome.ending) all part
+
+-- ---- sinks that stored everything
+
+pub holds_more : (due wider : Outcome → Type 0) (kept kept' : Option Images) (text text' : Option (List ℕ)) (s : Status) → ((outcome : Outcome) → due outcome → wider outcome)
+    → Holds due kept kept' text text' s → Holds wider kept kept' text text' s
+holds_more due wider kept kept' text text' status.ReadFault more h = tt
+holds_more due wider kept kept' text text' status.WriteFault more h = tt
+holds_more due wider kept kept' text text' status.OutOfMemory more h = tt
+holds_more due wider kept kept' text text' other more h = (h.0, more h.0 h.1, h.2, h.3, h.4)
+
+-- a run that has no answer
+pub holds_stopped : (due : Outcome → Type 0) (kept kept' : Option Images) (text text' : Option (List ℕ)) (s : Status) (why : Stop) → (why ≡ stop.OutOfMemory → s ≡ status.OutOfMemory)
+    → (why ≡ stop.ReadFault → (s ≡ status.WriteFault) ⊎ (s ≡ status.ReadFault)) → Holds due kept kept' text text' s
+holds_stopped due kept kept' text text' s stop.OutOfMemory memory read = rw (memory refl) tt
+holds_stopped due kept kept' text text' s stop.ReadFault memory read = elim (read refl) [ inl is ↦ rw is tt | inr is ↦ rw is tt ]
+
+module _ (due : Outcome → Type 0) (kept kept' : Option Images) (text text' : Option (List ℕ)) (outcome : Outcome) (is : due outcome) (stores : Stores outcome.saved kept kept') where
+  holds_whole : (e : Ending) → outcome.ending ≡ e → StillTells text text' (λ was now. now ≡ was ++ outcome.text) → Holds due kept kept' text text' (status_of e)
+  holds_whole ending.Done so says = (outcome, is, ap status_of so, stores, says)
+  holds_whole ending.Usage so says = (outcome, is, ap status_of so, stores, says)
+  holds_whole ending.Image so says = (outcome, is, ap status_of so, stores, says)
+  holds_whole ending.Refused so says = (outcome, is, ap status_of so, stores, says)
+  holds_whole ending.PowerCut so says = (outcome, is, ap status_of so, stores, says)
+
+  holds_by : (s : Status) → (s ≡ status_of outcome.ending) ⊎ (s ≢ status_of outcome.ending) → (s ≡ status_of outcome.ending → StillTells text text' (λ was now. now ≡ was ++ outcome.text))
+      → (s ≢ status_of outcome.ending → s ≡ status.WriteFault) → Holds due kept kept' text text' s
+  holds_by s (inl same) all part = subst (λ (t : Status). Holds due kept kept' text text' t) (sym same) (holds_whole outcome.ending refl (all same))
+  holds_by s (inr other) all part = subst (λ (t : Status). Holds due kept kept' text text' t) (sym (part other)) tt
+
+  -- all of it is printed, or writing failed
+  pub holds_printed : (s : Status) → (s ≡ status_of outcome.ending → StillTells text text' (λ was now. now ≡ was ++ outcome.text)) → (s ≢ status_of outcome.ending → s ≡ status.WriteFault)
+      → Holds due kept kept' text text' s
+  holds_printed s all part = holds_by s (same_or_other s outcome.ending) all part
 
 pub ruleset endings = (ends_more, ends_memory, ends_read)

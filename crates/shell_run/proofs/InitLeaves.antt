@@ -26,8 +26,9 @@ use Rattle.shell_reports.specs.Saved.{IsSaving}
 use Rattle.shell_changes.specs.Init.{InitArea, InitModule, not_initialised}
 use Rattle.shell_changes.specs.Remains.{LeavesBy}
 use Rattle.shell_changes.proofs.Remains.{row_alone}
-use Rattle.shell_run.specs.Laws.{IsLeftByInit, InitLeavesWhole}
+use Rattle.shell_run.specs.Laws.{HasBlocks, IsLeftByInit, InitLeavesWhole}
 use Rattle.shell_run.proofs.Causes.{words_in_area}
+use Rattle.shell_run.proofs.InitBlocks.{blocks_under}
 
 -- a fuse that lasts for the steps of both blocks, or doesn't
 module _ (values : List ℕ) (fuse : Option ℕ) (ok : IsInit values (size_for (length values)) (slots_for (length values))) where
@@ -50,13 +51,25 @@ module _ (values : List ℕ) (fuse : Option ℕ) (ok : IsInit values (size_for (
   pub short_whole : (left : List ℕ) → IsLeft reached left → IsInitCut size slots (steps_under fuse (init_count (length values))) left
   short_whole left cut = both_whole values size slots ok (settled values) reached fuse (burnt fuse (length steps)) (lasts fuse (length steps)) refl makes left cut
 
+  abbrev blocks : List ℕ → Type 0
+  blocks left = HasBlocks size slots (steps_under fuse (init_count (length values))) left
+
+  pub short_blocks : (left : List ℕ) → IsLeft reached left → blocks left
+  short_blocks left cut = blocks_under values size slots ok fuse left cut
+
   -- the words of both blocks are what is left where all steps were made
-  pub done_whole : lasts fuse (init_count (length values)) ≡ true → IsInitCut size slots (steps_under fuse (init_count (length values))) (full_words values size slots)
-  done_whole long =
+  done_left : lasts fuse (init_count (length values)) ≡ true → IsLeft reached (full_words values size slots)
+  done_left long =
       let all : lasts fuse (length steps) ≡ true = sym (both_last values size slots ok (settled values) reached fuse (burnt fuse (length steps)) (lasts fuse (length steps)) makes) ∙ long in
       let made : Makes (settled values) reached fuse (burnt fuse (length steps)) steps true = subst (λ (b : Bool). Makes (settled values) reached fuse (burnt fuse (length steps)) steps b) all makes in
       let full : reached ≡ settled (full_words values size slots) = both_done values size slots ok (settled values) reached fuse (burnt fuse (length steps)) refl made in
-      short_whole (full_words values size slots) (subst (λ (w : Words). IsLeft w (full_words values size slots)) (sym full) (record { same_length = refl; each = λ i. inl refl }))
+      subst (λ (w : Words). IsLeft w (full_words values size slots)) (sym full) (record { same_length = refl; each = λ i. inl refl })
+
+  pub done_whole : lasts fuse (init_count (length values)) ≡ true → IsInitCut size slots (steps_under fuse (init_count (length values))) (full_words values size slots)
+  done_whole long = short_whole (full_words values size slots) (done_left long)
+
+  pub done_blocks : lasts fuse (init_count (length values)) ≡ true → blocks (full_words values size slots)
+  done_blocks long = short_blocks (full_words values size slots) (done_left long)
 
 module _ {C : Type 0} (begins : C → ℕ → C → Type 0) (picks : C → ℕ → Bool → C → Type 0) (choose : C) (m : ℕ) (power : Power) (loaded : ImageSet) (outcome : Outcome) (set : Images) (saved : outcome.saved ≡ Some set) where
   abbrev leaves : ℕ → List (Option Words) → List (Option (List ℕ)) → Type 0
@@ -87,16 +100,22 @@ module _ {C : Type 0} (begins : C → ℕ → C → Type 0) (picks : C → ℕ �
     words_size = subst IsAreaSize (sym (ap (λ (xs : List ℕ). length xs) is) ∙ length_bytes values) sized
 
     -- the same, counted in the area's bytes
-    by_area : (now : List ℕ) → IsInitCut (size_for (length values)) (slots_for (length values)) (steps_under power.steps (init_count (length values))) now → IsLeftByInit power.steps area (bytes_of now)
-    by_area now cut =
-        (now, refl, subst (λ (n : ℕ). IsInitCut (size_for n) (slots_for n) (steps_under power.steps (init_count n)) now) (sym (words_in_area values area is)) cut)
+    by_area : (now : List ℕ) → IsInitCut (size_for (length values)) (slots_for (length values)) (steps_under power.steps (init_count (length values))) now
+        → HasBlocks (size_for (length values)) (slots_for (length values)) (steps_under power.steps (init_count (length values))) now → IsLeftByInit power.steps area (bytes_of now)
+    by_area now cut has = record {
+      values = now;
+      spelt = refl;
+      shows = subst (λ (n : ℕ). IsInitCut (size_for n) (slots_for n) (steps_under power.steps (init_count n)) now) (sym (words_in_area values area is)) cut;
+      blocks = subst (λ (n : ℕ). HasBlocks (size_for n) (slots_for n) (steps_under power.steps (init_count n)) now) (sym (words_in_area values area is)) has;
+    }
 
     blank_left : block_in area ≡ Err NoIndex → (b : Bool) → lasts power.steps (init_count (length values)) ≡ b → InitArea leaves m power loaded (initialised_by values power.steps (Err NoIndex)) outcome → Left area
     blank_left none true long comes =
         let done = rw long at comes in
         let bare : block_in (bytes_of values) ≡ Err NoIndex = ap block_in is ∙ none in
+        let ok = is_init values words_size bare in
         let full = full_words values (size_for (length values)) (slots_for (length values)) in
-        (bytes_of full, saved_is _ _ (objects_of (with_area loaded m (bytes_of full))) done, by_area full (done_whole values power.steps (is_init values words_size bare) long))
+        (bytes_of full, saved_is _ _ (objects_of (with_area loaded m (bytes_of full))) done, by_area full (done_whole values power.steps ok long) (done_blocks values power.steps ok long))
     blank_left none false short comes =
         let (left, (begun, after, begins_at, leaves_from), cut) = rw short at comes in
         let bare : block_in (bytes_of values) ≡ Err NoIndex = ap block_in is ∙ none in
@@ -105,7 +124,8 @@ module _ {C : Type 0} (begins : C → ℕ → C → Type 0) (picks : C → ℕ �
         let made = allowed power.steps (steps values power.steps ok) in
         let sized_words : length words.stored ≡ length words.kept =
         length_stored made (settled values) ∙ length-replicate (length values) None ∙ sym (length_kept made (settled values)) in
-        (bytes_of left, saved_is _ _ (objects_of (with_area loaded m (bytes_of left))) cut, by_area left (short_whole values power.steps ok left (is_left picks words left begun after sized_words (row_alone picks words left begun after leaves_from))))
+        let there = is_left picks words left begun after sized_words (row_alone picks words left begun after leaves_from) in
+        (bytes_of left, saved_is _ _ (objects_of (with_area loaded m (bytes_of left))) cut, by_area left (short_whole values power.steps ok left there) (short_blocks values power.steps ok left there))
 
     found_left : (found : Result IndexBlock AreaFault) → block_in area ≡ found → InitArea leaves m power loaded (initialised_by values power.steps found) outcome → Left area
     found_left (Ok block) read comes = absurd (not_saved _ (kept_saves_none (AlreadyInitialised block.seq)) comes)

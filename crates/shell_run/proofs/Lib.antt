@@ -1,5 +1,6 @@
 pub mod Comes
 pub mod Ending
 pub mod Causes
+mod InitBlocks
 pub mod InitLeaves
 pub mod Rows

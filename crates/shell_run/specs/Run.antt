@@ -1,7 +1,8 @@
 -- What a run does, seen from outside.
-use Rattle.std.specs.Prelude.{◌≡◌, ◌⊎◌, ℕ, Bool, true, false, not, IsTrue, IsSome, List, ◌++◌, Option, Some, None, Result, Ok, Err, MatchOption, codes, take}
+use Rattle.std.specs.Prelude.{◌≡◌, ⊤, ◌⊎◌, ℕ, Bool, true, false, not, IsTrue, IsSome, List, ◌++◌, Option, Some, None, Result, Ok, Err, MatchOption, codes, take}
 use Rattle.std.specs.Io.KnownBytes.{Keeps, Appends}
 use Rattle.nvd_media.specs.Images.{Images, Becomes, IsUnfinished}
+use Rattle.nvd_media.specs.Images.{Keeps as StillTells}
 use Rattle.cut_words.specs.Words.{Words}
 use Rattle.image_set.specs.declared.fault.LoadFault.{LoadFault}
 use Rattle.image_set.specs.Load.{ImageSet, loading}
@@ -17,6 +18,7 @@ use Rattle.shell_reports.specs.Labels.{labels_outcome}
 use Rattle.shell_reports.specs.Nfit.{nfit_outcome}
 use Rattle.shell_reports.specs.Saved.{Saves}
 use Rattle.shell_changes.specs.Init.{InitComes}
+use Rattle.shell_changes.specs.Saved.{Stores}
 use Rattle.shell_changes.specs.Namespaces.{ChangeComes}
 use Rattle.shell_reports.specs.List.{list_outcome}
 use Rattle.shell_reports.specs.Sectors.{info_outcome, read_outcome}
@@ -127,3 +129,11 @@ Ends faulted copying due made made' text text' status.ReadFault = faulted × Fai
 Ends faulted copying due made made' text text' status.WriteFault = FailedToWrite faulted copying due made made' text text'
 Ends faulted copying due made made' text text' status.OutOfMemory = (made' ≡ made) × Keeps text text'
 Ends faulted copying due made made' text text' other = (outcome : Outcome) × due outcome × (status_of outcome.ending ≡ other) × Saves outcome.saved made made' × Appends text text' outcome.text
+
+-- What sinks hold that tell, after the run, that they stored everything: if the status is the one of an outcome that was due, its set and its text.
+abbrev pub Holds : (Outcome → Type 0) → Option Images → Option Images → Option (List ℕ) → Option (List ℕ) → Status → Type 0
+Holds due kept kept' text text' status.ReadFault = ⊤
+Holds due kept kept' text text' status.WriteFault = ⊤
+Holds due kept kept' text text' status.OutOfMemory = ⊤
+Holds due kept kept' text text' other =
+    (outcome : Outcome) × due outcome × (status_of outcome.ending ≡ other) × Stores outcome.saved kept kept' × StillTells text text' (λ was now. now ≡ was ++ outcome.text)

@@ -18,7 +18,8 @@ pub fn status_is_due<C: Chooser>(choose: &C)
 
 /// A law: a set that `init` saves, cut or not, is the one that was loaded but for the label area that it
 /// names; and that area has no index block until the steps of the first block are made, and is an empty one
-/// from then on; if one step alone is missing the chooser says which.
+/// from then on. Each of both blocks can be read once its steps are made, and not before; if one step alone is missing
+/// the chooser says which.
 #[tactic(auto, using(crate::proofs::InitLeaves::init_leaves))]
 pub fn init_leaves_whole<C: Chooser>(choose: &C)
     ensures { InitLeavesWhole C.begins C.picks choose.now }

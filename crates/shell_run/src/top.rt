@@ -2,7 +2,7 @@ ghost use Rattle.std.specs.Prelude.{◌≡◌, ◌≢◌, ◌⊎◌, ◌++◌, �
 ghost use Rattle.std.specs.Option.{ForSome};
 ghost use Rattle.std.specs.Io.KnownBytes.{Appends};
 ghost use Rattle.nvd_media.specs.Causes.{Rose};
-ghost use Rattle.nvd_media.specs.Images.{Images, Becomes, IsEmptySet, IsUnfinished};
+ghost use Rattle.nvd_media.specs.Images.{Images, Becomes, IsEmptySet, IsUnfinished, Keeps};
 ghost use Rattle.image_set.specs.Load.{image_set_in};
 ghost use Rattle.image_set.specs.Outline.{IsOutlined, image_set_with};
 ghost use Rattle.image_set.specs.Sound.{IsSound};
@@ -15,8 +15,8 @@ ghost use Rattle.shell_reports.specs.Saved.{Saves};
 ghost use Rattle.shell_reports.specs.Sectors.{info_outcome, read_outcome};
 ghost use Rattle.shell_changes.specs.Answers.{ComesFrom, HasSizes, outcome_with, whole_outcome};
 ghost use Rattle.shell_changes.specs.Remains.{LeavesBy};
-ghost use Rattle.shell_changes.specs.Saved.{AreSaved, HasContentsOf, copies_contents};
-ghost use Rattle.shell_run.specs.Run.{ComesTold, Ends, AppendsPart, IsDue, LeavesScript, LoadedComes, copies, copies_by, needs_contents, reads_script};
+ghost use Rattle.shell_changes.specs.Saved.{AreSaved, HasContentsOf, Stores, copies_contents};
+ghost use Rattle.shell_run.specs.Run.{ComesTold, Ends, AppendsPart, Holds, IsDue, LeavesScript, LoadedComes, copies, copies_by, needs_contents, reads_script};
 ghost use Rattle.shell_run.specs.Words.{GivesGoodName};
 
 use crate::words::{Command, command_from};
@@ -312,7 +312,7 @@ fn save_if<S: ImageSource, K: ImageSink>(
 ) -> Result<(), CopyFault>
     requires empty { ForSome (K.made out.old) IsEmptySet }
     requires there { HasContentsOf (S.held images.old) saved }
-    ensures saved { OnOk result ((set : Option Images) × AreSaved (S.held images.old) saved set × Saves set (K.made out.old) (K.made out.new)) }
+    ensures saved { OnOk result ((set : Option Images) × AreSaved (S.held images.old) saved set × Saves set (K.made out.old) (K.made out.new) × Stores set (K.kept out.old) (K.kept out.new)) }
     ensures unread { result ≡ Err CopyFault.ReadFault → IsTrue (copies_contents saved) × Becomes (K.made out.old) (K.made out.new) IsUnfinished }
     ensures unwritten { result ≡ Err CopyFault.WriteFault → IsSome saved × Becomes (K.made out.old) (K.made out.new) IsUnfinished }
     ensures memory { result ≡ Err CopyFault.OutOfMemory → K.made out.new ≡ K.made out.old }
@@ -329,6 +329,7 @@ fn save_if<S: ImageSource, K: ImageSink>(
 /// Prints the text of an answer whose image set, if it has one, is saved.
 fn printed<O: TextSink>(ending: Ending, bytes: &[u8], text: &mut O) -> Status
     ensures all { result ≡ status_of ending → Appends (O.written text.old) (O.written text.new) bytes.now }
+    ensures stored { result ≡ status_of ending → Keeps (O.kept text.old) (O.kept text.new) (λ was now. now ≡ was ++ bytes.now) }
     ensures part { result ≢ status_of ending → (result ≡ Status.WriteFault) × AppendsPart (O.written text.old) (O.written text.new) bytes.now }
     ensures failed { result ≡ Status.WriteFault → Rose (O.faults text.old) (O.faults text.new) }
 {
@@ -366,6 +367,7 @@ fn conclude<S: ImageSource, K: ImageSink, O: TextSink>(
     requires empty { ForSome (K.made out.old) IsEmptySet }
     requires there { HasContentsOf (S.held images.old) answer.saved }
     ensures ends { Ends (Rose (S.faults images.old) (S.faults images.new)) (copies_contents answer.saved) (ComesFrom (S.held images.old) answer) (K.made out.old) (K.made out.new) (O.written text.old) (O.written text.new) result }
+    ensures stored { Holds (ComesFrom (S.held images.old) answer) (K.kept out.old) (K.kept out.new) (O.kept text.old) (O.kept text.new) result }
     ensures read { result ≡ Status.ReadFault → Rose (S.faults images.old) (S.faults images.new) }
     ensures failed { result ≡ Status.WriteFault → Rose (K.faults out.old) (K.faults out.new) ⊎ Rose (O.faults text.old) (O.faults text.new) }
     ensures same { S.held images.new ≡ S.held images.old }
@@ -393,6 +395,7 @@ fn conclude<S: ImageSource, K: ImageSink, O: TextSink>(
 ///   `read fault`, and nothing was written; or a set that isn't finished, of a command that copies contents as it saves
 ///   (`copies`). After 6 the set isn't finished, or the text stopped before its end. 7 means out of memory, may always come,
 ///   and prints nothing. If power is cut, the chooser is begun once and picks what survives.
+/// - `stored`: after 0, 2, 3, 4 and 8, sinks that tell that they stored everything hold the set and the text that are due.
 /// - `read_fault`, `write_fault`: 5 comes only if the count of faults of the images rose in this call, 6 only if that of
 ///   `out` or of the text did.
 /// - `kept`, `unread`: the images are never written. A script that the command doesn't read is left as it was.
@@ -419,6 +422,7 @@ pub fn run<
     requires { ForSome (K.made out.old) IsEmptySet }
     ensures ends { Ends (Rose (S.faults images.old) (S.faults images.new)) (copies_by (map string_bytes words.now)) (IsDue (LeavesBy C.begins C.picks choose.old) (map string_bytes words.now) (S.held images.old) (T.left script.old))
         (K.made out.old) (K.made out.new) (O.written text.old) (O.written text.new) result }
+    ensures stored { Holds (IsDue (LeavesBy C.begins C.picks choose.old) (map string_bytes words.now) (S.held images.old) (T.left script.old)) (K.kept out.old) (K.kept out.new) (O.kept text.old) (O.kept text.new) result }
     ensures read_fault { result ≡ Status.ReadFault → Rose (S.faults images.old) (S.faults images.new) }
     ensures write_fault { result ≡ Status.WriteFault → Rose (K.faults out.old) (K.faults out.new) ⊎ Rose (O.faults text.old) (O.faults text.new) }
     ensures kept { S.held images.new ≡ S.held images.old }

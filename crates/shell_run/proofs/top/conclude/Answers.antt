@@ -1,11 +1,12 @@
-use Rattle.std.proofs.Common.{◌≡◌, ℕ, List, Err, refl, subst, inl}
+use Rattle.std.proofs.Common.{◌≡◌, ◌++◌, ℕ, List, Err, refl, subst, inl}
 use Rattle.std.specs.Io.KnownBytes.{Appends}
 use Rattle.nvd_media.specs.Causes.{Rose}
+use Rattle.nvd_media.specs.Images.{Keeps}
 use Rattle.image_set.specs.declared.fault.CopyFault.{CopyFault}
 use Rattle.shell_changes.specs.Answers.{ComesFrom}
 use Rattle.shell_changes.specs.Saved.{copies_contents}
 use Rattle.shell_run.specs.Run.{AppendsPart}
-use Rattle.shell_run.proofs.Ending.{ends_printed, ends_unread, keeps_here}
+use Rattle.shell_run.proofs.Ending.{ends_printed, ends_unread, holds_printed, keeps_here}
 use Rattle.shell_run.proofs.Comes.{some_copied, some_due}
 use Rattle.shell_run.proofs.top.conclude.Goals as goal
 
@@ -36,3 +37,15 @@ returns-in-Err-WriteFault-clause-ends g c =
     let unwritten = c.save_if.ensures.unwritten (subst (λ (fault : CopyFault). c.save_if.result ≡ Err fault) c.in-Err-WriteFault.field-0-is c.in-Err-WriteFault.is) in
     let due = some_due (g.S.ImageSource.held c.args.images.now) c.args.answer unwritten.0 in
     inl (due.0, due.1, due.2, unwritten.1, keeps_here (g.O.TextSink.written c.args.text.now))
+
+pub returns-in-Ok-clause-stored : goal.returns-in-Ok-clause-stored
+returns-in-Ok-clause-stored g c =
+    let held = g.S.ImageSource.held c.args.images.now in
+    let before = g.O.TextSink.kept c.args.text.now in
+    let after = g.O.TextSink.kept c.printed.new.text in
+    let answer = c.args.answer in
+    let saved = c.in-Ok.ensures.saved in
+    let bytes = c.deref.ensures.value in
+    holds_printed (ComesFrom held answer) (g.K.ImageSink.kept c.args.out.now) (g.K.ImageSink.kept c.save_if.new.out) before after
+    (record { ending = answer.report.ending; text = answer.report.text.items; saved = saved.0 }) (record { ends = refl; says = refl; saves = saved.1 }) saved.3 c.printed.result
+    (λ same. subst (λ (xs : List ℕ). Keeps before after (λ was now. now ≡ was ++ xs)) bytes (c.printed.ensures.stored same)) (λ other. (c.printed.ensures.part other).0)

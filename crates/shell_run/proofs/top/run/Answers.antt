@@ -1,4 +1,4 @@
-use Rattle.std.proofs.Common.{Option, Err, sym, ap, ◌∙◌, subst, arith}
+use Rattle.std.proofs.Common.{Option, Err, inl, inr, sym, ap, ◌∙◌, subst, arith}
 use Rattle.std.specs.Prelude.{map, string_bytes}
 use Rattle.nvd_media.specs.Images.{Images}
 use Rattle.nvd_media.specs.Causes.{Rose}
@@ -6,8 +6,8 @@ use Rattle.shell_reports.specs.declared.status.Stop.{Stop}
 use Rattle.shell_changes.specs.Answers.{ComesFrom}
 use Rattle.shell_changes.specs.Remains.{LeavesBy}
 use Rattle.shell_changes.specs.Saved.{HasContentsOf, copies_contents}
-use Rattle.shell_run.specs.Run.{Ends, IsDue, copies_by}
-use Rattle.shell_run.proofs.Ending.{ends_more, ends_stopped}
+use Rattle.shell_run.specs.Run.{Ends, Holds, IsDue, copies_by}
+use Rattle.shell_run.proofs.Ending.{ends_more, ends_stopped, holds_more, holds_stopped}
 use Rattle.shell_run.proofs.top.run.Goals as goal
 
 pub conclude-requires-clause-there : goal.conclude-requires-clause-there
@@ -35,6 +35,24 @@ returns-in-Err-clause-ends g c =
     let words = map string_bytes c.args.words.now in
     ends_stopped (Rose (g.S.ImageSource.faults c.args.images.now) (g.S.ImageSource.faults c.answer_to.new.images)) (copies_by words) (IsDue (LeavesBy g.C.Chooser.begins g.C.Chooser.picks c.args.choose.now) words (g.S.ImageSource.held c.args.images.now) (g.T.TextSource.left c.args.script.now))
     (g.K.ImageSink.made c.args.out.now) (g.O.TextSink.written c.args.text.now) (g.O.TextSink.written c.stopped.new.text) c.stopped.result c.in-Err.stop (λ is. c.answer_to.ensures.failed (c.in-Err.is ∙ ap (λ (s : Stop). Err s) is)) c.stopped.ensures.memory c.stopped.ensures.read
+
+pub returns-in-Ok-clause-stored : goal.returns-in-Ok-clause-stored
+returns-in-Ok-clause-stored g c =
+    let held = g.S.ImageSource.held c.args.images.now in
+    let answer = c.in-Ok.answer in
+    let due = IsDue (LeavesBy g.C.Chooser.begins g.C.Chooser.picks c.args.choose.now) (map string_bytes c.args.words.now) held (g.T.TextSource.left c.args.script.now) in
+    let kept = g.K.ImageSink.kept c.args.out.now in
+    let kept' = g.K.ImageSink.kept c.conclude.new.out in
+    let text = g.O.TextSink.kept c.args.text.now in
+    let text' = g.O.TextSink.kept c.conclude.new.text in
+    holds_more (ComesFrom held answer) due kept kept' text text' c.conclude.result c.in-Ok.ensures.due
+    (subst (λ (h : Option Images). Holds (ComesFrom h answer) kept kept' text text' c.conclude.result) c.answer_to.ensures.same c.conclude.ensures.stored)
+
+pub returns-in-Err-clause-stored : goal.returns-in-Err-clause-stored
+returns-in-Err-clause-stored g c =
+    holds_stopped (IsDue (LeavesBy g.C.Chooser.begins g.C.Chooser.picks c.args.choose.now) (map string_bytes c.args.words.now) (g.S.ImageSource.held c.args.images.now) (g.T.TextSource.left c.args.script.now))
+    (g.K.ImageSink.kept c.args.out.now) (g.K.ImageSink.kept c.args.out.now) (g.O.TextSink.kept c.args.text.now) (g.O.TextSink.kept c.stopped.new.text) c.stopped.result c.in-Err.stop
+    (λ is. (c.stopped.ensures.memory is).0) (λ is. elim (c.stopped.ensures.read is) [ inl w ↦ inl w.0 | inr r ↦ inr r.0 ])
 
 pub returns-in-Ok-clause-read_fault : goal.returns-in-Ok-clause-read_fault
 returns-in-Ok-clause-read_fault g c = λ is.
