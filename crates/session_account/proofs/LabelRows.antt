@@ -1,0 +1,96 @@
+-- Worked rows, computed: journals on two modules of 32 MiB with label areas of 1,024 bytes, on which one namespace was made.
+use Rattle.std.proofs.Common.{◌≡◌, inl, inr, ℕ, List, [], ◌∷◌, Option, Some, None, true, false, Ok, Err, codes, replicate, refl, ap}
+use Rattle.std.specs.Prelude.{is_ok}
+use Rattle.nvd_words.specs.Checks.{first_fault, checked}
+use Rattle.nfit_reader.specs.declared.table.Mapping.{Mapping}
+use Rattle.label_set.specs.Status.{status_of}
+use Rattle.namespace_map.specs.Namespaces.{put_all, put}
+use Rattle.namespace_map.specs.declared.commands.Make.TheVariants as make
+use Rattle.namespace_map.specs.declared.commands.Named.TheVariants as named
+use Rattle.namespace_map.specs.declared.commands.Command.{Command}
+use Rattle.namespace_map.specs.declared.commands.Command.TheVariants as command
+use Rattle.namespace_map.specs.declared.refused.OpRefused.TheVariants.{PowerCut, Busy, NoSuch}
+use Rattle.namespace_map.specs.Areas.{Area, steps_of_all, after_steps, all_changed}
+use Rattle.namespace_map.specs.Commands.{taken_from, given_to, unfinished_gone}
+use Rattle.namespace_map.specs.Changes.{namespaces_of, changes_of, by_position, by_position_with}
+use Rattle.namespace_ops.specs.Replay.{Kept}
+use Rattle.session_script.specs.declared.script.Line.TheVariants as line
+use Rattle.session_script.specs.declared.script.Order.TheVariants as order
+use Rattle.session_account.specs.declared.reply.Reply.TheVariants as reply
+use Rattle.session_account.specs.Orders.{entry, InJournal}
+use Rattle.session_account.specs.Journal.{IsJournal, AreLeft}
+
+abbrev pair_mapping : ℕ → ℕ → ℕ → Mapping
+pair_mapping number offset serial = record {
+  «module» = number;
+  size = 33554432;
+  offset = offset;
+  start = 0;
+  ways = 2;
+  lines = Some (record { size = 4096; offsets = 0 ∷ [] });
+  identity = record { vendor = 0x1234; date = 0; location = 0; serial = serial };
+}
+
+abbrev sets : List (List Mapping)
+sets = (pair_mapping 0 0 1 ∷ pair_mapping 1 4096 2 ∷ []) ∷ []
+
+abbrev empty_area : Option Area
+empty_area = Some (record { block = 256; slots = None ∷ None ∷ [] })
+
+abbrev fresh : List (Option Area)
+fresh = empty_area ∷ empty_area ∷ []
+
+abbrev u : List ℕ
+u = replicate 16 0x11
+
+abbrev made : List (Option Area)
+made = all_changed fresh (changes_of (namespaces_of sets fresh) fresh (command.Create (record { uuid = u; name = named.Good (codes "a"); region = 0; size = 33554432; make = make.Sector 512 256 })))
+
+-- none is claimed
+abbrev opening_of : List (Option Area) → Kept
+opening_of areas = record { areas = areas; claims = [] }
+
+abbrev rename_b : Command
+rename_b = command.Rename u (named.Good (codes "b"))
+
+-- power lasts for no step: a rename is cut, and nothing has changed
+pub rename_off : IsJournal sets (opening_of made) (Some 0) (entry 0 0 rename_b (Err PowerCut) ∷ [])
+unfolding IsJournal steps_of_all all_changed put_all put status_of first_fault checked by_position by_position_with taken_from given_to unfinished_gone
+rename_off = (refl, tt)
+
+pub rename_left : AreLeft sets (opening_of made) (Some 0) (entry 0 0 rename_b (Err PowerCut) ∷ []) made
+unfolding AreLeft after_steps steps_of_all all_changed put_all put status_of first_fault checked by_position by_position_with taken_from given_to unfinished_gone
+rename_left = (0, refl, inl refl)
+
+-- it isn't answered as done
+pub rename_not_done : IsJournal sets (opening_of made) (Some 0) (entry 0 0 rename_b (Ok tt) ∷ []) → ⊥
+unfolding IsJournal steps_of_all all_changed put_all put status_of first_fault checked by_position by_position_with taken_from given_to unfinished_gone
+rename_not_done h = let e : true ≡ false = ap is_ok h.0 in absurd (cc)
+
+-- without such a line it isn't answered as cut
+pub rename_not_cut : IsJournal sets (opening_of made) None (entry 0 0 rename_b (Err PowerCut) ∷ []) → ⊥
+unfolding IsJournal steps_of_all all_changed put_all put status_of first_fault checked by_position by_position_with taken_from given_to unfinished_gone
+rename_not_cut h = let e : false ≡ true = ap is_ok h.0 in absurd (cc)
+
+-- a claim takes no step; a rename on two modules takes 520, and 519 are too few
+pub one_short : IsJournal sets (opening_of made) (Some 519) (entry 0 0 (command.Claim u) (Ok tt) ∷ entry 1 0 rename_b (Err PowerCut) ∷ entry 0 1 (command.Unclaim u) (Err PowerCut) ∷ [])
+unfolding IsJournal steps_of_all all_changed put_all put status_of first_fault checked by_position by_position_with taken_from given_to unfinished_gone
+one_short = (refl, (refl, (refl, tt)))
+
+pub enough : IsJournal sets (opening_of made) (Some 520) (entry 0 0 (command.Claim u) (Ok tt) ∷ entry 1 0 rename_b (Ok tt) ∷ entry 0 1 (command.Unclaim u) (Ok tt) ∷ [])
+unfolding IsJournal steps_of_all all_changed put_all put status_of first_fault checked by_position by_position_with taken_from given_to unfinished_gone
+enough = (refl, (refl, (refl, tt)))
+
+-- a namespace that is claimed isn't deleted; when it was given back it is
+pub busy : IsJournal sets (opening_of made) None (entry 0 0 (command.Claim u) (Ok tt) ∷ entry 1 0 (command.Delete u) (Err (Busy 1)) ∷ entry 0 1 (command.Unclaim u) (Ok tt) ∷ entry 1 1 (command.Delete u) (Ok tt) ∷ entry 0 2 (command.Claim u) (Err NoSuch) ∷ [])
+unfolding IsJournal steps_of_all all_changed put_all put status_of first_fault checked by_position by_position_with taken_from given_to unfinished_gone
+busy = (refl, (refl, (refl, (refl, (refl, tt)))))
+
+-- a delete isn't answered `Busy` where nobody has the namespace open
+pub not_busy : IsJournal sets (opening_of made) None (entry 1 0 (command.Delete u) (Err (Busy 0)) ∷ []) → ⊥
+unfolding IsJournal steps_of_all all_changed put_all put status_of first_fault checked by_position by_position_with taken_from given_to unfinished_gone
+not_busy h = let e : false ≡ true = ap is_ok h.0 in absurd (cc)
+
+-- the session that asked is answered `cut` alone, and its second call isn't made
+pub told_cut : InJournal 0 (line.Order (order.Rename u (codes "b")) ∷ line.Read 0 ∷ []) (reply.Cut ∷ []) (entry 0 0 rename_b (Err PowerCut) ∷ [])
+told_cut = record { last = entry 0 0 rename_b (Err PowerCut) ∷ []; entries = refl; is_last = inr refl }

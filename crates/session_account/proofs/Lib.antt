@@ -1,0 +1,14 @@
+pub mod Growing
+pub mod Following
+pub mod Going
+pub mod Calling
+pub mod Claims
+pub mod Keeping
+pub mod Opening
+pub mod Registering
+pub mod Claimable
+pub mod Surviving
+pub mod Values
+pub mod Rows
+pub mod LabelRows
+pub mod Wrong

@@ -1,0 +1,11 @@
+pub mod Survival
+pub mod Serving
+pub mod Made
+pub mod Orders
+pub mod Sectors
+pub mod Account
+pub mod Journal
+pub mod Registering
+pub mod Parts
+pub mod Going
+pub mod Claims

@@ -1,0 +1,20 @@
+-- What a power cut leaves of an arena's sectors, by the calls that were cut.
+use Rattle.std.specs.Prelude.{◌≡◌, ◌⊎◌, ℕ, ◌<◌, List, Any}
+use Rattle.arena_open.specs.declared.cell.Cell.{Cell}
+use Rattle.lane_core.specs.declared.history.Act.{Act}
+use Rattle.lane_core.specs.declared.history.Entry.{Entry}
+use Rattle.lane_core.specs.History.{Cells, end_of}
+use Rattle.lane_core.specs.Sessions.{MayLeave}
+
+-- a call on a sector that was cut, and what it would have done
+pub record Flight : Type 0 where
+  pub sector : ℕ
+  pub act : Act
+
+abbrev pub IsLeftBy : ℕ → Cell → Flight → Type 0
+IsLeftBy sector left flight = (flight.sector ≡ sector) × MayLeave flight.act left
+
+-- each of so many sectors has its cell at the history's end, or what one call in flight may leave
+abbrev pub Survives : Cells → List Entry → List Flight → ℕ → Cells → Type 0
+Survives first history flights count left =
+    (sector : ℕ) → sector < count → (left sector ≡ end_of first history sector) ⊎ Any (IsLeftBy sector (left sector)) flights
