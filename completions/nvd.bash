@@ -2,16 +2,22 @@
 # For each new shell: copy it to ~/.local/share/bash-completion/completions/nvd.
 #
 # It offers directories that have image sets for IN, `-` or a name for OUT, the commands, the options of the command that aren't
-# given yet, and what follows an option where that is a short list: a mode, a sector size, the modules of IN, a region. UUIDs come from the
-# labels of IN, by `nvd IN - list`, only where NVD_COMPLETE_UUIDS=1 is set and a proved build is there: that runs the program.
+# given yet, and what follows an option where that is a short list: a mode, a sector size, the modules of IN, a region. The commands and
+# their options come from `nvd --commands`. UUIDs come from the labels of IN, by `nvd IN - list`, only where NVD_COMPLETE_UUIDS=1 is set
+# and a proved build is there: that runs the program.
+
+# what a pattern and an action of awk print of the table of commands
+# shellcheck disable=SC2016  # $1 and $5 are awk's
+_nvd_table() {
+    "${COMP_WORDS[0]/#\~/$HOME}" --commands 2>/dev/null | awk '!/^#/ && '"$1"
+}
 
 # the options of a command that the line doesn't have yet
 _nvd_options() {
-    local options='' option
+    local options option
     case $1 in
-    create) options='--uuid --name --region --size --mode --sector --lanes --cut --evict' ;;
-    init | delete | rename) options='--cut --evict' ;;
     labels | nfit | list | free | info) options='--json' ;;
+    *) options=$(_nvd_table "\$1 == \"$1\" { print \$3 \",\" \$4 }" | tr , '\n' | sed '/^-$/d; s/^/--/') ;;
     esac
     for option in $options; do
         case " ${COMP_WORDS[*]:0:COMP_CWORD} " in
@@ -65,8 +71,7 @@ _nvd_words() {
 }
 
 _nvd() {
-    local commands='labels nfit list free init create delete rename info read sweep'
-    local current=${COMP_WORDS[COMP_CWORD]} before='' command=${COMP_WORDS[3]:-} set=${COMP_WORDS[1]:-}
+    local current=${COMP_WORDS[COMP_CWORD]} before='' command=${COMP_WORDS[3]:-} set=${COMP_WORDS[1]:-} places
     [ "$COMP_CWORD" -lt 1 ] || before=${COMP_WORDS[COMP_CWORD - 1]}
     # bash parts a word at `=`: `--mode=r` comes as three words
     if [ "$current" = = ]; then
@@ -84,7 +89,7 @@ _nvd() {
         ;;
     2)
         if [ "$set" = help ]; then
-            _nvd_words "$commands FAULTS OUTPUT FROM_NDCTL" "$current"
+            _nvd_words "$(_nvd_table '1 { print $1 }') free sweep FAULTS OUTPUT FROM_NDCTL" "$current"
         elif [ "$set" != demo ]; then
             _nvd_words - "$current"
             _nvd_directories "$current"
@@ -95,8 +100,8 @@ _nvd() {
     3)
         # a command that writes has an OUT, one that prints has `-`
         case ${COMP_WORDS[2]} in
-        -) _nvd_words 'labels nfit list free info read' "$current" ;;
-        *) _nvd_words 'init create delete rename' "$current" ;;
+        -) _nvd_words "$(_nvd_table '$5 == "no" { print $1 }') free" "$current" ;;
+        *) _nvd_words "$(_nvd_table '$5 == "yes" { print $1 }')" "$current" ;;
         esac
         return
         ;;
@@ -107,10 +112,11 @@ _nvd() {
     --sector) _nvd_words '512 520 528 4096 4104 4160 4224' "$current" ;;
     --uuid | --name | --size | --lanes | --cut | --evict) ;;
     *)
-        case $command,$(_nvd_place),$current in
+        places=$(_nvd_table "\$1 == \"$command\" { print \$2 }")
+        case ${places%%,*},$(_nvd_place),$current in
         *,*,-*) _nvd_words "$(_nvd_options "$command")" "$current" ;;
-        labels,0,* | init,0,*) _nvd_words "$(_nvd_modules "$set")" "$current" ;;
-        delete,0,* | rename,0,* | info,0,* | read,0,*) _nvd_words "$(_nvd_uuids "$set")" "$current" ;;
+        module,0,*) _nvd_words "$(_nvd_modules "$set")" "$current" ;;
+        uuid,0,*) _nvd_words "$(_nvd_uuids "$set")" "$current" ;;
         *) _nvd_words "$(_nvd_options "$command")" "$current" ;;
         esac
         ;;

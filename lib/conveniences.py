@@ -19,7 +19,7 @@ from faults import explained  # noqa: E402
 from space import free_of  # noqa: E402
 from sweep import Sweep, table  # noqa: E402
 from texts import NoLine, document_of, records_of  # noqa: E402
-from words import COMMANDS, completed, fault_of  # noqa: E402
+from words import COMMANDS, TABLE, completed, fault_of  # noqa: E402
 
 TOP = os.path.dirname(os.path.dirname(os.path.abspath(__file__)))
 NVD = os.path.join(TOP, "nvd")
@@ -83,8 +83,9 @@ def sweep(words):
     every = 0
     if words[:1] == ["--every"] and len(words) > 1 and words[1].isdigit():
         every, words = int(words[1]), words[2:]
-    if len(words) < 2 or words[1] not in ("init", "create", "delete", "rename"):
-        note("nvd sweep [--every K] IN COMMAND ..: COMMAND is init, create, delete or rename, without --cut and --evict")
+    cut = [it.name for it in TABLE.values() if "cut" in it.others]
+    if len(words) < 2 or words[1] not in cut:
+        note(f"nvd sweep [--every K] IN COMMAND ..: COMMAND is {', '.join(cut[:-1])} or {cut[-1]}, without --cut and --evict")
         return 2
     source, command = os.path.abspath(words[0]), words[1]
     rest = completed(command, words[2:], lambda it: records(source, it), lambda: str(uuid.uuid4()), note)

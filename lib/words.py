@@ -1,25 +1,24 @@
 """The words of a command line: which of them is wrong, and those that nvd adds or puts in another form."""
 import re
 
+from commands import commands
+
 UUID = re.compile(r"(?:urn:uuid:)?[0-9a-fA-F]{8}(?:-[0-9a-fA-F]{4}){3}-[0-9a-fA-F]{12}|\{[0-9a-fA-F]{8}(?:-[0-9a-fA-F]{4}){3}-[0-9a-fA-F]{12}\}|[0-9a-fA-F]{32}")
 UNITS = {"K": 1 << 10, "M": 1 << 20, "G": 1 << 30}
 MOST = (1 << 64) - 1
-CUT = {"--cut": ("a number", 0, MOST), "--evict": ("a number", 0, MOST)}
-# Each command: its places by name, and its options. A kind is "UUID", "text", or a number with its least and greatest value.
-COMMANDS = {
-    "labels": ([("MODULE", ("a number", 0, 63))], {}),
-    "nfit": ([], {}),
-    "list": ([], {}),
-    "init": ([("MODULE", ("a number", 0, 63))], CUT),
-    "create": ([], {
-        "--uuid": "UUID", "--name": "text", "--region": ("a number", 0, (1 << 32) - 1), "--size": ("a size", 0, MOST), "--mode": "mode",
-        "--sector": ("a number", 0, (1 << 32) - 1), "--lanes": ("a number", 1, 256), **CUT}),
-    "delete": ([("UUID", "UUID")], CUT),
-    "rename": ([("UUID", "UUID"), ("NAME", "text")], CUT),
-    "info": ([("UUID", "UUID")], {}),
-    "read": ([("UUID", "UUID"), ("SECTOR", ("a number", 0, MOST))], {}),
+# What the value of a place (in capitals) or an option is: "UUID", "text", or a number with its least and greatest value.
+KINDS = {
+    "MODULE": ("a number", 0, 63), "SECTOR": ("a number", 0, MOST), "UUID": "UUID",
+    "--uuid": "UUID", "--region": ("a number", 0, (1 << 32) - 1), "--size": ("a size", 0, MOST), "--mode": "mode",
+    "--sector": ("a number", 0, (1 << 32) - 1), "--lanes": ("a number", 1, 256), "--cut": ("a number", 0, MOST), "--evict": ("a number", 0, MOST),
 }
-NEEDED = ["--uuid", "--name", "--region", "--size", "--mode"]
+TABLE = commands()
+# each command: its places by name, and its options, with what their values are
+COMMANDS = {
+    it.name: ([(word.upper(), KINDS.get(word.upper(), "text")) for word in it.places],
+              {f"--{word}": KINDS.get(f"--{word}", "text") for word in it.needed + it.others})
+    for it in TABLE.values()
+}
 
 
 def is_uuid(text):
@@ -105,7 +104,7 @@ def fault_of(command, words):
         return fault
     names = [it[0] for it in got]
     places, _ = COMMANDS[command]
-    for name in [*(it[0] for it in places), *(NEEDED if command == "create" else [])]:
+    for name in [*(it[0] for it in places), *(f"--{it}" for it in TABLE[command].needed)]:
         if name not in names:
             return f"{name} is missing"
     return None

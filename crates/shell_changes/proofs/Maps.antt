@@ -1,9 +1,9 @@
 -- What the commands on namespaces make of the namespaces of an image set.
-use Rattle.std.proofs.Common.{◌≡◌, ◌⊎◌, ℕ, zero, suc, ◌+◌, ◌-◌, ◌<◌, ◌≤◌, Bool, true, false, cond, List, [], ◌∷◌, ◌++◌, map, take, Option, Some, None, Result, Ok, Err, refl, sym, ap, ◌∙◌, subst, inl, inr, arith}
+use Rattle.std.proofs.Common.{◌≡◌, ◌⊎◌, ℕ, zero, suc, ◌+◌, ◌-◌, ◌<◌, ◌≤◌, Bool, true, false, List, [], ◌∷◌, ◌++◌, map, take, Option, Some, None, Result, Ok, Err, refl, sym, ap, ◌∙◌, subst, inl, inr, arith}
 use Rattle.std.specs.Prelude.{MatchBool, nat_le, slice_get}
 use Rattle.std.specs.Option.{option_map}
 use Rattle.std.specs.Result.{result_ok}
-use Rattle.std.specs.List.{AllByRecursion, Contains, flat_map, list_any}
+use Rattle.std.specs.List.{AllByRecursion, Contains, flat_map}
 use Rattle.std.proofs.lemmas.Bool.{cases_lt, le-leb, leb-false, lt-leb, true≢false}
 use Rattle.std.proofs.lemmas.Option.{none-some}
 use Rattle.nvd_media.specs.Images.{Images}
@@ -27,13 +27,12 @@ use Rattle.namespace_map.specs.declared.refused.OpRefused.{OpRefused}
 use Rattle.namespace_map.specs.Namespaces.{Entry, Namespaces, Part, extent_of, lookup, placed_of}
 use Rattle.namespace_map.specs.Laws.{IsRising}
 use Rattle.namespace_map.specs.Areas.{Area, Change, IsLeftBy, after_steps, all_changed, slots_of, slots_on, steps_of_all}
-use Rattle.namespace_map.specs.Commands.{done, recovered, refusal_of, settled_entry, unfinished_gone}
+use Rattle.namespace_map.specs.Commands.{done, recovered, refusal_of}
 use Rattle.namespace_map.specs.Changes.{changes_of, gone_changes, labels_at, namespaces_of, placed_in_all, recovered_areas, recovery_changes, settling_changes}
 use Rattle.namespace_map.specs.Left.{AreRead, AreRegions}
 use Rattle.namespace_map.proofs.Fronts.{cut_is_front}
 use Rattle.namespace_map.proofs.Rising.{rising_entries}
 use Rattle.namespace_laws.specs.Apart.{EntriesApart, KeepsApart, LeavesOthers as KeepsOthers}
-use Rattle.namespace_laws.specs.Recovered.{RecoversToEither}
 use Rattle.namespace_laws.specs.Whole.{Agrees}
 use Rattle.namespace_laws.proofs.Allowed.{area_free}
 use Rattle.namespace_laws.proofs.AgreesCreate.{create_agrees}
@@ -43,10 +42,8 @@ use Rattle.namespace_laws.proofs.DisjointEntry.{delete_apart, delete_others, ren
 use Rattle.namespace_laws.proofs.Fronts.{take_all}
 use Rattle.namespace_laws.proofs.Gone.{GoneAll, append_all, gone_all}
 use Rattle.namespace_laws.proofs.GoneLists.{PutsBytes, read_all}
-use Rattle.namespace_laws.proofs.Recovery.{goes, lookup_gone, lookup_settled}
 use Rattle.namespace_laws.proofs.RecoveryLaw.{recovery_agrees, self_found}
-use Rattle.namespace_laws.proofs.RecoversLaw.{create_recovers, delete_recovers, rename_recovers}
-use Rattle.namespace_laws.proofs.Refusals.{delete_agrees, delete_found, rename_agrees, rename_found}
+use Rattle.namespace_laws.proofs.Refusals.{delete_agrees, rename_agrees}
 use Rattle.namespace_laws.proofs.SettleAll.{SettledAll, settled_all}
 use Rattle.namespace_laws.proofs.TableRegions.{gives_regions}
 use Rattle.namespace_areas.specs.Seen.{areas_shown}
@@ -63,13 +60,14 @@ use Rattle.shell_reports.specs.List.{shown_by}
 use Rattle.shell_reports.specs.Outcome.{Outcome}
 use Rattle.shell_reports.specs.Saved.{IsSaving}
 use Rattle.shell_changes.specs.Areas.{HasAreas, HasRows, area_by, area_in, areas_in, rows_in}
-use Rattle.shell_changes.specs.Maps.{AcceptedIsApart, ChangesKeepApart, ChangesLabels, CrashIsInEither, CrashLeavesOthers, CrashRecovers, IsCutIn, IsSettled, ReportsShowTheMap, CutInCommand, CutInFormat, CutInRecovery, DoneIsTheCommand, HasTable, LeavesOthers, SavesMap, map_of, uuid_of, with_bytes}
+use Rattle.shell_changes.specs.Maps.{AcceptedIsApart, ChangesKeepApart, ChangesLabels, CrashIsInEither, CrashLeavesOthers, CrashRecovers, IsCutIn, IsLeftOf, OwnIsLeft, ReportsShowTheMap, CutInCommand, CutInFormat, CutInRecovery, DoneIsTheCommand, HasTable, SavesMap, map_of, uuid_of, with_bytes}
 use Rattle.shell_changes.specs.Namespaces.{Ends, IsCut, IsDone, OnSets, refusal_in, sets_in, work_by, work_in}
 use Rattle.namespace_ops.specs.Counted.{makes_sectors}
 use Rattle.shell_changes.specs.Work.{Arena, Formats, Work, arena_of, begun, count_of, label_changes, label_steps, steps_of_work}
 use Rattle.shell_changes.specs.Refusals.{refused_outcome}
 use Rattle.shell_changes.proofs.Apart.{labels_apart}
-use Rattle.shell_changes.proofs.RecoveryApart.{extents_kept, stopped_apart}
+use Rattle.shell_changes.proofs.Own.{found_before, own_left, to_either}
+use Rattle.shell_changes.proofs.RecoveryApart.{stopped_apart}
 use Rattle.shell_changes.proofs.Areas.{rows_shown}
 use Rattle.shell_changes.proofs.Behind.{after_none, append_nil, format_left, label_long, label_short, none_left, rest_left, some_format, under_first, under_sum}
 use Rattle.shell_changes.proofs.Runs.{no_arena}
@@ -192,21 +190,13 @@ agreed sets areas (Unclaim uuid) changes regions read none = absurd changes
 -- ---- apart
 
 -- an entry after recovery has the parts that it had
-still_parts : (gone : Namespaces) (b : Bool) (o : Option Entry) (e : Entry) → option_map (settled_entry gone) (cond b None o) ≡ Some e → (x : Entry) × (o ≡ Some x) × (e.parts ≡ x.parts)
-still_parts gone true o e is = absurd (none-some e is)
-still_parts gone false None e is = absurd (none-some e is)
-still_parts gone false (Some x) e is = let same : settled_entry gone x ≡ e = cc in (x, refl, ap (λ (y : Entry). y.parts) (sym same))
-
-found_before : (ns : Namespaces) (u : List ℕ) (e : Entry) → lookup u (recovered ns).entries ≡ Some e → (x : Entry) × (lookup u ns.entries ≡ Some x) × (e.parts ≡ x.parts)
-found_before ns u e is =
-    let gone = unfinished_gone ns ns.entries in
-    still_parts gone (list_any (goes u) ns.entries) (lookup u ns.entries) e
-    (sym (lookup_settled gone gone.entries u ∙ ap (option_map (settled_entry gone)) (lookup_gone ns.entries ns u)) ∙ is)
+parts_before : (ns : Namespaces) (u : List ℕ) (e : Entry) → lookup u (recovered ns).entries ≡ Some e → (x : Entry) × (lookup u ns.entries ≡ Some x) × (e.parts ≡ x.parts)
+parts_before ns u e is = let (x, was, settled) = found_before ns u e is in (x, was, ap (λ (y : Entry). y.parts) (sym settled))
 
 recovered_apart : (ns : Namespaces) → EntriesApart ns → EntriesApart (recovered ns)
 recovered_apart ns before u v e f differ at_u at_v a b in_e in_f =
-    let (x, x_is, x_parts) = found_before ns u e at_u in
-    let (y, y_is, y_parts) = found_before ns v f at_v in
+    let (x, x_is, x_parts) = parts_before ns u e at_u in
+    let (y, y_is, y_parts) = parts_before ns v f at_v in
     before u v x y differ x_is y_is a b (subst (λ (ps : List Part). Contains ps a) x_parts in_e) (subst (λ (ps : List Part). Contains ps b) y_parts in_f)
 
 leaves_others : (sets : List (List Mapping)) (areas : List (Option Area)) (c : Command) → ChangesLabels c → AreRegions sets → AreRead areas → refusal_of (namespaces_of sets areas) c ≡ None → KeepsOthers sets areas (uuid_of c) c
@@ -261,18 +251,6 @@ recovers_once : (sets : List (List Mapping)) (areas : List (Option Area)) → Ar
 recovers_once sets areas regions read =
     ap recovered (sym (recovery_agrees sets areas regions read) ∙ ap (namespaces_of sets) (sym (after_whole (recovery_changes sets areas) areas)))
     ∙ cut_recovers sets areas regions read (steps_of_all areas (recovery_changes sets areas)) true
-
-to_either : (sets : List (List Mapping)) (areas : List (Option Area)) (c : Command) → ChangesLabels c → AreRegions sets → AreRead areas → IsSettled (namespaces_of sets areas) c
-    → refusal_of (namespaces_of sets areas) c ≡ None → RecoversToEither sets areas c
-to_either sets areas (Create spec) changes regions read settled none = create_recovers sets areas spec.uuid spec.name spec.region spec.size spec.make regions none
-to_either sets areas (Delete uuid) changes regions read settled none =
-    let f = delete_found sets areas uuid none in
-    delete_recovers sets areas uuid f.entry regions read f.is (settled f.entry f.is) none
-to_either sets areas (Rename uuid name) changes regions read settled none =
-    let f = rename_found sets areas uuid name none in
-    rename_recovers sets areas uuid f.entry regions read f.is (settled f.entry f.is) name none
-to_either sets areas (Claim uuid) changes regions read settled none = absurd changes
-to_either sets areas (Unclaim uuid) changes regions read settled none = absurd changes
 
 -- ---- a set that is saved
 
@@ -484,66 +462,63 @@ module _ (leaves : ℕ → List (Option Words) → List (Option (List ℕ)) → 
   abbrev Recovers : Type 0
   Recovers = (ns : Namespaces) × SavesMap sets loaded (makes_sectors c) ns outcome × ((recovered ns ≡ recovered (map_of sets loaded)) ⊎ (recovered ns ≡ recovered (done (recovered (map_of sets loaded)) c)))
 
-  recovers_by : (n : ℕ) → ChangesLabels c → HasTable loaded → sets_in loaded ≡ Ok sets → IsSettled (recovered (map_of sets loaded)) c → IsCutIn sets loaded c n outcome → Recovers
-  recovers_by n changes table are settled (inl (lt, (stays, saves))) = (
+  recovers_by : (n : ℕ) → ChangesLabels c → HasTable loaded → sets_in loaded ≡ Ok sets → IsCutIn sets loaded c n outcome → Recovers
+  recovers_by n changes table are (inl (lt, (stays, saves))) = (
     namespaces_of sets (after_steps seen recovery n stays),
     any_contents (makes_sectors c) (namespaces_of sets (after_steps seen recovery n stays)) saves,
     inl (cut_recovers sets seen (regions_of loaded sets table are) (areas_read loaded.labels) n stays),
   )
-  recovers_by n changes table are settled (inr (inl (le, lt, none, saves))) =
+  recovers_by n changes table are (inr (inl (le, lt, none, saves))) =
       let regions = regions_of loaded sets table are in
       let read : AreRead seen = areas_read loaded.labels in (
         namespaces_of sets mid,
         subst (λ (b : Bool). SavesMap sets loaded b (namespaces_of sets mid) outcome) (sym (formats_sectors (some_format early format n le lt))) saves,
         inl (ap recovered (recovery_agrees sets seen regions read) ∙ recovers_once sets seen regions read),
       )
-  recovers_by n changes table are settled (inr (inr (far, none, (stays, saves)))) =
+  recovers_by n changes table are (inr (inr (far, none, (stays, saves)))) =
       let regions = regions_of loaded sets table are in
       let read : AreRead seen = areas_read loaded.labels in
       let map_is : namespaces_of sets mid ≡ recovered (map_of sets loaded) = recovery_agrees sets seen regions read in
-      let settled_mid : IsSettled (namespaces_of sets mid) c = subst (λ (ns : Namespaces). IsSettled ns c) (sym map_is) settled in
       let rest : ℕ = n - early - format in (
         namespaces_of sets (after_steps mid own rest stays),
         saves,
-        elim (to_either sets mid c changes regions (recovered_read sets seen regions read) settled_mid none rest stays) [
+        elim (to_either sets seen mid regions (recovered_read sets seen regions read) map_is c changes none rest stays) [
           | inl before ↦ inl (before ∙ ap recovered map_is ∙ recovers_once sets seen regions read)
           | inr after ↦ inr (after ∙ ap (λ (ns : Namespaces). recovered (done ns c)) map_is)
         ],
       )
 
-  -- ---- other namespaces
+  -- ---- the namespaces one by one
 
-  abbrev LeavesOthersAs : Type 0
-  LeavesOthersAs = (ns : Namespaces) × SavesMap sets loaded (makes_sectors c) ns outcome × LeavesOthers (recovered (map_of sets loaded)) ns c
+  abbrev LeavesAll : Type 0
+  LeavesAll = (ns : Namespaces) × SavesMap sets loaded (makes_sectors c) ns outcome × IsLeftOf (recovered (map_of sets loaded)) ns c
 
-  others_by : (n : ℕ) → ChangesLabels c → HasTable loaded → sets_in loaded ≡ Ok sets → early ≤ n → IsCutIn sets loaded c n outcome → LeavesOthersAs
-  others_by n changes table are le (inl (lt, saves)) = absurd (never n early lt le)
-  others_by n changes table are le (inr (inl (le', lt, none, saves))) =
-      let map_is : namespaces_of sets mid ≡ recovered (map_of sets loaded) = recovery_agrees sets seen (regions_of loaded sets table are) (areas_read loaded.labels) in (
-        namespaces_of sets mid,
-        subst (λ (b : Bool). SavesMap sets loaded b (namespaces_of sets mid) outcome) (sym (formats_sectors (some_format early format n le' lt))) saves,
-        record {
-          others = λ other ne. ap (λ (ns : Namespaces). lookup other ns.entries) map_is;
-          apart = subst EntriesApart (sym map_is) (recovered_apart (map_of sets loaded) (accepted_apart loaded sets are));
-          own = λ existing x is. (x, sym (ap (λ (ns : Namespaces). lookup (uuid_of c) ns.entries) map_is) ∙ is, λ a in_x. (a, in_x, refl));
-        },
-      )
-  others_by n changes table are le (inr (inr (far, none, (stays, saves)))) =
+  left_by : ChangesLabels c → HasTable loaded → sets_in loaded ≡ Ok sets → refusal_in sets seen c ≡ None → (k : ℕ) (stays : Bool) → IsLeftOf (recovered (map_of sets loaded)) (namespaces_of sets (after_steps mid own k stays)) c
+  left_by changes table are none k stays =
       let regions = regions_of loaded sets table are in
       let read : AreRead seen = areas_read loaded.labels in
       let read_mid : AreRead mid = recovered_read sets seen regions read in
       let map_is : namespaces_of sets mid ≡ recovered (map_of sets loaded) = recovery_agrees sets seen regions read in
-      let apart : EntriesApart (namespaces_of sets mid) = subst EntriesApart (sym map_is) (recovered_apart (map_of sets loaded) (accepted_apart loaded sets are)) in (
-        namespaces_of sets (after_steps mid own (n - early - format) stays),
-        saves,
-        record {
-          others = λ other ne. leaves_others sets mid c changes regions read_mid none (n - early - format) stays other ne ∙ ap (λ (ns : Namespaces). lookup other ns.entries) map_is;
-          apart = keeps sets mid c changes regions read_mid none apart (n - early - format) stays;
-          own = λ existing x is.
-              let it = extents_kept sets mid c (n - early - format) stays existing x is in
-              (it.0, sym (ap (λ (ns : Namespaces). lookup (uuid_of c) ns.entries) map_is) ∙ it.1, it.2);
-        },
-      )
+      let apart : EntriesApart (namespaces_of sets mid) = subst EntriesApart (sym map_is) (recovered_apart (map_of sets loaded) (accepted_apart loaded sets are)) in
+      record {
+        others = λ other ne. leaves_others sets mid c changes regions read_mid none k stays other ne ∙ ap (λ (ns : Namespaces). lookup other ns.entries) map_is;
+        apart = keeps sets mid c changes regions read_mid none apart k stays;
+        own = subst (λ (ns : Namespaces). OwnIsLeft ns c (lookup (uuid_of c) (namespaces_of sets (after_steps mid own k stays)).entries)) map_is
+            (own_left sets seen mid regions read_mid map_is c changes none k stays);
+      }
+
+  others_by : (n : ℕ) → ChangesLabels c → HasTable loaded → sets_in loaded ≡ Ok sets → early ≤ n → IsCutIn sets loaded c n outcome → LeavesAll
+  others_by n changes table are le (inl (lt, saves)) = absurd (never n early lt le)
+  others_by n changes table are le (inr (inl (le', lt, none, saves))) = (
+    namespaces_of sets mid,
+    subst (λ (b : Bool). SavesMap sets loaded b (namespaces_of sets mid) outcome) (sym (formats_sectors (some_format early format n le' lt))) saves,
+    subst (λ (areas : List (Option Area)). IsLeftOf (recovered (map_of sets loaded)) (namespaces_of sets areas) c) (after_none own mid 0 true refl) (left_by changes table are none 0 true),
+  )
+  others_by n changes table are le (inr (inr (far, none, (stays, saves)))) = (
+    namespaces_of sets (after_steps mid own (n - early - format) stays),
+    saves,
+    left_by changes table are none (n - early - format) stays,
+  )
 
 pub done_is : (leaves : ℕ → List (Option Words) → List (Option (List ℕ)) → Type 0) → DoneIsTheCommand leaves
 done_is leaves c power loaded sets outcome changes table are comes ended =
@@ -560,7 +535,7 @@ crash_leaves leaves c power loaded sets outcome n is changes table are comes end
     others_by leaves c power loaded sets outcome n changes table are le (crash_is leaves c power loaded sets outcome n is are comes ended)
 
 pub crash_recovers : (leaves : ℕ → List (Option Words) → List (Option (List ℕ)) → Type 0) → CrashRecovers leaves
-crash_recovers leaves c power loaded sets outcome changes table are settled comes ended =
+crash_recovers leaves c power loaded sets outcome changes table are comes ended =
     let (n, is) = cut_steps leaves c power loaded sets outcome ended (lasts power.steps (steps_of_work (areas_in loaded.labels) (work_in sets (areas_in loaded.labels) c)))
     (subst (λ (r : Result (List (List Mapping)) OpenFault). OnSets leaves loaded c power r outcome) are comes) in
-    recovers_by leaves c power loaded sets outcome n changes table are settled (crash_is leaves c power loaded sets outcome n is are comes ended)
+    recovers_by leaves c power loaded sets outcome n changes table are (crash_is leaves c power loaded sets outcome n is are comes ended)

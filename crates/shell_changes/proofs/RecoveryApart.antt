@@ -2,27 +2,21 @@
 use Rattle.std.proofs.Common.{◌≡◌, ◌⊎◌, inl, inr, ℕ, zero, suc, ◌+◌, ◌≤◌, Bool, true, false, cond, List, [], ◌∷◌, ◌++◌, length, map, take, filter, Option, Some, None, refl, sym, ap, ◌∙◌, subst, arith}
 use Rattle.std.proofs.Math.ListN.{set}
 use Rattle.std.specs.Prelude.{slice_get}
-use Rattle.std.specs.Option.{option_map}
-use Rattle.std.specs.Str.{bytes_eq}
-use Rattle.std.specs.List.{AllByRecursion, Contains, enumerate_from, filter_map, flat_map, position}
+use Rattle.std.specs.List.{AllByRecursion, enumerate_from, filter_map, flat_map, position}
 use Rattle.std.proofs.lemmas.Bool.{cases_eq, cases_lt}
 use Rattle.std.proofs.lemmas.Option.{none-some, same_Some}
-use Rattle.std.proofs.lemmas.Slice.Eq.{bytes_eq-Decides}
 use Rattle.label_codec.specs.declared.label.Label.{Label}
-use Rattle.label_codec.specs.Flags.{settled, updating}
+use Rattle.label_codec.specs.Flags.{settled}
 use Rattle.label_area.specs.Area.{SlotState, label_in}
 use Rattle.label_area.specs.Change.{without as without_slot}
 use Rattle.label_set.specs.declared.placed.Placed.{Placed}
 use Rattle.nfit_reader.specs.declared.table.Mapping.{Mapping}
 use Rattle.region_space.specs.declared.extent.Extent.{Extent}
 use Rattle.region_space.specs.Space.{clash, overlap_of}
-use Rattle.namespace_map.specs.Namespaces.{Entry, Part, entry_at, entry_with, extent_of, labels_with, lookup, part_of, placed_in, placed_on, uuid_of}
-use Rattle.namespace_map.specs.declared.commands.Command.{Command}
-use Rattle.namespace_map.specs.declared.commands.Command.TheVariants.{Claim, Create, Delete, Rename, Unclaim}
-use Rattle.namespace_map.proofs.Entries.{lookup_entries}
+use Rattle.namespace_map.specs.Namespaces.{Entry, extent_of, labels_with, placed_in, placed_on}
 use Rattle.namespace_map.specs.Areas.{Area, Change, after_steps, all_changed, changed, changed_slots, is_free, refilled, replaced, slot_of, slots_of, slots_on}
-use Rattle.namespace_map.specs.Changes.{by_position, change_to, changes_of, gone_changes, in_two, is_unsettled, labels_at, namespaces_of, own_labels, placed_in_all, recovery_changes, settling_changes, with_name}
-use Rattle.namespace_map.specs.Commands.{is_complete, is_unfinished, name_in}
+use Rattle.namespace_map.specs.Changes.{by_position, change_to, gone_changes, is_unsettled, labels_at, namespaces_of, own_labels, placed_in_all, recovery_changes, settling_changes, with_name}
+use Rattle.namespace_map.specs.Commands.{is_complete, is_unfinished}
 use Rattle.namespace_map.proofs.Areas.{area_of_other, slots_of_changed}
 use Rattle.namespace_map.proofs.Fronts.{cut_is_front}
 use Rattle.namespace_laws.specs.Apart.{EntriesApart}
@@ -30,8 +24,7 @@ use Rattle.namespace_laws.proofs.Fronts.{take_all}
 use Rattle.namespace_laws.proofs.Gone.{append_all}
 use Rattle.namespace_laws.proofs.Position.{by_position_all, pair_of}
 use Rattle.namespace_laws.proofs.Staged.{all_map}
-use Rattle.shell_changes.specs.Maps.{ExtentsAmong, IsOfExisting, uuid_of as uuid_in}
-use Rattle.shell_changes.proofs.Apart.{In, apart_by, label_of, labels_clear}
+use Rattle.shell_changes.proofs.Apart.{In, apart_by, labels_clear}
 
 -- ---- lists
 
@@ -260,106 +253,3 @@ stopped_apart sets areas n stays none =
     known_all areas (take front.0 (recovery_changes sets areas)) areas (known_self areas) (take_all (PutsKnown areas) front.0 (recovery_changes sets areas) (recovery_known sets areas)) in
     apart_by sets (after_steps areas (recovery_changes sets areas) n stays)
     (known_clear (after_steps areas (recovery_changes sets areas) n stays) areas (subst (λ (xs : List (Option Area)). AllKnown xs areas) (sym front.2) known) (labels_clear areas none))
-
--- ---- a delete or a rename
-
-abbrev KeepsExtent : (Label → Option Label) → Type 0
-KeepsExtent f = (l l' : Label) → f l ≡ Some l' → (l.uuid ≡ l'.uuid) × (l.dpa ≡ l'.dpa) × (l.raw ≡ l'.raw)
-
-keeps_none : KeepsExtent (λ l. None)
-keeps_none l l' is = absurd (none-some l' is)
-
-keeps_some : (h : Label → Label) → ((l : Label) → (l.uuid ≡ (h l).uuid) × (l.dpa ≡ (h l).dpa) × (l.raw ≡ (h l).raw)) → KeepsExtent (λ l. Some (h l))
-keeps_some h keeps l l' is = subst (λ (x : Label). (l.uuid ≡ x.uuid) × (l.dpa ≡ x.dpa) × (l.raw ≡ x.raw)) (same_Some (h l) l' is) (keeps l)
-
-map_known : (olds : List (Option Area)) (f : Label → Option Label) → KeepsExtent f → (ps : List (ℕ × Label)) → AllByRecursion (λ p. IsKnown olds p.0 p.1) ps → AllByRecursion (PutsKnown olds) (map (change_to f) ps)
-map_known olds f keeps [] all = tt
-map_known olds f keeps (p ∷ ps) (one, rest) = (
-  (λ l is. let same = keeps p.1 l is in record { old = one.old; has = one.has; uuid = one.uuid ∙ same.0; start = one.start ∙ same.1; bytes = one.bytes ∙ same.2 }),
-  map_known olds f keeps ps rest,
-)
-
-two_known : (olds : List (Option Area)) (f g : Label → Option Label) → KeepsExtent f → KeepsExtent g → (ps : List (ℕ × Label)) → AllByRecursion (λ p. IsKnown olds p.0 p.1) ps → AllByRecursion (PutsKnown olds) (in_two f g ps)
-two_known olds f g kf kg [] all = tt
-two_known olds f g kf kg (p ∷ []) all = map_known olds g kg (p ∷ []) all
-two_known olds f g kf kg (p ∷ q ∷ ps) all =
-    append_all (PutsKnown olds) (map (change_to f) (p ∷ q ∷ ps)) (map (change_to g) (p ∷ q ∷ ps)) (map_known olds f kf (p ∷ q ∷ ps) all) (map_known olds g kg (p ∷ q ∷ ps) all)
-
-front_known : (areas : List (Option Area)) (cs : List Change) (n : ℕ) (stays : Bool) → AllByRecursion (PutsKnown areas) cs → AllKnown (after_steps areas cs n stays) areas
-front_known areas cs n stays all =
-    let front = cut_is_front cs areas n stays in
-    subst (λ (xs : List (Option Area)). AllKnown xs areas) (sym front.2) (known_all areas (take front.0 cs) areas (known_self areas) (take_all (PutsKnown areas) front.0 cs all))
-
-in_filter : {X : Type 0} (test : X → Bool) (x : X) (xs : List X) → In x xs → test x ≡ true → In x (filter test xs)
-in_filter test x [] i is = absurd i
-in_filter test x (y ∷ ys) (inl e) is = rw (ap test e ∙ is) (inl e)
-in_filter test x (y ∷ ys) (inr i) is = by (test y) (in_filter test x ys i is)
-  where
-    by : (b : Bool) → In x (filter test ys) → In x (cond b (y ∷ filter test ys) (filter test ys))
-    by true more = inr more
-    by false more = more
-
-contains_in : {X Y : Type 0} (f : X → Y) (x : X) (xs : List X) → In x xs → Contains (map f xs) (f x)
-contains_in f x [] i = absurd i
-contains_in f x (y ∷ ys) (inl e) = (0, omega arith, ap f e)
-contains_in f x (y ∷ ys) (inr i) = let r = contains_in f x ys i in (suc r.0, omega (arith, r.1), r.2)
-
--- the entry of labels of which one is there
-entry_some : (sets : List (List Mapping)) (own : List Placed) (q : Placed) → In q own → (e : Entry) × (option_map (entry_with sets own) (slice_get own 0) ≡ Some e) × (e.parts ≡ map part_of own)
-entry_some sets [] q i = absurd i
-entry_some sets (p ∷ own) q i = (entry_with sets (p ∷ own) p, refl, refl)
-
--- an entry has a part, that of its first label
-some_label : (sets : List (List Mapping)) (labels : List Placed) (uuid : List ℕ) (x : Entry) → entry_at sets labels uuid ≡ Some x → (a : Part) × Contains x.parts a
-some_label sets labels uuid x is = by (labels_with uuid labels) is
-  where
-    by : (own : List Placed) → option_map (entry_with sets own) (slice_get own 0) ≡ Some x → (a : Part) × Contains x.parts a
-    by [] at = absurd (none-some x at)
-    by (p ∷ own) at = (part_of p, subst (λ (y : Entry). Contains y.parts (part_of p)) (same_Some (entry_with sets (p ∷ own) p) x at) (contains_in part_of p (p ∷ own) (inl refl)))
-
-own_extents : (sets : List (List Mapping)) (areas left : List (Option Area)) (uuid : List ℕ) → AllKnown left areas → (x : Entry) (a : Part) → lookup uuid (namespaces_of sets left).entries ≡ Some x → Contains x.parts a
-    → (e : Entry) × (lookup uuid (namespaces_of sets areas).entries ≡ Some e) × ((b : Part) × Contains e.parts b × (b.extent ≡ a.extent))
-own_extents sets areas left uuid known x a is in_x =
-    let p = label_of sets (placed_in_all left) uuid x a (sym (lookup_entries sets (placed_in_all left) uuid) ∙ is) in_x in
-    let q = known_placed left areas known p.0 p.1 in
-    let named : uuid_of q.0 ≡ uuid = ap (λ (y : Extent). y.owner) q.2 ∙ p.2 in
-    let own = labels_with uuid (placed_in_all areas) in
-    let in_own : In q.0 (labels_with uuid (placed_in_all areas)) = in_filter (λ r. bytes_eq (uuid_of r) uuid) q.0 (placed_in_all areas) q.1 ((bytes_eq-Decides (uuid_of q.0) uuid).1 named) in
-    let e = entry_some sets (labels_with uuid (placed_in_all areas)) q.0 in_own in (
-      e.0,
-      lookup_entries sets (placed_in_all areas) uuid ∙ e.1,
-      (part_of q.0, subst (λ (ps : List Part). Contains ps (part_of q.0)) (sym e.2) (contains_in part_of q.0 (labels_with uuid (placed_in_all areas)) in_own), q.2 ∙ ap (λ (y : Part). y.extent) p.3),
-    )
-
--- an entry whose extents are all among those of one entry before
-all_extents : (sets : List (List Mapping)) (areas left : List (Option Area)) (uuid : List ℕ) → AllKnown left areas → (x : Entry) → lookup uuid (namespaces_of sets left).entries ≡ Some x
-    → (e : Entry) × (lookup uuid (namespaces_of sets areas).entries ≡ Some e) × ExtentsAmong x e
-all_extents sets areas left uuid known x is =
-    let first = some_label sets (placed_in_all left) uuid x (sym (lookup_entries sets (placed_in_all left) uuid) ∙ is) in
-    let it = own_extents sets areas left uuid known x first.0 is first.1 in (
-      it.0,
-      it.1,
-      λ a in_x.
-          let there = own_extents sets areas left uuid known x a is in_x in
-          subst (λ (y : Entry). (b : Part) × Contains y.parts b × (b.extent ≡ a.extent)) (same_Some there.0 it.0 (sym there.1 ∙ it.1)) there.2,
-    )
-
--- of a namespace that is deleted or renamed a crash leaves no extent that it didn't have
-pub extents_kept : (sets : List (List Mapping)) (areas : List (Option Area)) (c : Command) (n : ℕ) (stays : Bool) → IsOfExisting c → (x : Entry)
-    → lookup (uuid_in c) (namespaces_of sets (after_steps areas (changes_of (namespaces_of sets areas) areas c) n stays)).entries ≡ Some x
-    → (e : Entry) × (lookup (uuid_in c) (namespaces_of sets areas).entries ≡ Some e) × ExtentsAmong x e
-extents_kept sets areas (Delete uuid) n stays existing x is =
-    all_extents sets areas (after_steps areas (changes_of (namespaces_of sets areas) areas (Delete uuid)) n stays) uuid
-    (front_known areas (changes_of (namespaces_of sets areas) areas (Delete uuid)) n stays
-    (two_known areas (λ l. Some (updating l)) (λ l. None) (keeps_some updating (λ l. (refl, refl, refl))) keeps_none (own_labels areas uuid) (own_known areas areas uuid (known_self areas))))
-    x is
-extents_kept sets areas (Rename uuid name) n stays existing x is =
-    all_extents sets areas (after_steps areas (changes_of (namespaces_of sets areas) areas (Rename uuid name)) n stays) uuid
-    (front_known areas (changes_of (namespaces_of sets areas) areas (Rename uuid name)) n stays
-    (two_known areas (λ l. Some (with_name (name_in name) (updating l))) (λ l. Some (with_name (name_in name) (settled l)))
-    (keeps_some (λ l. with_name (name_in name) (updating l)) (λ l. (refl, refl, refl))) (keeps_some (λ l. with_name (name_in name) (settled l)) (λ l. (refl, refl, refl)))
-    (own_labels areas uuid) (own_known areas areas uuid (known_self areas))))
-    x is
-extents_kept sets areas (Create spec) n stays existing x is = absurd existing
-extents_kept sets areas (Claim uuid) n stays existing x is = absurd existing
-extents_kept sets areas (Unclaim uuid) n stays existing x is = absurd existing

@@ -1,19 +1,19 @@
 -- The namespaces of an image set, and what `create`, `delete` and `rename` make of them: UEFI 2.10, section 13.19, with this project's rules.
-use Rattle.std.specs.Prelude.{◌≡◌, ◌≢◌, ⊤, ◌⊎◌, ℕ, ◌+◌, ◌-◌, ◌<◌, ◌≤◌, Bool, true, false, List, Option, Some, None, Ok}
-use Rattle.std.specs.List.{Contains}
+use Rattle.std.specs.Prelude.{◌≡◌, ◌≢◌, ⊤, ◌⊎◌, ℕ, ◌+◌, ◌-◌, ◌<◌, ◌≤◌, Bool, true, false, List, length, Option, Some, None, Ok}
 use Rattle.nvd_media.specs.Images.{Images}
 use Rattle.cut_words.specs.Words.{Words}
 use Rattle.nfit_reader.specs.declared.table.Mapping.{Mapping}
 use Rattle.nfit_reader.specs.Table.{nfit_reading}
 use Rattle.nfit_reader.specs.Counted.{AreCounted}
 use Rattle.label_set.specs.declared.placed.SetStatus.TheVariants.{Complete}
-use Rattle.namespace_map.specs.Namespaces.{Entry, Namespaces, Part, lookup}
+use Rattle.namespace_map.specs.Namespaces.{Entry, Namespaces, lookup}
 use Rattle.namespace_map.specs.declared.commands.Command.{Command}
 use Rattle.namespace_map.specs.declared.commands.Command.TheVariants.{Claim, Create, Delete, Rename, Unclaim}
 use Rattle.namespace_map.specs.Areas.{Area, after_steps, steps_of_all}
-use Rattle.namespace_map.specs.Commands.{done, recovered}
+use Rattle.namespace_map.specs.Commands.{done, name_in, new_entry, recovered, set_of}
 use Rattle.namespace_map.specs.Changes.{changes_of, namespaces_of, placed_in_all, recovered_areas, recovery_changes}
 use Rattle.namespace_laws.specs.Apart.{EntriesApart}
+use Rattle.namespace_laws.specs.Laws.{CutOfCreate, CutOfCreateAlone, CutOfDelete, CutOfDeleteAlone, CutOfRename, CutOfRenameAlone}
 use Rattle.image_set.specs.Load.{ImageSet}
 use Rattle.shell_reports.specs.declared.status.Ending.TheVariants as ending
 use Rattle.shell_reports.specs.declared.power.Power.{Power}
@@ -123,17 +123,10 @@ abbrev pub CrashIsInEither : (ℕ → List (Option Words) → List (Option (List
 CrashIsInEither leaves = (c : Command) (power : Power) (loaded : ImageSet) (sets : List (List Mapping)) (outcome : Outcome) (n : ℕ) → power.steps ≡ Some n → sets_in loaded ≡ Ok sets
     → ChangeComes leaves c power loaded outcome → outcome.ending ≡ ending.PowerCut → IsCutIn sets loaded c n outcome
 
--- the namespace of a delete or rename isn't pending
-abbrev pub IsSettled : Namespaces → Command → Type 0
-IsSettled ns (Delete uuid) = (e : Entry) → lookup uuid ns.entries ≡ Some e → e.status ≡ Complete e.name false
-IsSettled ns (Rename uuid name) = (e : Entry) → lookup uuid ns.entries ≡ Some e → e.status ≡ Complete e.name false
-IsSettled ns c = ⊤
-
--- a law: what a crash leaves of a command recovers to the recovery of what was loaded, or to that of the command applied to it; of a
--- delete or rename, if its namespace isn't pending once recovery is made
+-- a law: what a crash leaves of a command recovers to the recovery of what was loaded, or to that of the command applied to it
 abbrev pub CrashRecovers : (ℕ → List (Option Words) → List (Option (List ℕ)) → Type 0) → Type 0
 CrashRecovers leaves = (c : Command) (power : Power) (loaded : ImageSet) (sets : List (List Mapping)) (outcome : Outcome) → ChangesLabels c → HasTable loaded → sets_in loaded ≡ Ok sets
-    → IsSettled (recovered (map_of sets loaded)) c → ChangeComes leaves c power loaded outcome → outcome.ending ≡ ending.PowerCut
+    → ChangeComes leaves c power loaded outcome → outcome.ending ≡ ending.PowerCut
     → let before = recovered (map_of sets loaded) in
     (ns : Namespaces) × SavesMap sets loaded (makes_sectors c) ns outcome × ((recovered ns ≡ before) ⊎ (recovered ns ≡ recovered (done before c)))
 
@@ -145,26 +138,36 @@ uuid_of (Rename uuid name) = uuid
 uuid_of (Claim uuid) = uuid
 uuid_of (Unclaim uuid) = uuid
 
--- a command about a namespace that exists
-abbrev pub IsOfExisting : Command → Type 0
-IsOfExisting (Delete uuid) = ⊤
-IsOfExisting (Rename uuid name) = ⊤
-IsOfExisting c = ⊥
+-- What a crash leaves of a namespace's delete. One that is still pending once recovery is made has a label on a module without a free slot. So it has
+-- one label, else its delete is refused; and it is as it was, or gone.
+pub record DeleteIsLeft (e : Entry) (left : Option Entry) : Type 0 where
+  pub between : CutOfDelete e left
+  pub alone : length e.parts ≡ 1 → CutOfDeleteAlone e left
+  pub pending : e.status ≡ Complete e.name true → length e.parts ≡ 1
 
--- each extent of an entry is one of the other's
-abbrev pub ExtentsAmong : Entry → Entry → Type 0
-ExtentsAmong x e = (a : Part) → Contains x.parts a → (b : Part) × Contains e.parts b × (b.extent ≡ a.extent)
+-- of its rename, which is refused if it is still pending then
+pub record RenameIsLeft (e : Entry) (name : List ℕ) (left : Option Entry) : Type 0 where
+  pub settled : e.status ≡ Complete e.name false
+  pub between : CutOfRename e name left
+  pub alone : length e.parts ≡ 1 → CutOfRenameAlone e name left
 
--- what a crash leaves of a command on these namespaces, also if the command's own was pending
-pub record LeavesOthers (before ns : Namespaces) (c : Command) : Type 0 where
+-- what a crash leaves of a command's own namespace, by the tables of `namespace_laws`
+abbrev pub OwnIsLeft : Namespaces → Command → Option Entry → Type 0
+OwnIsLeft before (Create spec) left = CutOfCreate (new_entry before spec) left × (length (set_of before spec.region) ≡ 1 → CutOfCreateAlone (new_entry before spec) left)
+OwnIsLeft before (Delete uuid) left = (e : Entry) × (lookup uuid before.entries ≡ Some e) × DeleteIsLeft e left
+OwnIsLeft before (Rename uuid name) left = (e : Entry) × (lookup uuid before.entries ≡ Some e) × RenameIsLeft e (name_in name) left
+OwnIsLeft before (Claim uuid) left = ⊥
+OwnIsLeft before (Unclaim uuid) left = ⊥
+
+-- what a crash leaves of the namespaces that recovery made
+pub record IsLeftOf (before ns : Namespaces) (c : Command) : Type 0 where
   -- every other namespace is as it was, and no two have extents that meet
   pub others : (other : List ℕ) → other ≢ uuid_of c → lookup other ns.entries ≡ lookup other before.entries
   pub apart : EntriesApart ns
-  -- of a delete or rename, its own has no extent that it didn't have
-  pub own : IsOfExisting c → (x : Entry) → lookup (uuid_of c) ns.entries ≡ Some x → (e : Entry) × (lookup (uuid_of c) before.entries ≡ Some e) × ExtentsAmong x e
+  pub own : OwnIsLeft before c (lookup (uuid_of c) ns.entries)
 
--- a law: if power lasts for recovery, a crash leaves the other namespaces that recovery made
+-- a law: if power lasts for recovery, a crash leaves the other namespaces that recovery made, and the command's own by its table
 abbrev pub CrashLeavesOthers : (ℕ → List (Option Words) → List (Option (List ℕ)) → Type 0) → Type 0
 CrashLeavesOthers leaves = (c : Command) (power : Power) (loaded : ImageSet) (sets : List (List Mapping)) (outcome : Outcome) (n : ℕ) → power.steps ≡ Some n → ChangesLabels c → HasTable loaded → sets_in loaded ≡ Ok sets
     → ChangeComes leaves c power loaded outcome → outcome.ending ≡ ending.PowerCut → recovery_steps sets loaded ≤ n
-    → (ns : Namespaces) × SavesMap sets loaded (makes_sectors c) ns outcome × LeavesOthers (recovered (map_of sets loaded)) ns c
+    → (ns : Namespaces) × SavesMap sets loaded (makes_sectors c) ns outcome × IsLeftOf (recovered (map_of sets loaded)) ns c

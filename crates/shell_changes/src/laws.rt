@@ -37,16 +37,15 @@ pub fn crash_is_in_either<C: Chooser>(choose: &C)
 {}
 
 /// A law: with status 8, if power lasted for recovery, every other namespace is as recovery made it, and no two have extents
-/// that meet. After a `delete` or `rename` its own namespace has no extent that it didn't have. That holds too if it is still
-/// pending after recovery, since a module has no free slot: a crash may then leave its labels with two names, or, in a
-/// `delete`, some of them.
+/// that meet. The command's own is one of the states of its table in `namespace_laws`; in a region of one module it is as before
+/// or as after the command. One that is still pending after recovery, since a module has no free slot, isn't renamed; it is
+/// deleted only if it has one label, and then a crash leaves it as it was, or gone.
 pub fn crash_leaves_others<C: Chooser>(choose: &C)
     ensures { CrashLeavesOthers (LeavesBy C.begins C.picks choose.now) }
 {}
 
 /// A law: with status 8 the saved set recovers to the map that recovery makes of the set that was loaded, or to the
-/// recovery of the command applied to it. Of a `delete` or `rename` it asks that its namespace isn't pending once recovery
-/// is made.
+/// recovery of the command applied to it.
 pub fn crash_recovers<C: Chooser>(choose: &C)
     ensures { CrashRecovers (LeavesBy C.begins C.picks choose.now) }
 {}

@@ -33,7 +33,7 @@
 //! | recovery, a command and a crash in a command keep it so | [`changes_keep_apart`] |
 //! | after `ok` the map is the command applied to the map after recovery | [`done_is_the_command`] |
 //! | after a crash it is that of a cut in recovery, in the format or in the command's labels | [`crash_is_in_either`] |
-//! | every other namespace is as recovery made it | [`crash_leaves_others`] |
+//! | every other namespace is as recovery made it, and the command's own is a state of its table | [`crash_leaves_others`] |
 //! | recovered, it is the map before or after the command | [`crash_recovers`] |
 #![tactic(auto)]
 

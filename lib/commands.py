@@ -1,0 +1,102 @@
+#!/usr/bin/env python3
+"""The program's table of commands, lib/commands.txt: it is made from the sources of crates/shell_run, and everything outside the program reads it.
+
+usage: lib/commands.py --check   (ends with `N passed, M failed`: whether the file is what the sources say)
+       lib/commands.py --write   (makes it anew)
+"""
+import os
+import re
+import sys
+
+LIB = os.path.dirname(os.path.abspath(__file__))
+TABLE = os.path.join(LIB, "commands.txt")
+HEAD = """\
+# The program's commands, made from crates/shell_run by lib/commands.py --write. `-` stands for none; places are in their order.
+# command, places, options that must be given, options that may be, whether it writes an image set, whether it reads a script, and what it does
+# with the contents of modules: it leaves them unread, loads them, or copies them as it saves
+"""
+
+
+class Command:
+    """A row of the table."""
+
+    def __init__(self, fields):
+        self.name, places, needed, others, writes, script, self.contents = fields
+        self.places, self.needed, self.others = ([] if it == "-" else it.split(",") for it in (places, needed, others))
+        self.writes, self.script = writes == "yes", script == "yes"
+
+
+def commands():
+    with open(TABLE, encoding="utf-8") as file:
+        rows = [Command(line.split()) for line in file if not line.startswith("#")]
+    return {it.name: it for it in rows}
+
+
+def source(*path):
+    with open(os.path.join(LIB, "..", "crates", *path), encoding="utf-8") as file:
+        return file.read()
+
+
+def cases(text, name):
+    """What a definition by cases says of each constructor; a case for all others stands under `_`."""
+    found = {}
+    for case, value in re.findall(rf"(?m)^{name} (?:leaves )?\(?(?:command\.)?(\w+)[^=\n]*= (.*)$", text):
+        found.setdefault(case if case[0].isupper() else "_", value)
+    return lambda case: found[case] if case in found else found["_"]
+
+
+def arguments_in(text):
+    """The places, the options that must be given and the others, by the command's kind."""
+    forms = {name: (word, form) for name, word, form in re.findall(r'const (\w+): Argument = Argument \{\s*name: "(\w+)",\s*form: Form::(\w+),', text)}
+    for kind, names in re.findall(r"Kind::(\w+) => &\[([^\]]*)\]", text):
+        said = [forms[it] for it in re.findall(r"\w+", names)]
+        yield kind, ["".join(f",{word}" for word, form in said if form == it)[1:] or "-" for it in ("Place", "Required", "Optional")]
+
+
+def holds(value, sector):
+    """A condition of a definition on commands, for one that makes sectors or doesn't."""
+    return {"true": True, "false": False, "makes_sectors c": sector, "not (makes_sectors c)": not sector}[value]
+
+
+def contents_of(copies, loads, sectors):
+    """What a command does with contents, by the two definitions; `sectors` says whether it may make sectors."""
+    ways = {"copied" if holds(copies, it) else "loaded" if holds(loads, it) else "unread" for it in ([False, True] if sectors else [False])}
+    return "|".join(sorted(ways))
+
+
+def made():
+    """The table as the sources have it."""
+    table, run = source("shell_run", "src", "commands.rt"), source("shell_run", "specs", "Run.antt")
+    arguments = dict(arguments_in(table))
+    variants = re.findall(r"(?m)^    (\w+)(?:\(.*\))?,$", re.search(r"pub enum Command \{(.*?)\n\}", source("shell_run", "src", "words.rt"), re.S)[1])
+    words = cases(source("shell_run", "specs", "Words.antt").replace(" kind.", " "), "command_in")
+    sectors = cases(source("namespace_ops", "specs", "Counted.antt"), "makes_sectors")
+    comes, script, copies, loads = (cases(run, it) for it in ("LoadedComes", "reads_script", "copies", "needs_contents"))
+    yield HEAD
+    for name, kind in re.findall(r'if name == "(\w+)" \{\s*return Some\(Kind::(\w+)\);', table):
+        variant = next(it for it in variants if re.search(rf"(?<![\w.]){it}\b|command\.{it}\b", words(kind)))
+        contents = contents_of(copies(variant), loads(variant), sectors(kind) != "false")
+        writes, reads = not comes(variant).startswith("outcome ≡"), script(variant) == "true"
+        yield " ".join([name, *arguments[kind], "yes" if writes else "no", "yes" if reads else "no", contents]) + "\n"
+
+
+def main():
+    due = "".join(made())
+    if sys.argv[1:] == ["--write"]:
+        with open(TABLE, "w", encoding="utf-8") as file:
+            file.write(due)
+    elif sys.argv[1:] == ["--check"]:
+        with open(TABLE, encoding="utf-8") as file:
+            same = file.read() == due
+        if not same:
+            print("differs: lib/commands.txt isn't what crates/shell_run says; lib/commands.py --write makes it anew")
+        print(f"{int(same)} passed, {int(not same)} failed")
+        return int(not same)
+    else:
+        print(__doc__, file=sys.stderr)
+        return 2
+    return 0
+
+
+if __name__ == "__main__":
+    sys.exit(main())
