@@ -18,7 +18,7 @@ def grown(table, size):
     """A firmware table of one module with a region and a mapping of this size; its Checksum isn't set."""
     data = bytearray(table)
     struct.pack_into("<Q", data, 80, size)
-    struct.pack_into("<Q", data, 116, size)
+    struct.pack_into("<Q", data, 112, size)
     return bytes(data)
 
 
