@@ -74,8 +74,8 @@ def made():
     comes, script, copies, loads = (cases(run, it) for it in ("LoadedComes", "reads_script", "copies", "needs_contents"))
     yield HEAD
     for name, kind in re.findall(r'if name == "(\w+)" \{\s*return Some\(Kind::(\w+)\);', table):
-        # a kind of words makes the command of its name, if there is one
-        variant = kind if kind in variants else next(it for it in variants if re.search(rf"(?<![\w.]){it}\b|command\.{it}\b", words(kind)))
+        # the variant of the command: it has the kind's name, or the values of its arguments make it
+        variant = kind if kind in variants else next(it for it in variants if re.search(rf"(?<![\w.]){it}\b", words(kind)))
         contents = contents_of(copies(variant), loads(variant), sectors(kind) != "false")
         writes, reads = not comes(variant).startswith("outcome ≡"), script(variant) == "true"
         yield " ".join([name, *arguments[kind], "yes" if writes else "no", "yes" if reads else "no", contents]) + "\n"
