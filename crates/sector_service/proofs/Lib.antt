@@ -1,0 +1,4 @@
+pub mod Serving
+pub mod Calling
+pub mod Turning
+pub mod Sessions

@@ -1,0 +1,5 @@
+pub mod Served
+pub mod Steps
+pub mod Calls
+pub mod Switch
+pub mod Rows

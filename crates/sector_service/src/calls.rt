@@ -1,0 +1,189 @@
+//! A session's calls on the sectors of one core: a turn a step.
+ghost use Rattle.std.specs.Prelude.{◌≡◌, Ok, None, IfOk, IfSome, OnErr};
+ghost use Rattle.turn_lock.specs.Passes.{lock_id, number_of, part_of, out_of};
+ghost use Rattle.turn_lock.specs.Passes.{IsSamePass, IsOutside, PartBecomes};
+ghost use Rattle.arena_open.specs.declared.cell.Cell.{Cell};
+ghost use Rattle.lane_core.specs.declared.history.Act.TheVariants as act;
+ghost use Rattle.lane_core.specs.Sessions.{write_steps};
+ghost use Rattle.session_parts.specs.Parts.{stand_at};
+ghost use Rattle.session_parts.specs.Steps.{read_call, write_call};
+ghost use Rattle.sector_service.specs.declared.calls.Heard.TheVariants as heard;
+ghost use Rattle.sector_service.specs.declared.calls.Wrote.TheVariants as wrote;
+ghost use Rattle.sector_service.specs.Served.{begun};
+ghost use Rattle.sector_service.specs.Calls.{HasPart, IsLeft, IsStopped, MayRead, MayWrite, Paid, PartGoes, PaidFor, answered, tag_by};
+ghost use Rattle.sector_service.specs.Switch.{CanAsk, IsSameCaller, IsTold};
+
+use crate::power::{Caller, is_off, may_step};
+use crate::served::{OneStep, ServedCore};
+use crate::turns::{begin_read_in_turn, begin_write_in_turn, step_in_turn};
+use arena_open::Cell;
+use std::alloc::AllocError;
+use std::sync::Wait;
+use std::thread;
+use turn_callers::Desk as Power;
+use turn_lock::{Turn, TurnPass};
+
+/// What a write of a session is answered.
+#[derive(Debug, Drop)]
+pub enum Wrote {
+    /// It stands.
+    Done,
+    /// Power was cut. It stands or doesn't.
+    Cut,
+    /// It never began.
+    OutOfMemory,
+}
+
+/// What a read of a session is answered.
+#[derive(Debug, Drop)]
+pub enum Heard {
+    /// The sector's cell.
+    Got(Cell),
+    /// Power was cut.
+    Cut,
+    /// It never began.
+    OutOfMemory,
+}
+
+/// Waits for a lane that is idle, and begins a write in it. `None` if power is off by then.
+fn begin_write<R: Wait>(
+    rt: &R,
+    turn: &Turn<ServedCore>,
+    pass: &mut TurnPass<ServedCore>,
+    power: &Turn<Power>,
+    caller: &mut Caller,
+    sector: u32,
+    words: &[u64],
+) -> Result<Option<u32>, AllocError>
+    requires outside { IsOutside (lock_id turn.now) pass.old }
+    requires may { HasPart (MayWrite caller.old.call sector words.now) pass.old }
+    requires can_ask { CanAsk (lock_id power.now) caller.old.switch }
+    ensures pass { IsSamePass pass.old pass.new × (out_of pass.new ≡ None) }
+    ensures begun { IfOk result (λ o. IfSome o (λ l. PartBecomes (begun (write_call l (tag_by (number_of pass.old) caller.old.call) sector words.now)) pass.old pass.new)) }
+    ensures none { result ≡ Ok None → part_of pass.new ≡ part_of pass.old }
+    ensures refused { OnErr result (part_of pass.new ≡ part_of pass.old) }
+    ensures caller { IsSameCaller (lock_id power.now) caller.old caller.new × (caller.new.left ≡ caller.old.left) }
+    ensures told { result ≡ Ok None → IsTold caller.new.switch }
+{
+    for _ in rt.forever() {
+        if is_off(rt, power, &mut caller.switch) {
+            return Ok(None);
+        }
+        match begin_write_in_turn(rt, turn, pass, caller.call, sector, words)? {
+            Some(lane) => return Ok(Some(lane)),
+            None => thread::yield_now(),
+        }
+    }
+    unreachable!()
+}
+
+/// Waits for a lane that is idle, and begins a read in it. `None` if power is off by then.
+fn begin_read<R: Wait>(
+    rt: &R,
+    turn: &Turn<ServedCore>,
+    pass: &mut TurnPass<ServedCore>,
+    power: &Turn<Power>,
+    caller: &mut Caller,
+    sector: u32,
+) -> Result<Option<u32>, AllocError>
+    requires outside { IsOutside (lock_id turn.now) pass.old }
+    requires may { HasPart (MayRead caller.old.call sector) pass.old }
+    requires can_ask { CanAsk (lock_id power.now) caller.old.switch }
+    ensures pass { IsSamePass pass.old pass.new × (out_of pass.new ≡ None) }
+    ensures begun { IfOk result (λ o. IfSome o (λ l. PartBecomes (begun (read_call l (tag_by (number_of pass.old) caller.old.call) sector)) pass.old pass.new)) }
+    ensures none { result ≡ Ok None → part_of pass.new ≡ part_of pass.old }
+    ensures refused { OnErr result (part_of pass.new ≡ part_of pass.old) }
+    ensures caller { IsSameCaller (lock_id power.now) caller.old caller.new × (caller.new.left ≡ caller.old.left) }
+    ensures told { result ≡ Ok None → IsTold caller.new.switch }
+{
+    for _ in rt.forever() {
+        if is_off(rt, power, &mut caller.switch) {
+            return Ok(None);
+        }
+        match begin_read_in_turn(rt, turn, pass, caller.call, sector)? {
+            Some(lane) => return Ok(Some(lane)),
+            None => thread::yield_now(),
+        }
+    }
+    unreachable!()
+}
+
+/// Writes a sector of a core: waits for an idle lane, and makes one step a turn.
+///
+/// The number of the call is `caller.call`, and stays. Conditions: the session is in no call of this core, all its entries there have
+/// smaller numbers, and the core has the sector, which has as many words.
+pub fn write_at<R: Wait>(
+    rt: &R,
+    turn: &Turn<ServedCore>,
+    pass: &mut TurnPass<ServedCore>,
+    power: &Turn<Power>,
+    caller: &mut Caller,
+    sector: u32,
+    words: &[u64],
+) -> Wrote
+    requires outside { IsOutside (lock_id turn.now) pass.old }
+    requires may { HasPart (MayWrite caller.old.call sector words.now) pass.old }
+    requires can_ask { CanAsk (lock_id power.now) caller.old.switch }
+    ensures pass { IsSamePass pass.old pass.new × (out_of pass.new ≡ None) }
+    ensures caller { IsSameCaller (lock_id power.now) caller.old caller.new }
+    ensures done { result ≡ wrote.Done → PartBecomes (answered (stand_at caller.old.call sector (act.Write words.now))) pass.old pass.new }
+    ensures paid { result ≡ wrote.Done → PaidFor write_steps pass.old caller.old.left caller.new.left }
+    ensures cut { result ≡ wrote.Cut → PartGoes (IsStopped (number_of pass.old) caller.old.call sector words.now) pass.old pass.new }
+    ensures told { result ≡ wrote.Cut → IsTold caller.new.switch }
+    ensures refused { result ≡ wrote.OutOfMemory → part_of pass.new ≡ part_of pass.old }
+{
+    let lane = match begin_write(rt, turn, pass, power, caller, sector, words) {
+        Ok(Some(lane)) => lane,
+        Ok(None) => return Wrote::Cut,
+        Err(_) => return Wrote::OutOfMemory,
+    };
+    for _ in rt.forever() {
+        if !may_step(rt, power, caller) {
+            return Wrote::Cut;
+        }
+        match step_in_turn(rt, turn, pass, lane) {
+            OneStep::Went => {}
+            OneStep::Wrote => return Wrote::Done,
+            OneStep::Got(_) => unreachable!(),
+        }
+    }
+    unreachable!()
+}
+
+/// Reads a sector of a core, in the same way. An answer is the sector's cell at one point of the core's history.
+pub fn read_at<R: Wait>(
+    rt: &R,
+    turn: &Turn<ServedCore>,
+    pass: &mut TurnPass<ServedCore>,
+    power: &Turn<Power>,
+    caller: &mut Caller,
+    sector: u32,
+) -> Heard
+    requires outside { IsOutside (lock_id turn.now) pass.old }
+    requires may { HasPart (MayRead caller.old.call sector) pass.old }
+    requires can_ask { CanAsk (lock_id power.now) caller.old.switch }
+    ensures pass { IsSamePass pass.old pass.new × (out_of pass.new ≡ None) }
+    ensures caller { IsSameCaller (lock_id power.now) caller.old caller.new }
+    ensures done { (found : Cell) → result ≡ heard.Got found → PartBecomes (answered (stand_at caller.old.call sector (act.Read found))) pass.old pass.new }
+    ensures paid { (found : Cell) → result ≡ heard.Got found → Paid 1 caller.old.left caller.new.left }
+    ensures cut { result ≡ heard.Cut → PartGoes (IsLeft (number_of pass.old) caller.old.call sector) pass.old pass.new }
+    ensures told { result ≡ heard.Cut → IsTold caller.new.switch }
+    ensures refused { result ≡ heard.OutOfMemory → part_of pass.new ≡ part_of pass.old }
+{
+    let lane = match begin_read(rt, turn, pass, power, caller, sector) {
+        Ok(Some(lane)) => lane,
+        Ok(None) => return Heard::Cut,
+        Err(_) => return Heard::OutOfMemory,
+    };
+    for _ in rt.forever() {
+        if !may_step(rt, power, caller) {
+            return Heard::Cut;
+        }
+        match step_in_turn(rt, turn, pass, lane) {
+            OneStep::Went => {}
+            OneStep::Got(found) => return Heard::Got(found),
+            OneStep::Wrote => unreachable!(),
+        }
+    }
+    unreachable!()
+}

@@ -1,0 +1,69 @@
+//! Whether power is off, and the steps that a session may still make.
+ghost use Rattle.std.specs.Prelude.{◌≡◌, IsTrue, false};
+ghost use Rattle.turn_lock.specs.Passes.{lock_id, number_of, IsSamePass};
+ghost use Rattle.sector_service.specs.Calls.{Paid};
+ghost use Rattle.sector_service.specs.Switch.{CanAsk, IsTold};
+
+use crate::fuse::pay;
+use std::sync::Wait;
+use turn_callers::{Desk as Power, ask_in_turn, stop_in_turn};
+use turn_lock::{Turn, TurnPass};
+
+/// What a session has beside its passes of cores.
+#[derive(Drop)]
+pub struct Caller {
+    /// Its pass of the power switch.
+    pub switch: TurnPass<Power>,
+    /// How many steps it may still make before it cuts power; `None`: it never does.
+    pub left: Option<u64>,
+    /// The number of its next call.
+    pub call: u32,
+}
+
+/// Whether power is off; then the pass knows that it was told.
+pub(crate) fn is_off<R: Wait>(rt: &R, power: &Turn<Power>, switch: &mut TurnPass<Power>) -> bool
+    requires { CanAsk (lock_id power.now) switch.old }
+    ensures same { IsSamePass switch.old switch.new }
+    ensures can_ask { CanAsk (lock_id power.now) switch.new }
+    ensures told { IsTrue result → IsTold switch.new }
+{
+    match ask_in_turn(rt, power, switch) {
+        Some(off) => off,
+        None => unreachable!(),
+    }
+}
+
+/// Switches power off, and is told so.
+fn go_off<R: Wait>(rt: &R, power: &Turn<Power>, switch: &mut TurnPass<Power>)
+    requires { CanAsk (lock_id power.now) switch.old }
+    ensures same { IsSamePass switch.old switch.new }
+    ensures can_ask { CanAsk (lock_id power.now) switch.new }
+    ensures told { IsTold switch.new }
+{
+    stop_in_turn(rt, power, switch);
+    match ask_in_turn(rt, power, switch) {
+        Some(true) => {}
+        Some(false) | None => unreachable!(),
+    }
+}
+
+/// Whether a session may make one step more, and pays for it. If not, power is off: it was, or no step is left and the session
+/// switched it off.
+pub(crate) fn may_step<R: Wait>(rt: &R, power: &Turn<Power>, caller: &mut Caller) -> bool
+    requires { CanAsk (lock_id power.now) caller.old.switch }
+    ensures same { IsSamePass caller.old.switch caller.new.switch }
+    ensures can_ask { CanAsk (lock_id power.now) caller.new.switch }
+    ensures call { caller.new.call ≡ caller.old.call }
+    ensures yes { IsTrue result → Paid 1 caller.old.left caller.new.left }
+    ensures no { result ≡ false → caller.new.left ≡ caller.old.left }
+    ensures told { result ≡ false → IsTold caller.new.switch }
+{
+    if is_off(rt, power, &mut caller.switch) {
+        return false;
+    }
+    if !pay(&mut caller.left) {
+        go_off(rt, power, &mut caller.switch);
+        return false;
+    }
+    true
+}
