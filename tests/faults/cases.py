@@ -154,7 +154,7 @@ def refusals():
             ("ReadOnlyLabel 1", locked, DELETE), ("ReadOnlyLabel 1", locked, RENAME),
             ("NotSector", whole(), INFO), ("NotSector", whole(), READ), ("NotSector", whole(), WRITE),
             (f"Range {OUTER}", sectors(), [*READ[:-1], str(OUTER)]), (f"Range {OUTER}", sectors(), [*WRITE[:-2], str(OUTER), "hex:"]),
-            ("Length 0 512", sectors(), [*WRITE[:-1], "hex:"]), ("Length 513 512", sectors(), [*WRITE[:-1], "hex:" + 513 * "5a"])):
+            ("Length 0 4096", sectors(), [*WRITE[:-1], "hex:"]), ("Length 513 4096", sectors(), [*WRITE[:-1], "hex:" + 513 * "5a"])):
         yield refused(text, files, words)
 
 
