@@ -1,4 +1,4 @@
--- The words that a power cut left of an arena open as its arena.
+-- An arena's words after a power cut open as this arena.
 use Rattle.std.proofs.Common.{◌≡◌, ◌≢◌, ℕ, zero, suc, ◌+◌, ◌*◌, ◌/◌, ◌<◌, ◌≤◌, ◌-◌, ◌⊎◌, Bool, true, false, not, cond, eqb, List, [], ◌∷◌, ◌++◌, length, map, take, get_or, slice_set, None, Ok, refl, sym, ap, ap₂, ◌∙◌, subst, inl, inr, arith, append-nil, get_or-set_same, get_or-set_other, if◌then◌else◌}
 use Rattle.std.specs.Prelude.{◌&&◌, ◌==◌, filter}
 use Rattle.std.specs.List.{list_all, range_with_len}

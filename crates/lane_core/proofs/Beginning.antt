@@ -53,7 +53,7 @@ opened_sound g areas sides h =
     no_suc : (k : ℕ) → 0 ≡ suc k → ⊥
     no_suc k e = omega arith
 
--- whatever lanes do after opening, and whatever a cut then leaves
+-- whatever lanes do after opening, and whenever power is cut then
 pub every_cut : (g : Geometry) (areas : Areas) (sides : ℕ → ℕ) (events : List Event) (left : Areas) → IsOpen g areas sides → AllFit g events → AreLeft g (run g (opened areas sides) events).seen (run g (opened areas sides) events).kept left
     → ((l : ℕ) → l < g.lanes → (side : ℕ) × IsCurrent left l side)
     × ((after : ℕ → ℕ) → ((l : ℕ) → l < g.lanes → IsCurrent left l (after l)) → Recovers g (cell_of g areas.data_at areas.map_at) (run g (opened areas sides) events) left after)
@@ -63,7 +63,8 @@ every_cut g areas sides events left h f hl =
     let sound = run_sound g o (opened areas sides) events (opened_sound g areas sides h) f in
     (λ l ll. let x = some_side g o s sound left hl l ll in (x.0, x.1), λ after hs. recovers g o s sound left hl after hs)
 
--- Opening after a cut: where the map has the recovered entries, the arena is open again, and its cells are those that survive
+-- Opening after a power cut: if the map has the recovered entries, the arena is open again, and its
+-- cells are those that survive
 pub reopened : (g : Geometry) (o : ℕ → Cell) (s : State) (left again : Areas) (sides : ℕ → ℕ) → IsSound g o s → AreLeft g s.seen s.kept left → ((l : ℕ) → l < g.lanes → IsCurrent left l (sides l))
     → again.log_a ≡ left.log_a → again.log_b ≡ left.log_b → again.data_at ≡ left.data_at → ((t : ℕ) → t < g.sectors → entry_at again.map_at t ≡ recovered left sides g.lanes t)
     → IsOpen g again sides × ((t : ℕ) → t < g.sectors → Survives g o s t (cell_of g again.data_at again.map_at t))

@@ -36,7 +36,7 @@ module _ (l : Layout) (words : List ℕ) where
   by_kind kind.Initial b = ap (λ (ws : List ℕ). cell.Bytes ws) (block_same b)
   by_kind kind.Normal b = ap (λ (ws : List ℕ). cell.Bytes ws) (block_same b)
 
-  -- what an entry gives, in either definition
+  -- what an entry says, in either definition
   pub cell_is : (e t : ℕ) → cell_with l words (entry_of e t) ≡ cell_in (l.sector / 8) (areas_of (shape_of l) words).data_at e t
   unfolding cell_in kind_in block_in entry_of
   cell_is e t = by_kind (entry_of e t).kind (entry_of e t).block

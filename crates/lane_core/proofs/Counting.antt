@@ -4,7 +4,7 @@ use Rattle.lane_core.specs.Areas.{Geometry}
 use Rattle.lane_core.specs.Cut.{EachOnce}
 use Rattle.lane_core.proofs.Put.{same_or_not}
 
--- f, but k where f is m
+-- f, but k if f is m
 turned : ℕ → ℕ → (ℕ → ℕ) → ℕ → ℕ
 turned m k f i = if f i == m then k else f i
 

@@ -1,4 +1,4 @@
--- What a cut leaves of each lane's group, and of the map.
+-- Each lane's group, and the map, after a power cut.
 use Rattle.std.proofs.Common.{◌≡◌, ℕ, ◌+◌, ◌*◌, ◌/◌, ◌^◌, ◌<◌, ◌≢◌, ◌⊎◌, inl, inr, Bool, true, false, refl, sym, ap, ◌∙◌, subst, arith}
 use Rattle.map_table.specs.Entry.{entry_in}
 use Rattle.lane_core.specs.Areas.{Geometry, Areas, Half, mapped, block_in, entry_at, normal}
@@ -26,7 +26,7 @@ not_pending_other areas half q = grind arith
 pending_when : (areas : Areas) (half : Half) → half.old ≢ half.new → mapped areas.map_at half.lba ≡ half.old → is_pending areas half ≡ true
 pending_when areas half ne q = grind arith
 
--- what the half that is current after a cut says of a lane
+-- what the half that is current after a power cut says of a lane
 pub data Outcome (g : Geometry) (s : State) (left : Areas) (p : Lane) (half : Half) : Type 0 where
   Rests : is_pending left half ≡ false → half.old ≡ p.block → Outcome g s left p half
   Redoes : is_pending left half ≡ true → half.old ≡ p.block → is_switched p.phase ≡ true → half.lba ≡ p.sector → entry_at s.seen.map_at p.sector ≡ normal half.new → Outcome g s left p half
@@ -144,7 +144,7 @@ module _ (g : Geometry) (o : ℕ → Cell) (s : State) (h : IsSound g o s) (left
           newer = subst₂ (λ b a. IsNewer b (seq_in a)) (sym (ap (λ (x : Half). x.seq) half_kept)) (sym q) (h.each l ll).halves.newer;
         }
 
-    -- where the current half is the one that the lane knows
+    -- the current half is the one that the lane knows
     rests_or : Outcome g s left (s.lanes l) (s.lanes l).half
     rests_or = decided (is_logged (s.lanes l).phase)
         (λ t. let ph = logged_is (s.lanes l).phase t in let was = (h.each l ll).halves.logged t in
@@ -181,7 +181,7 @@ module _ (g : Geometry) (o : ℕ → Cell) (s : State) (h : IsSound g o s) (left
               | inr lt ↦ not_pending_other left p.half (λ q. apart_left l p.half.lba ll lt n (q ∙ (h.each l ll).halves.old f))
             ]
 
-    -- where the other half was stored, and its word B is left
+    -- the other half was stored, and its word B survives
     moves_on : is_log_b_stored (s.lanes l).phase ≡ true → left.log_b l (other (s.lanes l).side) ≡ s.seen.log_b l (other (s.lanes l).side)
         → IsCurrent left l (other (s.lanes l).side) × Outcome g s left (s.lanes l) (half_at left l (other (s.lanes l).side)) × Sized g (half_at left l (other (s.lanes l).side))
     moves_on t q = (
@@ -245,7 +245,7 @@ module _ (g : Geometry) (o : ℕ → Cell) (s : State) (h : IsSound g o s) (left
     pub sized_left : (side : ℕ) → IsCurrent left l side → Sized g (half_at left l side)
     sized_left side c = subst (λ i. Sized g (half_at left l i)) (one_side left l some_side.0 side some_side.1 c) some_side.3
 
-    -- a lane that has switched its entry makes it good where the kept word is left
+    -- a lane that has switched its entry completes its move if the kept word survives
     pub redo_pending : (side : ℕ) → IsCurrent left l side → is_switched (s.lanes l).phase ≡ true → left.map_at ((s.lanes l).sector / 2) ≡ s.kept.map_at ((s.lanes l).sector / 2)
         → (is_pending left (half_at left l side) ≡ true) × ((half_at left l side).lba ≡ (s.lanes l).sector)
     redo_pending side c t q =

@@ -1,4 +1,4 @@
--- Reads that were cut may be left out of the history.
+-- Unfinished reads may be left out of the history.
 use Rattle.std.proofs.Common.{◌≡◌, ℕ, ◌<◌, ◌≤◌, ◌≢◌, ◌==◌, inl, inr, zero, suc, Bool, true, false, List, [], ◌∷◌, ◌++◌, refl, sym, ap, ◌∙◌, subst, arith, if◌then◌else◌}
 use Rattle.lane_core.specs.Areas.{Geometry}
 use Rattle.lane_core.specs.History.{Cell, Entry, IsLegal, of_lane, end_of, after, changes_nothing, cell_of, listed}

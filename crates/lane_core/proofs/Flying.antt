@@ -1,4 +1,4 @@
--- A call's steps, and what calls that were cut may have left.
+-- A call's steps, and what unfinished calls may have left.
 use Rattle.std.proofs.Common.{◌≡◌, ◌⊎◌, ℕ, ◌+◌, ◌*◌, ◌≤◌, ◌==◌, nat_lt, if◌then◌else◌, inl, inr, zero, suc, not, Bool, true, false, List, [], ◌∷◌, ◌++◌, slice_get, Some, None, Option, refl, sym, ap, ◌∙◌, subst, arith}
 use Rattle.std.specs.Prelude.{◌&&◌, Any}
 use Rattle.map_table.specs.declared.kinds.Kind.{Kind}

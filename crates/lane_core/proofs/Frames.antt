@@ -1,4 +1,4 @@
--- What a change elsewhere leaves of each part of the invariant.
+-- Each part of the invariant survives a change elsewhere.
 use Rattle.std.proofs.Common.{◌≡◌, ℕ, ◌+◌, ◌<◌, ◌≤◌, ◌≢◌, inl, inr, Bool, true, false, refl, sym, ap, ◌∙◌, subst, arith, List, [], ◌∷◌, ◌++◌}
 use Rattle.lane_core.specs.Areas.{put, Geometry}
 use Rattle.lane_core.specs.History.{Entry, listed}
@@ -79,7 +79,7 @@ module _ (g : Geometry) (lanes : ℕ → Lane) (l : ℕ) (p : Lane) where
           decide true q = never (sym (h.still r l lr ll rl rd (e ∙ eb)) ∙ ef q)
           decide false q = q
 
--- a lane's part of the data, where the row is the same
+-- a lane's part of the data, if the row is the same
 pub tells_row : (width : ℕ) (row row' : ℕ → ℕ) (history : List Entry) (l : ℕ) (phase : Phase) (tag : Tag) (sector : ℕ) (log : List Entry) (got : List ℕ)
     → (is_reading phase ≡ true → row' ≡ row) → Tells width row history l phase tag sector log got → Tells width row' history l phase tag sector log got
 tells_row width row row' history l phase tag sector log got same h =

@@ -1,4 +1,4 @@
--- What a cut leaves of a row, word after word.
+-- A row after a power cut, word after word.
 use Rattle.std.proofs.Common.{◌≡◌, ℕ, ◌+◌, ◌*◌, ◌<◌, ◌≤◌, Bool, false, cond, if◌then◌else◌, List, [], ◌∷◌, ◌++◌, length, get_or, take, drop, slice_set, Option, Some, None, sym, ap, ◌∙◌, subst, arith, append-nil, append_assoc, get_or-set_other, get_or-set_same, length-set}
 use Rattle.std.proofs.lemmas.List.{get_or-drop, get_or-take, length-drop, length-take-le, take_more, take-set}
 use Rattle.cut_words.specs.Leaving.{LeavesOne, LeavesFrom}

@@ -326,7 +326,7 @@ a_locked LogA e = refl
 a_locked LogBStored e = refl
 a_locked _ e = never e
 
--- the map word of a lane's sector is the same where the lane has its lock
+-- the map word of a lane's sector is the same if the lane has its lock
 module _ (sa sb ka kb : ℕ → ℕ) (w w' kw kw' : ℕ) (ph : Phase) (side : ℕ) (half : Half) (block sector : ℕ) where
   pub halves_word : (is_locked ph ≡ true → (w ≡ w') × (kw ≡ kw')) → Halves sa sb ka kb w kw ph side half block sector → Halves sa sb ka kb w' kw' ph side half block sector
   halves_word same h =

@@ -19,7 +19,7 @@ same_row n a b j k lj lk e = (rows, let r = rows in let q : a * n ≡ b * n = ap
     rows : a ≡ b
     rows = let l : a < b → ⊥ = not_less a b j k lj lk e in let m : b < a → ⊥ = not_less b a k j lk lj (sym e) in omega arith
 
--- where each place lies
+-- the word of each place
 abbrev low : Shape → Place → ℕ
 low x (SeenData b k) = x.data_at
 low x (KeptData b k) = x.total + x.data_at

@@ -1,4 +1,4 @@
--- What opening recovers from what a cut leaves.
+-- What opening recovers from the state after a power cut.
 use Rattle.std.proofs.Common.{◌≡◌, ℕ, ◌+◌, ◌/◌, ◌^◌, ◌<◌, ◌≢◌, ◌==◌, ◌⊎◌, inl, inr, zero, suc, Bool, true, false, refl, sym, ap, ◌∙◌, subst, arith, if◌then◌else◌}
 use Rattle.lane_core.specs.Areas.{Geometry, Areas, Half, mapped, block_in, entry_at, normal}
 use Rattle.lane_core.specs.History.{listed}
@@ -109,7 +109,7 @@ module _ (g : Geometry) (o : ℕ → Cell) (s : State) (h : IsSound g o s) (left
   half : ℕ → Half
   half l = half_at left l (sides l)
 
-  -- the lane's open write is made good
+  -- opening completes the lane's open write
   IsMover : ℕ → Type 0
   IsMover l = (is_pending left (half_at left l (sides l)) ≡ true) × (is_open (s.lanes l).phase ≡ true)
 

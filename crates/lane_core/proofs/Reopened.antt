@@ -1,4 +1,4 @@
--- What opening finds in the words that a power cut left of a core.
+-- What opening finds in a core's words after a power cut.
 use Rattle.std.proofs.Common.{◌≡◌, ℕ, zero, suc, ◌*◌, ◌/◌, ◌<◌, ◌≤◌, inl, inr, Bool, true, List, ◌++◌, length, take, Result, Ok, Err, refl, sym, ap, ◌∙◌, subst, arith, take_all}
 use Rattle.std.specs.Prelude.{IfOk}
 use Rattle.arena_layout.specs.declared.info.Info.{Info}

@@ -40,7 +40,7 @@ room_idle a b l h idle = (idle.0, ap (λ ls. slice_get ls l) h.lanes ∙ idle.1,
 rest_by : (a b c : Core) → HasRoom a b → KeepsRest b c → KeepsRest a c
 rest_by a b c h k = record { shape = k.shape ∙ h.rest.shape; info = k.info ∙ h.rest.info; row = k.row ∙ h.rest.row; entries = k.entries ∙ h.rest.entries }
 
--- a call that begins where there is room
+-- a call that begins if there is room
 starts_by : (a b c : Core) (l : ℕ) (f : Shape → LaneNow → LaneNow) (g : Shape → State → State) → HasRoom a b → Starts b c l (f b.shape) (g b.shape) → Starts a c l (f a.shape) (g a.shape)
 starts_by a b c l f g h r = record {
   rest = rest_by a b c h r.rest;

@@ -25,14 +25,16 @@ abbrev steps : ℕ → ℕ → List Event
 steps zero l = []
 steps (suc n) l = Step l ∷ steps n l
 
--- a whole write by lane l: a scan of the other lane, a word stored and kept, the lock, and eight steps under it
+-- a whole write by lane l: a scan of the other lane, a word stored and kept, the lock, and eight
+-- steps under it
 abbrev write : ℕ → ℕ → ℕ → ℕ → List Event
 write l call sector word = Write l ∷ Step l ∷ Store l word ∷ Step l ∷ Take l (tag call) sector ∷ steps 8 l
 
 -- ---- the race that makes the scan necessary
 
--- lane 1 writes 7 to sector 0; lane 0 reads the sector and has its entry; lane 1 writes 8 there, so that the block that lane 0 is
--- still to load is lane 1's free block; then lane 1 begins a third write
+-- lane 1 writes 7 to sector 0; lane 0 reads the sector and has its entry; lane 1 writes 8 there, so
+-- that the block that lane 0 is still to load is lane 1's free block; then lane 1 begins a third
+-- write
 abbrev race : List Event
 race = write 1 0 0 7 ++ (Read 0 (tag 1) 0 ∷ steps 3 0) ++ write 1 2 0 8 ++ (Write 1 ∷ [])
 

@@ -1,4 +1,5 @@
--- Each session has one call at a time, and no entry of it stands behind its open read: steps and new calls keep this.
+-- Each session has one call at a time, and no entry of it stands behind its open read: steps and
+-- new calls keep this.
 use Rattle.std.proofs.Common.{◌≡◌, ◌≢◌, ◌⊎◌, ℕ, ◌+◌, ◌*◌, ◌<◌, ◌==◌, nat_lt, if◌then◌else◌, inl, inr, zero, suc, Bool, true, false, List, [], ◌∷◌, ◌++◌, map, get_or, slice_get, slice_set, Some, refl, sym, ap, ◌∙◌, subst, arith, length-set, get_or-set_same, get_or-set_other}
 use Rattle.std.proofs.lemmas.Option.{get_or_from_slice_get, slice_get_within, slice_get-get_or}
 use Rattle.arena_open.specs.declared.opened.LaneState.{LaneState}

@@ -107,7 +107,7 @@ module _ (x : Shape) (l : ℕ) (row : RowWords) (p : LaneNow) (es : List Entry) 
     others = λ i ne. refl;
   }
 
-  -- the lane's own entry comes where none stood
+  -- the lane's own entry comes, and none stood before
   one_more : (e : Entry) → e.lane ≡ l → h.rest ≡ [] → of_lane l (es ++ e ∷ []) ≡ Own ++ e ∷ []
   one_more e le none = of_lane-own l es e le ∙ ap (λ r. r ++ e ∷ []) (h.entries_are ∙ ap (λ r. Own ++ r) none ∙ append_none Own)
 

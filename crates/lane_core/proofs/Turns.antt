@@ -34,7 +34,8 @@ module _ (g : Geometry) (o : ℕ → Cell) (s : State) (l : ℕ) (h : IsSound g 
         tells = tells_plain g.width _ _ s.history l (s.lanes l).phase Locked p.tag p.sector tag sector p.log p.got p.got (ap is_reading e) refl was.tells;
       }
 
-  -- The lane's phase, words and what it loaded change, and it has no lock, reader word or log before or after
+  -- The lane's phase, words and what it loaded change, and it has no lock, reader word or log
+  -- before or after
   pub free_turn : (ph ph' : Phase) (tag : Tag) (sec : ℕ) (ws : List ℕ) (loaded : ℕ) (got : List ℕ) → (s.lanes l).phase ≡ ph → Free ph → Free ph'
       → ((r : ℕ) → r < g.lanes → r ≢ l → is_reading (s.lanes r).phase ≡ true → looked (s.lanes r) ≡ (s.lanes l).block → (is_filling ph' ≡ false) × ((j : ℕ) → ph' ≡ Scanning j → j ≤ place l r))
       → Knows g (s.seen.map_at (sec / 2)) ph' sec loaded (s.lanes l).half

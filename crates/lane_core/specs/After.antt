@@ -1,4 +1,5 @@
--- What one step of a lane of a core does, by the lane's phase: to the row, to the lane, to the history, and what it answers.
+-- What one step of a lane of a core does, by the lane's phase: to the row, to the lane, to the
+-- history, and what it answers.
 use Rattle.std.specs.Prelude.{ℕ, ◌+◌, ◌-◌, ◌/◌, ◌==◌, nat_lt, if◌then◌else◌, Bool, true, false, [], length, slice_index, slice_set, take, drop, replicate, suc}
 use Rattle.map_table.specs.Entry.{entry_in, with_entry}
 use Rattle.map_table.specs.declared.kinds.Kind.{Kind}

@@ -1,4 +1,5 @@
--- The words of an arena that lanes load and store, by what they mean: UEFI 2.10, section 6.2 (BTT data structures).
+-- The words of an arena that lanes load and store, by what they mean: UEFI 2.10, section 6.2 (BTT
+-- data structures).
 use Rattle.std.specs.Prelude.{◌≡◌, ℕ, ◌+◌, ◌*◌, ◌/◌, ◌%◌, ◌^◌, ◌<◌, ◌≤◌, ◌==◌, Bool, true, false, if◌then◌else◌, ◌⊎◌}
 pub use Rattle.flog.specs.declared.half.Half.{Half}
 use Rattle.map_table.specs.declared.kinds.Kind.{Kind}
@@ -21,7 +22,7 @@ pub record IsGeometry (g : Geometry) : Type 0 where
   pub lanes : 0 < g.lanes
   pub fits : g.sectors + g.lanes ≤ 2 ^ 30
 
--- ---- one set of words: those seen, those kept, or those that a power cut leaves
+-- ---- one set of words: those seen, those kept, or those after a power cut
 
 pub record Areas : Type 0 where
   pub data_at : ℕ → ℕ → ℕ  -- word k of block b
@@ -51,7 +52,7 @@ store_b i l side v = record i { log_b = put i.log_b l (put (i.log_b l) side v) }
 unfoldable pub kind_in : ℕ → Kind
 kind_in e = (entry_of e 0).kind
 
--- the block that an entry gives its sector, whatever it says
+-- the block that an entry names for its sector, whatever its kind
 unfoldable pub block_in : ℕ → ℕ → ℕ
 block_in e s = (entry_of e s).block
 

@@ -24,21 +24,22 @@ write_begun x p tag sector words = record p { phase = first_phase (geometry x); 
 abbrev pub IsIdleLane : Core → ℕ → Type 0
 IsIdleLane core lane = (p : LaneNow) × (slice_get core.lanes.items lane ≡ Some p) × (p.phase ≡ Idle)
 
--- all but the lanes and the room for entries is as it was
+-- only the lanes and the room for entries change
 pub record KeepsRest (old new : Core) : Type 0 where
   pub shape : new.shape ≡ old.shape
   pub info : new.info ≡ old.info
   pub row : new.row ≡ old.row
   pub entries : new.history.entries ≡ old.history.entries
 
--- there is room for an entry of each lane, and all else is as it was
+-- there is room for an entry of each lane, and nothing else changes
 pub record HasRoom (old new : Core) : Type 0 where
   pub rest : KeepsRest old new
   pub lanes : new.lanes.items ≡ old.lanes.items
   pub room : length new.lanes.items ≤ new.history.room
   pub more : old.history.room ≤ new.history.room
 
--- a lane is what a call makes of it, and the core shows what the line makes of each state that it showed
+-- a lane is what a call makes of it, and the core shows what the line makes of each state that it
+-- showed
 pub record Starts (old new : Core) (lane : ℕ) (begun : LaneNow → LaneNow) (after : State → State) : Type 0 where
   pub rest : KeepsRest old new
   pub lanes : (p : LaneNow) → slice_get old.lanes.items lane ≡ Some p → new.lanes.items ≡ slice_set old.lanes.items lane (begun p)
@@ -69,7 +70,7 @@ abbrev pub is_idle : Phase → Bool
 is_idle Idle = true
 is_idle other = false
 
--- a lane is refused as busy exactly where it isn't idle
+-- a lane is refused as busy if and only if it isn't idle
 abbrev pub BusyExactly : Core → ℕ → Result (Unit {0}) Begun → Type 0
 BusyExactly core lane result =
     (p : LaneNow) → slice_get core.lanes.items lane ≡ Some p

@@ -1,4 +1,4 @@
--- What a cut may leave, and the map that opening recovers from it.
+-- The states after a power cut, and the map that opening recovers from them.
 use Rattle.std.specs.Prelude.{◌≡◌, ℕ, ◌+◌, ◌*◌, ◌<◌, ◌≢◌, ◌==◌, ◌&&◌, not, ◌⊎◌, if◌then◌else◌, zero, suc, Bool, true, false}
 use Rattle.lane_core.specs.Areas.{Geometry, blocks_of, Areas, Half, half_in, seq_in, IsNewer, mapped, entry_at, block_in, normal}
 use Rattle.lane_core.specs.History.{Cell, end_of, cell_in}
@@ -6,7 +6,7 @@ use Rattle.lane_core.specs.Machine.{State, Phase, LogBStored, Logged, other}
 use Rattle.lane_core.specs.Invariant.{Sized}
 use Rattle.arena_open.specs.declared.cell.Cell.TheVariants as cell
 
--- each word of the arena is the kept one or the seen one, by itself
+-- each word of the arena by itself is the kept one or the seen one
 pub record AreLeft (g : Geometry) (seen kept left : Areas) : Type 0 where
   pub data_left : (b k : ℕ) → b < blocks_of g → k < g.width → (left.data_at b k ≡ kept.data_at b k) ⊎ (left.data_at b k ≡ seen.data_at b k)
   pub map_left : (m : ℕ) → 2 * m < g.sectors → (left.map_at m ≡ kept.map_at m) ⊎ (left.map_at m ≡ seen.map_at m)
@@ -24,7 +24,8 @@ half_at areas l side = half_in (areas.log_a l side) (areas.log_b l side)
 abbrev pub is_pending : Areas → Half → Bool
 is_pending areas half = not (half.old == half.new) && (mapped areas.map_at half.lba == half.old)
 
--- The entry of sector t with the pending moves of the first n lanes made. Of two the one of the greater lane counts
+-- The entry of sector t with the pending moves of the first n lanes made. If two lanes have one,
+-- the greater lane's counts
 unfoldable pub recovered : Areas → (ℕ → ℕ) → ℕ → ℕ → ℕ
 recovered areas sides zero t = entry_at areas.map_at t
 recovered areas sides (suc l) t = if is_pending areas (half_at areas l (sides l)) && ((half_at areas l (sides l)).lba == t) then normal (half_at areas l (sides l)).new else recovered areas sides l t
@@ -43,7 +44,7 @@ is_open LogBStored = true
 is_open Logged = true
 is_open _ = false
 
--- the cell is that of the history's end, or that of a write in flight
+-- the cell is the one at the end of the history, or that of a write in flight
 abbrev pub Survives : Geometry → (ℕ → Cell) → State → ℕ → Cell → Type 0
 Survives g opening s t c = (c ≡ end_of opening s.history t) ⊎ ((l : ℕ) × (l < g.lanes) × (is_open (s.lanes l).phase ≡ true) × ((s.lanes l).sector ≡ t) × (c ≡ cell.Bytes (s.lanes l).words))
 

@@ -1,9 +1,10 @@
--- The words of an arena that no lane stores: its info blocks and its padding. They stay as opening found them.
+-- The words of an arena that no lane stores: its info blocks and its padding. They stay as opening
+-- found them.
 use Rattle.std.specs.Prelude.{◌≡◌, ◌≢◌, ℕ, ◌+◌, ◌<◌, List, slice_index}
 use Rattle.lane_core.specs.declared.shape.Shape.{Shape}
 use Rattle.lane_core.specs.Places.{Place, IsIn, word_of}
 
--- word i of the arena is no word of a sector, no map word and no word of a log half
+-- word i of the arena belongs to no sector, no map word and no log half
 pub record IsFixed (x : Shape) (i : ℕ) : Type 0 where
   pub inside : i < x.total
   pub apart : (p : Place) → IsIn x p → word_of x p ≢ i

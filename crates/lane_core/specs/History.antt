@@ -1,4 +1,5 @@
--- Histories of an arena: the calls on its sectors, one after another, and what they leave. They know no block, lane word or lock.
+-- Histories of an arena: the calls on its sectors, one after another, and what they leave. They
+-- know no block, lane word or lock.
 use Rattle.std.specs.Prelude.{◌≡◌, ⊤, ℕ, ◌==◌, Bool, true, false, filter, replicate, List, [], ◌∷◌, ◌++◌, zero, suc}
 pub use Rattle.nvd_words.specs.declared.tag.Tag.{Tag}
 pub use Rattle.arena_open.specs.declared.cell.Cell.{Cell}
@@ -16,17 +17,17 @@ Cells = ℕ → Cell
 
 -- ---- one act: a further kind of act, such as a compare with a result, is a further line of each of these
 
--- what an act leaves of the cell that it finds
+-- the cell after an act, by the cell that it finds
 abbrev pub left_of : Act → Cell → Cell
 left_of (act.Read seen) found = found
 left_of (act.Write words) found = cell.Bytes words
 
--- what an act says of the cell that it finds is so
+-- what an act says of the cell that it finds is true
 abbrev pub IsRight : Act → Cell → Type 0
 IsRight (act.Read seen) found = seen ≡ found
 IsRight (act.Write words) found = ⊤
 
--- an act that leaves every cell as it finds it
+-- an act that changes no cell
 abbrev pub changes_nothing : Act → Bool
 changes_nothing (act.Read seen) = true
 changes_nothing (act.Write words) = false
@@ -77,6 +78,6 @@ cell_by width kind.Normal row = cell.Bytes (listed width row)
 unfoldable pub cell_in : ℕ → (ℕ → ℕ → ℕ) → ℕ → ℕ → Cell
 cell_in width data_at e t = cell_by width (kind_in e) (data_at (block_in e t))
 
--- the cells that words give
+-- the cells that words encode
 abbrev pub cell_of : Geometry → (ℕ → ℕ → ℕ) → (ℕ → ℕ) → Cells
 cell_of g data_at map_at t = cell_in g.width data_at (entry_at map_at t) t

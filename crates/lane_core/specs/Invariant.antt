@@ -86,7 +86,7 @@ abbrev pub is_log_b_stored : Phase → Bool
 is_log_b_stored LogBStored = true
 is_log_b_stored _ = false
 
--- the phases in which a half or the map word is as at rest
+-- the phases in which a half, or the map word, is as in an idle lane
 abbrev pub is_plain : Phase → Bool
 is_plain LogAStored = false
 is_plain LogA = false
@@ -122,7 +122,7 @@ saved e p = stored e p
 abbrev pub claim : Geometry → Lane → ℕ
 claim g p = if is_locked p.phase then suc (lock_of g p.sector) else 0
 
--- one more than the map word of which a lane has an entry switched and not yet kept
+-- one more than the map word in which a lane has switched an entry that isn't kept yet
 abbrev pub switching : Lane → ℕ
 switching p = if is_switched p.phase then suc (p.sector / 2) else 0
 
@@ -199,7 +199,8 @@ pub record Halves (seen_a seen_b kept_a kept_b : ℕ → ℕ) (word kept_word : 
   pub named_a : has_log_a phase ≡ true → seen_a (other side) ≡ word_a sector (block_in (entry_in word sector) sector)
   pub named_b : is_log_b_stored phase ≡ true → seen_b (other side) ≡ word_b block (next_seq half.seq)
 
--- the entries of a lane in the history beyond its log: the read of which it loads the words, which `row` has
+-- the entries of a lane in the history that its log doesn't have: the read whose words it loads,
+-- which `row` has
 abbrev pub open_entry : ℕ → (ℕ → ℕ) → ℕ → Tag → ℕ → Entry
 open_entry width row l tag sector = record { lane = l; tag = tag; sector = sector; act = act.Read (cell.Bytes (listed width row)) }
 

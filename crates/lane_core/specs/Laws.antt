@@ -14,11 +14,12 @@ use Rattle.lane_core.specs.Finished.{IsAccount}
 
 -- ---- one line each
 
--- from every state in which the invariant holds and the lane is in this phase, the step gives one in which it holds
+-- from every state in which the invariant holds and the lane is in this phase, the step leads to
+-- one in which it holds
 abbrev pub KeepsInvariant : Phase → (Geometry → State → ℕ → State) → Type 0
 KeepsInvariant phase line = (g : Geometry) (o : Cells) (s : State) (l : ℕ) → IsSound g o s → l < g.lanes → (s.lanes l).phase ≡ phase → IsSound g o (line g s l)
 
--- the same where a further condition holds
+-- the same under a further condition
 abbrev pub KeepsInvariantIf : Phase → (Geometry → State → ℕ → Type 0) → (Geometry → State → ℕ → State) → Type 0
 KeepsInvariantIf phase allowed line =
     (g : Geometry) (o : Cells) (s : State) (l : ℕ) → IsSound g o s → l < g.lanes → (s.lanes l).phase ≡ phase → allowed g s l → IsSound g o (line g s l)
@@ -100,7 +101,7 @@ RttClear = KeepsInvariant Moved clear_moved × ((width : ℕ) → KeepsInvariant
 abbrev pub OpenedIsSound : Type 0
 OpenedIsSound = (g : Geometry) (areas : Areas) (sides : ℕ → ℕ) → IsOpen g areas sides → IsSound g (cell_of g areas.data_at areas.map_at) (opened areas sides)
 
--- a new arena is as opening gives it, so no law here is empty
+-- a new arena is an opened one, so no law here is empty
 abbrev pub FormattedIsOpen : Type 0
 FormattedIsOpen = (g : Geometry) → IsGeometry g → IsOpen g (formatted g) (λ l. 0)
 
@@ -108,8 +109,9 @@ FormattedIsOpen = (g : Geometry) → IsGeometry g → IsOpen g (formatted g) (λ
 abbrev pub EveryRun : Type 0
 EveryRun = (g : Geometry) (o : Cells) (s : State) (events : List Event) → IsSound g o s → AllFit g events → IsSound g o (run g s events)
 
--- Whatever lanes do after opening, and whatever a cut then leaves: each lane has one current half, opening finds each block once,
--- and each sector has its cell at the history's end or the words of one write in flight.
+-- Whatever lanes do after opening, and whenever power is cut then: each lane has one current half,
+-- opening finds each block once, and each sector has its cell at the history's end or the words of
+-- one write in flight.
 abbrev pub EveryCut : Type 0
 EveryCut =
     (g : Geometry) (areas : Areas) (sides : ℕ → ℕ) (events : List Event) (left : Areas) → IsOpen g areas sides → AllFit g events
@@ -121,21 +123,23 @@ EveryCut =
 abbrev pub OneIsCurrent : Type 0
 OneIsCurrent = (left : Areas) (l a b : ℕ) → IsCurrent left l a → IsCurrent left l b → a ≡ b
 
--- A write whose word B was never stored isn't among the survivors: if no lane that is in a write of the sector has come past
--- FlogBStore, or each such lane has stored its map word, a cut leaves the sector as the history ends.
+-- A write whose word B was never stored isn't among the survivors: if no lane that is in a write of
+-- the sector has come past FlogBStore, or each such lane has stored its map word, after a power cut
+-- the sector is as at the end of the history.
 abbrev pub UnloggedWritesAreLost : Type 0
 UnloggedWritesAreLost =
     (g : Geometry) (o : Cells) (s : State) (left : Areas) (sides : ℕ → ℕ) (t : ℕ) → IsSound g o s → AreLeft g s.seen s.kept left → ((l : ℕ) → l < g.lanes → IsCurrent left l (sides l)) → t < g.sectors
     → ((l : ℕ) → l < g.lanes → (s.lanes l).sector ≡ t → is_open (s.lanes l).phase ≡ false)
     → cell_in g.width left.data_at (recovered left sides g.lanes t) t ≡ end_of o s.history t
 
--- where the sectors and the lanes name each block once, each block is named, so exactly once
+-- if the sectors and the lanes name no block twice, they name each block exactly once
 abbrev pub EachIsNamed : Type 0
 EachIsNamed =
     (g : Geometry) (of_sector of_lane : ℕ → ℕ) → EachOnce g of_sector of_lane → (b : ℕ) → b < blocks_of g
     → ((s : ℕ) × (s < g.sectors) × (of_sector s ≡ b)) ⊎ ((l : ℕ) × (l < g.lanes) × (of_lane l ≡ b))
 
--- Opening what a cut left, with the pending moves made in the map: the arena is open, meets the invariant, and has the cells that survive.
+-- The state after a power cut, once opening has made the pending moves in the map: the arena is
+-- open, meets the invariant, and has the cells that survive.
 pub record IsReopened (g : Geometry) (o : Cells) (s : State) (again : Areas) (sides : ℕ → ℕ) : Type 0 where
   pub open_again : IsOpen g again sides
   pub sound : IsSound g (cell_of g again.data_at again.map_at) (opened again sides)
@@ -153,7 +157,7 @@ CutsReopen =
     (g : Geometry) (o : Cells) (s : State) (left again : Areas) (sides : ℕ → ℕ) → IsSound g o s → AreLeft g s.seen s.kept left → ((l : ℕ) → l < g.lanes → IsCurrent left l (sides l))
     → HasMovesMade g left again sides → IsReopened g o s again sides
 
--- Whatever lanes do, there is a legal history that has just the entries of their logs, without the reads that were cut, and it leaves
--- the cells that the seen words give.
+-- Whatever lanes do, there is a legal history with exactly the entries of their logs, without
+-- unfinished reads, and it ends in the cells that the seen words encode.
 abbrev pub EveryAccount : Type 0
 EveryAccount = (g : Geometry) (o : Cells) (s : State) → IsSound g o s → (h : List Entry) × IsAccount g o (cell_of g s.seen.data_at s.seen.map_at) (λ l. (s.lanes l).log) h

@@ -31,11 +31,11 @@ word_at x row p = slice_index row.words (word_of x p)
 abbrev pub looked_now : LaneNow → ℕ
 looked_now p = block_in (entry_in p.loaded p.sector) p.sector
 
--- where a scan goes on, which found a reader word
+-- the next phase of a scan that found a reader word
 abbrev pub scanned : Shape → ℕ → ℕ → ℕ → Phase
 scanned x word block j = if word == suc block then Scanning 0 else (if j + 2 == x.lanes then Staging 0 else Scanning (j + 1))
 
--- where a write goes on after the keep of a word
+-- the next phase of a write after the keep of a word
 abbrev pub kept_phase : Shape → ℕ → Phase
 kept_phase x k = if k + 1 == 2 * x.width then Staged else Staging (k + 1)
 

@@ -1,5 +1,6 @@
--- Lanes, the state of an arena, and one step of a lane for each line of the algorithm: Linux's BTT document
--- (Documentation/driver-api/nvdimm/btt.rst). Which lock guards a map word is this project's rule.
+-- Lanes, the state of an arena, and one step of a lane for each line of the algorithm: Linux's BTT
+-- document (Documentation/driver-api/nvdimm/btt.rst). Which lock guards a map word is this
+-- project's rule.
 use Rattle.std.specs.Prelude.{ℕ, ◌+◌, ◌-◌, ◌*◌, ◌/◌, ◌%◌, ◌==◌, nat_lt, if◌then◌else◌, List, [], ◌∷◌, ◌++◌, suc}
 pub use Rattle.lane_core.specs.declared.phase.Phase.{Phase}
 pub use Rattle.lane_core.specs.declared.phase.Phase.TheVariants.{Idle, Scanning, Staging, Staged, Locked, Known, LogAStored, LogA, LogBStored, Logged, Switched, Kept, Called, Looking, Published, Moved, Reading}
@@ -37,7 +38,7 @@ read l p c = record { lane = l; tag = p.tag; sector = p.sector; act = act.Read c
 abbrev pub looked : Lane → ℕ
 looked p = block_in (entry_in p.loaded p.sector) p.sector
 
--- a lane alone has changed
+-- only one lane changes
 abbrev pub with_lane : State → ℕ → Lane → State
 with_lane s l p = record s { lanes = put s.lanes l p }
 
@@ -45,11 +46,11 @@ with_lane s l p = record s { lanes = put s.lanes l p }
 abbrev pub other_lane : ℕ → ℕ → ℕ
 other_lane l j = if nat_lt j l then j else j + 1
 
--- where a write begins: one lane has no other to look at
+-- the first phase of a write: with one lane there is no other to look at
 abbrev pub first_phase : Geometry → Phase
 first_phase g = if g.lanes == 1 then Staging 0 else Scanning 0
 
--- ---- one step of lane l each; beginning a call and giving it up are no steps
+-- ---- each is one step of lane l; beginning a call and giving it up are no steps
 
 module _ (g : Geometry) (s : State) (l : ℕ) where
   -- a write begins

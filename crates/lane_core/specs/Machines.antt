@@ -21,11 +21,11 @@ use Rattle.lane_core.specs.Cores.{ShowsSound}
 abbrev pub IsCore : Cells → Core → Type 0
 IsCore opening core = (s : State) × ShowsSound core.shape core.row core.lanes.items core.history opening s
 
--- the same, whatever the contents at its opening were
+-- the same, whatever its cells were at its opening
 abbrev pub IsSomeCore : Core → Type 0
 IsSomeCore core = (opening : Cells) × IsCore opening core
 
--- it still does, with the same contents at its opening
+-- it still does, with the same cells at its opening
 abbrev pub KeepsCore : Core → Core → Type 0
 KeepsCore old new = (opening : Cells) → IsCore opening old → IsCore opening new
 
@@ -44,7 +44,7 @@ pub record StepsOnce (old new : Core) (l : ℕ) (p : LaneNow) (result : Stepped)
   pub nothing : result ≡ stepped.Nothing → p.phase ≡ Idle
   pub idle : p.phase ≡ Idle → result ≡ stepped.Nothing
 
--- a core of an arena in which nothing was called yet
+-- a core of an arena before its first call
 pub record IsFresh (state : ArenaState) (core : Core) : Type 0 where
   pub info : core.info ≡ state.info
   pub shape : core.shape ≡ shape_in state
@@ -52,8 +52,9 @@ pub record IsFresh (state : ArenaState) (core : Core) : Type 0 where
   pub lanes : core.lanes.items ≡ map idle_of state.lanes
   pub history : core.history.entries ≡ []
 
--- What a cut left of a core: each word is the kept one or the seen one, each lane has one current half, and whatever the core
--- showed, opening recovers each sector as the history ends or as one write in flight has it.
+-- A core's words after a power cut: each word is the kept one or the seen one, each lane has one
+-- current half, and whatever the core showed, opening recovers each sector as at the end of the
+-- history or with the words of one write in flight.
 pub record CutSurvives (core : Core) (left : List ℕ) : Type 0 where
   pub size : length left ≡ core.shape.total
   pub words : (s : State) → CoreShows core s → AreLeft (geometry core.shape) s.seen s.kept (areas_of core.shape left)

@@ -36,7 +36,8 @@ pub record IsOpen (g : Geometry) (areas : Areas) (sides : ℕ → ℕ) : Type 0 
   pub sized : (l : ℕ) → l < g.lanes → Sized g (half_at areas l (sides l))
   pub once : EachOnce g (mapped areas.map_at) (λ l. (half_at areas l (sides l)).old)
 
--- a new arena: each entry is zero, with the sector's own block, and each lane has a block behind those
+-- a new arena: each entry is zero, with the sector's own block, and each lane has a block behind
+-- those
 abbrev pub formatted : Geometry → Areas
 formatted g = record {
   data_at = λ b k. 0;

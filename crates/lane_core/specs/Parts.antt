@@ -1,4 +1,5 @@
--- What a session knows of a core: the lanes that are in its calls, and its entries without a read that isn't answered.
+-- What a session knows of a core: the lanes that are in its calls, and its entries without a read
+-- that isn't answered.
 use Rattle.std.specs.Prelude.{◌≡◌, ◌≢◌, ℕ, ◌==◌, true, false, List, [], ◌∷◌, filter, slice_get, Some}
 use Rattle.lane_core.specs.declared.history.Entry.{Entry}
 use Rattle.lane_core.specs.declared.in_call.InCall.{InCall}
@@ -30,8 +31,8 @@ IsOfOthers session held (Step lane) = (p : LaneNow) → slice_get held.lanes lan
 abbrev pub OthersKeepParts : Type 0
 OthersKeepParts = (held : Held) (asked : Asked) (session : ℕ) → IsOfOthers session held asked → SamePart session held (held_after held asked)
 
--- a law: A session that has one call at a time knows the one lane that is in it, and none between its calls. All its entries are
--- its own unless a lane loads the words of its read.
+-- a law: A session that has one call at a time knows the one lane that is in it, and none between
+-- its calls. All its entries are its own unless a lane loads the words of its read.
 pub record OwnPartIsKnown : Type 0 where
   pub in_one : (held : Held) (l : ℕ) (p : LaneNow) → OneCallEach held.lanes → slice_get held.lanes l ≡ Some p → is_idle p.phase ≡ false → own_calls (tag_of p).session held ≡ in_call held.shape l p ∷ []
   pub in_none : (held : Held) (session : ℕ) → IsFree session held.lanes → own_calls session held ≡ []

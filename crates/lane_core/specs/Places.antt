@@ -1,5 +1,5 @@
--- Where the words of a state stand: a row of the arena's words as they are seen, the same words as they are kept, the reader table
--- and the map locks. A table that lanes share has the same row.
+-- The places of a state's words: a row of the arena's words as they are seen, the same words as
+-- they are kept, the reader table and the map locks. A table that lanes share has the same row.
 use Rattle.std.specs.Prelude.{◌≡◌, ℕ, ◌+◌, ◌*◌, ◌/◌, ◌^◌, ◌<◌, ◌≤◌, List, slice_index}
 use Rattle.arena_layout.specs.declared.layout.Layout.{Layout}
 use Rattle.lane_core.specs.declared.shape.Shape.{Shape}
@@ -32,7 +32,8 @@ pub record IsShape (x : Shape) : Type 0 where
   pub short : x.width < 2 ^ 20
   pub small : x.total ≤ 2 ^ 36
 
--- word k of block b, a map word, words A and B of the half at a side of a lane's group, each seen or kept; a reader word; a lock
+-- word k of block b, a map word, words A and B of the half at a side of a lane's group, each seen
+-- or kept; a reader word; a lock
 pub data Place : Type 0 where
   SeenData : (b k : ℕ) → Place
   KeptData : (b k : ℕ) → Place
@@ -71,7 +72,7 @@ word_of x (KeptB l side) = x.total + (x.log_at + 8 * l + 2 * side + 1)
 word_of x (Reader l) = 2 * x.total + l
 word_of x (Lock k) = 2 * x.total + x.lanes + k
 
--- so many words has the row
+-- how many words the row has
 abbrev pub row_size : Shape → ℕ
 row_size x = 2 * x.total + 2 * x.lanes
 
@@ -91,7 +92,7 @@ value_of s (Lock k) = s.locks k
 abbrev pub Shows : Shape → List ℕ → State → Type 0
 Shows x words s = (p : Place) → IsIn x p → slice_index words (word_of x p) ≡ value_of s p
 
--- a law: no two places share a word of the row, and each place has one
+-- a law: each place has its own word in the row
 pub record PlacesApart (x : Shape) : Type 0 where
   pub apart : (p q : Place) → IsIn x p → IsIn x q → word_of x p ≡ word_of x q → p ≡ q
   pub inside : (p : Place) → IsIn x p → word_of x p < row_size x

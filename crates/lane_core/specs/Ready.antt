@@ -9,8 +9,8 @@ use Rattle.lane_core.specs.Lines.{looked_now, HasArenaWord, HasWord}
 use Rattle.lane_core.specs.Invariant.{uses_sector}
 use Rattle.lane_core.specs.After.{wants_lock, uses_words, uses_cell, owes_entry, uses_looked}
 
--- what the core itself keeps of a lane: the words of its call, or the room for them, the sector of a staged write, and that the
--- block that a read looks at is one of the arena
+-- what the core itself keeps of a lane: the words of its call, or the room for them, the sector of
+-- a staged write, and that the block that a read looks at is one of the arena
 pub record IsFilled (x : Shape) (p : LaneNow) : Type 0 where
   pub words : uses_words p.phase ≡ true → length p.words ≡ x.width
   pub cell : uses_cell p.phase ≡ true → length p.cell ≡ x.width

@@ -1,4 +1,4 @@
--- The core of an arena that was opened, and what opening finds in the words that a power cut leaves of it.
+-- The core of an opened arena, and what opening finds in its words after a power cut.
 use Rattle.std.specs.Prelude.{◌≡◌, ◌⊎◌, ℕ, ◌<◌, true, List, ◌++◌, slice_get, Some, Ok}
 use Rattle.arena_open.specs.declared.cell.Cell.{Cell}
 use Rattle.arena_open.specs.declared.cell.Cell.TheVariants as cell
@@ -19,7 +19,8 @@ use Rattle.lane_core.specs.Machines.{IsCore}
 abbrev pub first_cells : ArenaState → Cells
 first_cells state = cell_at state.info.layout state.words
 
--- The core of an arena: its calls began with the arena's sectors, and each word that no lane stores is the arena's.
+-- The core of an arena: its calls began with the arena's sectors, and each word that no lane stores
+-- is the arena's.
 pub record IsCoreOf (state : ArenaState) (core : Core) : Type 0 where
   pub opened : IsOpenState state
   pub info : core.info ≡ state.info
@@ -33,7 +34,8 @@ KeepsArena old new = (state : ArenaState) → IsCoreOf state old → IsCoreOf st
 
 -- ---- after a power cut
 
--- the cell has the words of a write of this sector whose log entry was stored and whose map entry wasn't
+-- the cell has the words of a write of this sector whose log entry was stored and whose map entry
+-- wasn't
 pub record IsInFlight (held : Held) (sector : ℕ) (found : Cell) : Type 0 where
   pub lane : ℕ
   pub call : LaneNow
@@ -42,7 +44,8 @@ pub record IsInFlight (held : Held) (sector : ℕ) (found : Cell) : Type 0 where
   pub on : call.sector ≡ sector
   pub words : found ≡ cell.Bytes call.words
 
--- a cell that a sector may have after a power cut: the one at the history's end, or that of one write in flight
+-- a cell that a sector may have after a power cut: the one at the end of the history, or that of
+-- one write in flight
 abbrev pub MaySurvive : Cells → Held → ℕ → Cell → Type 0
 MaySurvive first held sector found = (found ≡ end_of first held.entries sector) ⊎ IsInFlight held sector found
 
@@ -53,8 +56,8 @@ pub record IsFoundAgain (state : ArenaState) (held : Held) (words parent : List 
   pub info : arena.info ≡ state.info
   pub contents : (sector : ℕ) → sector < held.shape.sectors → MaySurvive (first_cells state) held sector (cell_at arena.info.layout (state_of words arena).words sector)
 
--- What a power cut left of a core that held this, of an arena. Wherever the arena's words opened, these open in their place, whatever
--- stands behind them.
+-- The words after a power cut of a core that held this, of an arena. If the arena's words opened in
+-- a namespace, these open in their place, whatever stands behind them.
 pub record Reopens (state : ArenaState) (held : Held) (left : List ℕ) : Type 0 where
   pub fixed : SameFixed held.shape state.words left
   pub opens : (behind parent : List ℕ) (arena : Opened) → opening (state.words ++ behind) parent ≡ Ok arena → IsFoundAgain state held (left ++ behind) parent

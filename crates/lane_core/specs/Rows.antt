@@ -11,7 +11,7 @@ pub record RowWords : Type 0 where
   pub words : List ℕ
   pub pending : List Bool
 
--- the row of an arena's words with so many lanes, none of which reads or has a lock
+-- the row of an arena's words with this many lanes, none of which reads or has a lock
 abbrev pub new_row : List ℕ → ℕ → RowWords
 new_row words lanes = record { words = words ++ words ++ replicate (2 * lanes) 0; pending = replicate (length words) false }
 
@@ -27,7 +27,8 @@ stored_in row at value = record { words = slice_set row.words at value; pending 
 abbrev pub kept_in : RowWords → ℕ → RowWords
 kept_in row at = record { words = slice_set row.words (length row.pending + at) (slice_index row.words at); pending = slice_set row.pending at false }
 
--- the arena's words as words that lose power: the kept value of each, and the value that was stored since its last keep
+-- the arena's words as words that lose power: the kept value of each, and the value that was stored
+-- since its last keep
 abbrev pub words_in : RowWords → Words
 words_in row = record {
   kept = take (length row.pending) (drop (length row.pending) row.words);

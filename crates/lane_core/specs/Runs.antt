@@ -1,4 +1,5 @@
--- Whole runs: every list of events of any lanes. An event that a lane's phase doesn't allow does nothing.
+-- Whole runs: every list of events of any lanes. An event that a lane's phase doesn't allow does
+-- nothing.
 use Rattle.std.specs.Prelude.{ℕ, ◌<◌, ◌==◌, nat_lt, if◌then◌else◌, List, [], ◌∷◌, replicate, zero, suc}
 use Rattle.map_table.specs.Entry.{entry_in}
 use Rattle.lane_core.specs.Areas.{Geometry, entry_at, kind_in}

@@ -1,4 +1,5 @@
--- What steps and calls do to a core, as a function of what the core holds. A schedule of lanes is a list of them.
+-- What steps and calls do to a core, as a function of what the core holds. A schedule of lanes is a
+-- list of them.
 use Rattle.std.specs.Prelude.{◌≡◌, ℕ, ◌<◌, ◌≤◌, Bool, true, false, if◌then◌else◌, List, [], ◌∷◌, ◌++◌, length, map, replicate, slice_get, slice_set, Option, Some, None}
 use Rattle.std.specs.List.{AllByRecursion}
 use Rattle.arena_open.specs.declared.cell.Cell.{Cell}
@@ -32,7 +33,8 @@ use Rattle.lane_core.specs.Reopening.{first_cells, Reopens}
 use Rattle.lane_core.specs.Rows.{new_row, words_in}
 use Rattle.lane_core.specs.Sessions.{is_unfinished, sector_in, tag_in}
 
--- what a lane is asked: to begin to read a sector, to begin to write these words to it, or to make one step
+-- what a lane is asked: to begin to read a sector, to begin to write these words to it, or to make
+-- one step
 pub data Asked : Type 0 where
   Read : (lane : ℕ) (tag : Tag) (sector : ℕ) → Asked
   Write : (lane : ℕ) (tag : Tag) (sector : ℕ) (words : List ℕ) → Asked
@@ -89,7 +91,7 @@ answer_by held l (Some p) = answer_after held.shape l held.row p p.phase
 abbrev pub answer_in : Held → ℕ → Stepped
 answer_in held l = answer_by held l (slice_get held.lanes l)
 
--- a core of an arena in which nothing was called yet
+-- a core of an arena before its first call
 abbrev pub opened_held : ArenaState → Held
 opened_held state = record { shape = shape_in state; row = new_row state.words state.info.layout.lanes; lanes = map idle_of state.lanes; entries = [] }
 
@@ -147,7 +149,8 @@ IsAnswer own said (Step lane) = ⊥
 abbrev pub IsTold : Told → Type 0
 IsTold t = IsAnswer t.tag t.answer t.asked
 
--- what a core holds, the call that each lane began last, and the calls that were answered, in the order of their answers
+-- what a core holds, the call that each lane began last, and the calls that were answered, in the
+-- order of their answers
 pub record Played : Type 0 where
   pub held : Held
   pub calls : ℕ → Asked
@@ -213,22 +216,25 @@ IsInCall l p phase (Write lane tag sector words) =
     (lane ≡ l) × (tag_in p phase ≡ tag) × (sector_in p phase ≡ sector) × (is_write phase ≡ true) × (is_unfinished phase ≡ true → p.words ≡ words)
 IsInCall l p phase (Step lane) = ⊥
 
--- what stands of a call that isn't answered: a write from the store of its map word on, and a read whose words are loaded
+-- what stands of a call that isn't answered: a write from the store of its map word on, and a read
+-- whose words are loaded
 abbrev pub IsOpenIn : Asked → Tag → Phase → List Entry → Type 0
 IsOpenIn asked tag Switched rest = rest ≡ entry_told (told asked tag answer.Wrote) ∷ []
 IsOpenIn asked tag Kept rest = rest ≡ entry_told (told asked tag answer.Wrote) ∷ []
 IsOpenIn asked tag (Reading k) rest = (cell : Cell) × (rest ≡ entry_told (told asked tag (answer.Got cell)) ∷ [])
 IsOpenIn asked tag _ rest = rest ≡ []
 
--- a lane's entries in a history are those of its answered calls, in order, and what stands of the one that it is in
+-- a lane's entries in a history are those of its answered calls, in order, and what stands of the
+-- one that it is in
 pub record LaneStands (l : ℕ) (p : LaneNow) (entries : List Entry) (answers : List Told) (asked : Asked) : Type 0 where
   pub in_call : is_idle p.phase ≡ false → IsInCall l p p.phase asked
   pub rest : List Entry
   pub entries_are : of_lane l entries ≡ of_lane l (map entry_told answers) ++ rest
   pub rest_is : IsOpenIn asked p.tag p.phase rest
 
--- The history is legal from the arena's cells. It has each answer once, and else only what stands of calls that lanes are in.
--- Whatever a power cut leaves of the words, they open again as the same arena, each sector with a cell that may survive.
+-- The history is legal from the arena's cells. It has each answer once, and besides only the
+-- entries of running calls that stand. After every power cut the words open again as the same
+-- arena, each sector with a cell that may survive.
 pub record Stands (state : ArenaState) (now : Played) : Type 0 where
   pub legal : IsLegal (first_cells state) now.held.entries
   pub answered : AllByRecursion IsTold now.answers

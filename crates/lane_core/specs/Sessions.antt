@@ -1,4 +1,5 @@
--- What the lanes of a core do for sessions: whose call each lane is in, what it would still do, and how many steps it made at least.
+-- What the lanes of a core do for sessions: whose call each lane is in, what it will still do, and
+-- the least number of steps it has made.
 use Rattle.std.specs.Prelude.{◌≡◌, ◌≢◌, ◌⊎◌, ℕ, ◌+◌, ◌-◌, ◌*◌, ◌<◌, ◌≤◌, ◌==◌, ◌&&◌, not, if◌then◌else◌, Bool, true, false, List, [], ◌∷◌, ◌++◌, filter, slice_get, Option, Some, None, Any}
 use Rattle.nvd_words.specs.declared.tag.Tag.{Tag}
 use Rattle.arena_open.specs.declared.cell.Cell.{Cell}
@@ -63,7 +64,8 @@ act_of p = if is_unfinished p.phase then Some (act.Write p.words) else None
 abbrev pub staged_steps : Shape → ℕ
 staged_steps x = x.lanes - 1 + 2 * x.width
 
--- How many steps a lane in this phase made for its call, at least. It made more if it scanned or looked again, or waited for its lock.
+-- The least number of steps that a lane in this phase has made for its call. It made more if it
+-- scanned or looked again, or waited for its lock.
 abbrev pub least_steps : Shape → Phase → ℕ
 least_steps x Idle = 0
 least_steps x (Scanning j) = j
@@ -83,14 +85,15 @@ least_steps x Published = 2
 least_steps x Moved = 3
 least_steps x (Reading k) = 3 + k
 
--- the least steps of a write, and those of a read of a sector that has a block
+-- the least number of steps of a write, and of a read of a sector that has a block
 abbrev pub write_steps : Shape → ℕ
 write_steps x = staged_steps x + 9
 
 abbrev pub read_steps : Shape → ℕ
 read_steps x = x.width + 4
 
--- a law: a step is counted as one at most; a write that is answered made its least steps, and a read made its own or looked once
+-- a law: a step adds one at most; an answered write made its least number of steps, and an answered
+-- read made its own or looked once
 abbrev pub StepsArePaid : Type 0
 StepsArePaid =
     (x : Shape) (row : RowWords) (l : ℕ) (p : LaneNow) → (least_steps x (lane_after x l row p p.phase).phase ≤ least_steps x p.phase + 1)
@@ -108,9 +111,9 @@ calls_from x l (p ∷ ps) = (if is_idle p.phase then [] else in_call x l p ∷ [
 abbrev pub calls_in : Held → List InCall
 calls_in held = calls_from held.shape 0 held.lanes
 
--- ---- what a power cut may leave of their sectors
+-- ---- their sectors after a power cut
 
--- what a call that was cut may leave of a cell; a further kind of act is a further line
+-- the cell that an unfinished call may leave; a further kind of act is a further line
 abbrev pub MayLeave : Act → Cell → Type 0
 MayLeave (act.Read seen) left = ⊥
 MayLeave (act.Write words) left = left ≡ cell.Bytes words
@@ -119,11 +122,12 @@ MayLeave (act.Write words) left = left ≡ cell.Bytes words
 abbrev pub IsFlying : ℕ → Cell → InCall → Type 0
 IsFlying sector left c = (a : Act) × (c.act ≡ Some a) × (c.sector ≡ sector) × (c.entered ≡ false) × MayLeave a left
 
--- each of so many sectors has its cell at the history's end, or what one of the calls may have left
+-- each of this many sectors has its cell at the end of the history, or one that a call may have
+-- left
 abbrev pub CoreSurvives : Cells → List Entry → List InCall → ℕ → Cells → Type 0
 CoreSurvives first history calls count left = (sector : ℕ) → sector < count → (left sector ≡ end_of first history sector) ⊎ Any (IsFlying sector (left sector)) calls
 
--- a law: what may survive of a core's lanes is what its calls may have left
+-- a law: a cell that may survive is at the end of the history, or one that a call may have left
 abbrev pub SurvivorsAreCalls : Type 0
 SurvivorsAreCalls = (first : Cells) (held : Held) (left : Cells) → ((t : ℕ) → t < held.shape.sectors → MaySurvive first held t (left t))
     → CoreSurvives first held.entries (calls_in held) held.shape.sectors left
@@ -134,7 +138,7 @@ SurvivorsAreCalls = (first : Cells) (held : Held) (left : Cells) → ((t : ℕ) 
 abbrev pub IsFree : ℕ → List LaneNow → Type 0
 IsFree session lanes = (i : ℕ) (p : LaneNow) → slice_get lanes i ≡ Some p → is_idle p.phase ≡ false → (tag_of p).session ≢ session
 
--- of each session one lane at most is in a call
+-- at most one lane is in a call of each session
 abbrev pub OneCallEach : List LaneNow → Type 0
 OneCallEach lanes =
     (i j : ℕ) (p q : LaneNow) → slice_get lanes i ≡ Some p → slice_get lanes j ≡ Some q → is_idle p.phase ≡ false → is_idle q.phase ≡ false

@@ -12,12 +12,13 @@ use Rattle.lane_core.specs.Runs.{stepped, took}
 use Rattle.lane_core.specs.Places.{Shows, geometry}
 use Rattle.lane_core.specs.Rows.{RowWords, IsRow}
 
--- so many words has a read loaded
+-- how many words a read has loaded
 abbrev pub loads : Phase → ℕ
 loads (Reading k) = k
 loads _ = 0
 
--- a lane of a core in a phase, with a log. What it has of its call's words is what it has stored, or loaded
+-- a lane of a core in a phase, with a log. What it has of its call's words is what it has stored,
+-- or loaded
 abbrev pub lane_at : ℕ → LaneNow → Phase → List Entry → Lane
 lane_at width p phase log = record {
   block = p.block;
@@ -35,7 +36,8 @@ lane_at width p phase log = record {
 abbrev pub lane_of : ℕ → LaneNow → List Entry → Lane
 lane_of width p log = lane_at width p p.phase log
 
--- the words, the lanes and the history of a core are those of a state. A lane's log isn't kept apart: it follows from the history
+-- the words, the lanes and the history of a core are those of a state. A lane's log isn't kept: it
+-- follows from the history
 pub record Shown (x : Shape) (row : RowWords) (lanes : List LaneNow) (entries : List Entry) (s : State) : Type 0 where
   pub row_is : IsRow x row
   pub count : length lanes ≡ x.lanes

@@ -14,7 +14,7 @@ use crate::shape::Shape;
 use nvd_words::Tag;
 use std::alloc::Global;
 
-/// Whether a lane is in no call.
+/// Whether a lane is idle.
 fn is_idle(phase: Phase) -> bool
     ensures { result ≡ is_idle phase }
 {
@@ -67,7 +67,7 @@ impl Core {
         self.history.reserve(count).is_ok()
     }
 
-    /// An idle lane is in a read.
+    /// Puts an idle lane in a read.
     fn start_read(&mut self, lane: u32, tag: Tag, sector: u32, words: Buffer, cell: Buffer)
         requires core { IsSomeCore self.old }
         requires lane { IsIdleLane self.old lane }
@@ -81,7 +81,7 @@ impl Core {
         set_read(mine, tag, sector, words, cell);
     }
 
-    /// An idle lane is in a write.
+    /// Puts an idle lane in a write.
     fn start_write(&mut self, lane: u32, tag: Tag, sector: u32, words: Buffer)
         requires core { IsSomeCore self.old }
         requires lane { IsIdleLane self.old lane }
@@ -95,7 +95,7 @@ impl Core {
         set_write(mine, &self.shape, tag, sector, words);
     }
 
-    /// An idle lane begins a read. It answers whether memory was found.
+    /// Begins a read in an idle lane. Returns false if it is out of memory.
     fn begin_read(&mut self, alloc: Global, lane: u32, tag: Tag, sector: u32) -> bool
         requires core { IsSomeCore self.old }
         requires lane { IsIdleLane self.old lane }
@@ -114,7 +114,7 @@ impl Core {
         true
     }
 
-    /// An idle lane begins a write. It answers whether memory was found.
+    /// Begins a write in an idle lane. Returns false if it is out of memory.
     fn begin_write(&mut self, lane: u32, tag: Tag, sector: u32, words: Vec<u64>) -> bool
         requires core { IsSomeCore self.old }
         requires lane { IsIdleLane self.old lane }
@@ -131,7 +131,7 @@ impl Core {
         true
     }
 
-    /// An idle lane begins a call. It answers whether memory was found.
+    /// Begins a call in an idle lane. Returns false if it is out of memory.
     fn begin_idle(&mut self, alloc: Global, lane: u32, tag: Tag, call: Call) -> bool
         requires core { IsSomeCore self.old }
         requires lane { IsIdleLane self.old lane }
@@ -146,10 +146,12 @@ impl Core {
         }
     }
 
-    /// Begins a call in a lane, with room for its entry and its answer, so that no step needs memory.
+    /// Begins a call in a lane, with room for its entry and its answer, so that no step needs
+    /// memory.
     ///
-    /// Refusals: `LaneBusy`, exactly where the lane isn't idle; `OutOfMemory`. After a refusal nothing changed. Conditions: the
-    /// lane and the sector exist, and a value has as many words as a sector.
+    /// Refusals: `LaneBusy`, if and only if the lane isn't idle; `OutOfMemory`. A refused call
+    /// changes nothing. Conditions: the lane and the sector exist, and a value has as many words as
+    /// a sector.
     pub fn begin(&mut self, alloc: Global, lane: u32, tag: Tag, call: Call) -> Result<(), Begun>
         requires core { IsSomeCore self.old }
         requires lane { lane < self.old.shape.lanes }

@@ -29,7 +29,7 @@ impl Buffer {
         }
     }
 
-    /// So many zeros.
+    /// This many zeros.
     pub fn zeros(alloc: Global, count: usize) -> Result<Buffer, AllocError>
         ensures { IfOk result (λ buffer. buffer ≡ replicate count 0) }
     {
@@ -44,7 +44,7 @@ impl Buffer {
         Buffer { words }
     }
 
-    /// Them as a list. It takes no memory.
+    /// The words as a list. Takes no memory.
     pub fn into_items(self) -> Items<u64>
         ensures { result ≡ self }
     {
@@ -60,7 +60,7 @@ impl Buffer {
         self.words[k as usize]
     }
 
-    /// Word `k` gets a value.
+    /// Sets word `k`.
     #[inline]
     pub fn set(&mut self, k: u32, value: u64)
         requires { k < length self.old }
@@ -69,7 +69,7 @@ impl Buffer {
         self.words[k as usize] = value;
     }
 
-    /// It gets these words, as many as it has.
+    /// Copies these words here, as many as it has.
     #[inline]
     pub fn copy_from(&mut self, words: &[u64])
         requires { length words.now ≡ length self.old }
@@ -78,14 +78,14 @@ impl Buffer {
         self.words.copy_from_slice(words);
     }
 
-    /// All words become zeros.
+    /// Sets all words to 0.
     pub fn clear(&mut self)
         ensures { self.new ≡ replicate (length self.old) 0 }
     {
         self.words.fill(0);
     }
 
-    /// The words, with none left here.
+    /// Takes the words out, and leaves none.
     pub fn take(&mut self, alloc: Global) -> Items<u64>
         ensures words { result ≡ self.old }
         ensures none { self.new ≡ [] }

@@ -13,10 +13,10 @@ pub enum Call {
     },
 }
 
-/// Why a call isn't begun.
+/// Why a call doesn't begin.
 #[derive(Clone, Copy, Debug, PartialEq, Eq)]
 pub enum Begun {
-    /// The lane is in a call.
+    /// The lane is already in a call.
     LaneBusy { phase: Phase },
     OutOfMemory,
 }

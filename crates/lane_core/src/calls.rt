@@ -31,7 +31,7 @@ impl History {
         }
     }
 
-    /// Makes room for so many entries more.
+    /// Makes room for this many more entries.
     pub fn reserve(&mut self, more: usize) -> Result<(), AllocError>
         ensures entries { self.new.entries ≡ self.old.entries }
         ensures room { OnOk result (more ≤ self.new.room) }
@@ -41,7 +41,7 @@ impl History {
         self.entries.reserve(more)
     }
 
-    /// A call stands. There is room for it.
+    /// Adds a call that stands. There is room for it.
     pub fn push(&mut self, entry: Entry)
         requires room { 0 < self.old.room }
         ensures { self.new ≡ grown self.old entry }

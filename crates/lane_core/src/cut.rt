@@ -1,4 +1,4 @@
-//! Power is cut.
+//! A power cut.
 ghost use Rattle.cut_words.specs.Leaving.{LeavesFrom};
 ghost use Rattle.lane_core.specs.Held.{held_by};
 ghost use Rattle.lane_core.specs.Machines.{CutSurvives, IsSomeCore};
@@ -10,14 +10,16 @@ use crate::machine::Core;
 use nvd_media::Chooser;
 
 impl Core {
-    /// What a power cut leaves of the arena's words.
+    /// The arena's words after a power cut.
     ///
-    /// The chooser is asked once for each word that was stored since its last keep, also if the stored value is the kept one,
-    /// in rising order. Whatever it says, opening finds each block once, and each sector has its cell at the history's end or
-    /// the words of one write in flight.
+    /// The chooser is asked once for each word that was stored since its last keep, in rising
+    /// order, even if the stored value is the kept one. Whatever it says, opening finds each block
+    /// once, and each sector has its cell at the end of the history or the words of one write in
+    /// flight.
     ///
-    /// Words that no lane stores (info blocks, padding) are as the arena was opened with. So if the arena's words opened in a
-    /// namespace, what is left opens in their place, as the same arena and with these cells (`specs/Reopening.antt`).
+    /// Words that no lane stores (info blocks, padding) stay as they were when the arena was
+    /// opened. So if the arena's words opened in a namespace, these words open in their place, as
+    /// the same arena and with these cells (`specs/Reopening.antt`).
     pub fn cut<C: Chooser>(self, choose: &mut C) -> Vec<u64>
         requires core { IsSomeCore self }
         ensures asked { LeavesFrom C.picks 0 (words_in self.row).kept (words_in self.row).stored result.items choose.old choose.new }

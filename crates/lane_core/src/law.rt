@@ -1,4 +1,5 @@
-//! The laws about the steps of lanes. Each is a function that does nothing; what it ensures is the law (`specs/Laws.antt`).
+//! The laws about the steps of lanes. Each is a function that does nothing; what it ensures is the
+//! law (`specs/Laws.antt`).
 ghost use Rattle.lane_core.specs.History.{SomeMayGo};
 ghost use Rattle.lane_core.specs.Parts.{OthersKeepParts, OwnPartIsKnown};
 ghost use Rattle.lane_core.specs.Places.{PlacesAreApart};
@@ -17,7 +18,8 @@ pub fn calls_are_given_up()
     ensures { CallsAreGivenUp }
 {}
 
-/// A law: a write looks at a reader word, and begins to scan again if the other lane reads its free block.
+/// A law: a write looks at a reader word, and begins to scan again if the other lane reads its free
+/// block.
 pub fn rtt_scan_keeps_the_invariant()
     ensures { RttScan }
 {}
@@ -93,7 +95,8 @@ pub fn rtt_set_keeps_the_invariant()
     ensures { RttSet }
 {}
 
-/// A law: a read loads the map word again. If its sector's entry is the same, the read stands in the history.
+/// A law: a read loads the map word again. If its sector's entry is the same, the read stands in
+/// the history.
 #[tactic(auto, using(crate::proofs::Laws::map_check))]
 pub fn map_check_keeps_the_invariant()
     ensures { MapCheck }
@@ -115,7 +118,7 @@ pub fn opened_is_sound()
     ensures { OpenedIsSound }
 {}
 
-/// A law: a new arena is as opening gives it, so these laws speak of something.
+/// A law: a new arena is an opened one, so these laws aren't empty.
 pub fn formatted_is_open()
     ensures { FormattedIsOpen }
 {}
@@ -125,8 +128,9 @@ pub fn every_run_keeps_the_invariant()
     ensures { EveryRun }
 {}
 
-/// A law: whatever lanes do after opening, and wherever power is cut: each lane has one current half, opening finds each block
-/// once, and each sector has its cell at the history's end or the words of one write in flight.
+/// A law: whatever lanes do after opening, and whenever power is cut, each lane has one current
+/// half, opening finds each block once, and each sector has its cell at the history's end or the
+/// words of one write in flight.
 pub fn every_cut_survives()
     ensures { EveryCut }
 {}
@@ -136,51 +140,57 @@ pub fn one_half_is_current()
     ensures { OneIsCurrent }
 {}
 
-/// A law: a write whose second log word was never stored does not survive a cut.
+/// A law: a write whose second log word was never stored does not survive a power cut.
 #[tactic(auto, using(crate::proofs::Laws::unlogged_writes_are_lost))]
 pub fn unlogged_writes_are_lost()
     ensures { UnloggedWritesAreLost }
 {}
 
-/// A law: where no block is named twice by the sectors and the lanes, each block is named.
+/// A law: if the sectors and the lanes name no block twice, they name every block.
 pub fn each_block_is_named()
     ensures { EachIsNamed }
 {}
 
-/// A law: what a cut left, with its pending moves made, meets the invariant again and has the cells that survive.
+/// A law: the state after a crash, once its pending moves are made, meets the invariant again and
+/// has the cells that survive.
 pub fn cuts_reopen()
     ensures { CutsReopen }
 {}
 
-/// A law: without the reads that were cut, a legal history has just the entries of the lanes' logs, and ends in the seen cells.
+/// A law: without unfinished reads, a legal history has exactly the entries of the lanes' logs, and
+/// ends in the seen cells.
 #[tactic(auto, using(crate::proofs::Laws::every_account))]
 pub fn every_account()
     ensures { EveryAccount }
 {}
 
-/// A law: calls that change nothing may be left out of a history. It stays legal and has the same end.
+/// A law: calls that change nothing may be left out of a history. It stays legal and has the same
+/// end.
 pub fn some_calls_may_be_left_out()
     ensures { SomeMayGo }
 {}
 
-/// A law: no two places of a state share a word of the row that shows it, and each place has one.
+/// A law: each place of a state has its own word in the row that shows the state.
 #[tactic(auto, using(crate::proofs::Places::places_are_apart))]
 pub fn places_are_apart()
     ensures { PlacesAreApart }
 {}
 
-/// A law: a lane's phase counts the steps of its call from below: a step counts one at most. A write that is answered made all its
-/// least steps, and a read made all of its own, or looked once.
+/// A law: a lane's phase tells the least number of steps of its call. One step adds at most one. An
+/// answered write made at least the least steps of a write, and an answered read those of a read,
+/// or it looked once.
 pub fn steps_are_paid()
     ensures { StepsArePaid }
 {}
 
-/// A law: a cell that may survive a power cut is the one at the history's end, or what a call that doesn't stand would have left.
+/// A law: after a power cut a sector has its cell at the end of the history, or the cell that a
+/// call would have left that doesn't stand yet.
 pub fn survivors_are_calls()
     ensures { SurvivorsAreCalls }
 {}
 
-/// A law: reads that aren't answered may be left out of a core's history. It stays legal and has the same end.
+/// A law: unanswered reads may be left out of a core's history. It stays legal and has the same
+/// end.
 pub fn open_reads_may_go()
     ensures { OpenReadsMayGo }
 {}
@@ -190,8 +200,9 @@ pub fn a_core_is_what_it_holds()
     ensures { CoreIsHeld }
 {}
 
-/// A law: whatever the lanes of an opened arena are asked, in whatever order: the history is legal, it has each answer once and
-/// else only what stands of calls that lanes are in, and whatever a power cut leaves opens again.
+/// A law: whatever the lanes of an opened arena are asked, in whatever order, the history is legal.
+/// It has each answer once, and besides only the entries of running calls that stand. Every state
+/// after a power cut opens again.
 pub fn schedules_stand()
     ensures { SchedulesStand }
 {}
@@ -201,7 +212,8 @@ pub fn others_keep_parts()
     ensures { OthersKeepParts }
 {}
 
-/// A law: a session that makes one call at a time knows the lane that is in it, and which entries are its own.
+/// A law: a session that makes one call at a time knows the lane that is in it, and which entries
+/// are its own.
 pub fn own_part_is_known()
     ensures { OwnPartIsKnown }
 {}

@@ -1,5 +1,5 @@
-//! The lines of the algorithm: one step of a lane each. What they do is exact, and that it is a step of
-//! `specs/Machine.antt` is shown where they are called (`steps.rt`).
+//! The lines of the algorithm: each is one step of a lane. Contracts state exactly what a line
+//! does; its caller (`steps.rt`) shows that this is a step of `specs/Machine.antt`.
 ghost use Rattle.std.specs.Prelude.{◌≡◌, ◌≢◌, ◌==◌, ◌+◌, ◌-◌, ◌*◌, ◌/◌, ◌<◌, ◌≤◌, ◌^◌, ◌++◌, ◌∷◌, [], suc, length, replicate, take, drop, slice_index, slice_set, if◌then◌else◌};
 ghost use Rattle.map_table.specs.Entry.{entry_in, with_entry};
 ghost use Rattle.lane_core.specs.Areas.{block_in, kind_in, next_seq, normal, word_a, word_b};
@@ -248,7 +248,7 @@ pub fn data_load(row: &Row, mine: &mut LaneNow, shape: &Shape, k: u32)
     mine.phase = Phase::Reading(k + 1);
 }
 
-/// RttClear, after the last word. The read is answered by the words that it loaded.
+/// RttClear, after the last word. The read is answered with the words that it loaded.
 #[inline]
 pub fn clear_done(
     row: &mut Row,

@@ -28,7 +28,7 @@ fn entries_of(alloc: Global, history: &[Entry], lane: u32) -> Result<Vec<&Entry>
         .collect(alloc)
 }
 
-/// These without the last.
+/// All entries but the last.
 fn without_last<'a>(mut entries: Vec<&'a Entry>) -> Vec<&'a Entry>
     ensures { map (λ e. e.now) result.items ≡ but_last (map (λ e. e.now) entries.entry.items) }
 {
@@ -37,10 +37,11 @@ fn without_last<'a>(mut entries: Vec<&'a Entry>) -> Vec<&'a Entry>
 }
 
 impl Core {
-    /// The log of a lane, oldest first: the calls that it answered, and its write from the store of the map word on.
+    /// The log of a lane, oldest first: the calls that it answered, and its write from the store of
+    /// the map word on.
     ///
-    /// A read that stands is in [`Core::history`] from its second look on, and in the log once it is answered. The one
-    /// refusal is out of memory. Condition: the lane exists.
+    /// A read stands in [`Core::history`] from its second look on, and in the log once it is
+    /// answered. The only refusal is out of memory. Condition: the lane exists.
     pub fn log(&self, alloc: Global, lane: u32) -> Result<Vec<&Entry>, AllocError>
         requires core { IsSomeCore self.now }
         requires lane { lane < self.now.shape.lanes }

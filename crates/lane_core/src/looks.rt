@@ -1,4 +1,5 @@
-//! The two looks of a read at its map word, by what it finds. As in `lines.rt`, what they do is exact.
+//! The two looks of a read at its map word, by what it finds. As in `lines.rt`, contracts state
+//! exactly what they do.
 ghost use Rattle.std.specs.Prelude.{◌≡◌, ◌==◌, ◌+◌, ◌/◌, ◌<◌, ◌^◌, ◌++◌, ◌∷◌, [], length, replicate, take, drop};
 ghost use Rattle.map_table.specs.Entry.{entry_in, entry_of};
 ghost use Rattle.lane_core.specs.Areas.{kind_in};
@@ -39,7 +40,7 @@ pub fn look(row: &Row, mine: &mut LaneNow, shape: &Shape)
     mine.phase = Phase::Looking;
 }
 
-/// A read stands that found a cell.
+/// Enters a read that found a cell in the history.
 #[inline]
 fn read_stands(history: &mut History, mine: &LaneNow, lane: u32, cell: Cell)
     requires room { 0 < history.old.room }

@@ -29,7 +29,7 @@ pub struct Core {
     pub(crate) alloc: Global,
     /// What the arena's info block says.
     pub info: Info,
-    /// Where its words stand.
+    /// The places of its words.
     pub shape: Shape,
     pub(crate) row: Row,
     pub(crate) lanes: Vec<LaneNow>,
@@ -70,7 +70,7 @@ fn idle_lanes(alloc: Global, lanes: &[LaneState]) -> Result<Vec<LaneNow>, AllocE
         .collect(alloc)
 }
 
-/// The core of an arena in which nothing was called.
+/// The core of an arena before its first call.
 fn fresh(alloc: Global, state: ArenaState) -> Result<Core, AllocError>
     requires layout { IsLayout state.info.layout }
     ensures { IfOk result (IsFresh state) }
@@ -89,10 +89,10 @@ fn fresh(alloc: Global, state: ArenaState) -> Result<Core, AllocError>
 }
 
 impl Core {
-    /// The core of an arena: all lanes are idle, and no call stands. Its history begins with the cells that a reader of the
-    /// arena gets (`cell_at`).
+    /// The core of an arena: all lanes are idle, and no call stands. Its history begins with the
+    /// cells that a reader of the arena gets (`cell_at`).
     ///
-    /// Condition: the state is as `open_arena` gives it. The one refusal is out of memory.
+    /// Condition: `open_arena` returned this state. The only refusal is out of memory.
     pub fn of(alloc: Global, state: ArenaState) -> Result<Core, AllocError>
         requires state { IsOpenState state }
         ensures core { IfOk result (IsCore (cells_in state)) }
@@ -104,9 +104,9 @@ impl Core {
         fresh(alloc, state)
     }
 
-    /// One step of a lane: the line of its phase. It takes no memory.
+    /// One step of a lane: the line of its phase. Takes no memory.
     ///
-    /// `Nothing` comes exactly where the lane is idle. Condition: the lane exists.
+    /// Returns `Nothing` if and only if the lane is idle. Condition: the lane exists.
     pub fn step(&mut self, lane: u32) -> Stepped
         requires core { IsSomeCore self.old }
         requires lane { lane < self.old.shape.lanes }
@@ -130,7 +130,7 @@ impl Core {
         )
     }
 
-    /// Where a lane stands. Condition: the lane exists.
+    /// The phase of a lane. Condition: the lane exists.
     pub fn phase(&self, lane: u32) -> Phase
         requires core { IsSomeCore self.now }
         requires lane { lane < self.now.shape.lanes }

@@ -6,19 +6,21 @@ use nvd_words::Tag;
 /// A lane of a core.
 #[derive(Debug, Drop)]
 pub struct LaneNow {
-    /// Its free block; from the store of the map word on the block that the sector had.
+    /// Its free block. Once the map word is stored, it is the block that the sector had.
     pub block: u32,
-    /// The side of its log group at which the current half stands: 0 or 1.
+    /// The side of its log group that has the current half: 0 or 1.
     pub side: u32,
     /// The current half.
     pub half: Half,
     pub phase: Phase,
-    /// The call that it is in, and its sector: of a write from `Locked` on, of a read from `Called` on.
+    /// The call that it is in, and its sector: of a write from `Locked` on, of a read from `Called`
+    /// on.
     pub tag: Tag,
     pub sector: u32,
     /// The map word that it loaded last.
     pub loaded: u64,
-    /// A write's words, all from the beginning on. Of a read the words that it loads, and zeros behind these.
+    /// A write's words, all of them from the beginning. A read's words as it loads them, with zeros
+    /// behind them.
     pub words: Buffer,
     /// The room for the cell of a read's entry.
     pub cell: Buffer,

@@ -1,13 +1,15 @@
-/// Where a lane stands in its call. Each step takes it to the next phase.
+/// How far a lane is in its call. Each step takes it to the next phase.
 ///
-/// A write goes from `Scanning` (with one lane from `Staging`) to `Kept`, a read from `Called` to `Reading`.
+/// A write goes from `Scanning` (with one lane from `Staging`) to `Kept`, a read from `Called` to
+/// `Reading`.
 #[derive(Clone, Copy, Debug, PartialEq, Eq)]
 pub enum Phase {
     /// No call.
     Idle,
-    /// A write looks at the reader word of the other lane of this number, so that nobody reads its free block.
+    /// A write looks at the reader word of the other lane of this number, so that nobody reads its
+    /// free block.
     Scanning(u32),
-    /// It stores word `k` of its free block, or keeps word `k - E`, with E words a sector.
+    /// It stores word `k` of its free block, or keeps word `k - E`. A sector has E words.
     Staging(u32),
     /// All words are kept. It tries the lock of its map word.
     Staged,
@@ -25,13 +27,14 @@ pub enum Phase {
     Logged,
     /// It keeps the map word.
     Switched,
-    /// It gives the lock back. The old block is its free block then.
+    /// It gives the lock back. Then the old block is its free block.
     Kept,
     /// A read loads the map word.
     Called,
     /// It publishes the block in its reader word.
     Looking,
-    /// It loads the map word again. If its sector's entry is the same, the read stands in the history.
+    /// It loads the map word again. If its sector's entry is the same, the read stands in the
+    /// history.
     Published,
     /// The entry changed: it clears its reader word and begins again.
     Moved,

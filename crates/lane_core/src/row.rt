@@ -7,8 +7,9 @@ use nvd_words::Flags;
 use std::alloc::{AllocError, Global};
 use std::marker::Model;
 
-/// The words of an arena as a load gives them, the same words as they are kept, and behind these the reader table and the
-/// map locks. Of each of the arena's words it knows whether it was stored since its last keep.
+/// The words of an arena as a load returns them, the same words as they are kept, and behind these
+/// the reader table and the map locks. For each word of the arena it knows whether the word was
+/// stored since its last keep.
 #[derive(Debug, Drop)]
 pub struct Row {
     words: Vec<u64>,
@@ -26,7 +27,7 @@ impl Model for Row {
     ghost invariant = { λ row. 2 * length row.pending ≤ length row.words.items };
 }
 
-/// What a power cut leaves of one word.
+/// One word after a power cut.
 fn leave_one<C: Chooser>(choose: &mut C, word: u64, kept: u64, stored: u64, pending: bool) -> u64
     ensures { LeavesOne C.picks word kept (if pending then Some stored else None) result choose.old choose.new }
 {
@@ -38,7 +39,7 @@ fn leave_one<C: Chooser>(choose: &mut C, word: u64, kept: u64, stored: u64, pend
 }
 
 impl Row {
-    /// The row of an arena's words, none of them stored since its last keep, with so many lanes.
+    /// The row of an arena's words and of this many lanes. No word was stored since its last keep.
     pub fn new(alloc: Global, words: &[u64], lanes: u32) -> Result<Row, AllocError>
         ensures { IfOk result (λ row. row ≡ new_row words.now lanes) }
     {
@@ -56,7 +57,7 @@ impl Row {
         })
     }
 
-    /// The word that stands there.
+    /// The word at a place.
     #[inline]
     pub fn load(&self, at: u64) -> u64
         requires there { at < length self.now.words }
@@ -65,7 +66,7 @@ impl Row {
         self.words[at as usize]
     }
 
-    /// A reader word or a lock gets a value.
+    /// Sets a reader word or a lock.
     #[inline]
     pub fn put(&mut self, at: u64, value: u64)
         requires there { at < length self.old.words }
@@ -74,7 +75,7 @@ impl Row {
         self.words[at as usize] = value;
     }
 
-    /// A word of the arena gets a value.
+    /// Stores a word of the arena.
     #[inline]
     pub fn store(&mut self, at: u64, value: u64)
         requires there { at < length self.old.pending }
@@ -84,7 +85,7 @@ impl Row {
         self.pending.set(at as usize);
     }
 
-    /// A word of the arena is kept.
+    /// Keeps a word of the arena.
     #[inline]
     pub fn keep(&mut self, at: u64)
         requires there { at < length self.old.pending }
@@ -96,7 +97,7 @@ impl Row {
         self.pending.clear(at);
     }
 
-    /// So many words from a place on.
+    /// This many words from a place on.
     #[inline]
     pub fn slice(&self, at: u64, count: u32) -> &[u64]
         requires there { at + count < length self.now.words }
@@ -107,8 +108,9 @@ impl Row {
         &self.words[first..first + count as usize]
     }
 
-    /// What a power cut leaves of the arena's words: the chooser is asked once for each word that was stored since its last
-    /// keep, in rising order, and says whether the stored value stays or the kept one.
+    /// The arena's words after a power cut. The chooser is asked once for each word that was stored
+    /// since its last keep, in rising order, and says which value survives: the stored one or the
+    /// kept one.
     pub fn leave<C: Chooser>(self, choose: &mut C) -> Vec<u64>
         requires size { 2 * length self.pending ≤ length self.words }
         ensures asked { LeavesFrom C.picks 0 (words_in self).kept (words_in self).stored result.items choose.old choose.new }

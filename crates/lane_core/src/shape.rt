@@ -4,7 +4,7 @@ ghost use Rattle.lane_core.specs.Places.{shape_of, IsShape};
 
 use arena_layout::Layout;
 
-/// Where the words of an arena stand, counted in words from its first one.
+/// The places of an arena's words, counted in words from its first one.
 #[derive(Clone, Copy, Debug, PartialEq, Eq)]
 pub struct Shape {
     /// Words of a sector.

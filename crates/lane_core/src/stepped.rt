@@ -24,7 +24,7 @@ pub enum Step {
     RttClear,
 }
 
-/// What a call is answered.
+/// The answer to a call.
 #[derive(Debug, Drop)]
 pub enum Answer {
     Wrote,
@@ -38,7 +38,8 @@ pub enum Stepped {
     /// The lane is idle.
     Nothing,
     Went(Step),
-    /// The lane's call is answered. A write by LockFree; a read by RttClear, or by MapLoad where the entry says zeros or
-    /// bad, and then it entered the history with this step.
+    /// The lane's call is answered. A write is answered by LockFree. A read is answered by
+    /// RttClear, or by MapLoad if the entry says zeros or bad; then this step also enters it in the
+    /// history.
     Done(Tag, Answer),
 }

@@ -20,7 +20,7 @@ use crate::stepped::{Answer, Step, Stepped};
 use map_table::Kind;
 use std::alloc::Global;
 
-/// The step of a lane. It takes no memory.
+/// The step of a lane. Takes no memory.
 pub fn step_lane(
     row: &mut Row,
     mine: &mut LaneNow,

@@ -1,4 +1,4 @@
-//! Where the words of a row stand.
+//! The places of words in a row.
 ghost use Rattle.std.specs.Prelude.{◌≡◌, ◌<◌, ◌^◌, ◌%◌, ◌/◌};
 ghost use Rattle.lane_core.specs.Machine.{lock_of};
 ghost use Rattle.lane_core.specs.Places.{geometry, word_of, SeenData, SeenMap, SeenA, Reader, Lock};

@@ -1,4 +1,4 @@
--- Lists of which one item is read or replaced.
+-- Lists in which one item is read or replaced.
 use Rattle.std.proofs.Common.{◌≡◌, ℕ, zero, suc, ◌+◌, ◌<◌, ◌≤◌, List, [], ◌∷◌, length, drop, get_or, slice_get, slice_set, Some, refl, ap, sym, ◌∙◌, arith}
 
 pub there_is : {A : Type 0} {a b : A} → Some a ≡ Some b → a ≡ b

@@ -48,7 +48,7 @@ was_idle m lane held e =
     first_by m lane false held told.Nothing e
     ∙ ap (λ p. and_text (lane_line lane idle_text) p) (ap (steps m lane true) (nothing_keeps held lane e) ∙ still_idle m lane held e)
 
--- ---- the same for so many steps of which so many are left, with a text before them
+-- ---- the same for several steps of which some are left, with a text before them
 
 pub after_went : (n m lane : ℕ) (old new : Held) (before : List ℕ) (s : Step) → n ≡ suc m → told.Went s ≡ answered old lane → new ≡ stepped old lane
     → and_text before (steps m lane false new) ≡ and_text before (steps n lane false old)
@@ -79,7 +79,7 @@ leads_more k lane a b s leads answer = λ n.
     let e : k + 1 + n ≡ k + suc n = omega arith in
     ap (λ k. steps k lane false a) e ∙ leads (suc n) ∙ went_on n lane b s answer
 
--- where they lead back, whole rounds make no difference
+-- if they lead back, whole rounds make no difference
 rounds : (d lane : ℕ) (a : Held) → Leads d lane a a → (r q : ℕ) → steps (q * d + r) lane false a ≡ steps r lane false a
 rounds d lane a leads r zero = let e : 0 * d + r ≡ r = omega arith in ap (λ k. steps k lane false a) e
 rounds d lane a leads r (suc q) =

@@ -55,7 +55,7 @@ lines_on number old new line all lines before after start due is h so_far =
 pub lines_end : (number : ℕ) (new : Held) (lines : List ReplayLine) (before after : List ℕ) (due : Played) → lines ≡ [] → and_text after (played_all number new lines) ≡ and_text before due → Plays due new before after
 lines_end number new lines before after due is e = ends due new before after (ap (and_text after) (sym (no_line number new) ∙ ap (played_all number new) (sym is)) ∙ e)
 
--- ---- lanes that are cut
+-- ---- lanes in calls at the end
 
 pub cuts_none : (held : Held) (text : List ℕ) → text ≡ text ++ cut_lines 0 held
 unfolding cut_lines

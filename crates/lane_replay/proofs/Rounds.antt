@@ -46,7 +46,7 @@ pub record Looked (first next : Held) (l made : ℕ) : Type 0 where
   pub is : next ≡ with_phase first l phase
 
 module _ (first : Held) (l : ℕ) (p : LaneNow) (at : slice_get first.lanes l ≡ Some p) where
-  -- where a look at the j-th other lane leads
+  -- the phase after a look at the j-th other lane
   abbrev next_of : ℕ → Phase
   next_of j = scanned first.shape (word_at first.shape first.row (Reader (other_lane l j))) p.block j
 

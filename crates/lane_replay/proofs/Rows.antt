@@ -48,7 +48,7 @@ write_and_read : printed (Write 1 1 (Fill 0x11) ∷ Step 1 12 ∷ Read 0 1 ∷ S
 unfolding steps stepped answered phase_at changed played_all cut_lines entry_in entry_of with_entry kind_in block_in normal word_a word_b next_seq lock_of digits encode_with
 write_and_read = refl
 
--- a busy lane, a lane that isn't there, an idle lane, and a write that is cut
+-- a busy lane, a lane that isn't there, an idle lane, and an unfinished write
 refusals : printed (Write 1 1 (Fill 0x11) ∷ Step 1 2 ∷ Read 1 1 ∷ Read 5 1 ∷ Step 0 1 ∷ []) ≡ codes "lane 1 refused LaneBusy Staging 1\nlane 5 refused Lane 2\nlane 0 idle\nlane 1 cut\n"
 unfolding steps stepped answered phase_at changed played_all cut_lines entry_in entry_of with_entry kind_in block_in normal word_a word_b next_seq lock_of digits encode_with
 refusals = refl

@@ -31,7 +31,7 @@ unfoldable pub asked_all : ℕ → Held → List ReplayLine → List Asked
 asked_all number held [] = []
 asked_all number held (line ∷ lines) = asked_by held number line ++ asked_all (number + 1) (played held number line).held lines
 
--- a schedule of an arena that was opened: what the core holds is what its calls and steps leave, and these stand
+-- a schedule of an opened arena: the core holds what its calls and steps lead to, and these stand
 pub record ReplayStands (state : ArenaState) (lines : List ReplayLine) : Type 0 where
   pub held : (replayed (opened_held state) lines).held ≡ (scheduled state (asked_all 1 (opened_held state) lines)).held
   pub stands : Stands state (scheduled state (asked_all 1 (opened_held state) lines))

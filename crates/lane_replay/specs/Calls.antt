@@ -1,4 +1,4 @@
--- A line that begins a call: why it isn't begun, and what the core holds if it is.
+-- A line that begins a call: why it doesn't begin, and what the core holds if it does.
 use Rattle.std.specs.Prelude.{◌≡◌, ℕ, ◌*◌, ◌==◌, nat_le, if◌then◌else◌, List, replicate, Option, Some, None}
 use Rattle.nvd_words.specs.declared.tag.Tag.{Tag}
 use Rattle.cut_words.specs.WordBytes.{words_in}
@@ -23,7 +23,7 @@ use Rattle.lane_replay.specs.Texts.{refused_line}
 abbrev pub sector_bytes : Shape → ℕ
 sector_bytes x = 8 * x.width
 
--- the bytes of a value where a sector has so many: a single byte is repeated to fill it
+-- the bytes of a value if a sector has this many: a single byte is repeated to fill it
 abbrev pub bytes_said : ℕ → Payload → List ℕ
 bytes_said had (Fill byte) = replicate had byte
 bytes_said had (Hex bytes) = bytes
@@ -80,7 +80,7 @@ held_unless held lane change (Some why) = held
 abbrev pub begun_unless : Held → ℕ → (LaneNow → LaneNow) → Option Refused → Played
 begun_unless held lane change why = record { held = held_unless held lane change why; text = refused_line lane why }
 
--- why a call wasn't begun, and what the core holds then
+-- why a call didn't begin, and what the core holds then
 pub record Begins (old : Held) (lane : ℕ) (change : LaneNow → LaneNow) (due why : Option Refused) (new : Held) : Type 0 where
   pub same : why ≡ due
   pub held : new ≡ held_unless old lane change due

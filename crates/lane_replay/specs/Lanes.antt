@@ -1,4 +1,4 @@
--- A lane of a core: where it stands, and what its step and the beginning of a call change.
+-- A lane of a core: its phase, and what its step and the beginning of a call change.
 use Rattle.std.specs.Prelude.{ℕ, slice_get, Option, Some, None}
 use Rattle.lane_core.specs.declared.now.LaneNow.{LaneNow}
 use Rattle.lane_core.specs.declared.phase.Phase.{Phase}
@@ -18,10 +18,10 @@ abbrev pub phase_by : Option LaneNow → Phase
 phase_by None = Idle
 phase_by (Some p) = p.phase
 
--- where a lane stands
+-- the phase of a lane
 unfoldable pub phase_at : Held → ℕ → Phase
 phase_at held l = phase_by (slice_get held.lanes l)
 
--- one lane has changed
+-- only one lane changes
 unfoldable pub changed : Held → ℕ → (LaneNow → LaneNow) → Held
 changed held l change = if_there held (λ p. with_lane held l (change p)) (slice_get held.lanes l)

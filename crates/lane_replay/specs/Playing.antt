@@ -47,7 +47,7 @@ replayed held lines = played_all 1 held lines
 abbrev pub cut_line : Held → ℕ → List ℕ
 cut_line held lane = if is_idle (phase_at held lane) then [] else lane_line lane cut_text
 
--- of the first lanes, so many, rising
+-- of the first lanes, this many, in rising order
 unfoldable pub cut_lines : ℕ → Held → List ℕ
 cut_lines zero held = []
 cut_lines (suc n) held = cut_lines n held ++ cut_line held n

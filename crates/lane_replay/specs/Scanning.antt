@@ -23,6 +23,6 @@ is_staged _ = false
 abbrev pub with_phase : Held → ℕ → Phase → Held
 with_phase held l phase = changed held l (λ p. record p { phase = phase })
 
--- so many steps of a lane lead from one to the other, and print nothing
+-- this many steps of a lane lead from one to the other, and print nothing
 abbrev pub Leads : ℕ → ℕ → Held → Held → Type 0
 Leads k lane a b = (n : ℕ) → steps (k + n) lane false a ≡ steps n lane false b

@@ -1,4 +1,4 @@
--- The lines that are printed of lanes: this project's. Phases have the names that lane_core gives them.
+-- The lines that are printed of lanes, in this project's own format. Phases have lane_core's names.
 use Rattle.std.specs.Prelude.{ℕ, List, [], ◌∷◌, ◌++◌, Option, Some, None, codes}
 use Rattle.std.specs.Fmt.{decimal}
 use Rattle.lane_core.specs.declared.phase.Phase.{Phase}
@@ -32,7 +32,7 @@ phase_text Published = codes "Published"
 phase_text Moved = codes "Moved"
 phase_text (Reading k) = counted (codes "Reading") k
 
--- ---- what stands behind the number of a lane
+-- ---- what is printed behind the number of a lane
 
 abbrev pub refused_text : Refused → List ℕ
 refused_text (refused.Lane count) = joined (codes "refused Lane " ∷ decimal count ∷ lf ∷ [])

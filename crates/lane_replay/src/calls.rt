@@ -31,7 +31,7 @@ fn unplaced(shape: &Shape, lane: u32, sector: u64) -> Option<Refused>
     None
 }
 
-/// Why a value isn't one of a sector, if it isn't.
+/// Why a value isn't one sector, if it isn't.
 fn misfit(said: u64, had: u64) -> Option<Refused>
     ensures why { result ≡ misfit said had }
     ensures fits { result ≡ None → said ≡ had }
@@ -51,7 +51,7 @@ fn sector_bytes(shape: &Shape) -> u64
     8 * u64::from(shape.width)
 }
 
-/// Begins a call, or returns why it isn't begun: the lane is in a call.
+/// Begins a call, or returns why it doesn't begin: the lane is in a call.
 fn begin_call(
     alloc: Global,
     core: &mut Core,
@@ -72,7 +72,7 @@ fn begin_call(
     }
 }
 
-/// Begins a read, or returns why it isn't begun.
+/// Begins a read, or returns why it doesn't begin.
 pub(crate) fn begin_read(
     alloc: Global,
     core: &mut Core,
@@ -95,7 +95,7 @@ pub(crate) fn begin_read(
     begin_call(alloc, core, lane, tag, Call::Read { sector })
 }
 
-/// Begins a write, or returns why it isn't begun.
+/// Begins a write, or returns why it doesn't begin.
 pub(crate) fn begin_write(
     alloc: Global,
     core: &mut Core,

@@ -1,4 +1,4 @@
-//! A lane of a core: where it stands, and its next step.
+//! A lane of a core: its phase, and its next step.
 ghost use Rattle.std.specs.Prelude.{◌≡◌, ◌<◌};
 ghost use Rattle.lane_core.specs.Machines.{IsSomeCore};
 ghost use Rattle.lane_core.specs.Held.{held_by};
@@ -7,7 +7,7 @@ ghost use Rattle.lane_replay.specs.Keeping.{Keeps};
 
 use lane_core::{Core, Phase, Stepped};
 
-/// Where a lane stands.
+/// The phase of a lane.
 pub(crate) fn phase_of(core: &Core, lane: u32) -> Phase
     requires core { IsSomeCore core.now }
     requires lane { lane < core.now.shape.lanes }

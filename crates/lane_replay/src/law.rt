@@ -1,8 +1,9 @@
 //! A law about schedules: a function that does nothing, and ensures the law.
 ghost use Rattle.lane_replay.specs.Asking.{ReplaysStand};
 
-/// A law: every schedule of every arena that was opened stands. What the core holds is what the list of its calls and steps
-/// leaves. Their history is legal and has each answer once, and whatever a power cut leaves of the words opens again.
+/// A law: every schedule of every opened arena stands. The core holds what the list of its calls
+/// and steps leads to. Their history is legal and has each answer once, and after every power cut
+/// the words open again.
 pub fn replays_stand()
     ensures { ReplaysStand }
 {}

@@ -46,7 +46,7 @@ fn busy_text(alloc: Global, phase: Phase) -> Result<String, AllocError>
     format!(in alloc; "refused LaneBusy {}\n", name)
 }
 
-/// Returns a refusal as it stands behind the number of a lane.
+/// Returns a refusal as it is printed behind the number of a lane.
 fn refused_text(alloc: Global, why: Refused) -> Result<String, AllocError>
     ensures { IfOk result (λ text. string_bytes text ≡ refused_text why) }
 {
@@ -58,7 +58,7 @@ fn refused_text(alloc: Global, why: Refused) -> Result<String, AllocError>
     }
 }
 
-/// Returns an answer as it stands behind the number of a lane.
+/// Returns an answer as it is printed behind the number of a lane.
 fn answer_text(alloc: Global, answer: &Answer) -> Result<String, AllocError>
     ensures { IfOk result (λ text. string_bytes text ≡ answer_text answer.now) }
 {

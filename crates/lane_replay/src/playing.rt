@@ -113,7 +113,7 @@ fn play_lines(
     Ok(())
 }
 
-/// Whether a lane is in no call.
+/// Whether a lane is idle.
 fn is_idle(phase: Phase) -> bool
     ensures { result ≡ is_idle phase }
 {
@@ -146,11 +146,13 @@ fn add_cuts(alloc: Global, core: &Core, text: &mut Vec<u8>) -> Result<(), AllocE
 
 /// Runs the lanes of a core by the lines of a schedule, and returns what the lines print.
 ///
-/// Each line's calls and steps are those of `lane_core`, and the text has the answer of each call, each refusal, that a lane
-/// is idle, and at the end each lane that is in a call (`specs/Playing.antt`). There are fewer than 2^32 lines, so that the
-/// number of each fits a tag.
+/// Each line's calls and steps are those of `lane_core`, and the text has the answer of each call,
+/// each refusal, each lane that is asked to step while idle, and at the end each lane that is in a
+/// call (`specs/Playing.antt`). There are fewer than 2^32 lines, so that the number of each fits a
+/// tag.
 ///
-/// The one refusal is out of memory. The core is then a core of the same arena in which some of the lines were carried out.
+/// The only refusal is out of memory. Then the core is still a core of the same arena, and some of
+/// the lines were carried out.
 pub fn play(alloc: Global, core: &mut Core, lines: &[ReplayLine]) -> Result<Vec<u8>, AllocError>
     requires core { IsSomeCore core.old }
     requires few { length lines.now < 2 ^ 32 }

@@ -1,4 +1,5 @@
-//! Steps of a write that may lead nowhere: looks at the other lanes' readers, and the try of a lock.
+//! Steps of a write that may lead nowhere: looks at the other lanes' readers, and the try of a
+//! lock.
 ghost use Rattle.std.specs.Prelude.{◌≡◌, ◌<◌, true, false};
 ghost use Rattle.lane_core.specs.Machines.{IsSomeCore};
 ghost use Rattle.lane_core.specs.Held.{held_by};
@@ -32,10 +33,10 @@ pub(crate) fn is_staged(phase: Phase) -> bool
     matches!(phase, Phase::Staged)
 }
 
-/// A scan goes round from its first look, and returns how many of so many steps are left.
+/// Runs rounds of a scan from its first look, and returns how many of this many steps are left.
 ///
-/// No other lane steps. So a round that ends at the first look again ends there each time, and of all further steps only the
-/// rest after whole rounds makes a difference.
+/// No other lane steps. So a round that ends at the first look again ends there each time, and of
+/// all further steps only the rest after whole rounds makes a difference.
 pub(crate) fn scan_round(core: &mut Core, lane: u32, left: u64) -> u64
     requires core { IsSomeCore core.old }
     requires lane { lane < core.old.shape.lanes }
@@ -59,8 +60,8 @@ pub(crate) fn scan_round(core: &mut Core, lane: u32, left: u64) -> u64
     0
 }
 
-/// A staged write tries its lock, and returns how many of so many steps are left: none if another lane has the lock, since no
-/// other lane steps.
+/// A staged write tries its lock. Returns how many of this many steps are left: none if another
+/// lane has the lock, since no other lane steps.
 pub(crate) fn take_lock(core: &mut Core, lane: u32, left: u64) -> u64
     requires core { IsSomeCore core.old }
     requires lane { lane < core.old.shape.lanes }

@@ -1,4 +1,4 @@
-//! So many steps of a lane.
+//! Any number of steps of a lane.
 ghost use Rattle.std.specs.Prelude.{◌≡◌, ◌<◌, ◌++◌, false, IfOk, OnOk};
 ghost use Rattle.lane_core.specs.Machines.{IsSomeCore};
 ghost use Rattle.lane_core.specs.Held.{held_by};
@@ -11,7 +11,8 @@ use crate::scanning::{is_first_look, is_staged, scan_round, take_lock};
 use lane_core::{Core, Stepped};
 use std::alloc::{AllocError, Global};
 
-/// Makes one of so many steps, and returns how many are left. No other lane steps, so an idle lane has none left.
+/// Makes one of this many steps, and returns how many are left. No other lane steps, so an idle
+/// lane has none left.
 fn step_on(
     alloc: Global,
     core: &mut Core,
@@ -39,7 +40,7 @@ fn step_on(
     }
 }
 
-/// Makes at least one of so many steps, and returns how many are left.
+/// Makes at least one of this many steps, and returns how many are left.
 fn go_on(
     alloc: Global,
     core: &mut Core,
@@ -64,7 +65,7 @@ fn go_on(
     }
 }
 
-/// A lane makes so many steps.
+/// A lane makes this many steps.
 pub(crate) fn make_steps(
     alloc: Global,
     core: &mut Core,

@@ -9,7 +9,7 @@ use std::alloc::{AllocError, Global};
 /// The bytes of a word.
 const WORD: usize = 8;
 
-/// How many bytes a value has if a sector has so many.
+/// How many bytes a value has if a sector has this many.
 pub(crate) fn length_of(value: &Payload, had: u64) -> u64
     ensures { result ≡ length (bytes_said had value.now) }
 {

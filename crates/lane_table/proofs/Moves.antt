@@ -109,7 +109,7 @@ pub record Stands (x : Shape) (o : ℕ → Cell) (v : View) (s : State) : Type 0
 pub phase_of : (x : Shape) (o : ℕ → Cell) (v : View) (s : State) (ph : Phase) → Stands x o v s → v.lane.phase ≡ ph → (s.lanes v.number).phase ≡ ph
 phase_of x o v s ph h e = ap (λ (p : Lane). p.phase) h.lane ∙ e
 
--- a step that takes and gives no slot
+-- a step that takes no slot and returns none
 pub allows_step : {S : Type 0} (k : ℕ → Count → Count) (x : Shape) (o : ℕ → Cell) (ws : List ℕ) (slots id : ℕ) (v : View) (held : List (ℕ × S)) (p : Place) (f : ℕ → ℕ) (then : ℕ → Me S View → Type 0) → v.live ≡ true
     → ((s : State) → Stands x o v s → IsIn x p)
     → ((s : State) → Stands x o v s → (n : ℕ) → n ≡ value_of s p → Goes k x o v held p f then s n)

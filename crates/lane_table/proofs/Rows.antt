@@ -1,4 +1,4 @@
--- Worked rows: what reads find, and what they leave when they are cut.
+-- Worked rows: what reads find, and what they leave when power is cut.
 use Rattle.std.proofs.Common.{◌≡◌, ℕ, List, [], ◌∷◌, refl}
 use Rattle.map_table.specs.Entry.{entry_in, entry_of}
 use Rattle.lane_core.specs.declared.phase.Phase.TheVariants.{Published, Moved, Reading}
@@ -38,7 +38,8 @@ initial_sector = refl
 abbrev room : List ℕ
 room = 1 ∷ 2 ∷ 3 ∷ []
 
--- cut before the first word is loaded, after two of them, and before the reader word is cleared
+-- power is cut before the first word is loaded, after two of them, and before the reader word is
+-- cleared
 cut_at_the_check : room_left Published [] room ≡ room
 cut_at_the_check = refl
 

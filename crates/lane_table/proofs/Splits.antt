@@ -1,4 +1,5 @@
--- Lanes go from seat to seat: a seat is split off, a seat is joined in, and a seat comes with no lane.
+-- Lanes go from seat to seat: a seat is split off, a seat is joined in, and a seat comes with no
+-- lane.
 use Rattle.std.proofs.Common.{◌≡◌, ℕ, ◌+◌, ◌<◌, ◌≢◌, ◌⊎◌, inl, inr, false, List, [], ◌∷◌, ◌++◌, length, zero, suc, refl, sym, ap, ◌∙◌, subst, slice_set, arith}
 use lib.ListN.{get_elem?}
 use mathlib.Core.Option.{some, some-injective, some-ne-none}
@@ -33,7 +34,7 @@ below (x ∷ xs) b (suc j) e = let r = below xs b j e in omega arith
 nothing_there : {A : Type 0} (k : ℕ) (p : A) → get_elem? [] k ≡ some p → ⊥
 nothing_there k p e = some-ne-none p (sym e)
 
--- where each lane that is had now was had before, at a place from which no other comes
+-- each lane that is had now was had before, at a place from which no other comes
 module _ (x : Shape) (views after : List View) (lanes : ℕ → Lane) (From : ℕ → ℕ → ℕ → ℕ → Type 0) (h : Seats x views lanes) where
   abbrev Came : ℕ → ℕ → Owned → Type 0
   Came i k o = (a : ℕ) × (b : ℕ) × (u : View) × (get_elem? views a ≡ some u) × (get_elem? (owned u) b ≡ some o) × From i k a b

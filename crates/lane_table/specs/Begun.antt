@@ -30,7 +30,7 @@ row_of x words = words ++ words ++ replicate (2 * x.lanes) 0
 abbrev pub state_at : List LaneState → ℕ → LaneState
 state_at lanes l = slice_index_or lanes l no_state
 
--- an arena of this shape with these words and lanes, as opening gives it
+-- an opened arena of this shape with these words and lanes
 pub record IsOpenArena (x : Shape) (words : List ℕ) (lanes : List LaneState) : Type 0 where
   pub shape : IsShape x
   pub size : length words ≡ x.total

@@ -30,7 +30,7 @@ pub record IsClosed (k : Key) (ends : List LaneEnd) (c : Closed) : Type 0 where
   pub shown : Shows k.shape row state
   pub seen : c.seen.items ≡ take k.shape.total row
   pub kept : c.kept.items ≡ take k.shape.total (drop k.shape.total row)
-  -- the words that no lane stores, as those of the info blocks, are as the arena was opened
+  -- the words that no lane stores, such as those of the info blocks, are as the arena was opened
   pub seen_fixed : SameFixed k.shape (words_of k) c.seen.items
   pub kept_fixed : SameFixed k.shape (words_of k) c.kept.items
   -- each lane of this state is what its seat knew
@@ -41,10 +41,11 @@ pub record IsClosed (k : Key) (ends : List LaneEnd) (c : Closed) : Type 0 where
   pub logs : c.logs.items ≡ map (λ e. (kit_in e).log) ends
   pub each : (l : ℕ) (e : LaneEnd) → get_elem? ends l ≡ some e → of_lane l history ≡ (kit_in e).log.items
   pub no_other : (l : ℕ) → k.shape.lanes ≤ l → of_lane l history ≡ []
-  -- it leaves the cells that the seen words give
+  -- it ends in the cells that the seen words encode
   pub leaves : (t : ℕ) → t < k.shape.sectors → end_of (opening_of k) history t ≡ cells_in k.shape c.seen.items t
   pub same_end : (t : ℕ) → t < k.shape.sectors → end_of (opening_of k) history t ≡ end_of (opening_of k) state.history t
-  -- whatever a cut leaves of the words recovers: each lane has a current half, and each sector is as the history ends or as one write in flight
+  -- after every power cut the words recover: each lane has a current half, and each sector is as at
+  -- the end of the history or has the words of one write in flight
   pub survives : (left : Areas) → AreLeft (geometry k.shape) state.seen state.kept left
       → ((l : ℕ) → l < k.shape.lanes → (side : ℕ) × IsCurrent left l side)
       × ((after : ℕ → ℕ) → ((l : ℕ) → l < k.shape.lanes → IsCurrent left l (after l)) → Recovers (geometry k.shape) (opening_of k) state left after)

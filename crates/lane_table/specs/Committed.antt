@@ -31,7 +31,8 @@ way t w zero me = me
 way t w (suc zero) me = locked t me
 way t w (suc (suc k)) me = path k (known w (locked t me))
 
--- Done: all nine steps were made. Busy: one, which found the lock's holder. Cut: as many as the fuse had, and it was spent when the next was due
+-- Done: all nine steps were made. Busy: one, which found the lock's holder. Cut: as many steps as
+-- the fuse had, and it was spent when the next was due
 abbrev pub Ended : {S : Type 0} → Call → Me S View → Me S View → Fuse → Fuse → Fate → Type 0
 Ended t me me' a b (Done block) = (w : ℕ) × (me' ≡ way t w 9 me) × (block ≡ me'.0.lane.block) × (block < blocks me.0.shape) × Fell 9 a b
 Ended t me me' a b (Busy holder) = (me' ≡ missed (suc holder) me) × (holder < me.0.shape.lanes) × Fell 1 a b

@@ -16,7 +16,7 @@ IsSeated phase table of me = (of ≡ table) × (me.0.live ≡ true) × (me.0.lan
 abbrev pub IsWord : TableId → Shape → ℕ → Place → Type 0
 IsWord table x at p = (at < table.words) × (at ≡ word_of x p)
 
--- what the code knows of a lane is so of the view
+-- what the code knows of a lane is true of the view
 pub record IsMine (m : Mine) (v : View) : Type 0 where
   pub number : v.number ≡ m.number
   pub block : v.lane.block ≡ m.block

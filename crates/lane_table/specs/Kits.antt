@@ -40,6 +40,6 @@ owned_in k = record { number = k.number; lane = k.seat.me.0.lane; shape = k.seat
 abbrev pub log_in : Kit → List Entry
 log_in k = k.log.items
 
--- for how many more calls the lane has room
+-- how many more calls the lane has room for
 abbrev pub spare_in : Kit → ℕ
 spare_in k = length k.rooms.items

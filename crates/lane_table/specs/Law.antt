@@ -1,5 +1,6 @@
--- The rule of the table: its words show a state of the lanes' machine that meets the machine's invariant, and each lane of this
--- state is what the seat that has it knows. No view has the history; it stands in that state alone.
+-- The rule of the table: its words show a state of the lanes' machine that meets the machine's
+-- invariant, and each lane of this state is what the seat that has it knows. No view has the
+-- history; it stands in that state alone.
 use Rattle.std.specs.Prelude.{◌≡◌, ℕ, ◌+◌, ◌*◌, ◌<◌, List, [], ◌∷◌, ◌++◌, length, true, false, Bool, zero, suc, slice_index, slice_index_or}
 use lib.ListN.{get_elem?}
 use mathlib.Core.Option.{some}
@@ -60,7 +61,7 @@ areas_in x words = record {
   log_b = λ l side. slice_index words (x.log_at + 8 * l + 2 * side + 1);
 }
 
--- the cells that they give
+-- the cells that they encode
 abbrev pub cells_in : Shape → List ℕ → ℕ → Cell
 cells_in x words = cell_of (geometry x) (areas_in x words).data_at (areas_in x words).map_at
 
@@ -107,7 +108,7 @@ side_of k l = (slice_index_or k.lanes.value l no_state).group.side
 abbrev pub opened_owned : Key → ℕ → Owned
 opened_owned k l = record { number = l; lane = opened_lane (areas_in k.shape (words_of k)) l (side_of k l); shape = k.shape }
 
--- so many lanes from lane n on
+-- this many lanes from lane n on
 abbrev pub opened_from : Key → ℕ → ℕ → List Owned
 opened_from k n zero = []
 opened_from k n (suc c) = opened_owned k n ∷ opened_from k (suc n) c

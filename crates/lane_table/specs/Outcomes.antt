@@ -1,4 +1,4 @@
--- What a call on a lane gives.
+-- What a call on a lane returns.
 use Rattle.std.specs.Prelude.{◌≡◌, ◌≢◌, ℕ, ◌+◌, ◌<◌, List, [], ◌∷◌, ◌++◌, suc}
 use Rattle.map_table.specs.Entry.{entry_in}
 use Rattle.lane_core.specs.declared.history.Act.TheVariants as act
@@ -22,22 +22,25 @@ use Rattle.lane_table.specs.Reads.{Gets, Stops, calling, cell_of_kind}
 use Rattle.lane_table.specs.Stages.{stage_steps}
 use Rattle.lane_table.specs.Told.{missed, IsAfter}
 
--- Staged: a scan of each other lane, and two steps for each word. Tracked: the last of the scans found one more than the free block in that lane's
--- reader word, and the lane is without a call. Cut: as many as the fuse had
+-- Staged: a scan of each other lane, and two steps for each word. Tracked: the last of the scans
+-- found one more than the free block in that lane's reader word, and the lane is idle. Cut: as many
+-- steps as the fuse had
 abbrev pub Stages : List ℕ → Lane → StageOutcome → Type 0
 Stages ws l (stage.Staged s) = IsAfter (stage_steps l.kit.seat.me.0.shape) l.kit.seat.me (record (l.kit.seat.me.0.lane) { phase = InStaged; words = ws }) s.kit.seat.me × (s.words.items ≡ ws) × (spare_in l.kit ≡ suc (spare_in s.kit)) × IsSame l.kit s.kit × Fell (stage_steps l.kit.seat.me.0.shape) l.kit.fuse s.kit.fuse
 Stages ws l (stage.Tracked k r b) = (j : ℕ) × (j + 1 < l.kit.seat.me.0.shape.lanes) × (r ≡ other_lane l.kit.number j) × (b ≡ l.mine.block) × IsAfter (j + 1) l.kit.seat.me (record (l.kit.seat.me.0.lane) { phase = Idle; words = [] }) k.kit.seat.me
     × (k.kit.seat.me.0.count.last ≡ suc b) × (k.kit.rooms ≡ l.kit.rooms) × IsSame l.kit k.kit × Fell (j + 1) l.kit.fuse k.kit.fuse
 Stages ws l (stage.Cut k) = (n : ℕ) × (p : Lane_now) × (n < stage_steps l.kit.seat.me.0.shape) × IsAfter n l.kit.seat.me p k.kit.seat.me × (p.log ≡ l.kit.seat.me.0.lane.log) × IsSame l.kit k.kit × Burnt n l.kit.fuse k.kit.fuse
 
--- Done: nine steps. MapBusy: one, which found one more than the holder; the words are as they were. Cut: as many as the fuse had
+-- Done: nine steps. MapBusy: one, which found one more than the holder; the words are as they were.
+-- Cut: as many steps as the fuse had
 abbrev pub Commits : Call → Staged → CommitOutcome → Type 0
 Commits t s (Done k) = (w : ℕ) × (k.kit.seat.me ≡ way t w 9 s.kit.seat.me) × (k.kit.rooms ≡ s.kit.rooms) × IsSame s.kit k.kit × Fell 9 s.kit.fuse k.kit.fuse
 Commits t s (MapBusy z holder) = (z.kit.seat.me ≡ missed (suc holder) s.kit.seat.me) × (holder < s.kit.seat.me.0.shape.lanes) × (z.words ≡ s.words) × (z.kit.rooms ≡ s.kit.rooms) × IsSame s.kit z.kit × Fell 1 s.kit.fuse z.kit.fuse
 Commits t s (Cut k) = (w : ℕ) × (n : ℕ) × (n < 9) × (k.kit.seat.me ≡ way t w n s.kit.seat.me) × IsSame s.kit k.kit × Burnt n s.kit.fuse k.kit.fuse
 
--- Got: one step where the entry says zeros or bad, else four and one for each word. Moved: four steps; the last two looks at the map word found the
--- two entries, and the lane is without a call. Cut: as many as the fuse had
+-- Got: one step if the entry says zeros or bad, else four and one for each word. Moved: four steps;
+-- the last two looks at the map word found the two entries, and the lane is idle. Cut: as many
+-- steps as the fuse had
 abbrev pub Reads : Call → List ℕ → List ℕ → Lane → ReadOutcome → Type 0
 Reads t old new l (reads.Got k kind) =
     (w : ℕ) × Gets l.kit.seat.me k.kit.seat.me l.kit.fuse k.kit.fuse old new t w (kind_in (entry_in w t.sector)) kind × IsSame l.kit k.kit × (spare_in l.kit ≡ suc (spare_in k.kit))

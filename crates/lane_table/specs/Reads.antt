@@ -54,7 +54,8 @@ after_loads into k p = record p { phase = Reading k; got = take k into }
 abbrev pub after_read : ℕ → Lane → List ℕ → Lane
 after_read l p words = record (answered l p (cell.Bytes words)) { got = [] }
 
--- what a read that stops in this phase leaves in the room: the words that it loaded, and behind them what was there
+-- what a read that stops in this phase leaves in the room: the words that it loaded, and behind
+-- them what was there
 abbrev pub room_left : Phase → List ℕ → List ℕ → List ℕ
 room_left (Reading k) got old = got ++ drop k old
 room_left _ got old = old
@@ -64,7 +65,7 @@ abbrev pub calling : Call → Lane → Lane
 calling t p = record p { phase = Called; tag = t.tag; sector = t.sector }
 
 module _ {S : Type 0} (me me' : Me S View) (a b : Fuse) (old new : List ℕ) where
-  -- so many words were loaded: all, or as many as the fuse had steps
+  -- how many words were loaded: all, or as many as the fuse had steps
   abbrev pub Loaded : ℕ → Type 0
   Loaded n = (n ≤ length old) × IsAfter n me (after_loads new n me.0.lane) me' × (new ≡ take n new ++ drop n old) × (n ≡ length old → Fell n a b) × (n < length old → Burnt n a b)
 
@@ -72,8 +73,8 @@ module _ {S : Type 0} (me me' : Me S View) (a b : Fuse) (old new : List ℕ) whe
   abbrev pub Stops : ℕ → Type 0
   Stops most = (n : ℕ) × (p : Lane) × (n < most) × IsAfter n me p me' × (p.log ≡ me.0.lane.log) × (new ≡ room_left p.phase p.got old) × Burnt n a b
 
-  -- From Looking on. Got: the words of the block. Moved: the two map words that were found last have other entries for the sector, and the reader
-  -- word is clear again
+  -- From Looking on. Got: the words of the block. Moved: the last two map words that were found
+  -- have different entries for the sector, and the reader word is clear again
   abbrev pub BlockEnds : ReadFate → Type 0
   BlockEnds (fate.Got k) = (k ≡ cell_kind.Bytes) × IsAfter (me.0.shape.width + 3) me (after_read me.0.number me.0.lane new) me' × Fell (me.0.shape.width + 3) a b
   BlockEnds (fate.Moved e f) =
@@ -88,8 +89,9 @@ module _ {S : Type 0} (me me' : Me S View) (a b : Fuse) (old new : List ℕ) whe
   Gets t w kind.Initial k = (k ≡ cell_kind.Bytes) × IsAfter (me.0.shape.width + 4) me (after_read me.0.number (record (calling t me.0.lane) { loaded = w }) new) me' × Fell (me.0.shape.width + 4) a b
   Gets t w kind.Normal k = (k ≡ cell_kind.Bytes) × IsAfter (me.0.shape.width + 4) me (after_read me.0.number (record (calling t me.0.lane) { loaded = w }) new) me' × Fell (me.0.shape.width + 4) a b
 
-  -- Got: one step where the entry says zeros or bad, else four and one for each word. Moved: four steps, and the two map words that were found have
-  -- other entries for the sector. Cut: as many as the fuse had
+  -- Got: one step if the entry says zeros or bad, else four and one for each word. Moved: four
+  -- steps, and the two map words that were found have different entries for the sector. Cut: as
+  -- many steps as the fuse had
   abbrev pub ReadEnds : Call → ReadFate → Type 0
   ReadEnds t (fate.Got k) = (w : ℕ) × Gets t w (kind_in (entry_in w t.sector)) k
   ReadEnds t (fate.Moved e f) =

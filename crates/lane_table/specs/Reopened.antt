@@ -1,4 +1,4 @@
--- What a power loss leaves of the words of an arena that was closed, and what opening finds in it.
+-- The words of a closed arena after a power loss, and what opening finds in them.
 use Rattle.std.specs.Prelude.{◌≡◌, ◌⊎◌, ℕ, ◌<◌, true, List, ◌++◌, length, slice_index, Ok}
 use mathlib.Core.Option.{some}
 use lib.ListN.{get_elem?}
@@ -19,12 +19,13 @@ use Rattle.lane_table.specs.Begun.{IsMadeOf}
 use Rattle.lane_table.specs.Closed.{AreInOrder, IsClosed}
 use Rattle.lane_table.specs.Kits.{kit_in}
 
--- each word is the kept one or the seen one, by itself
+-- each word by itself is the kept one or the seen one
 pub record IsLeftOf (c : Closed) (left : List ℕ) : Type 0 where
   pub same_length : length left ≡ length c.kept.items
   pub each : (i : ℕ) → (slice_index left i ≡ slice_index c.kept.items i) ⊎ (slice_index left i ≡ slice_index c.seen.items i)
 
--- the cell has the words of a write of this sector, whose lane stopped after its log entry was stored and before its map entry was
+-- the cell has the words of a write of this sector, whose lane stopped after its log entry was
+-- stored and before its map entry was
 pub record IsInFlight (ends : List LaneEnd) (sector : ℕ) (found : Cell) : Type 0 where
   pub lane : ℕ
   pub stopped : LaneEnd
@@ -33,7 +34,8 @@ pub record IsInFlight (ends : List LaneEnd) (sector : ℕ) (found : Cell) : Type
   pub on : (kit_in stopped).seat.me.0.lane.sector ≡ sector
   pub words : found ≡ cell.Bytes (kit_in stopped).seat.me.0.lane.words
 
--- a cell that a sector may have then: the one at the history's end, or that of a write in flight
+-- a cell that a sector may have then: the one at the end of the history, or that of a write in
+-- flight
 abbrev pub MaySurvive : ArenaState → List LaneEnd → List Entry → ℕ → Cell → Type 0
 MaySurvive state ends history sector found = (found ≡ end_of (first_cells state) history sector) ⊎ IsInFlight ends sector found
 
@@ -44,7 +46,8 @@ pub record IsFoundAgain (state : ArenaState) (ends : List LaneEnd) (history : Li
   pub info : arena.info ≡ state.info
   pub contents : (sector : ℕ) → sector < state.info.layout.external → MaySurvive state ends history sector (cell_at arena.info.layout (state_of words arena).words sector)
 
--- a law: wherever the arena's words opened, what is left of them after it was closed opens in their place, whatever stands behind them
+-- a law: if the arena's words opened in a namespace, the words after it was closed and lost power
+-- open in their place, whatever stands behind them
 abbrev pub ClosedWordsReopen : Type 0
 ClosedWordsReopen =
     (state : ArenaState) (a : Arena) (ends : List LaneEnd) (c : Closed) (left : List ℕ) → IsOpenState state → IsMadeOf state a → AreInOrder a.shape.lanes ends

@@ -29,21 +29,23 @@ abbrev pub stage_steps : Shape → ℕ
 stage_steps x = x.lanes - 1 + (x.width + x.width)
 
 module _ {S : Type 0} (me me' : Me S View) (a b : Fuse) where
-  -- Clear: one scan for each other lane. Reader: the last scan found one more than the free block in that lane's reader word
+  -- Clear: one scan for each other lane. Reader: the last scan found one more than the free block
+  -- in that lane's reader word
   abbrev pub Scanned : Looked → Type 0
   Scanned Clear = IsAfter (me.0.shape.lanes - 1) me (after_scans me.0.shape (me.0.shape.lanes - 1) me.0.lane) me' × Fell (me.0.shape.lanes - 1) a b
   Scanned (Reader r n) = (j : ℕ) × (n ≡ j + 1) × (n < me.0.shape.lanes) × (r ≡ other_lane me.0.number j) × IsAfter n me (record (me.0.lane) { phase = Idle; words = [] }) me' × (me'.0.count.last ≡ suc me.0.lane.block) × Fell n a b
   Scanned (Cut n) = (n < me.0.shape.lanes - 1) × IsAfter n me (after_scans me.0.shape n me.0.lane) me' × Burnt n a b
 
-  -- so many of these words were stored: all, or as many as the fuse had steps
+  -- how many of these words were stored: all, or as many as the fuse had steps
   abbrev pub Stored : List ℕ → ℕ → Type 0
   Stored words n = (n ≤ length words) × IsAfter n me (after_stores words n me.0.lane) me' × (n ≡ length words → Fell n a b) × (n < length words → Burnt n a b)
 
   abbrev pub Kept : Shape → ℕ → Type 0
   Kept x n = (n ≤ x.width) × IsAfter n me (after_keeps x n me.0.lane) me' × (n ≡ x.width → Fell n a b) × (n < x.width → Burnt n a b)
 
-  -- Staged: one step for each other lane, and two for each word. Tracked: the last of these scans found one more than the free block in
-  -- that lane's reader word, and the write is given up. Cut: as many as the fuse had
+  -- Staged: one step for each other lane, and two for each word. Tracked: the last of these scans
+  -- found one more than the free block in that lane's reader word, and the write is given up. Cut:
+  -- as many steps as the fuse had
   abbrev pub StageEnds : List ℕ → StageFate → Type 0
   StageEnds ws fate.Staged = IsAfter (stage_steps me.0.shape) me (record (me.0.lane) { phase = Staged; words = ws }) me' × Fell (stage_steps me.0.shape) a b
   StageEnds ws (fate.Tracked r) = (j : ℕ) × (j + 1 < me.0.shape.lanes) × (r ≡ other_lane me.0.number j) × IsAfter (j + 1) me (record (me.0.lane) { phase = Idle; words = [] }) me' × (me'.0.count.last ≡ suc me.0.lane.block) × Fell (j + 1) a b

@@ -1,5 +1,5 @@
--- What each kind of step does to the seat that makes it: `before` and `after` are the seat's view with the slots that it holds
--- (none here), and n is what the step found.
+-- What each kind of step does to the seat that makes it: `before` and `after` are the seat's view
+-- with the slots that it holds (none here), and n is what the step found.
 use Rattle.std.specs.Prelude.{◌≡◌, ◌≢◌, ℕ, ◌+◌, ◌*◌, ◌^◌, ◌<◌, ◌≤◌, ◌==◌, if◌then◌else◌, [], ◌∷◌, ◌++◌, zero, suc, replicate}
 use mathlib.Core.Option.{some}
 use Rattle.atomic_table.specs.Table.{Me, Step}
@@ -26,15 +26,15 @@ IsAfter k me p me' = (me' ≡ (record (me.0) { lane = p; count = me'.0.count }, 
 abbrev pub blocks : Shape → ℕ
 blocks x = x.sectors + x.lanes
 
--- where a write goes on after the keep of word k - width
+-- the next phase of a write after the keep of word k - width
 abbrev pub kept_phase : Shape → ℕ → Phase
 kept_phase x k = if k + 1 == 2 * x.width then Staged else Staging (k + 1)
 
--- where a write stands after j scans
+-- the phase of a write after j scans
 abbrev pub scan_phase : Shape → ℕ → Phase
 scan_phase x j = if j + 1 == x.lanes then Staging 0 else Scanning j
 
--- where it stands after j keeps
+-- its phase after j keeps
 abbrev pub keep_phase : Shape → ℕ → Phase
 keep_phase x j = if j == x.width then Staged else Staging (x.width + j)
 
@@ -170,7 +170,8 @@ module _ {S : Type 0} where
   abbrev pub looking : ℕ → Me S View → Me S View
   looking n me = on_found n me (record (me.0.lane) { phase = Looking; loaded = n })
 
-  -- after a look that found the map word n, in which the sector's entry is of this kind: zeros and bad sectors are answered
+  -- after a look that found the map word n, in which the sector's entry is of this kind: reads of
+  -- zeros and bad sectors are answered
   abbrev pub looked_at : Kind → ℕ → Me S View → Me S View
   looked_at kind.Zero n me = on_found n me (answered me.0.number me.0.lane (cell.Bytes (replicate me.0.shape.width 0)))
   looked_at kind.Bad n me = on_found n me (answered me.0.number me.0.lane cell.Bad)
@@ -188,7 +189,8 @@ module _ {S : Type 0} where
   abbrev pub rtt_set : Step S → Me S View → ℕ → Me S View → Type 0
   rtt_set step before n after = after ≡ published before
 
-  -- after a check that found the map word n: the entry is the one that was loaded, and the read stands; or it has changed
+  -- after a check that found the map word n: the entry is the one that was loaded, and the read
+  -- stands; or it has changed
   abbrev pub reading : ℕ → Me S View → Me S View
   reading n me = on_found n me (record (me.0.lane) { phase = Reading 0; got = [] })
 
@@ -206,7 +208,8 @@ module _ {S : Type 0} where
   abbrev pub data_load : Step S → Me S View → ℕ → Me S View → Type 0
   data_load step before n after = (k : ℕ) → before.0.lane.phase ≡ Reading k → after ≡ with_load before k n
 
-  -- after the reader word is cleared: a read whose entry moved is given up, and one that has its words is answered
+  -- after the reader word is cleared: a read whose entry moved is given up, and one that has its
+  -- words is answered
   abbrev pub given_up : Me S View → Me S View
   given_up me = on me (record (me.0.lane) { phase = Idle })
 

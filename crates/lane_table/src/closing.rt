@@ -1,4 +1,4 @@
-//! An arena is closed.
+//! Closes an arena.
 ghost use Rattle.std.specs.Prelude.{◌≡◌, ◌≤◌, [], length, IfOk, IfErr, All, vec_capacity};
 
 use crate::arena::Arena;
@@ -7,7 +7,8 @@ use crate::lanes::LaneEnd;
 use lane_core::Entry;
 use std::alloc::{AllocError, Global};
 
-/// What an arena leaves: its words as they are seen and as they are kept, and the calls of lane `l` at `l`, oldest first.
+/// What a closed arena leaves: its words as they are seen and as they are kept, and at `l` the
+/// calls of lane `l`, oldest first.
 #[derive(Drop)]
 pub struct Closed {
     pub seen: Vec<u64>,
@@ -15,7 +16,7 @@ pub struct Closed {
     pub logs: Vec<Vec<Entry>>,
 }
 
-/// There was no memory. The arena and its lanes come back.
+/// Out of memory. The arena and its lanes come back.
 #[derive(Drop)]
 pub struct CloseRefused {
     pub arena: Arena,
@@ -38,8 +39,8 @@ impl Arena {
     ghost use Rattle.lane_table.specs.Closed.{AreInOrder, IsClosed};
     ghost use Rattle.lane_table.specs.Kits.{arena_id, kit_in};
 
-    /// Takes all lanes, in the order of their numbers and each in whatever state it is, and gives the words and the logs. The one
-    /// refusal is out of memory; then the arena and the lanes are handed back.
+    /// Takes all lanes, in the order of their numbers and each in any state, and returns the words
+    /// and the logs. The only refusal is out of memory; then the arena and the lanes come back.
     pub fn close(self, alloc: Global, ends: Vec<LaneEnd>) -> Result<Closed, CloseRefused>
         requires ends { All (λ e. (kit_in e).seat.table_id ≡ arena_id self) ends.items }
         requires every { AreInOrder self.shape.lanes ends.items }

@@ -17,7 +17,7 @@ use crate::steps::{
 };
 use crate::table::{Call, LaneSeat, Words};
 
-/// Where the words of a commit stand in the table.
+/// The places of a commit's words in the table.
 #[derive(Clone, Copy, Debug, PartialEq, Eq)]
 pub struct CommitWords {
     pub lock: usize,
@@ -37,11 +37,12 @@ pub enum Fate {
     Done(u32),
     /// The lane that has the lock: the exchange found one more.
     Busy(u32),
-    /// The fuse was spent after so many of the nine steps.
+    /// The fuse was spent after this many of the nine steps.
     Cut(u32),
 }
 
-/// The seven stores of a commit. It returns how many of them were made: all, or as many as the fuse had steps.
+/// The seven stores of a commit. Returns how many of them were made: all, or as many as the fuse
+/// had steps.
 pub fn finish(
     table: &Words,
     seat: &mut LaneSeat,
@@ -86,7 +87,8 @@ pub fn finish(
     7
 }
 
-/// Takes the lock of the sector's map word, switches the sector's entry to the staged block, and gives the lock back.
+/// Takes the lock of the sector's map word, switches the sector's entry to the staged block, and
+/// gives the lock back.
 pub fn commit(
     table: &Words,
     seat: &mut LaneSeat,

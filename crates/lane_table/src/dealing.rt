@@ -1,4 +1,4 @@
-//! The lanes get their seats.
+//! Deals the lanes their seats.
 ghost use Rattle.std.specs.Prelude.{◌≡◌, ◌<◌, false, [], length, IfOk};
 ghost use Rattle.lane_table.specs.Begun.{IsBegun, IsNew, AreFresh};
 ghost use Rattle.lane_table.specs.Law.{first};

@@ -1,7 +1,7 @@
 ghost use Rattle.std.specs.Prelude.{◌≡◌, true, false, None, Some};
 ghost use Rattle.lane_table.specs.Fuse.{Fell, Burnt, of_left};
 
-/// How many steps a lane may still make, where that is set. Each step takes one.
+/// How many steps a lane may still make, if that is set. Each step takes one.
 #[derive(Clone, Copy, Debug, PartialEq, Eq)]
 pub struct Fuse {
     pub set: bool,
@@ -9,7 +9,7 @@ pub struct Fuse {
 }
 
 impl Fuse {
-    /// A fuse of so many steps, or one that is never spent.
+    /// A fuse of this many steps, or one that is never spent.
     pub fn of(steps: Option<u64>) -> Fuse
         ensures { of_left result ≡ steps }
     {

@@ -1,4 +1,4 @@
-//! The lanes are handed in, and the table gives its words.
+//! Takes the lanes back, and returns the words of the table.
 ghost use Rattle.std.specs.Prelude.{◌≡◌, ◌+◌, ◌*◌, ◌<◌, ◌≤◌, ◌^◌, [], length, map, take, drop, All, vec_capacity};
 ghost use Rattle.std.specs.Mem.Slots.{slots_items, slots_len, IsFull};
 ghost use Rattle.lane_table.specs.Kits.{kit_in, owned_in};
@@ -11,7 +11,8 @@ use atomic_table::Closed;
 use lane_core::Entry;
 use std::alloc::Global;
 
-/// A seat that knows what the lanes' seats knew, and their logs in the order in which they were handed in.
+/// A seat that knows what the lanes' seats knew, and their logs in the order in which they were
+/// handed in.
 pub(crate) fn gather(shared: &Words, ends: Vec<LaneEnd>, logs: &mut Vec<Vec<Entry>>) -> LaneSeat
     requires table { 0 < shared.now.table_id.words }
     requires ends { All (λ e. (kit_in e).seat.table_id ≡ shared.now.table_id) ends.items }
@@ -35,7 +36,7 @@ pub(crate) fn gather(shared: &Words, ends: Vec<LaneEnd>, logs: &mut Vec<Vec<Entr
     host
 }
 
-/// Copies so many words of a closed table, from a first one on.
+/// Copies this many words of a closed table, from a first one on.
 pub(crate) fn copy_words(
     closed: &Closed<Call, Global>,
     first: usize,

@@ -1,5 +1,5 @@
-//! The kinds of step at the table, each named as the line of the algorithm that it is. These types are for proofs alone; what a
-//! kind tells its seat is the word of `specs/Told.antt` that it names.
+//! The kinds of step at the table, each named as the line of the algorithm that it is. These types
+//! are for proofs only. What a kind tells its seat is the word of `specs/Told.antt` that it names.
 use crate::table::{Call, View};
 use atomic_table::{Join, Play, Split};
 
@@ -38,7 +38,8 @@ impl Join<View> for JoinSeat {
 
 // ---- a write
 
-/// The lane's own reader word is loaded. No line of the algorithm: the view learns that a write begins.
+/// The lane's own reader word is loaded. No line of the algorithm: the view learns that a write
+/// begins.
 pub struct WriteBegin;
 
 impl Play<Call, View> for WriteBegin {
@@ -157,7 +158,8 @@ impl Play<Call, View> for LockFree {
 
 // ---- a read
 
-/// The lane's own reader word is exchanged, 0 by 0. No line of the algorithm: the view learns the read's call.
+/// The lane's own reader word is exchanged, 0 by 0. No line of the algorithm: the view learns the
+/// read's call.
 pub struct ReadBegin;
 
 impl Play<Call, View> for ReadBegin {
@@ -166,7 +168,8 @@ impl Play<Call, View> for ReadBegin {
     ghost then = { read_begin };
 }
 
-/// The map word is loaded. If the entry says zeros or bad, the read stands in the history and is answered.
+/// The map word is loaded. If the entry says zeros or bad, the read stands in the history and is
+/// answered.
 pub struct MapLook;
 
 impl Play<Call, View> for MapLook {

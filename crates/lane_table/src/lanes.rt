@@ -1,5 +1,5 @@
-//! A lane with its seat, in each of its states. A call takes the lane in one state and gives it back in another, so what can't be
-//! called in a state has no method there.
+//! A lane with its seat, in each of its states. A call takes the lane in one state and returns it
+//! in another, so a state has no method for a call that it doesn't allow.
 ghost use Rattle.std.specs.Prelude.{◌≡◌, ◌+◌, ◌<◌, ◌≤◌, true, [], All, vec_len, vec_capacity};
 ghost use Rattle.lane_core.specs.declared.phase.Phase.TheVariants.{Idle as IsIdle, Staged as IsStaged};
 ghost use Rattle.lane_table.specs.Conditions.{IsMine, IsRoom};
@@ -28,7 +28,7 @@ pub struct Kit {
     ghost rooms_are: { All (IsRoom seat.me.0.shape.width) rooms.items },
 }
 
-/// What a lane has, in one piece again.
+/// Puts together again what a lane has.
 pub(crate) fn kit_of(
     seat: LaneSeat,
     number: u32,
@@ -58,7 +58,7 @@ pub(crate) fn kit_of(
     }
 }
 
-/// A lane without a call.
+/// An idle lane.
 #[derive(Drop)]
 pub struct Lane {
     pub(crate) kit: Kit,

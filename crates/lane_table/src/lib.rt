@@ -1,7 +1,9 @@
-//! An arena's lanes at once, on words that they share: the steps of `lane_core`, each one atomic step of a table.
+//! An arena's lanes at once, on words that they share: the steps of `lane_core`, each one atomic
+//! step of a table.
 //!
-//! Lanes run in threads of their own. They copy data without locks; only the map word of a sector has a lock, and it is held for
-//! nine steps. Still each lane takes exactly the steps of the proved algorithm, one word each, whatever the others do in between.
+//! Lanes run in threads of their own. They copy data without locks; only the map word of a sector
+//! has a lock, and it is held for nine steps. Still each lane takes exactly the steps of the proved
+//! algorithm, one word each, whatever the others do in between.
 //!
 //! # The words
 //!
@@ -9,50 +11,55 @@
 //!   0                total              2 * total       + lanes        + lanes
 //!   +----------------+------------------+---------------+--------------+
 //!   | the arena, as  | the same words,  | reader word   | lock of map  |
-//!   | a load gives   | as they are      | of each lane: | word k:      |
+//!   | a load returns | as they are      | of each lane: | word k:      |
 //!   | them           | kept             | 0, block + 1  | 0, lane + 1  |
 //!   +----------------+------------------+---------------+--------------+
 //! ```
 //!
-//! To **keep** a word of the arena is one store into its kept word. A lane keeps a word that it stored itself, so it stores its own
-//! value there, and needs no load.
+//! To **keep** a word of the arena is one store into its kept word. A lane keeps a word that it
+//! stored itself, so it stores its own value there, and needs no load.
 //!
 //! # The rule
 //!
-//! The words are a table (of the crate `atomic_table`). Each lane steps with its **seat**, which knows one lane's state, its **view**;
-//! a step changes one word and one view. The rule (`Holds` of specs/Law.antt) is: there is a state of the machine in
-//! `lane_core`'s specs/Machine.antt that meets that crate's invariant, that the words show, and whose lanes are what the seats know.
-//! No view has the history: it stands in that state alone. proofs/WriteLines.antt and proofs/ReadLines.antt show for each kind of step
-//! that it is a step of that state; so every run of lanes in threads is a run of the machine, of which `lane_core` has the theorem.
+//! The words are a table (of the crate `atomic_table`). Each lane steps with its **seat**, which
+//! knows one lane's state, its **view**; a step changes one word and one view. The rule (`Holds` of
+//! specs/Law.antt) is: there is a state of the machine in `lane_core`'s specs/Machine.antt that
+//! meets that crate's invariant, that the words show, and whose lanes are what the seats know. No
+//! view has the history: it stands in that state alone. proofs/WriteLines.antt and
+//! proofs/ReadLines.antt show for each kind of step that it is a step of that state; so every run
+//! of lanes in threads is a run of the machine, of which `lane_core` has the theorem.
 //!
-//! A write's call joins its lane's view at LockTake, and its words one by one as they are stored: until then no step can tell them.
-//! A read's call joins as the read begins. A view counts its steps and has what the last two looks found, so a call can't claim a
-//! step that it didn't make.
+//! A write's call joins its lane's view at LockTake, and its words one by one as they are stored:
+//! until then no step can tell them. A read's call joins as the read begins. A view counts its
+//! steps and has what the last two looks found, so a call can't claim a step that it didn't make.
 //!
 //! # A read and a write of one block
 //!
-//! A reader says in its reader word which block it reads, and looks at the map again before it loads a word. A writer looks at all
-//! reader words before it stores a word in its free block. Say that lane 0 looks at a sector and finds block 3, and lane 1 then moves
-//! the sector, so that block 3 is lane 1's free block. If lane 0's word was set before lane 1's scan came to it, the scan finds it and
-//! lane 1 doesn't store. If it is set later, the map was switched before, so lane 0's second look finds another entry, and it loads
-//! nothing. The rule ties each of the two facts to a word.
+//! A reader says in its reader word which block it reads, and looks at the map again before it
+//! loads a word. A writer looks at all reader words before it stores a word in its free block. Say
+//! that lane 0 looks at a sector and finds block 3, and lane 1 then moves the sector, so that block
+//! 3 is lane 1's free block. If lane 0's word was set before lane 1's scan came to it, the scan
+//! finds it and lane 1 doesn't store. If it is set later, the map was switched before, so lane 0's
+//! second look finds another entry, and it loads nothing. The rule ties each of the two facts to a
+//! word.
 //!
 //! # The promises
 //!
 //! | promise | call | definition |
 //! |---|---|---|
 //! | the rule holds of a new table, whose history begins with the cells that a reader of the arena gets, and each lane's seat knows its lane | [`Arena::of`] | `IsMadeOf`, `AreFresh` of specs/Begun.antt |
-//! | staging is one look at each other lane's reader word, then a store and a keep of each word; a lane that is told of a reader has looked, and found it | [`Lane::try_stage`] | `Stages` of specs/Outcomes.antt |
-//! | a commit is the nine steps in order, or one step that found the lock's holder, or as many as the fuse had | [`Staged::try_commit`] | `Commits` of specs/Outcomes.antt, `way` of specs/Committed.antt |
-//! | a refused commit gives the lane back with its words | the same | `Commits`, case MapBusy |
-//! | a read stands in its lane's log with the cell that it returns, after as many steps as its entry asks | [`Lane::try_read`] | `Reads`, `Stands` of specs/Outcomes.antt |
-//! | a read says that the sector moved only if its two looks found other entries | the same | `Reads`, case Moved |
+//! | staging is one look at each other lane's reader word, then a store and a keep of each word; if a lane reports a reader, its last look found it | [`Lane::try_stage`] | `Stages` of specs/Outcomes.antt |
+//! | a commit is the nine steps in order, or one step that found the lock's holder, or as many steps as the fuse had | [`Staged::try_commit`] | `Commits` of specs/Outcomes.antt, `way` of specs/Committed.antt |
+//! | a refused commit returns the lane with its words | the same | `Commits`, case MapBusy |
+//! | a read stands in its lane's log with the cell that it returns, after the number of steps that its entry needs | [`Lane::try_read`] | `Reads`, `Stands` of specs/Outcomes.antt |
+//! | a read says that the sector moved only if its two looks found different entries | the same | `Reads`, case Moved |
 //! | a fuse that is set falls by one with each step; a step that is due without one isn't made | each step | `Fell`, `Burnt` of specs/Fuse.antt |
-//! | the words at the end meet the invariant with the lanes' ends, the logs are one legal history, and what a cut leaves survives | [`Arena::close`] | `IsClosed` of specs/Closed.antt |
-//! | each word that no lane stores, as those of the info blocks, is as the arena was opened | the same | `IsClosed`, fields `seen_fixed` and `kept_fixed` |
-//! | what a power loss leaves of these words opens again, with the history's cells or those of a write in flight | [`closed_words_reopen`] | `ClosedWordsReopen` of specs/Reopened.antt |
+//! | the words at the end meet the invariant with the lanes' ends, the logs are one legal history, and each sector survives a power cut | [`Arena::close`] | `IsClosed` of specs/Closed.antt |
+//! | each word that no lane stores, such as those of the info blocks, is as the arena was opened | the same | `IsClosed`, fields `seen_fixed` and `kept_fixed` |
+//! | after a power loss these words open again, with the history's cells or those of a write in flight | [`closed_words_reopen`] | `ClosedWordsReopen` of specs/Reopened.antt |
 //!
-//! Nothing is said of progress: not that a lock comes free, nor that a lane that was refused gets on later.
+//! There is no promise of progress: a lock may never come free, and a refused lane may be refused
+//! again.
 #![tactic(auto)]
 
 mod arena;

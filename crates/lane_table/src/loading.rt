@@ -1,4 +1,4 @@
-//! A sector's words are read: looks at the map and at the block, and the loop over the block's words.
+//! Reads a sector's words: looks at the map and at the block, and the loop over the block's words.
 ghost use Rattle.std.specs.Prelude.{◌≡◌, ◌<◌, ◌≤◌, ◌+◌, ◌/◌, ◌^◌, [], length};
 ghost use Rattle.map_table.specs.Entry.{entry_in};
 ghost use Rattle.lane_core.specs.declared.phase.Phase.TheVariants.{Idle, Looking, Reading};
@@ -20,13 +20,14 @@ use crate::words::{block_word, map_word, reader_word};
 use arena_open::CellKind;
 use map_table::{Kind, entry, entry_in};
 
-/// What a read may do between its first look at the map and the store of its reader word. So a test can say what others do
-/// meanwhile. Nothing is asked of it: what is promised of a read holds for every pause.
+/// What runs between a read's first look at the map and the store of its reader word. A test says
+/// with it what others do meanwhile. It has no condition: the promises of a read hold for every
+/// pause.
 pub trait Pause {
     fn pause(&mut self);
 }
 
-/// Where the words of a read stand in the table.
+/// The places of a read's words in the table.
 #[derive(Clone, Copy, Debug, PartialEq, Eq)]
 pub struct ReadWords {
     /// The lane's own reader word.
@@ -50,7 +51,7 @@ pub enum Found {
 pub enum ReadFate {
     /// The read stands in the history, with a cell of this kind.
     Got(CellKind),
-    /// The entry that was looked at, and another one that was found by the check.
+    /// The entry at the first look, and another one at the check.
     Moved(u32, u32),
     /// The fuse was spent.
     Cut,
@@ -71,8 +72,8 @@ fn found_in(word: u64, sector: u32) -> Found
     }
 }
 
-/// Loads the words of the block, of which `at` is the first word. It returns how many were loaded: all, or as many as the fuse had
-/// steps.
+/// Loads the words of the block, of which `at` is the first word. Returns how many were loaded:
+/// all, or as many as the fuse had steps.
 fn load_words(
     table: &Words,
     seat: &mut LaneSeat,
@@ -97,8 +98,8 @@ fn load_words(
     into.len()
 }
 
-/// Reads the block that the first look found: says in the reader word which block is read, looks at the map word again, and loads the
-/// words if the entry is the same.
+/// Reads the block that the first look found. It publishes the block in the reader word, looks at
+/// the map word again, and loads the words if the entry is the same.
 fn read_block(
     table: &Words,
     seat: &mut LaneSeat,

@@ -1,4 +1,4 @@
-//! A table is made of an arena.
+//! Makes a table of an arena.
 ghost use Rattle.std.specs.Prelude.{◌≡◌, ◌<◌, ◌+◌, ◌*◌, ◌^◌, ◌++◌, length, replicate, All, IfOk};
 ghost use Rattle.arena_open.specs.Moves.{IsOpenState};
 ghost use Rattle.lane_table.specs.Begun.{row_of, IsMadeOf, IsOpenArena, AreFresh};
@@ -15,7 +15,8 @@ use nvd_words::Items;
 use std::alloc::{AllocError, Global};
 use std::snapshot::Snapshot;
 
-/// The words of a table: the arena's as they are seen, the same as they are kept, and zeros, the reader words and the locks.
+/// The words of a table: the arena's as they are seen, the same as they are kept, and zeros for the
+/// reader words and the locks.
 pub(crate) fn row(alloc: Global, words: &[u64], lanes: u32) -> Result<Vec<u64>, AllocError>
     requires few { (length words.now < 2 ^ 40) × (lanes < 2 ^ 31) }
     ensures { IfOk result (λ v. v.items ≡ words.now ++ words.now ++ replicate (2 * lanes) 0) }
@@ -52,10 +53,10 @@ fn arena_of(
 }
 
 impl Arena {
-    /// An arena that was opened, on words that its lanes share, and its lanes in the order of their numbers, each with its seat. The
-    /// one refusal is out of memory.
+    /// An opened arena on words that its lanes share, and its lanes in the order of their numbers,
+    /// each with its seat. The only refusal is out of memory.
     ///
-    /// Condition: the state is as `open_arena` gives it.
+    /// Condition: `open_arena` returned this state.
     pub fn of(alloc: Global, state: ArenaState) -> Result<(Arena, Vec<Lane>), AllocError>
         requires state { IsOpenState state }
         ensures arena { IfOk result (λ r. IsMadeOf state r.0) }

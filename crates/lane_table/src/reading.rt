@@ -42,17 +42,21 @@ impl Lane {
     ghost use Rattle.lane_table.specs.Kits.{IsOf, spare_in};
     ghost use Rattle.lane_table.specs.Outcomes.{Reads, Stands};
 
-    /// Reads a sector of the arena into `into`. It looks at the sector's entry, says in its reader word which block it reads, looks at
-    /// the entry again, and loads the words only if the entry is the same. No memory is taken, and nothing waits.
+    /// Reads a sector of the arena into `into`. It looks at the sector's entry, says in its reader
+    /// word which block it reads, looks at the entry again, and loads the words only if the entry
+    /// is the same. Takes no memory, and never waits.
     ///
-    /// - Got: the read stands in the lane's log with the cell that is returned; `into` has its words, zeros too, and is as it was if the
-    ///   sector is bad. It takes one step if the entry says zeros or bad, else four and one for each word, and one of `spare`.
-    /// - Moved: the two looks found entries that differ, since a write moved the sector meanwhile. It takes four steps, and nothing else
-    ///   has changed: try again.
-    /// - Cut: the fuse was spent when a step was due. `into` begins with the words that were loaded.
+    /// - Got: the read stands in the lane's log with the cell that is returned; `into` has its
+    ///   words, zeros too, and is as it was if the sector is bad. It takes one step if the entry
+    ///   says zeros or bad, else four and one for each word, and one of `spare`.
+    /// - Moved: the two looks found entries that differ, since a write moved the sector meanwhile.
+    ///   It takes four steps, and nothing else has changed: try again.
+    /// - Cut: the fuse was spent when a step was due. `into` begins with the words that were
+    ///   loaded.
     ///
-    /// Conditions: the lane is one of the arena's, which has the sector; `into` has the words of a sector; the lane has a spare.
-    /// Source: Linux's BTT document, the read path with its table of readers.
+    /// Conditions: the lane is one of the arena's, which has the sector; `into` has the words of a
+    /// sector; the lane has a spare. Source: Linux's BTT document, the read path with its table of
+    /// readers.
     pub fn try_read(self, arena: &Arena, tag: Tag, sector: u32, into: &mut [u64]) -> ReadOutcome
         requires arena { IsOf arena.now self.kit }
         requires sector { sector < arena.now.shape.sectors }
@@ -64,8 +68,8 @@ impl Lane {
         self.try_read_paused(arena, tag, sector, into, &mut Straight)
     }
 
-    /// As [`Lane::try_read`], with a pause between the first look at the entry and the store of the reader word. There is none if the
-    /// entry says zeros or bad.
+    /// As [`Lane::try_read`], with a pause between the first look at the entry and the store of the
+    /// reader word. There is none if the entry says zeros or bad.
     pub fn try_read_paused<P: Pause>(
         self,
         arena: &Arena,

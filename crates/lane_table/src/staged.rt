@@ -1,4 +1,4 @@
-//! A lane without a call: what it can be asked, and how it stages a write.
+//! An idle lane: what it can be asked, and how it stages a write.
 ghost use Rattle.std.specs.Prelude.{◌≡◌, ◌<◌, ◌≤◌, ◌⊎◌, suc, length, vec_len, All, OnOk};
 ghost use Rattle.lane_table.specs.Conditions.{IsRoom};
 
@@ -9,7 +9,7 @@ use crate::outcome::StageOutcome;
 use crate::staging::{StageFate, stage};
 use std::alloc::{AllocError, Global};
 
-/// Fills room that was kept for a call's words.
+/// Fills room that was reserved for a call's words.
 fn fill(room: &mut Vec<u64>, words: &[u64])
     requires { IsRoom (length words.now) room.old }
     ensures { room.new.items ≡ words.now }
@@ -19,7 +19,7 @@ fn fill(room: &mut Vec<u64>, words: &[u64])
     }
 }
 
-/// A call's words, in one of the rooms that were kept for them.
+/// A call's words, in one of the rooms that were reserved for them.
 pub(crate) fn filled(rooms: &mut Vec<Vec<u64>>, words: &[u64]) -> Vec<u64>
     requires rooms { All (IsRoom (length words.now)) rooms.old.items }
     requires some { 0 < vec_len rooms.old }
@@ -36,7 +36,7 @@ pub(crate) fn filled(rooms: &mut Vec<Vec<u64>>, words: &[u64]) -> Vec<u64>
     }
 }
 
-/// Rooms for the words of so many calls.
+/// Rooms for the words of this many calls.
 fn more_rooms(
     alloc: Global,
     rooms: &mut Vec<Vec<u64>>,
@@ -72,7 +72,7 @@ impl Lane {
         self.kit.number
     }
 
-    /// For how many more calls there is room.
+    /// How many more calls there is room for.
     pub fn spare(&self) -> usize
         ensures { result ≡ spare_in self.now.kit }
     {
@@ -97,7 +97,8 @@ impl Lane {
         self.kit.fuse = Fuse::of(steps);
     }
 
-    /// Keeps room for so many calls, each with the words of a sector, so that they take no memory. The one refusal is out of memory.
+    /// Reserves room for this many calls, each with the words of a sector, so that they take no
+    /// memory. The only refusal is out of memory.
     pub fn reserve(&mut self, alloc: Global, arena: &Arena, calls: usize) -> Result<(), AllocError>
         requires arena { IsOf arena.now self.old.kit }
         ensures enough { OnOk result (calls ≤ spare_in self.new.kit) }
@@ -116,8 +117,9 @@ impl Lane {
         )
     }
 
-    /// Stages a write of these words: looks once at each other lane's reader word, stores the words in the free block, and keeps
-    /// them. If another lane reads the free block the lane comes back without the call. No memory is taken, and nothing waits.
+    /// Stages a write of these words: looks once at each other lane's reader word, stores the words
+    /// in the free block, and keeps them. If another lane reads the free block, the lane comes back
+    /// idle. Takes no memory, and never waits.
     pub fn try_stage(self, arena: &Arena, words: &[u64]) -> StageOutcome
         requires arena { IsOf arena.now self.kit }
         requires words { length words.now ≡ arena.now.shape.width }

@@ -1,4 +1,4 @@
-//! A free block gets a write's words, seen and kept: loops over steps.
+//! Stores and keeps a write's words in a free block: loops over steps.
 ghost use Rattle.std.specs.Prelude.{◌≡◌, ◌<◌, ◌≤◌, ◌+◌, ◌*◌, ◌-◌, ◌^◌, [], length, suc};
 ghost use Rattle.lane_core.specs.declared.phase.Phase.TheVariants.{Idle, Scanning, Staging, Staged};
 ghost use Rattle.lane_core.specs.Places.{word_of, row_size, IsShape, SeenData, KeptData};
@@ -19,9 +19,9 @@ use lane_core::Shape;
 pub enum Looked {
     /// Nobody reads the free block.
     Clear,
-    /// This lane reads it. It was found after so many scans.
+    /// This lane reads it. This many scans were made.
     Reader(u32, u32),
-    /// The fuse was spent after so many scans.
+    /// The fuse was spent after this many scans.
     Cut(u32),
 }
 
@@ -53,8 +53,8 @@ pub fn scan(
     Looked::Clear
 }
 
-/// Stores the call's words in the free block, of which `at` is the first word. It returns how many were stored: all, or as many as
-/// the fuse had steps.
+/// Stores the call's words in the free block, of which `at` is the first word. Returns how many
+/// were stored: all, or as many as the fuse had steps.
 pub fn store_words(
     table: &Words,
     seat: &mut LaneSeat,
@@ -77,7 +77,8 @@ pub fn store_words(
     words.len()
 }
 
-/// Keeps the words of the free block, of which `at` is the first kept word. It returns how many were kept.
+/// Keeps the words of the free block, of which `at` is the first kept word. Returns how many were
+/// kept.
 pub fn keep_words(
     table: &Words,
     seat: &mut LaneSeat,

@@ -1,7 +1,8 @@
-//! The steps of a lane, one function each. A step takes one from the fuse; if none is left it isn't made.
+//! The steps of a lane, one function each. A step takes one from the fuse. If none is left, the
+//! step isn't made.
 //!
-//! Each store has its condition in two clauses: `at` says which word it is of, and `value` what is stored. A keep stores the lane's
-//! own value in the kept word.
+//! Each store has its condition in two clauses: `at` says which word it stores, and `value` what. A
+//! keep stores the lane's own value in the kept word.
 ghost use Rattle.std.specs.Prelude.{◌≡◌, ◌≢◌, ◌+◌, ◌-◌, ◌*◌, ◌/◌, ◌^◌, ◌<◌, ◌≤◌, true, false, suc, slice_index, IfSome, IfNone, Some, None};
 ghost use Rattle.lane_core.specs.declared.phase.Phase.TheVariants.{Idle, Scanning, Staging, Staged, Locked, Known, LogAStored, LogA, LogBStored, Logged, Switched, Kept, Called, Looking, Published, Moved, Reading};
 ghost use Rattle.map_table.specs.Entry.{entry_in, with_entry};
@@ -21,8 +22,8 @@ use crate::kinds::{
 };
 use crate::table::{Call, LaneSeat, Words};
 
-/// A write begins. It is no line of the algorithm, changes no word and costs no fuse: the lane's own reader word is loaded, so that
-/// the view learns of it.
+/// A write begins. This is no line of the algorithm, changes no word and takes nothing from the
+/// fuse. It loads the lane's own reader word, so that the view learns of the write.
 #[inline]
 pub fn write_begin(table: &Words, seat: &mut LaneSeat, at: usize)
     requires seat { IsSeated Idle table.now.table_id seat.old.table_id seat.old.me }
@@ -33,7 +34,8 @@ pub fn write_begin(table: &Words, seat: &mut LaneSeat, at: usize)
     table.load::<WriteBegin>(seat, at);
 }
 
-/// RttScan: loads the reader word of the `j`-th other lane. If that reads the free block, the write is given up.
+/// RttScan: loads the reader word of the `j`-th other lane. If that lane reads the free block, the
+/// write is given up.
 #[inline]
 pub fn rtt_scan(
     table: &Words,
@@ -82,7 +84,7 @@ pub fn data_store(
     true
 }
 
-/// DataKeep: keeps word `k` of the free block. What is kept is the lane's own word.
+/// DataKeep: keeps word `k` of the free block, which the lane stored itself.
 #[inline]
 pub fn data_keep(
     table: &Words,
@@ -108,8 +110,9 @@ pub fn data_keep(
     true
 }
 
-/// LockTake: one compare-and-exchange of the lock of the map word, which tells the write's call. It returns what was found: 0 if the
-/// lane has the lock now, else one more than the lane that has it. `None` if the fuse was spent.
+/// LockTake: one compare-and-exchange of the lock of the map word, which tells the write's call.
+/// Returns what it found: 0 if the lane has the lock now, else one more than the lane that has it.
+/// `None` if the fuse was spent.
 #[inline]
 pub fn lock_take(
     table: &Words,
@@ -301,8 +304,9 @@ pub fn lock_free(table: &Words, seat: &mut LaneSeat, fuse: &mut Fuse, at: usize,
 
 // ---- a read
 
-/// A read begins. It is no line of the algorithm, changes no word and costs no fuse: the lane's own reader word, which is 0, is
-/// exchanged for 0, so that the view learns the read's call.
+/// A read begins. This is no line of the algorithm, changes no word and takes nothing from the
+/// fuse. It exchanges the lane's own reader word, which is 0, for 0, so that the view learns the
+/// read's call.
 #[inline]
 pub fn read_begin(table: &Words, seat: &mut LaneSeat, at: usize, call: Call)
     requires seat { IsSeated Idle table.now.table_id seat.old.table_id seat.old.me }
@@ -314,8 +318,8 @@ pub fn read_begin(table: &Words, seat: &mut LaneSeat, at: usize, call: Call)
     table.compare_exchange_with::<ReadBegin>(seat, at, 0, 0, &call);
 }
 
-/// MapLook: loads the map word of the sector. A read of a sector whose entry says zeros or bad stands in the history then, and is
-/// answered.
+/// MapLook: loads the map word of the sector. If the entry says zeros or bad, the read then stands
+/// in the history and is answered.
 #[inline]
 pub fn map_look(table: &Words, seat: &mut LaneSeat, fuse: &mut Fuse, at: usize) -> Option<u64>
     requires seat { IsSeated Called table.now.table_id seat.old.table_id seat.old.me }
@@ -349,7 +353,8 @@ pub fn rtt_set(table: &Words, seat: &mut LaneSeat, fuse: &mut Fuse, at: usize, b
     true
 }
 
-/// MapCheck: loads the map word again. If the sector's entry is the one that was looked at, the read stands in the history.
+/// MapCheck: loads the map word again. If the sector's entry is the one that was looked at, the
+/// read stands in the history.
 #[inline]
 pub fn map_check(table: &Words, seat: &mut LaneSeat, fuse: &mut Fuse, at: usize) -> Option<u64>
     requires seat { IsSeated Published table.now.table_id seat.old.table_id seat.old.me }
@@ -407,7 +412,8 @@ pub fn rtt_clear(table: &Words, seat: &mut LaneSeat, fuse: &mut Fuse, at: usize)
     true
 }
 
-/// RttClear of a read whose entry moved: stores 0 in the lane's own reader word, and the read is given up.
+/// RttClear of a read whose entry moved: stores 0 in the lane's own reader word, and the read is
+/// given up.
 #[inline]
 pub fn rtt_clear_moved(table: &Words, seat: &mut LaneSeat, fuse: &mut Fuse, at: usize) -> bool
     requires seat { IsSeated Moved table.now.table_id seat.old.table_id seat.old.me }

@@ -6,30 +6,32 @@ use nvd_words::{Items, Tag};
 use std::alloc::Global;
 use std::snapshot::Snapshot;
 
-/// A call of a session on a sector. A lane learns it in the step that tells it: LockTake for a write, the beginning for a read.
+/// A call of a session on a sector. A lane learns it in the step that tells it: LockTake for a
+/// write, the beginning for a read.
 #[derive(Clone, Copy, Debug, PartialEq, Eq)]
 pub struct Call {
     pub tag: Tag,
     pub sector: u32,
 }
 
-/// A lane, its number, and the shape of its arena. No value of it is ever made.
+/// A lane, its number, and the shape of its arena. No code makes a value of it.
 pub struct Owned {
     pub number: u32,
     pub lane: Lane,
     pub shape: Shape,
 }
 
-/// How many steps a seat has made, and what the last two of them that looked at a word found. No value of it is ever made.
+/// How many steps a seat has made, and what the last two looks at a word found. No code makes a
+/// value of it.
 pub struct Count {
     pub steps: u64,
     pub last: u64,
     pub before: u64,
 }
 
-/// What a seat knows. No value of it is ever made.
+/// What a seat knows. No code makes a value of it.
 pub struct View {
-    /// Whether the seat has a lane of its own, which it steps: this number, this lane, an arena of this shape.
+    /// The lane that the seat steps, if it has one: this number, this lane, an arena of this shape.
     pub live: bool,
     pub number: u32,
     pub lane: Lane,

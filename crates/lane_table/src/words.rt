@@ -1,4 +1,4 @@
-//! Where the words of a table stand: `word_of` of lane_core's specs/Places.antt.
+//! The places of words in a table: `word_of` of lane_core's specs/Places.antt.
 ghost use Rattle.std.specs.Prelude.{◌≡◌, ◌+◌, ◌<◌, ◌^◌, ◌%◌, ◌/◌};
 ghost use Rattle.lane_core.specs.Machine.{lock_of};
 ghost use Rattle.lane_core.specs.Places.{geometry, word_of, SeenData, SeenMap, SeenA, Reader, Lock};
@@ -32,7 +32,7 @@ pub fn log_word(shape: &Shape, lane: u32, side: u32) -> usize
     (shape.log_at + 8 * u64::from(lane) + 2 * u64::from(side)) as usize
 }
 
-/// The word that is kept of a word of the arena.
+/// The kept word of a word of the arena.
 #[inline]
 pub fn kept(shape: &Shape, at: usize) -> usize
     requires { shape.now.total + at < 2 ^ 60 }

@@ -60,8 +60,9 @@ impl Staged {
         self.kit.fuse = Fuse::of(steps);
     }
 
-    /// Commits the write to a sector of the arena. It takes the lock of the sector's map word with one compare-and-exchange, and
-    /// gives the lane back as it was if another lane has it. No memory is taken, and nothing waits.
+    /// Commits the write to a sector of the arena. It takes the lock of the sector's map word with
+    /// one compare-and-exchange. If another lane has the lock, the lane comes back as it was. Takes
+    /// no memory, and never waits.
     pub fn try_commit(self, arena: &Arena, tag: Tag, sector: u32) -> CommitOutcome
         requires arena { IsOf arena.now self.kit }
         requires sector { sector < arena.now.shape.sectors }
