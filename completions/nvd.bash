@@ -11,6 +11,7 @@ _nvd_options() {
     case $1 in
     create) options='--uuid --name --region --size --mode --sector --lanes --cut --evict' ;;
     init | delete | rename) options='--cut --evict' ;;
+    replay) options='--evict' ;;
     labels | nfit | list | free | info) options='--json' ;;
     esac
     for option in $options; do
@@ -65,7 +66,7 @@ _nvd_words() {
 }
 
 _nvd() {
-    local commands='labels nfit list free init create delete rename info read write sweep'
+    local commands='labels nfit list free init create delete rename info read write replay sweep'
     local current=${COMP_WORDS[COMP_CWORD]} before='' command=${COMP_WORDS[3]:-} set=${COMP_WORDS[1]:-}
     [ "$COMP_CWORD" -lt 1 ] || before=${COMP_WORDS[COMP_CWORD - 1]}
     # bash parts a word at `=`: `--mode=r` comes as three words
@@ -96,7 +97,7 @@ _nvd() {
         # a command that writes has an OUT, one that prints has `-`
         case ${COMP_WORDS[2]} in
         -) _nvd_words 'labels nfit list free info read' "$current" ;;
-        *) _nvd_words 'init create delete rename write' "$current" ;;
+        *) _nvd_words 'init create delete rename write replay' "$current" ;;
         esac
         return
         ;;
@@ -110,7 +111,7 @@ _nvd() {
         case $command,$(_nvd_place),$current in
         *,*,-*) _nvd_words "$(_nvd_options "$command")" "$current" ;;
         labels,0,* | init,0,*) _nvd_words "$(_nvd_modules "$set")" "$current" ;;
-        delete,0,* | rename,0,* | info,0,* | read,0,* | write,0,*) _nvd_words "$(_nvd_uuids "$set")" "$current" ;;
+        delete,0,* | rename,0,* | info,0,* | read,0,* | write,0,* | replay,0,*) _nvd_words "$(_nvd_uuids "$set")" "$current" ;;
         *) _nvd_words "$(_nvd_options "$command")" "$current" ;;
         esac
         ;;

@@ -19,6 +19,7 @@ COMMANDS = {
     "info": ([("UUID", "UUID")], {}),
     "read": ([("UUID", "UUID"), ("SECTOR", ("a number", 0, MOST))], {}),
     "write": ([("UUID", "UUID"), ("SECTOR", ("a number", 0, MOST)), ("VALUE", "value")], {}),
+    "replay": ([("UUID", "UUID")], {"--evict": CUT["--evict"]}),
 }
 NEEDED = ["--uuid", "--name", "--region", "--size", "--mode"]
 
