@@ -47,8 +47,8 @@ use Rattle.shell_reports.specs.Causes.{breaks, fault_in, found_in, is_broken, is
 use Rattle.shell_reports.proofs.Causes.{SectorsCase, faulty, unfound, broken, opened, sectors_case}
 use Rattle.session_script.specs.declared.payload.Payload.{Payload}
 use Rattle.shell_sectors.specs.Causes.{bars, bars_found}
-use Rattle.shell_sectors.specs.Found.{OnArenas, OnFound}
-use Rattle.shell_sectors.specs.Write.{WriteComes, Writes, WritesArenas, write_refusal}
+use Rattle.shell_sectors.specs.Write.{Writes, WritesArenas, write_refusal}
+use Rattle.shell_sectors.proofs.Causes.{SetCase, set_broken, set_case, set_faulty, set_opened, set_unfound}
 use Rattle.session_script.specs.declared.schedule.Replay.{Replay as Schedules}
 use Rattle.session_script.specs.Schedule.{replay_reading}
 use Rattle.shell_replay.specs.declared.schedule.Schedule.{Schedule}
@@ -215,24 +215,6 @@ read_case uuid sector loaded outcome (broken found fault is read e) = is_refused
 read_case uuid sector loaded outcome (opened found states none is read e) =
     sector_case uuid sector loaded outcome found states (opened_reads uuid loaded found states none is read) is read e (nat_lt sector (sectors_of states)) refl
 
--- a command on all arenas of a namespace, which is refused as `info` is if there are none
-module _ (command : Command) (uuid : List ℕ) (loaded : ImageSet) (outcome : Outcome) (on : Found → List ArenaState → Type 0) (reads : refuses_images command (Ok loaded) ≡ is_broken loaded uuid) (long : is_cut command (Ok loaded) ≡ false)
-    (bars : (refusal : OpRefused) → found_in loaded uuid ≡ Err refusal → is_barred command (Ok loaded) ≡ true)
-    (by : (found : Found) (states : List ArenaState) → refuses_images command (Ok loaded) ≡ false → found_in loaded uuid ≡ Ok found → opened_in loaded uuid found ≡ Ok states → on found states → CommandCase command (Ok loaded) outcome.ending) where
-  on_arenas_case : (found : Found) → fault_in loaded ≡ None → found_in loaded uuid ≡ Ok found → (r : Result (List ArenaState) ChainRefused) → opened_in loaded uuid found ≡ r → OnArenas (on found) uuid outcome r
-      → CommandCase command (Ok loaded) outcome.ending
-  on_arenas_case found none is (Ok states) read arenas = by found states (reads ∙ opened_reads uuid loaded found states none is read) is read arenas
-  on_arenas_case found none is (Err fault) read said = is_refused (reads ∙ arena_broken uuid loaded found fault is read) (ending_of outcome (arena_outcome uuid fault) said)
-
-  on_found_case : fault_in loaded ≡ None → (r : Result Found OpRefused) → found_in loaded uuid ≡ r → OnFound on uuid loaded outcome r → CommandCase command (Ok loaded) outcome.ending
-  on_found_case none (Ok found) is arenas = on_arenas_case found none is (opened_in loaded uuid found) refl arenas
-  on_found_case none (Err refusal) is said =
-      is_turned_down (reads ∙ unfound_reads uuid loaded refusal none is) long (bars refusal is) (ending_of outcome (sector_refusal (find_refusal refusal)) said)
-
-  on_set_case : (o : Option OpenFault) → fault_in loaded ≡ o → MatchOption o (OnFound on uuid loaded outcome (found_in loaded uuid)) (λ fault. outcome ≡ open_outcome fault) → CommandCase command (Ok loaded) outcome.ending
-  on_set_case None none arenas = on_found_case none (found_in loaded uuid) refl arenas
-  on_set_case (Some fault) is said = is_refused (reads ∙ table_broken uuid loaded fault is) (ending_of outcome (open_outcome fault) said)
-
 -- the arenas take the value at the sector, or they don't
 taken_case : (uuid : List ℕ) (sector : ℕ) (value : Payload) (loaded : ImageSet) (outcome : Outcome) (found : Found) (states : List ArenaState) → is_broken loaded uuid ≡ false → found_in loaded uuid ≡ Ok found
     → opened_in loaded uuid found ≡ Ok states → (o : Option (List ℕ)) → write_refusal sector value states ≡ o
@@ -243,10 +225,15 @@ taken_case uuid sector value loaded outcome found states readable is read (Some 
     is_turned_down readable refl (ap (bars_found loaded uuid sector value) is ∙ ap (bars sector value) read ∙ ap (λ (o : Option (List ℕ)). is_some o) some)
     (ending_of outcome (sector_refusal refusal) said)
 
-write_case : (uuid : List ℕ) (sector : ℕ) (value : Payload) (loaded : ImageSet) (outcome : Outcome) → WriteComes uuid sector value loaded outcome → CommandCase (Write uuid sector value) (Ok loaded) outcome.ending
-write_case uuid sector value loaded outcome comes =
-    on_set_case (Write uuid sector value) uuid loaded outcome (WritesArenas uuid sector value loaded outcome) refl refl (λ refusal is. ap (bars_found loaded uuid sector value) is)
-    (λ found states readable is read arenas. taken_case uuid sector value loaded outcome found states readable is read (write_refusal sector value states) refl arenas) (fault_in loaded) refl comes
+write_case : (uuid : List ℕ) (sector : ℕ) (value : Payload) (loaded : ImageSet) (outcome : Outcome) → SetCase (WritesArenas uuid sector value loaded outcome) loaded uuid outcome
+    → CommandCase (Write uuid sector value) (Ok loaded) outcome.ending
+write_case uuid sector value loaded outcome (set_faulty fault is e) = is_refused (table_broken uuid loaded fault is) (ending_of outcome (open_outcome fault) e)
+write_case uuid sector value loaded outcome (set_unfound refusal none is e) =
+    is_turned_down (unfound_reads uuid loaded refusal none is) refl (ap (bars_found loaded uuid sector value) is) (ending_of outcome (sector_refusal (find_refusal refusal)) e)
+write_case uuid sector value loaded outcome (set_broken found fault is read e) =
+    is_refused (arena_broken uuid loaded found fault is read) (ending_of outcome (arena_outcome uuid fault) e)
+write_case uuid sector value loaded outcome (set_opened found states none is read on) =
+    taken_case uuid sector value loaded outcome found states (opened_reads uuid loaded found states none is read) is read (write_refusal sector value states) refl on
 
 -- there is one arena, or there are others
 one_case : (leaves : ℕ → List (Option Words) → List (Option (List ℕ)) → Type 0) (uuid : List ℕ) (seed : ℕ) (schedule : Schedule) (loaded : ImageSet) (outcome : Outcome) (found : Found) (states : List ArenaState) → is_broken loaded uuid ≡ false
@@ -257,11 +244,15 @@ one_case leaves uuid seed schedule loaded outcome found (state ∷ []) readable 
 one_case leaves uuid seed schedule loaded outcome found (state ∷ next ∷ states) readable is read said =
     is_turned_down readable refl (ap (others_found loaded uuid) is ∙ ap has_others read) (ending_of outcome (sector_refusal (arenas_refusal (length (state ∷ next ∷ states)))) said)
 
-replay_case : (leaves : ℕ → List (Option Words) → List (Option (List ℕ)) → Type 0) (uuid : List ℕ) (seed : ℕ) (schedule : Schedule) (loaded : ImageSet) (outcome : Outcome) → ReplayComes leaves uuid schedule loaded outcome
-    → CommandCase (Replay uuid seed) (Ok loaded) outcome.ending
-replay_case leaves uuid seed schedule loaded outcome comes =
-    on_set_case (Replay uuid seed) uuid loaded outcome (ReplaysArenas leaves uuid schedule loaded outcome) refl refl (λ refusal is. ap (others_found loaded uuid) is)
-    (λ found states readable is read arenas. one_case leaves uuid seed schedule loaded outcome found states readable is read arenas) (fault_in loaded) refl comes
+replay_case : (leaves : ℕ → List (Option Words) → List (Option (List ℕ)) → Type 0) (uuid : List ℕ) (seed : ℕ) (schedule : Schedule) (loaded : ImageSet) (outcome : Outcome)
+    → SetCase (ReplaysArenas leaves uuid schedule loaded outcome) loaded uuid outcome → CommandCase (Replay uuid seed) (Ok loaded) outcome.ending
+replay_case leaves uuid seed schedule loaded outcome (set_faulty fault is e) = is_refused (table_broken uuid loaded fault is) (ending_of outcome (open_outcome fault) e)
+replay_case leaves uuid seed schedule loaded outcome (set_unfound refusal none is e) =
+    is_turned_down (unfound_reads uuid loaded refusal none is) refl (ap (others_found loaded uuid) is) (ending_of outcome (sector_refusal (find_refusal refusal)) e)
+replay_case leaves uuid seed schedule loaded outcome (set_broken found fault is read e) =
+    is_refused (arena_broken uuid loaded found fault is read) (ending_of outcome (arena_outcome uuid fault) e)
+replay_case leaves uuid seed schedule loaded outcome (set_opened found states none is read on) =
+    one_case leaves uuid seed schedule loaded outcome found states (opened_reads uuid loaded found states none is read) is read on
 
 -- ---- any command
 
@@ -277,7 +268,8 @@ module _ (leaves : ℕ → List (Option Words) → List (Option (List ℕ)) → 
   command_case (Change c power) (Ok loaded) outcome comes = change_case leaves c power loaded outcome (sets_in loaded) refl comes
   command_case (Info uuid) (Ok loaded) outcome comes = info_case uuid loaded outcome (sectors_case (λ states. printed (arena_lines 0 states)) loaded uuid outcome comes)
   command_case (Read uuid sector) (Ok loaded) outcome comes = read_case uuid sector loaded outcome (sectors_case (sector_outcome sector) loaded uuid outcome comes)
-  command_case (Write uuid sector value) (Ok loaded) outcome comes = write_case uuid sector value loaded outcome comes
+  command_case (Write uuid sector value) (Ok loaded) outcome comes =
+      write_case uuid sector value loaded outcome (set_case (WritesArenas uuid sector value loaded outcome) loaded uuid outcome comes)
   command_case (Replay uuid seed) (Ok loaded) outcome comes = absurd comes
 
   -- ---- the ending that is due
@@ -298,7 +290,7 @@ module _ (leaves : ℕ → List (Option Words) → List (Option (List ℕ)) → 
 
   -- `replay`, by its script
   replay_loaded : (uuid : List ℕ) (seed : ℕ) (schedule : Schedule) (found : Result ImageSet LoadFault) (outcome : Outcome) → OnLoaded (ReplayComes leaves uuid schedule) found outcome → CommandCase (Replay uuid seed) found outcome.ending
-  replay_loaded uuid seed schedule (Ok loaded) outcome comes = replay_case leaves uuid seed schedule loaded outcome comes
+  replay_loaded uuid seed schedule (Ok loaded) outcome comes = replay_case leaves uuid seed schedule loaded outcome (set_case (ReplaysArenas leaves uuid schedule loaded outcome) loaded uuid outcome comes)
   replay_loaded uuid seed schedule (Err fault) outcome comes = is_refused refl (ending_of outcome _ comes)
 
   abbrev ending_for : ℕ → List ℕ → Images → Result Schedules ScriptRefused → Ending

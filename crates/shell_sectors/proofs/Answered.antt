@@ -1,87 +1,167 @@
--- From the words of the modules to what the command comes to.
-use Rattle.std.proofs.Common.{◌≡◌, ◌⊎◌, ℕ, List, [], ◌∷◌, length, map, Option, Some, None, Result, Ok, Err, refl, sym, ap, ◌∙◌, subst, inl, inr}
-use Rattle.std.specs.Prelude.{MatchOption}
-use Rattle.std.specs.Option.{option_map}
-use Rattle.std.specs.List.{All}
-use Rattle.std.proofs.lemmas.List.Elements.{All-cons, All-nil}
-use Rattle.std.proofs.lemmas.Simd.{map-map}
-use Rattle.cut_words.specs.Words.{Words, IsLeft, settled}
+-- From the arenas of a namespace to what a write on it comes to.
+use Rattle.std.proofs.Common.{◌≡◌, ◌≢◌, ◌⊎◌, ℕ, ◌%◌, ◌<◌, ◌≤◌, Bool, true, false, List, [], ◌∷◌, length, map, get_or, Option, Some, None, Result, Ok, Err, refl, sym, ap, ◌∙◌, subst, inl, inr, arith}
+use Rattle.std.specs.Prelude.{◌==◌, nat_lt, if◌then◌else◌, slice_index, MatchOption, IsTrue}
+use Rattle.std.specs.List.{range_with_len}
+use Rattle.std.proofs.lemmas.Bool.{eq-eqb, ne_eqb, le-ltb, lt-ltb}
+use Rattle.std.proofs.lemmas.List.FromFn.{length-map-range_with_len}
+use Rattle.std.proofs.lemmas.List.Sums.{sum_by_more_le}
+use Rattle.cut_words.specs.Words.{Words}
 use Rattle.cut_words.specs.WordBytes.{words_in}
 use Rattle.nfit_reader.specs.declared.table.Mapping.{Mapping}
-use Rattle.label_area.specs.declared.fault.AreaFault.{AreaFault}
-use Rattle.label_area.specs.Area.{block_in, labels_in, slots_in}
-use Rattle.label_area.specs.Opened.{opened_by}
-use Rattle.label_index.specs.declared.index.IndexBlock.{IndexBlock}
+use Rattle.arena_layout.specs.Layout.{is_sector}
+use Rattle.arena_layout.proofs.Sectors.{sector_elim}
 use Rattle.arena_open.specs.declared.chain_refused.ChainRefused.{ChainRefused}
 use Rattle.arena_open.specs.declared.state.ArenaState.{ArenaState}
-use Rattle.power_cut.specs.Left.{Each}
-use Rattle.power_cut.specs.Namespace.{Namespace, beside_of, over, words_of}
-use Rattle.image_set.specs.Changed.{objects_of}
+use Rattle.arena_open.specs.ChainCells.{AreOpen, LiesIn, external_of, sectors_of, sizes_of}
+use Rattle.arena_open.specs.Moves.{IsOpenState}
+use Rattle.arena_open.specs.Writes.{IsSettled}
+use Rattle.arena_open.proofs.ChainSectors.{size_there}
+use Rattle.power_cut.specs.Namespace.{Namespace, beside_of, over, row_beside, words_of}
+use Rattle.power_cut.specs.Placed.{IsBesideSame}
 use Rattle.image_set.specs.Load.{ImageSet}
 use Rattle.namespace_areas.specs.declared.found.Found.{Found}
 use Rattle.namespace_areas.specs.Finding.{set_at}
-use Rattle.namespace_areas.proofs.Seen.{left_kept}
-use Rattle.namespace_ops.specs.Opening.{sets_of}
+use Rattle.sector_namespaces.specs.Changing.{AreServed, IsWithin}
 use Rattle.sector_namespaces.specs.Creation.{AreSettled}
-use Rattle.sector_namespaces.specs.View.{opened_view, rows_of, view_words}
-use Rattle.sector_namespaces.proofs.Formats.{same_counts}
+use Rattle.sector_namespaces.specs.View.{IsUsable, opened_view, rows_of}
 use Rattle.session_script.specs.declared.payload.Payload.{Payload}
+use Rattle.shell_reports.specs.declared.outcome.Report.{Report}
+use Rattle.shell_reports.specs.declared.status.Ending.{Ending}
 use Rattle.shell_reports.specs.declared.status.Ending.TheVariants as ending
-use Rattle.shell_reports.specs.Causes.{opened_in}
 use Rattle.shell_reports.specs.Cut.{done_text}
 use Rattle.shell_reports.specs.Faults.{refused_outcome}
 use Rattle.shell_reports.specs.Outcome.{Outcome}
-use Rattle.shell_reports.specs.Saved.{IsSaving}
-use Rattle.shell_changes.proofs.Contents.{left_beside, left_words}
-use Rattle.shell_sectors.specs.Answering.{IsTurnedDown, IsWrittenTo, words_at}
-use Rattle.shell_sectors.specs.Write.{HasSector, OnArenas, Writes, place_of, with_contents, write_refusal}
+use Rattle.shell_reports.specs.Saved.{outcome_of}
+use Rattle.shell_sectors.specs.declared.finding.FoundSet.{FoundSet}
+use Rattle.shell_sectors.specs.declared.write.Written.{Written}
+use Rattle.shell_sectors.specs.declared.write.Written.TheVariants as written
+use Rattle.shell_sectors.specs.Answering.{IsTurnedDown, IsWrittenTo, WritesInto, WritesOn, words_at}
+use Rattle.shell_sectors.specs.Changed.{IsChanged, IsReady, moved_to}
+use Rattle.shell_sectors.specs.Found.{IsFoundIn, OnArenas, SavesNamespace, place_of}
+use Rattle.shell_sectors.specs.Saving.{SavesWith}
+use Rattle.shell_sectors.specs.Value.{bytes_for}
+use Rattle.shell_sectors.specs.Write.{HasSector, WriteComes, Writes, WritesArenas, length_refusal, length_text, range_text, write_refusal}
+use Rattle.shell_sectors.proofs.Coming.{found_comes, on_words, rows_settled, saves_namespace}
 
--- ---- contents as they were loaded
+is_true : {b : Bool} → IsTrue b → b ≡ true
+is_true {true} t = refl
 
-pub rows_settled : (contents : List (List ℕ)) → AreSettled (rows_of contents)
-rows_settled [] = All-nil (λ words. words ≡ settled words.kept)
-rows_settled (bytes ∷ contents) = All-cons (λ words. words ≡ settled words.kept) (settled (words_in bytes)) (rows_of contents) refl (rows_settled contents)
+count_beside : (n : Namespace) → length (beside_of n) ≡ length n.modules
+unfolding beside_of
+count_beside n = length-map-range_with_len (row_beside n) 0 (length n.modules)
 
-module _ (loaded : ImageSet) (found : Found) (uuid : List ℕ) (sector : ℕ) (value : Payload) (outcome : Outcome) where
-  abbrev place : List Words → Namespace
-  place rows = place_of loaded found rows
+-- ---- arenas that are open
 
-  abbrev was : Namespace
-  was = place_of loaded found (rows_of loaded.contents)
+pub ready : (n now : Namespace) (uuid : List ℕ) (states : List ArenaState) → AreServed n now uuid states → IsReady now states
+ready n now uuid states s = record { settled = s.settled; few = s.few; are_open = s.are_open; found = (uuid, s.found) }
 
-  read_is : opened_in loaded uuid found ≡ opened_view (words_of was).kept uuid
-  unfolding view_words
-  read_is = refl
+pub moved_same : (n now : Namespace) (modules : List Words) → IsBesideSame n now → moved_to now modules ≡ moved_to n modules
+moved_same n now modules same = λ i. record { set = same.set i; offset = same.offset i; raw = same.raw i; modules = modules }
 
-  on_read : (r : Result (List ArenaState) ChainRefused) → opened_view (words_of was).kept uuid ≡ r → OnArenas found uuid sector value loaded outcome r
-      → OnArenas found uuid sector value loaded outcome (opened_in loaded uuid found)
-  on_read r is on = subst (λ (x : Result (List ArenaState) ChainRefused). OnArenas found uuid sector value loaded outcome x) (sym (read_is ∙ is)) on
+-- what is written into the words that are served is written on the namespace
+pub served_on : (n now : Namespace) (uuid : List ℕ) (states : List ArenaState) (sector : ℕ) (value : Payload) (done : Written) → AreServed n now uuid states → WritesInto now states sector value done
+    → WritesOn n uuid sector value done
+served_on n now uuid states sector value (written.Done modules) s (accepted, (which, own, lies, changed)) =
+    let same : moved_to now modules.items ≡ moved_to n modules.items = moved_same n now modules.items s.beside in (
+      states,
+      s.read,
+      record {
+        accepted = accepted;
+        has = subst (λ (m : Namespace). HasSector uuid sector (words_at states sector value) states (words_of m).kept) same (changed.has uuid sector s.found lies);
+        settled = subst (λ (m : Namespace). IsSettled (words_of m)) same changed.settled;
+        beside = ap beside_of (sym same) ∙ changed.beside ∙ s.beside.beside;
+      },
+    )
+served_on n now uuid states sector value (written.Not report) s (refusal, some, said) = inl (states, s.read, (refusal, some, said))
 
-  -- the set is saved
-  pub saved_arenas : (states : List ArenaState) (modules : List Words) (rows : List (List ℕ)) → opened_view (words_of was).kept uuid ≡ Ok states → IsWrittenTo was uuid states sector value modules
-      → Each IsLeft modules rows → IsSaving ending.Done done_text (objects_of (with_contents loaded rows)) outcome → OnArenas found uuid sector value loaded outcome (opened_in loaded uuid found)
-  saved_arenas states modules rows is written each saving =
-      let set = set_at (sets_of loaded.nfit) found.region in
-      let old : List Words = rows_of loaded.contents in
-      let beside : beside_of (place (map settled rows)) ≡ beside_of was =
-      left_beside (set_at (sets_of loaded.nfit) found.region) found.offset found.raw modules rows each (rows_of loaded.contents) (rows_settled loaded.contents) written.beside in
-      let kept : (words_of (place (map settled rows))).kept ≡ (words_of (place modules)).kept =
-      left_kept (words_of (place modules)) (words_of (place (map settled rows))).kept written.settled (left_words (set_at (sets_of loaded.nfit) found.region) found.offset found.raw modules rows each) in
-      let counts : map (λ (w : Words). length w.kept) (map settled rows) ≡ map (λ (w : Words). length w.kept) (rows_of loaded.contents) =
-      same_counts (set_at (sets_of loaded.nfit) found.region) found.offset found.raw (rows_of loaded.contents) (map settled rows) beside in
-      let writes : Writes found uuid sector value loaded states outcome = record {
-        rows = rows;
-        sizes = sym (map-map (λ (w : Words). length w.kept) settled rows) ∙ counts ∙ map-map (λ (w : Words). length w.kept) (λ (bytes : List ℕ). settled (words_in bytes)) loaded.contents;
-        beside = beside;
-        written = subst (λ (ws : List ℕ). HasSector uuid sector (words_at states sector value) states ws) (sym kept) written.has;
-        saves = saving;
-      } in
-      on_read (Ok states) is
-      (subst (λ (o : Option (List ℕ)). MatchOption o (Writes found uuid sector value loaded states outcome) (λ refusal. outcome ≡ refused_outcome refusal)) (sym written.accepted) writes)
+-- ---- a sector that is there
 
-  -- nothing is
-  pub turned_down : IsTurnedDown was uuid sector value outcome → OnArenas found uuid sector value loaded outcome (opened_in loaded uuid found)
-  turned_down (inl (states, is, (refusal, some, said))) =
-      on_read (Ok states) is
-      (subst (λ (o : Option (List ℕ)). MatchOption o (Writes found uuid sector value loaded states outcome) (λ refusal. outcome ≡ refused_outcome refusal)) (sym some) said)
-  turned_down (inr (fault, is, said)) = on_read (Err fault) is said
+some_state : (states : List ArenaState) (k : ℕ) → k < length states → ArenaState
+some_state [] k lt = absurd (omega (arith, lt))
+some_state (state ∷ states) k lt = state
+
+eights : (bytes : ℕ) → IsTrue (is_sector bytes) → bytes % 8 ≡ 0
+eights bytes is = sector_elim (λ (n : ℕ). n % 8 ≡ 0) refl refl refl refl refl refl refl bytes (is_true is)
+
+pub eights_at : (states : List ArenaState) (k : ℕ) (d : ArenaState) → k < length states → AreOpen states → (get_or states k d).info.layout.sector % 8 ≡ 0
+eights_at states k d lt are = let s : IsOpenState (get_or states k d) = are.each k d lt in eights (get_or states k d).info.layout.sector s.sound.layout.sector
+
+module _ (states : List ArenaState) (sector which own : ℕ) (value : Payload) (l : LiesIn states sector which own)
+    (had : ℕ) (is : (d : ArenaState) → had ≡ (get_or states which d).info.layout.sector) where
+  abbrev some : ArenaState
+  some = some_state states which l.there
+
+  size_is : slice_index (sizes_of states) sector ≡ had
+  size_is = size_there states sector which own 0 some l ∙ sym (is some)
+
+  inside_all : sector < sectors_of states
+  inside_all = let more = sum_by_more_le external_of states which some l.there in omega (arith, l.is, l.inside some, more)
+
+  refusal_is : write_refusal sector value states ≡ length_refusal (length (bytes_for had value)) had
+  refusal_is = rw (lt-ltb sector (sectors_of states) inside_all) (λ i. length_refusal (length (bytes_for (size_is i) value)) (size_is i))
+
+  pub accepts : length (bytes_for had value) ≡ had → write_refusal sector value states ≡ None
+  accepts fit = refusal_is ∙ rw (eq-eqb (length (bytes_for had value)) had fit) refl
+
+  pub misfits : length (bytes_for had value) ≢ had → write_refusal sector value states ≡ Some (length_text (length (bytes_for had value)) had)
+  misfits ne = refusal_is ∙ rw (ne_eqb (length (bytes_for had value)) had ne) refl
+
+  pub writes_done : (n : Namespace) (modules : List Words) → length (bytes_for had value) ≡ had → IsChanged n states which own (words_in (bytes_for had value)) modules
+      → (write_refusal sector value states ≡ None) × ((k own' : ℕ) × LiesIn states sector k own' × IsChanged n states k own' (words_at states sector value) modules)
+  writes_done n modules fit changed =
+      (accepts fit, (which, own, l, subst (λ (h : ℕ). IsChanged n states which own (words_in (bytes_for h value)) modules) (sym size_is) changed))
+
+pub past : (states : List ArenaState) (sector : ℕ) (value : Payload) → sectors_of states ≤ sector → write_refusal sector value states ≡ Some (range_text (sectors_of states))
+past states sector value le = rw (le-ltb sector (sectors_of states) le) refl
+
+-- ---- a namespace that was found
+
+module _ (loaded : ImageSet) (uuid : List ℕ) (set : FoundSet) (f : IsFoundIn loaded uuid set) where
+  module _ (region : List Mapping) (is : region ≡ set_at set.rest.registry.sets set.found.region) where
+    pub within_at : IsWithin region set.found
+    within_at = subst (λ (s : List Mapping). IsWithin s set.found) (sym is) (record { from = f.lies.from; to = f.lies.to; inside = f.lies.inside })
+
+    pub usable_at : (modules : List Words) → modules ≡ set.contents → IsUsable region modules
+    usable_at modules are = subst (λ (s : List Mapping). IsUsable s modules) (sym is) (subst (λ (ms : List Words). IsUsable (set_at set.rest.registry.sets set.found.region) ms) (sym are) (f.usable set.found.region f.lies.region))
+
+    -- it lies there in the loaded set
+    pub at_place : (modules : List Words) → modules ≡ set.contents → over region set.found.offset set.found.raw modules ≡ place_of loaded set.found (rows_of loaded.contents)
+    at_place modules are = λ i. over ((is ∙ ap (λ (ss : List (List Mapping)). set_at ss set.found.region) f.sets) i) set.found.offset set.found.raw ((are ∙ f.contents) i)
+
+  pub settled_rows : (modules : List Words) → modules ≡ set.contents → AreSettled modules
+  settled_rows modules are = subst AreSettled (sym (are ∙ f.contents)) (rows_settled loaded.contents)
+
+  pub count_kept : (n : Namespace) (modules : List Words) → n ≡ place_of loaded set.found (rows_of loaded.contents) → beside_of (moved_to n modules) ≡ beside_of n → length modules ≡ length set.contents
+  count_kept n modules is same =
+      sym (count_beside (moved_to n modules)) ∙ ap length same ∙ count_beside n ∙ ap (λ (m : Namespace). length m.modules) is ∙ sym (ap length f.contents)
+
+  module _ (sector : ℕ) (value : Payload) (n : Namespace) (is : n ≡ place_of loaded set.found (rows_of loaded.contents)) (outcome : Outcome) where
+    on_read : (r : Result (List ArenaState) ChainRefused) → opened_view (words_of n).kept uuid ≡ r → OnArenas (WritesArenas uuid sector value loaded outcome set.found) uuid outcome r → WriteComes uuid sector value loaded outcome
+    on_read r read arenas =
+        found_comes (WritesArenas uuid sector value loaded outcome) uuid loaded outcome set f
+        (on_words (WritesArenas uuid sector value loaded outcome) uuid loaded outcome set.found r (ap (λ (m : Namespace). opened_view (words_of m).kept uuid) (sym is) ∙ read) arenas)
+
+    on_refusal : (states : List ArenaState) (o : Option (List ℕ)) → write_refusal sector value states ≡ o
+        → MatchOption o (Writes set.found uuid sector value loaded states outcome) (λ refusal. outcome ≡ refused_outcome refusal) → WritesArenas uuid sector value loaded outcome set.found states
+    on_refusal states o e it =
+        subst (λ (x : Option (List ℕ)). MatchOption x (Writes set.found uuid sector value loaded states outcome) (λ refusal. outcome ≡ refused_outcome refusal)) (sym e) it
+
+    -- nothing is written
+    pub comes_not : IsTurnedDown n uuid sector value outcome → WriteComes uuid sector value loaded outcome
+    comes_not (inl (states, read, (refusal, some, said))) = on_read (Ok states) read (on_refusal states (Some refusal) some said)
+    comes_not (inr (fault, read, said)) = on_read (Err fault) read said
+
+    -- the set is saved
+    pub comes_done : (states : List ArenaState) (modules : List Words) (report : Report) → opened_view (words_of n).kept uuid ≡ Ok states → IsWrittenTo n uuid states sector value modules
+        → report.ending ≡ ending.Done → report.text.items ≡ done_text → SavesWith report set.rest modules outcome → WriteComes uuid sector value loaded outcome
+    comes_done states modules report read w ends says saves =
+        let moved : moved_to n modules ≡ place_of loaded set.found modules = ap (λ (m : Namespace). moved_to m modules) is in
+        let saved : SavesNamespace set.found loaded (HasSector uuid sector (words_at states sector value) states) report.ending report.text.items outcome =
+        saves_namespace loaded uuid set f report modules outcome (HasSector uuid sector (words_at states sector value) states) saves
+        (subst (λ (m : Namespace). IsSettled (words_of m)) moved w.settled)
+        (ap beside_of (sym moved) ∙ w.beside ∙ ap beside_of is)
+        (subst (λ (m : Namespace). HasSector uuid sector (words_at states sector value) states (words_of m).kept) moved w.has) in
+        on_read (Ok states) read
+        (on_refusal states None w.accepted
+        (subst (λ (t : List ℕ). SavesNamespace set.found loaded (HasSector uuid sector (words_at states sector value) states) ending.Done t outcome) says
+        (subst (λ (x : Ending). SavesNamespace set.found loaded (HasSector uuid sector (words_at states sector value) states) x report.text.items outcome) ends saved)))

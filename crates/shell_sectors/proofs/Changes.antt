@@ -27,7 +27,7 @@ use Rattle.lane_core.proofs.Put.{put_at as put_here, put_other, same_or_not}
 use Rattle.sector_namespaces.specs.Changing.{DifferIn, IsFoundAs, OneArenaChanges, start_of}
 use Rattle.sector_namespaces.specs.View.{opened_view}
 use Rattle.sector_namespaces.proofs.Chains.{AtArena, at_arena, start_take, view_walk}
-use Rattle.shell_sectors.specs.Alone.{IsWritten, IsWrittenIn}
+use Rattle.lane_alone.specs.Alone.{IsWritten, IsWrittenIn}
 use Rattle.shell_sectors.specs.Write.{HasSector}
 
 -- ---- lists
@@ -81,11 +81,10 @@ parts_set (state ∷ states) (suc k) own c new d lt inside e =
     ∙ ap (λ (i : ℕ). cells_of state ++ set (flat_map cells_of states) i c) rest
     ∙ sym (set-append_right (cells_of state) (flat_map cells_of states) (external_of state) (sectors_of (state ∷ take k states) + own) c (count_cells state) far)
 
--- ---- the change
+-- ---- the words of one arena are others
 
-module _ (W : List ℕ) (states : List ArenaState) (which own : ℕ) (words : List ℕ) (state : ArenaState) (at_which : (d : ArenaState) → state ≡ get_or states which d) (there : which < length states) (is_open : IsOpenState state)
-    (left : List ℕ) (w : IsWritten state own words left) (now : List ℕ) (now_is : now ≡ put_at W (start_of (take which states)) left)
-    (uuid : List ℕ) (e : opened_view W uuid ≡ Ok (map found_again states)) where
+module _ (W : List ℕ) (states : List ArenaState) (which : ℕ) (state : ArenaState) (at_which : (d : ArenaState) → state ≡ get_or states which d) (there : which < length states) (is_open : IsOpenState state)
+    (left : List ℕ) (left_size : length left ≡ length state.words) (uuid : List ℕ) (e : opened_view W uuid ≡ Ok (map found_again states)) where
   abbrev p : ℕ
   p = start_of (take which states)
 
@@ -113,26 +112,25 @@ module _ (W : List ℕ) (states : List ArenaState) (which own : ℕ) (words : Li
   size : state.info.layout.size ≡ at.opened.info.layout.size
   size = ap (λ (s : ArenaState). s.info.layout.size) at.is
 
-  abbrev long : ℕ
-  long = state.info.layout.size / 8
+  -- the words behind the arena
+  abbrev pub behind_of : List ℕ
+  behind_of = drop (p + state.info.layout.size / 8) W
 
-  abbrev behind : List ℕ
-  behind = drop (p + state.info.layout.size / 8) W
-
-  parted : drop p W ≡ state.words ++ behind
+  parted : drop p W ≡ state.words ++ behind_of
   parted =
       let first : take (state.info.layout.size / 8) (drop p W) ≡ state.words = ap (λ (k : ℕ). take (k / 8) (drop p W)) size ∙ sym own_words in
-      let second : drop (state.info.layout.size / 8) (drop p W) ≡ behind = drop-drop (state.info.layout.size / 8) p W in
+      let second : drop (state.info.layout.size / 8) (drop p W) ≡ behind_of = drop-drop (state.info.layout.size / 8) p W in
       sym (take-append-drop (state.info.layout.size / 8) (drop p W)) ∙ (λ i. first i ++ second i)
 
-  wi : IsWrittenIn state own words (left ++ behind) uuid
-  wi = w.opens behind uuid at.opened (ap (λ (ws : List ℕ). opening ws uuid) (sym parted) ∙ at.opens)
+  -- the old words opened there
+  pub opened_there : (old : Opened) × (opening (state.words ++ behind_of) uuid ≡ Ok old)
+  opened_there = (at.opened, ap (λ (ws : List ℕ). opening ws uuid) (sym parted) ∙ at.opens)
 
-  left_long : length left ≡ long
-  left_long = w.size ∙ is_open.count
+  left_long : length left ≡ state.info.layout.size / 8
+  left_long = left_size ∙ is_open.count
 
   pub fits : p + length left ≤ length W
-  fits = omega (arith, ap length parted, length-drop p W, length-append state.words behind, is_open.count, at.inside, left_long)
+  fits = omega (arith, ap length parted, length-drop p W, length-append state.words behind_of, is_open.count, at.inside, left_long)
 
   front_long : length (take p W) ≡ p
   front_long = length-take-le p W at.inside
@@ -140,25 +138,51 @@ module _ (W : List ℕ) (states : List ArenaState) (which own : ℕ) (words : Li
   abbrev tail : List ℕ
   tail = left ++ drop (p + length left) W
 
-  now_drop : drop p now ≡ left ++ behind
-  now_drop = ap (drop p) now_is ∙ drop_at (take p W) tail p front_long ∙ ap (λ (k : ℕ). left ++ drop (p + k) W) left_long
+  abbrev now : List ℕ
+  now = put_at W p left
+
+  now_drop : drop p now ≡ left ++ behind_of
+  now_drop = drop_at (take p W) tail p front_long ∙ ap (λ (k : ℕ). left ++ drop (p + k) W) left_long
 
   differ : DifferIn p (state.info.layout.size / 8) W now
   differ = record {
-    size = ap length now_is ∙ length_put W p left fits;
-    before = ap (take p) now_is ∙ take_at (take p W) tail p front_long;
-    behind = sym (drop-drop (state.info.layout.size / 8) p now) ∙ ap (drop (state.info.layout.size / 8)) now_drop ∙ drop_at left behind (state.info.layout.size / 8) left_long;
+    size = length_put W p left fits;
+    before = take_at (take p W) tail p front_long;
+    behind = sym (drop-drop (state.info.layout.size / 8) p now) ∙ ap (drop (state.info.layout.size / 8)) now_drop ∙ drop_at left behind_of (state.info.layout.size / 8) left_long;
   }
+
+  module _ (o : Opened) (opens : opening (left ++ behind_of) uuid ≡ Ok o) (info : o.info ≡ state.info) where
+    abbrev new : ArenaState
+    new = state_of (left ++ behind_of) o
+
+    found : IsFoundAs (drop p now) uuid new
+    found = record {
+      opened = o;
+      opens = ap (λ (ws : List ℕ). opening ws uuid) now_drop ∙ opens;
+      is = ap (λ (ws : List ℕ). state_of ws o) now_drop;
+    }
+
+    -- then only this arena is another one
+    pub opens_now : OneArenaChanges → opened_view (put_at W (start_of (take which states)) left) uuid ≡ Ok (set (map found_again states) which (state_of (left ++ behind_of) o))
+    opens_now law =
+        law W now uuid (map found_again states) which (found_again state) new e count (sym again_is) info
+        (subst (λ (q : ℕ). DifferIn q (state.info.layout.size / 8) W now) (sym (start_take which states)) differ)
+        (subst (λ (q : ℕ). IsFoundAs (drop q now) uuid new) (sym (start_take which states)) found)
+
+-- ---- a sector is written
+
+module _ (W : List ℕ) (states : List ArenaState) (which own : ℕ) (words : List ℕ) (state : ArenaState) (at_which : (d : ArenaState) → state ≡ get_or states which d) (there : which < length states) (is_open : IsOpenState state)
+    (left : List ℕ) (w : IsWritten state own words left) (uuid : List ℕ) (e : opened_view W uuid ≡ Ok (map found_again states)) where
+  abbrev behind : List ℕ
+  behind = behind_of W states which state at_which there is_open left w.size uuid e
+
+  wi : IsWrittenIn state own words (left ++ behind) uuid
+  wi =
+      let old = opened_there W states which state at_which there is_open left w.size uuid e in
+      w.opens (behind_of W states which state at_which there is_open left w.size uuid e) uuid old.0 old.1
 
   abbrev new : ArenaState
   new = state_of (left ++ behind) wi.opened
-
-  found : IsFoundAs (drop p now) uuid new
-  found = record {
-    opened = wi.opened;
-    opens = ap (λ (ws : List ℕ). opening ws uuid) now_drop ∙ wi.opens;
-    is = ap (λ (ws : List ℕ). state_of ws wi.opened) now_drop;
-  }
 
   new_again : found_again new ≡ new
   new_again = λ i. record { info = new.info; words = new.words; lanes = new.lanes; made = sym (ap length wi.none) i }
@@ -169,17 +193,15 @@ module _ (W : List ℕ) (states : List ArenaState) (which own : ℕ) (words : Li
   news_are : set (map found_again states) which new ≡ news
   news_are = ap (set (map found_again states) which) (sym new_again) ∙ sym (map-set found_again states which new)
 
-  opens_now : OneArenaChanges → opened_view now uuid ≡ Ok news
-  opens_now law =
-      law W now uuid (map found_again states) which (found_again state) new e count (sym again_is) wi.info
-      (subst (λ (q : ℕ). DifferIn q (state.info.layout.size / 8) W now) (sym (start_take which states)) differ)
-      (subst (λ (q : ℕ). IsFoundAs (drop q now) uuid new) (sym (start_take which states)) found)
+  opens_as : OneArenaChanges → opened_view (put_at W (start_of (take which states)) left) uuid ≡ Ok news
+  opens_as law =
+      opens_now W states which state at_which there is_open left w.size uuid e wi.opened wi.opens wi.info law
       ∙ ap (λ (ss : List ArenaState). Ok ss) news_are
 
   new_words : new.words ≡ left
   new_words =
       ap (λ ms. take (wi.opened.info.layout.size / 8) (written_over (left ++ behind) (move_writes wi.opened.info.layout (left ++ behind) ms))) wi.none
-      ∙ take_at left behind (wi.opened.info.layout.size / 8) (left_long ∙ ap (λ (i : Info). i.layout.size / 8) (sym wi.info))
+      ∙ take_at left behind (wi.opened.info.layout.size / 8) (w.size ∙ is_open.count ∙ ap (λ (i : Info). i.layout.size / 8) (sym wi.info))
 
   external : wi.opened.info.layout.external ≡ state.info.layout.external
   external = ap (λ (i : Info). i.layout.external) wi.info
@@ -204,7 +226,7 @@ module _ (W : List ℕ) (states : List ArenaState) (which own : ℕ) (words : Li
             | inr ne ↦ put_other (first_cells state) own (cell.Bytes words) i ne ∙ sym (was i lt) ∙ sym (get_or-set_other (cells_of state) own i (cell.Bytes words) cell.Bad ne)
           ]
 
-  pub has_sector : OneArenaChanges → (sector : ℕ) → LiesIn states sector which own → HasSector uuid sector words states now
+  pub has_sector : OneArenaChanges → (sector : ℕ) → LiesIn states sector which own → HasSector uuid sector words states (put_at W (start_of (take which states)) left)
   unfolding contents_of
   has_sector law sector l =
       let inside : own < state.info.layout.external = subst (λ (s : ArenaState). own < s.info.layout.external) (sym (at_which state)) (l.inside state) in
@@ -213,7 +235,7 @@ module _ (W : List ℕ) (states : List ArenaState) (which own : ℕ) (words : Li
         own = own;
         lies = l;
         news = news;
-        opens = opens_now law;
+        opens = opens_as law;
         infos = infos_again (set states which new)
             ∙ map-set (λ (s : ArenaState). s.info) states which new
             ∙ ap (set (map (λ (s : ArenaState). s.info) states) which) (wi.info ∙ ap (λ (s : ArenaState). s.info) (at_which state) ∙ sym (get_or-map (λ (s : ArenaState). s.info) states which state state.info there))

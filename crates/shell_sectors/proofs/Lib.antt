@@ -1,8 +1,7 @@
-pub mod Lone
-pub mod Begun
-pub mod Ended
 pub mod Changes
 pub mod Placing
+pub mod Coming
 pub mod Saves
 pub mod Answered
 pub mod Loaded
+pub mod Causes

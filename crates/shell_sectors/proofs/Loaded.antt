@@ -1,112 +1,97 @@
--- From the loaded set to a registry.
-use Rattle.std.proofs.Common.{◌≡◌, ℕ, List, [], ◌∷◌, map, Option, Some, None, Result, Ok, Err, refl, sym, ap, ◌∙◌, subst}
-use Rattle.std.specs.Prelude.{MatchOption}
-use Rattle.std.specs.Result.{result_ok}
+-- From a loaded set to one whose labels are read.
+use Rattle.std.proofs.Common.{◌≡◌, ℕ, ◌^◌, ◌<◌, List, length, map, Option, Some, None, Result, Ok, Err, refl, sym, ap, ◌∙◌, subst, arith}
 use Rattle.std.specs.Option.{option_map}
 use Rattle.std.specs.List.{All}
 use Rattle.cut_words.specs.Words.{Words}
-use Rattle.cut_words.specs.WordBytes.{bytes_of}
-use Rattle.nfit_reader.specs.declared.table.Nfit.{Nfit}
 use Rattle.nfit_reader.specs.declared.table.Mapping.{Mapping}
-use Rattle.label_index.specs.declared.index.IndexBlock.{IndexBlock}
-use Rattle.label_area.specs.declared.fault.AreaFault.{AreaFault}
-use Rattle.label_area.specs.Area.{block_in, labels_in, slots_with}
-use Rattle.label_area.specs.Opened.{opened_by}
 use Rattle.label_set.specs.declared.placed.Placed.{Placed}
 use Rattle.image_set.specs.declared.loading.Loaded.{Loaded}
 use Rattle.image_set.specs.Load.{ImageSet, bytes_kept, image_set_in}
-use Rattle.image_set.specs.Sound.{IsArea, IsContents}
+use Rattle.image_set.specs.Sound.{IsArea, IsSound}
 use Rattle.namespace_areas.specs.declared.area.Area.{Area}
 use Rattle.namespace_areas.specs.Areas.{labels_of, shown_in}
 use Rattle.namespace_areas.specs.Finding.{found_of}
-use Rattle.namespace_areas.specs.Opening.{AreWhole, as_area, opened_as}
-use Rattle.namespace_areas.specs.Seen.{words_of}
+use Rattle.namespace_areas.specs.Opening.{AreWhole, opened_as}
+use Rattle.namespace_areas.specs.Seen.{AreHeld, words_of}
 use Rattle.namespace_areas.proofs.Opening.{words_all}
-use Rattle.namespace_map.specs.Namespaces.{entry_at, placed_of}
-use Rattle.namespace_map.specs.declared.refused.OpRefused.{OpRefused}
-use Rattle.namespace_areas.specs.declared.found.Found.{Found}
+use Rattle.namespace_map.specs.Namespaces.{Entry, entry_at, lookup, placed_of}
 use Rattle.namespace_ops.specs.declared.registry.OpenFault.{OpenFault}
-use Rattle.namespace_ops.specs.Opening.{Opened, finding, opening, sets_of}
-use Rattle.session_script.specs.declared.payload.Payload.{Payload}
+use Rattle.namespace_ops.specs.Counted.{namespaces_in}
+use Rattle.namespace_ops.specs.Opening.{opening, sets_of}
+use Rattle.namespace_ops.specs.Registered.{Registered, state_of}
+use Rattle.namespace_ops.proofs.Regions.{sets_are as sets_checked}
+use Rattle.namespace_ops.proofs.Shown.{shown_at}
+use Rattle.sector_namespaces.specs.View.{AreUsable}
+use Rattle.sector_namespaces.proofs.Usable.{usable_sets}
 use Rattle.shell_reports.specs.Causes.{fault_in, found_in}
-use Rattle.shell_reports.specs.List.{labels_in_set, open_outcome, shown_by}
-use Rattle.shell_reports.specs.Outcome.{Outcome}
+use Rattle.shell_reports.specs.List.{labels_in_set, shown_by}
 use Rattle.shell_reports.specs.Sectors.{registry_fault}
-use Rattle.shell_reports.proofs.Arenas.{IsOpened, fault_is, opened_is, rows_back}
-use Rattle.shell_sectors.specs.declared.saving.Rest.{Rest}
-use Rattle.shell_sectors.specs.Answering.{HasParts, IsLoadedAs}
-use Rattle.shell_sectors.specs.Write.{OnFound, WriteComes}
+use Rattle.shell_reports.proofs.Arenas.{IsOpened, fault_is, opened_is, rows_back, set_none}
+use Rattle.shell_reports.proofs.Opened.{held_opened, shown_all}
+use Rattle.shell_sectors.specs.Found.{IsOpenOn}
 
 pub are_whole : (labels : List (Option Words)) → All IsArea labels → AreWhole labels
 are_whole labels all = λ k d lt. let it = all k d lt in record { sized = it.sized; kept = it.kept }
 
--- ---- what areas show
-
-shown_at : (values : List ℕ) (b : Result IndexBlock AreaFault) → shown_in (as_area (opened_by values b)) ≡ option_map labels_in (result_ok (slots_with (bytes_of values) b))
-shown_at values (Ok block) = refl
-shown_at values (Err fault) = refl
-
-shown_one : (words : Option Words) → shown_in (opened_as words) ≡ shown_by (option_map bytes_kept words)
-shown_one None = refl
-shown_one (Some words) = shown_at words.kept (block_in (bytes_of words.kept))
-
-shown_all : (labels : List (Option Words)) → map shown_in (map opened_as labels) ≡ map shown_by (map (option_map bytes_kept) labels)
-shown_all [] = refl
-shown_all (words ∷ labels) = λ i. shown_one words i ∷ shown_all labels i
-
--- ---- a set that was loaded
-
-module _ (loaded : Loaded) (uuid : List ℕ) (sector : ℕ) (value : Payload) (outcome : Outcome) where
-  abbrev set : ImageSet
-  set = image_set_in loaded
-
-  abbrev areas : List Area
-  areas = map opened_as loaded.labels
-
-  labels_are : labels_of areas ≡ labels_in_set set
+module _ (loaded : Loaded) (sound : IsSound loaded) (uuid : List ℕ) (areas : List Area) (are : areas ≡ map opened_as loaded.labels) where
+  labels_are : labels_of areas ≡ labels_in_set (image_set_in loaded)
   unfolding image_set_in
-  labels_are = ap placed_of (shown_all loaded.labels)
+  labels_are = ap placed_of (ap (map shown_in) are ∙ shown_all loaded.labels)
 
-  fault_was : fault_in set ≡ registry_fault loaded.nfit (labels_of areas)
+  fault_was : fault_in (image_set_in loaded) ≡ registry_fault loaded.nfit (labels_of areas)
   unfolding image_set_in
   fault_was = ap (registry_fault loaded.nfit) (sym labels_are)
 
-  module _ (registry : Opened) (is : Ok registry ≡ opening loaded.nfit areas) where
+  pub fault_found : (fault : OpenFault) → Err fault ≡ opening loaded.nfit areas → fault_in (image_set_in loaded) ≡ Some fault
+  fault_found fault is = fault_was ∙ fault_is loaded.nfit areas fault is
+
+  pub held : AreHeld areas
+  held = held_opened loaded.labels areas are sound.areas
+
+  module _ (registry : Registered) (is : Ok registry ≡ opening loaded.nfit areas) where
     o : IsOpened loaded.nfit areas registry
     o = opened_is loaded.nfit areas registry is
 
-    pub areas_are : registry.areas ≡ areas
-    areas_are = ap (λ (r : Opened). r.areas) o.is
+    sets_are : registry.sets ≡ sets_of loaded.nfit
+    sets_are = ap (λ (r : Registered). r.sets) o.is
 
-    pub sets_are : registry.sets ≡ sets_of loaded.nfit
-    sets_are = ap (λ (r : Opened). r.sets) o.is
+    words_are : map words_of registry.areas ≡ loaded.labels
+    words_are =
+        ap (λ (r : Registered). map words_of r.areas) o.is
+        ∙ ap (map words_of) are
+        ∙ words_all loaded.labels (are_whole loaded.labels sound.areas)
 
-    pub words_are : All IsArea loaded.labels → map words_of registry.areas ≡ loaded.labels
-    words_are all = ap (map words_of) areas_are ∙ words_all loaded.labels (are_whole loaded.labels all)
-
-    found_is : finding registry uuid ≡ found_in set uuid
-    unfolding finding image_set_in
-    found_is =
-        ap (λ (r : Opened). found_of r.sets (entry_at r.sets (labels_of r.areas) uuid)) o.is
-        ∙ ap (λ (ls : List Placed). found_of (sets_of loaded.nfit) (entry_at (sets_of loaded.nfit) ls uuid)) labels_are
-
-    loaded_as : All IsArea loaded.labels → All IsContents loaded.contents
-        → IsLoadedAs set registry.sets registry.areas (record { nfit_bytes = loaded.nfit_bytes; contents = loaded.contents; bad = loaded.bad })
+    found_is : found_of registry.sets (lookup uuid (namespaces_in (state_of registry)).entries) ≡ found_in (image_set_in loaded) uuid
     unfolding image_set_in
-    loaded_as all sound = record {
-      sets_are = sym sets_are;
-      contents = rows_back loaded.contents sound;
-      parts = record { nfit = refl; labels_are = ap (map (option_map bytes_kept)) (sym (words_are all)); bad = refl };
+    found_is =
+        ap (λ (r : Registered). found_of r.sets (lookup uuid (namespaces_in (state_of r)).entries)) o.is
+        ∙ ap (λ (entry : Option Entry). found_of (sets_of loaded.nfit) entry) (sym (shown_at (sets_of loaded.nfit) areas (labels_of areas) uuid held (λ u. refl)))
+        ∙ ap (λ (labels : List Placed). found_of (sets_of loaded.nfit) (entry_at (sets_of loaded.nfit) labels uuid)) labels_are
+
+    usable : AreUsable registry.sets loaded.contents
+    usable =
+        subst (λ (sets : List (List Mapping)). AreUsable sets loaded.contents) (sym sets_are)
+        (usable_sets loaded.nfit.regions (sets_of loaded.nfit) loaded.contents sound.mapped sound.total
+        (sets_checked loaded.nfit.regions 0 (set_none loaded.nfit (labels_of areas) o.none)))
+
+    pub open_on : IsOpenOn (image_set_in loaded) uuid loaded.contents (record { registry = registry; nfit_bytes = loaded.nfit_bytes; bad = loaded.bad })
+    unfolding image_set_in
+    open_on = record {
+      none = fault_was ∙ o.none;
+      running = ap (λ (r : Registered). r.stopped) o.is;
+      sets = sets_are;
+      is = found_is;
+      contents_are = sym (rows_back loaded.contents sound.words);
+      usable = usable;
+      unchanged = record {
+        nfit = refl;
+        labels = ap (map (option_map bytes_kept)) (sym words_are);
+        bad = refl;
+        whole = subst AreWhole (sym words_are) (are_whole loaded.labels sound.areas);
+      };
+      modules = record {
+        labels = ap length words_are ∙ sound.labels ∙ sym sound.contents;
+        bad = sound.bad ∙ sym sound.contents;
+        few = omega (arith, sound.contents, sound.modules.few);
+      };
     }
-
-    pub comes : All IsArea loaded.labels → All IsContents loaded.contents
-        → ((s : ImageSet) → IsLoadedAs s registry.sets registry.areas (record { nfit_bytes = loaded.nfit_bytes; contents = loaded.contents; bad = loaded.bad }) → OnFound uuid sector value s outcome (finding registry uuid))
-        → WriteComes uuid sector value set outcome
-    comes all sound on =
-        subst (λ (f : Option OpenFault). MatchOption f (OnFound uuid sector value set outcome (found_in set uuid)) (λ fault. outcome ≡ open_outcome fault)) (sym (fault_was ∙ o.none))
-        (subst (λ (r : Result Found OpRefused). OnFound uuid sector value set outcome r) found_is (on set (loaded_as all sound)))
-
-  pub comes_not : (fault : OpenFault) → Err fault ≡ opening loaded.nfit areas → outcome ≡ open_outcome fault → WriteComes uuid sector value set outcome
-  comes_not fault is said =
-      subst (λ (f : Option OpenFault). MatchOption f (OnFound uuid sector value set outcome (found_in set uuid)) (λ fault. outcome ≡ open_outcome fault))
-      (sym (fault_was ∙ fault_is loaded.nfit areas fault is)) said

@@ -12,7 +12,7 @@ use Rattle.power_cut.specs.Placed.{IsBesideSame}
 use Rattle.sector_namespaces.specs.Changing.{OneArenaChanges, start_of}
 use Rattle.sector_namespaces.proofs.Chains.{start_again, total, view_walk}
 use Rattle.sector_namespaces.proofs.Formats.{settled_at}
-use Rattle.shell_sectors.specs.Alone.{IsWritten}
+use Rattle.lane_alone.specs.Alone.{IsWritten}
 use Rattle.shell_sectors.specs.Changed.{IsChanged, IsReady, moved_to}
 use Rattle.shell_sectors.specs.Write.{HasSector}
 use Rattle.shell_sectors.proofs.Changes.{fits, has_sector}
@@ -25,21 +25,22 @@ ready_start n states r =
 pub open_at : (states : List ArenaState) (which : ℕ) (state : ArenaState) → AreOpen states → which < length states → ((d : ArenaState) → state ≡ get_or states which d) → IsOpenState state
 open_at states which state are_open lt is = subst IsOpenState (sym (is state)) (are_open.each which state lt)
 
+-- a namespace lies where it lay, over the modules that it gives away
+pub moved_is : (n now : Namespace) (modules : List Words) → IsBesideSame n now → modules ≡ now.modules → moved_to n modules ≡ now
+moved_is n now modules same at = λ i. record { set = sym same.set i; offset = sym same.offset i; raw = sym same.raw i; modules = at i }
+
 module _ (n : Namespace) (states : List ArenaState) (which own : ℕ) (words : List ℕ) (state : ArenaState) (is : (d : ArenaState) → state ≡ get_or states which d) (there : which < length states)
     (ready : IsReady n states) (left : List ℕ) (w : IsWritten state own words left) where
   abbrev put : List ℕ
   put = put_at (words_of n).kept (start_of (take which states)) left
 
   pub put_fits : start_of (take which states) + length left ≤ length (words_of n).kept
-  put_fits = fits (words_of n).kept states which own words state is there (open_at states which state ready.are_open there is) left w put refl ready.found.0 ready.found.1
+  put_fits = fits (words_of n).kept states which state is there (open_at states which state ready.are_open there is) left w.size ready.found.0 ready.found.1
 
-  pub changed : OneArenaChanges → (now : Namespace) (modules : List Words) → words_of now ≡ settled (put_at (words_of n).kept (start_of (take which states)) left) → IsBesideSame n now → modules ≡ now.modules
-      → IsChanged n states which own words modules
-  changed law now modules put_is same at =
-      let now_is : moved_to n modules ≡ now = λ i. record { set = sym same.set i; offset = sym same.offset i; raw = sym same.raw i; modules = at i } in
-      record {
-        has = λ uuid sector e lies. subst (λ (m : Namespace). HasSector uuid sector words states (words_of m).kept) (sym now_is)
-            (has_sector (words_of n).kept states which own words state is there (open_at states which state ready.are_open there is) left w (words_of now).kept (ap (λ (ws : Words). ws.kept) put_is) uuid e law sector lies);
-        settled = subst (λ (m : Namespace). IsSettled (words_of m)) (sym now_is) (settled_at (words_of now) put put_is);
-        beside = ap beside_of now_is ∙ same.beside;
-      }
+  pub changed : OneArenaChanges → (modules : List Words) → words_of (moved_to n modules) ≡ settled put → beside_of (moved_to n modules) ≡ beside_of n → IsChanged n states which own words modules
+  changed law modules put_is same = record {
+    has = λ uuid sector e lies. subst (λ (ws : List ℕ). HasSector uuid sector words states ws) (sym (ap (λ (ws : Words). ws.kept) put_is))
+        (has_sector (words_of n).kept states which own words state is there (open_at states which state ready.are_open there is) left w uuid e law sector lies);
+    settled = settled_at (words_of (moved_to n modules)) put put_is;
+    beside = same;
+  }

@@ -63,29 +63,3 @@ abbrev pub WritesOn : Namespace → List ℕ → ℕ → Payload → Written →
 WritesOn n uuid sector value (written.Done modules) =
     (states : List ArenaState) × (opened_view (words_of n).kept uuid ≡ Ok states) × IsWrittenTo n uuid states sector value modules.items
 WritesOn n uuid sector value (written.Not report) = IsTurnedDown n uuid sector value (outcome_of report)
-
--- ---- what is saved
-
--- a set has these parts
-pub record HasParts (loaded : ImageSet) (rest : Rest) (labels : List (Option Words)) : Type 0 where
-  pub nfit : loaded.nfit_bytes ≡ rest.nfit_bytes
-  pub labels_are : loaded.labels ≡ map (option_map bytes_kept) labels
-  pub bad : loaded.bad ≡ rest.bad
-
--- there is one of each for each module
-pub record AreParts (rest : Rest) (labels : List (Option Words)) : Type 0 where
-  pub bad : length rest.bad ≡ length rest.contents
-  pub few : length rest.contents < 2 ^ 32
-  pub count : length labels ≡ length rest.contents
-
--- the set is saved with the words of the contents, each as it is kept or as it was stored since
-abbrev pub IsSavedWith : Rest → List (Option Words) → Outcome → Type 0
-IsSavedWith rest labels outcome =
-    (rows : List (List ℕ)) × Each IsLeft rest.contents rows
-    × ((loaded : ImageSet) → HasParts loaded rest labels → IsSaving ending.Done done_text (objects_of (with_contents loaded rows)) outcome)
-
--- a loaded set has these interleave sets, label areas and other parts
-pub record IsLoadedAs (loaded : ImageSet) (sets : List (List Mapping)) (areas : List Area) (rest : Rest) : Type 0 where
-  pub sets_are : sets_of loaded.nfit ≡ sets
-  pub contents : rows_of loaded.contents ≡ rest.contents
-  pub parts : HasParts loaded rest (map area_words areas)

@@ -1,5 +1,6 @@
-pub mod Alone
 pub mod Value
+pub mod Found
+pub mod Saving
 pub mod Write
 pub mod Causes
 pub mod Changed

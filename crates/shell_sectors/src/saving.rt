@@ -1,48 +1,47 @@
-//! The set that is saved after a write.
-ghost use Rattle.std.specs.Prelude.{◌≡◌, IfOk, false};
+//! The set that is saved after sectors were changed.
+ghost use Rattle.std.specs.Prelude.{◌≡◌, IfOk, false, length, map};
 ghost use Rattle.namespace_areas.specs.Opening.{AreWhole};
+ghost use Rattle.namespace_areas.specs.Seen.{words_of};
 ghost use Rattle.shell_changes.specs.Answers.{whole_outcome};
 ghost use Rattle.shell_changes.specs.Saved.{copies_contents};
-ghost use Rattle.shell_sectors.specs.Answering.{AreParts, IsSavedWith};
+ghost use Rattle.shell_sectors.specs.Found.{HasModules};
+ghost use Rattle.shell_sectors.specs.Saving.{SavesWith};
 
+use crate::finding::Unchanged;
 use cut_words::CutWords;
 use image_set::SetLeft;
+use namespace_areas::into_words;
 use nvd_media::ListChooser;
 use nvd_words::Items;
 use power_cut::leave_all;
 use shell_changes::{Answer, Left, SavedSet};
-use shell_reports::{Ending, Report};
+use shell_reports::Report;
 use std::alloc::{AllocError, Global};
 
-/// The parts of a loaded set besides its decoded table and its label areas.
-#[derive(Debug, Drop)]
-pub(crate) struct Rest {
-    /// The bytes of the firmware's table.
-    pub nfit_bytes: Items<u8>,
-    /// The contents of each module.
-    pub contents: Items<CutWords>,
-    /// The bytes of each module's list of bad ranges.
-    pub bad: Items<Option<Items<u8>>>,
-}
-
-/// Answers `ok` with the set of these parts. No word of the label areas is pending.
-pub(crate) fn saved_answer(
+/// Answers with a report, and with the loaded set in which the modules have these contents.
+///
+/// Labels aren't recovered: label areas, the firmware's table and bad ranges are as loaded, and no
+/// word of the label areas is pending. There are contents for each module. A word of the contents
+/// that is pending is saved as it was kept. The call fails only if memory runs out.
+pub fn saved_answer(
     alloc: Global,
-    rest: Rest,
-    labels: Items<Option<CutWords>>,
+    report: Report,
+    rest: Unchanged,
+    contents: Vec<CutWords>,
 ) -> Result<Answer, AllocError>
-    requires parts { AreParts rest labels }
-    requires whole { AreWhole labels }
-    ensures saved { IfOk result (λ answer. IsSavedWith rest labels (whole_outcome answer)) }
+    requires whole { AreWhole (map words_of rest.registry.areas) }
+    requires modules { HasModules rest (length contents.items) }
+    ensures saved { IfOk result (λ answer. SavesWith report rest contents.items (whole_outcome answer)) }
     ensures whole { IfOk result (λ answer. copies_contents answer.saved ≡ false) }
 {
-    let Rest {
+    let Unchanged {
+        registry,
         nfit_bytes,
-        contents,
         bad,
     } = rest;
-    let text = Vec::from_slice(alloc, b"ok\n")?;
+    let labels = into_words(alloc, registry.into_areas())?;
     let mut chooser = ListChooser::new(Vec::new(alloc));
+    let contents = Items::from_vec(contents);
     let images = leave_all(alloc, labels, contents, Vec::new(alloc), &mut chooser)?;
     let left = SetLeft {
         nfit: nfit_bytes,
@@ -50,10 +49,7 @@ pub(crate) fn saved_answer(
         bad,
     };
     Ok(Answer {
-        report: Report {
-            ending: Ending::Done,
-            text,
-        },
+        report,
         saved: Some(SavedSet::new(Left::Whole(left))),
     })
 }

@@ -1,41 +1,40 @@
 //! The command `write`: one sector of a namespace.
-ghost use Rattle.std.specs.Prelude.{◌≡◌, ◌≢◌, ◌<◌, ℕ, IfOk, false, length, map};
-ghost use Rattle.std.specs.List.{All};
-ghost use Rattle.arena_open.specs.ChainCells.{LiesIn as LiesInChain};
+ghost use Rattle.std.specs.Prelude.{◌≡◌, ◌%◌, ◌<◌, ℕ, IfOk, false, length, slice_index_or};
+ghost use Rattle.arena_open.specs.declared.state.ArenaState.{ArenaState as State};
+ghost use Rattle.arena_open.specs.ChainCells.{LiesIn};
+ghost use Rattle.cut_words.specs.WordBytes.{words_in};
 ghost use Rattle.image_set.specs.Load.{ImageSet, image_set_in};
-ghost use Rattle.image_set.specs.Sound.{IsContents, IsSound};
-ghost use Rattle.namespace_areas.specs.Finding.{LiesIn};
-ghost use Rattle.namespace_areas.specs.Opening.{AreWhole};
-ghost use Rattle.namespace_areas.specs.Seen.{words_of};
-ghost use Rattle.namespace_ops.specs.Opening.{finding};
+ghost use Rattle.image_set.specs.Sound.{IsSound};
 ghost use Rattle.power_cut.specs.Namespace.{over};
 ghost use Rattle.sector_namespaces.specs.Changing.{IsWithin};
 ghost use Rattle.sector_namespaces.specs.Creation.{AreSettled};
-ghost use Rattle.sector_namespaces.specs.View.{AreUsable, IsUsable};
+ghost use Rattle.sector_namespaces.specs.View.{IsUsable};
 ghost use Rattle.shell_changes.specs.Answers.{whole_outcome};
 ghost use Rattle.shell_changes.specs.Saved.{copies_contents};
-ghost use Rattle.shell_reports.specs.Causes.{opened_in};
-ghost use Rattle.shell_reports.specs.List.{open_outcome};
-ghost use Rattle.shell_sectors.specs.Write.{OnArenas, OnFound, WriteComes};
-ghost use Rattle.shell_sectors.specs.Changed.{IsReady};
-ghost use Rattle.shell_sectors.specs.Answering.{AreParts, IsLoadedAs, IsSavedWith, WritesInto, WritesOn};
+ghost use Rattle.shell_reports.specs.Cut.{done_text};
+ghost use Rattle.shell_reports.specs.Faults.{refused_outcome};
+ghost use Rattle.shell_reports.specs.Saved.{outcome_of};
+ghost use Rattle.shell_sectors.specs.Answering.{WritesInto, WritesOn};
+ghost use Rattle.shell_sectors.specs.Changed.{IsChanged, IsReady};
+ghost use Rattle.shell_sectors.specs.Found.{IsFoundIn};
+ghost use Rattle.shell_sectors.specs.Value.{bytes_for};
+ghost use Rattle.shell_sectors.specs.Write.{WriteComes, length_text, range_text};
 
 use crate::changing::change_sector;
-use crate::saving::{Rest, saved_answer};
+use crate::finding::{FoundSet, SetFound, find_in_set};
+use crate::saving::saved_answer;
 use crate::value::{length_for, words_for};
 use arena_open::Chain;
 use cut_words::CutWords;
 use image_set::Loaded;
 use interleave::InterleaveSet;
 use label_codec::Mode;
-use namespace_areas::{Found, into_words, open_areas};
-use namespace_ops::{OpenFault, Registry};
-use nvd_words::Items;
+use namespace_areas::Found;
 use power_cut::SetWords;
-use sector_namespaces::{OpenArenas, loaded_sets_are_usable, open_arenas};
+use sector_namespaces::{OpenArenas, open_arenas};
 use session_script::Payload;
 use shell_changes::{Answer, without_set};
-use shell_reports::{Report, arena_answer, open_fault_answer, refused_answer, unfound_answer};
+use shell_reports::{Ending, Report, arena_answer, refused_answer};
 use std::alloc::{AllocError, Global};
 use uuid::Uuid;
 
@@ -48,7 +47,53 @@ enum Written {
     Not(Report),
 }
 
-/// Writes sector `own` of arena `which`, if the value has the sector's length.
+/// Returns the size of the sectors of an arena, in bytes.
+fn size_at(chain: &Chain, which: usize) -> u32
+    requires { which < length chain.now }
+    ensures size { (d : State) → result ≡ (slice_index_or chain.now which d).info.layout.sector }
+    ensures eights { result % 8 ≡ 0 }
+{
+    chain.arenas()[which].info.layout.sector
+}
+
+/// The answer to a value of `said` bytes for a sector of `had`.
+fn length_answer(alloc: Global, said: usize, had: u32) -> Result<Report, AllocError>
+    ensures { IfOk result (λ report. outcome_of report ≡ refused_outcome (length_text said had)) }
+{
+    let refusal = format!(in alloc; "Length {} {}", said, had)?;
+    refused_answer(alloc, &refusal)
+}
+
+/// The answer if there is no such sector.
+fn range_answer(alloc: Global, sectors: u64) -> Result<Report, AllocError>
+    ensures { IfOk result (λ report. outcome_of report ≡ refused_outcome (range_text sectors)) }
+{
+    let refusal = format!(in alloc; "Range {}", sectors)?;
+    refused_answer(alloc, &refusal)
+}
+
+/// Writes a value that has the length of the sector, `had` bytes.
+fn write_fitting(
+    alloc: Global,
+    space: SetWords<'_>,
+    chain: Chain,
+    place: (usize, u32),
+    had: u32,
+    value: Payload,
+) -> Result<Vec<CutWords>, AllocError>
+    requires ready { IsReady space chain }
+    requires lies { (sector : ℕ) × LiesIn chain sector place.0 place.1 }
+    requires size { (d : State) → had ≡ (slice_index_or chain place.0 d).info.layout.sector }
+    requires eights { had % 8 ≡ 0 }
+    requires fits { length (bytes_for had value) ≡ had }
+    ensures { IfOk result (λ modules. IsChanged space.entry chain place.0 place.1 (words_in (bytes_for had value)) modules.items) }
+{
+    let (which, own) = place;
+    let words = words_for(alloc, had, value)?;
+    change_sector(alloc, space, chain, which, own, words)
+}
+
+/// Writes sector `place.1` of arena `place.0`, if the value has the sector's length.
 fn write_located(
     alloc: Global,
     space: SetWords<'_>,
@@ -57,19 +102,18 @@ fn write_located(
     value: Payload,
 ) -> Result<Written, AllocError>
     requires ready { IsReady space chain }
-    requires lies { (sector : ℕ) × LiesInChain chain sector place.0 place.1 }
-    ensures { IfOk result (λ done. (sector : ℕ) → LiesInChain chain sector place.0 place.1 → WritesInto space.entry chain sector value done) }
+    requires lies { (sector : ℕ) × LiesIn chain sector place.0 place.1 }
+    ensures { IfOk result (λ written. (sector : ℕ) → LiesIn chain sector place.0 place.1 → WritesInto space.entry chain sector value written) }
 {
-    let (which, own) = place;
-    let had = chain.arenas()[which].info.layout.sector;
+    let had = size_at(&chain, place.0);
     let said = length_for(had, &value);
-    if said != had as usize {
-        let refusal = format!(in alloc; "Length {} {}", said, had)?;
-        return Ok(Written::Not(refused_answer(alloc, &refusal)?));
+    if said == had as usize {
+        let modules = write_fitting(alloc, space, chain, place, had, value)?;
+        Ok(Written::Done(modules))
+    } else {
+        let report = length_answer(alloc, said, had)?;
+        Ok(Written::Not(report))
     }
-    let words = words_for(alloc, had, value)?;
-    let modules = change_sector(alloc, space, chain, which, own, words)?;
-    Ok(Written::Done(modules))
 }
 
 /// Writes a sector of a namespace whose arenas are open, if it exists.
@@ -80,14 +124,14 @@ fn write_opened(
     sector: u64,
     value: Payload,
 ) -> Result<Written, AllocError>
-    requires ready { IsReady space chain }
+    requires { IsReady space chain }
     ensures { IfOk result (WritesInto space.entry chain sector value) }
 {
     match chain.locate(sector) {
         Some(place) => write_located(alloc, space, chain, place, value),
         None => {
-            let refusal = format!(in alloc; "Range {}", chain.sectors())?;
-            Ok(Written::Not(refused_answer(alloc, &refusal)?))
+            let report = range_answer(alloc, chain.sectors())?;
+            Ok(Written::Not(report))
         }
     }
 }
@@ -110,95 +154,59 @@ fn write_found(
 {
     match open_arenas(alloc, set, found, modules, uuid) {
         Ok(OpenArenas { words, chain }) => write_opened(alloc, words, chain, sector, value),
-        Err(refused) => Ok(Written::Not(arena_answer(alloc, uuid, refused)?)),
+        Err(refused) => {
+            let report = arena_answer(alloc, uuid, refused)?;
+            Ok(Written::Not(report))
+        }
     }
 }
 
-/// Answers `ok` with the set of these parts and of a registry's label areas.
-fn kept_answer(alloc: Global, registry: Registry, rest: Rest) -> Result<Answer, AllocError>
-    requires parts { AreParts rest (map words_of registry.areas) }
-    requires whole { AreWhole (map words_of registry.areas) }
-    ensures saved { IfOk result (λ answer. IsSavedWith rest (map words_of registry.areas) (whole_outcome answer)) }
-    ensures whole { IfOk result (λ answer. copies_contents answer.saved ≡ false) }
+/// The answer of a write that is made.
+fn done_report(alloc: Global) -> Result<Report, AllocError>
+    ensures done { IfOk result (λ report. report.ending ≡ Ending.Done) }
+    ensures text { IfOk result (λ report. report.text.items ≡ done_text) }
 {
-    let labels = into_words(alloc, registry.into_areas().into_vec())?;
-    saved_answer(alloc, rest, labels)
+    let text = Vec::from_slice(alloc, b"ok\n")?;
+    Ok(Report {
+        ending: Ending::Done,
+        text,
+    })
 }
 
 /// Writes a sector of a namespace that was found, and answers with the changed set.
 fn found_answer(
     alloc: Global,
-    registry: Registry,
-    found: &Found,
-    rest: Rest,
+    set: FoundSet,
     uuid: &Uuid,
     sector: u64,
     value: Payload,
 ) -> Result<Answer, AllocError>
-    requires lies { LiesIn registry.sets found.now }
-    requires sector { found.now.mode ≡ Mode.Sector }
-    requires settled { AreSettled rest.contents }
-    requires usable { AreUsable registry.sets rest.contents }
-    requires parts { AreParts rest (map words_of registry.areas) }
-    requires whole { AreWhole (map words_of registry.areas) }
-    ensures comes { IfOk result (λ answer. (loaded : ImageSet) → IsLoadedAs loaded registry.sets registry.areas rest → OnArenas found.now uuid.now sector value loaded (whole_outcome answer) (opened_in loaded uuid.now found.now)) }
+    requires { (loaded : ImageSet) × IsFoundIn loaded uuid.now set }
+    ensures comes { IfOk result (λ answer. (loaded : ImageSet) → IsFoundIn loaded uuid.now set → WriteComes uuid.now sector value loaded (whole_outcome answer)) }
     ensures whole { IfOk result (λ answer. copies_contents answer.saved ≡ false) }
 {
-    let Rest {
-        nfit_bytes,
+    let FoundSet {
+        found,
         contents,
-        bad,
-    } = rest;
-    let set = registry.set(found.region);
-    match write_found(alloc, set, found, contents.into_vec(), uuid, sector, value)? {
+        rest,
+    } = set;
+    let modules = contents.into_vec();
+    let region = rest.registry.set(found.region);
+    let written = write_found(alloc, region, &found, modules, uuid, sector, value)?;
+    match written {
         Written::Done(modules) => {
-            let rest = Rest {
-                nfit_bytes,
-                contents: Items::from_vec(modules),
-                bad,
-            };
-            kept_answer(alloc, registry, rest)
+            let report = done_report(alloc)?;
+            saved_answer(alloc, report, rest, modules)
         }
         Written::Not(report) => Ok(without_set(report)),
     }
-}
-
-/// Finds a namespace, and answers on a write of one of its sectors.
-fn named_answer(
-    alloc: Global,
-    registry: Registry,
-    rest: Rest,
-    uuid: &Uuid,
-    sector: u64,
-    value: Payload,
-) -> Result<Answer, AllocError>
-    requires settled { AreSettled rest.contents }
-    requires usable { AreUsable registry.sets rest.contents }
-    requires parts { AreParts rest (map words_of registry.areas) }
-    requires whole { AreWhole (map words_of registry.areas) }
-    ensures comes { IfOk result (λ answer. (loaded : ImageSet) → IsLoadedAs loaded registry.sets registry.areas rest → OnFound uuid.now sector value loaded (whole_outcome answer) (finding registry uuid.now)) }
-    ensures whole { IfOk result (λ answer. copies_contents answer.saved ≡ false) }
-{
-    match registry.find(uuid) {
-        Ok(found) => found_answer(alloc, registry, &found, rest, uuid, sector, value),
-        Err(refused) => Ok(without_set(unfound_answer(alloc, refused)?)),
-    }
-}
-
-/// The answer on a set whose namespaces can't be told: nothing is saved.
-fn faulty_answer(alloc: Global, fault: OpenFault) -> Result<Answer, AllocError>
-    ensures text { IfOk result (λ answer. whole_outcome answer ≡ open_outcome fault) }
-    ensures finding { IfOk result (λ _. fault ≢ OpenFault.OutOfMemory) }
-    ensures whole { IfOk result (λ answer. copies_contents answer.saved ≡ false) }
-{
-    Ok(without_set(open_fault_answer(alloc, fault)?))
 }
 
 /// Answers `write` on an image set: `ok`, and the set in which the sector has the value; or the
 /// first region that isn't an interleave set, or the first two UUIDs with overlapping extents; or
 /// why the namespace isn't found; or the first of its arenas that violates the format; or `Range`
 /// with the number of sectors of all its arenas, if it has no such sector; or `Length` with the
-/// lengths of the value and of the sector, if they differ.
+/// lengths of the value and of the sector in bytes, if they differ.
 ///
 /// The write goes through the log of the sector's arena, as a driver makes it. The pending moves of
 /// all arenas of the namespace are completed first. Label areas and contents outside the
@@ -215,22 +223,9 @@ pub fn write_answer(
     ensures comes { IfOk result (λ answer. WriteComes uuid.now sector value (image_set_in loaded) (whole_outcome answer)) }
     ensures whole { IfOk result (λ answer. copies_contents answer.saved ≡ false) }
 {
-    loaded_sets_are_usable();
-    let Loaded {
-        nfit,
-        nfit_bytes,
-        labels,
-        contents,
-        bad,
-    } = loaded;
-    let rest = Rest {
-        nfit_bytes,
-        contents,
-        bad,
-    };
-    let areas = open_areas(alloc, labels)?;
-    match Registry::open_all(alloc, nfit, areas) {
-        Ok(registry) => named_answer(alloc, registry, rest, uuid, sector, value),
-        Err(fault) => faulty_answer(alloc, fault),
+    let found = find_in_set(alloc, loaded, uuid)?;
+    match found {
+        SetFound::Found(set) => found_answer(alloc, set, uuid, sector, value),
+        SetFound::Not(report) => Ok(without_set(report)),
     }
 }

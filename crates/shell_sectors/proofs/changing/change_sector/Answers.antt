@@ -27,8 +27,8 @@ write_alone-left-requires-clause-words c =
     c.arena_at-arena.ensures c.arena_at-arena.result ∙ ap (λ (ss : List ArenaState). get_or ss c.args.which c.arena_at-arena.result) c.into_arenas.ensures.value in
     c.requires.room.fits c.arena_at-arena.result ∙ ap (λ (s : ArenaState). s.info.layout.sector / 8) (sym is)
 
-pub put_words-requires-clause-inside : goal.put_words-requires-clause-inside
-put_words-requires-clause-inside c =
+pub put_arena-requires-clause-inside : goal.put_arena-requires-clause-inside
+put_arena-requires-clause-inside c =
     let at : c.start_of-at.result ≡ start_of (take c.args.which c.args.chain) = c.start_of-at.ensures ∙ ap (λ (ss : List ArenaState). start_of (take c.args.which ss)) c.arenas.ensures.value in
     let fit = put_fits c.args.space c.args.chain c.args.which c.args.own c.args.words.items c.arena_at-arena.result
     (λ d. c.arena_at-arena.ensures d ∙ ap (λ (ss : List ArenaState). get_or ss c.args.which d) c.into_arenas.ensures.value) c.requires.room.there c.requires.ready c.in_ok-left.left.items c.in_ok-left.ensures in
@@ -39,6 +39,5 @@ returns c =
     let at : c.start_of-at.result ≡ start_of (take c.args.which c.args.chain) = c.start_of-at.ensures ∙ ap (λ (ss : List ArenaState). start_of (take c.args.which ss)) c.arenas.ensures.value in
     changed c.args.space c.args.chain c.args.which c.args.own c.args.words.items c.arena_at-arena.result
     (λ d. c.arena_at-arena.ensures d ∙ ap (λ (ss : List ArenaState). get_or ss c.args.which d) c.into_arenas.ensures.value) c.requires.room.there c.requires.ready c.in_ok-left.left.items c.in_ok-left.ensures
-    c.one_arena_changes.ensures c.put_words.new.space c.into_modules.result.items
-    (c.put_words.ensures.put ∙ ap (λ (p : ℕ). settled (put_at (words_of c.args.space).kept p c.in_ok-left.left.items)) at)
-    (c.beside_tells_the_place.ensures c.args.space c.put_words.new.space c.put_words.ensures.beside) c.into_modules.ensures.modules
+    c.one_arena_changes.ensures c.put_arena.result.items
+    (c.put_arena.ensures.put ∙ ap (λ (p : ℕ). settled (put_at (words_of c.args.space).kept p c.in_ok-left.left.items)) at) c.put_arena.ensures.beside

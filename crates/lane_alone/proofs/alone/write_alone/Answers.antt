@@ -1,10 +1,10 @@
 use Rattle.lane_core.specs.Reopening.{first_cells}
-use Rattle.shell_sectors.specs.Alone.{IsThrough}
-use Rattle.shell_sectors.proofs.Ended.{written}
-use Rattle.shell_sectors.proofs.alone.write_alone.Goals as goal
+use Rattle.lane_alone.specs.Alone.{IsThrough}
+use Rattle.lane_alone.proofs.Ended.{written}
+use Rattle.lane_alone.proofs.alone.write_alone.Goals as goal
 
 pub cut-requires : goal.cut-requires
-cut-requires c = (first_cells c.args.state, (c.end_alone.ensures c.args.state c.args.sector c.args.words.items c.in_ok-core.ensures).arena.shows)
+cut-requires c = record { core = (first_cells c.args.state, (c.end_alone.ensures c.args.state c.args.sector c.args.words.items c.in_ok-core.ensures).arena.shows) }
 
 pub returns : goal.returns
 returns c =

@@ -37,7 +37,7 @@ abbrev pub HasWritten : ℕ → List ℕ → List Entry → Type 0
 HasWritten own words entries = (e : Entry) × (entries ≡ e ∷ []) × (e.sector ≡ own) × (e.act ≡ act.Write words)
 
 -- a lane is in a write of these words to the sector, which stands from the store of its map word on
-pub record Writes (own : ℕ) (words : List ℕ) (phase : Phase) (p : LaneNow) (entries : List Entry) : Type 0 where
+pub record IsInWrite (own : ℕ) (words : List ℕ) (phase : Phase) (p : LaneNow) (entries : List Entry) : Type 0 where
   pub busy : is_unfinished phase || is_entered phase ≡ true
   pub before : is_unfinished phase ≡ true → (entries ≡ []) × (sector_at phase p ≡ own) × (p.words ≡ words)
   pub behind : is_entered phase ≡ true → HasWritten own words entries
@@ -59,7 +59,7 @@ steps_in core = steps_of core.shape (slice_get core.lanes.items 0)
 pub record IsAlone (state : ArenaState) (own : ℕ) (words : List ℕ) (core : Core) : Type 0 where
   pub arena : IsCoreOf state core
   pub others : (l : ℕ) (p : LaneNow) → 0 < l → slice_get core.lanes.items l ≡ Some p → p.phase ≡ Idle
-  pub mine : (p : LaneNow) → slice_get core.lanes.items 0 ≡ Some p → Writes own words p.phase p core.history.entries
+  pub mine : (p : LaneNow) → slice_get core.lanes.items 0 ≡ Some p → IsInWrite own words p.phase p core.history.entries
 
 -- the core of an arena in which the write is done, and no lane is in a call
 pub record IsThrough (state : ArenaState) (own : ℕ) (words : List ℕ) (core : Core) : Type 0 where

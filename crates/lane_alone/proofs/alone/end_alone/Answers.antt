@@ -1,4 +1,4 @@
-use Rattle.shell_sectors.proofs.alone.end_alone.Goals as goal
+use Rattle.lane_alone.proofs.alone.end_alone.Goals as goal
 
 pub returns-then-step_alone : goal.returns-then-step_alone
 returns-then-step_alone c = λ state own words a. c.step_alone.ensures.through c.if-step_alone.true state own words (c.steps.invariant.same state own words a)

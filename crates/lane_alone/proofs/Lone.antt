@@ -28,7 +28,7 @@ use Rattle.lane_core.specs.Places.{geometry, Lock, Reader}
 use Rattle.lane_core.specs.Rows.{Recorded, RowWords, grown}
 use Rattle.lane_core.specs.Sessions.{least_steps, write_steps}
 use Rattle.lane_core.proofs.Put.{never}
-use Rattle.shell_sectors.specs.Alone.{GoesOn, Ends, HasWritten, IsAlone, IsThrough, IsWriting, Writes, is_done, sector_at, steps_in, steps_left, steps_of}
+use Rattle.lane_alone.specs.Alone.{GoesOn, Ends, HasWritten, IsAlone, IsThrough, IsWriting, IsInWrite, is_done, sector_at, steps_in, steps_left, steps_of}
 
 -- ---- a line of the lane
 
@@ -36,13 +36,13 @@ use Rattle.shell_sectors.specs.Alone.{GoesOn, Ends, HasWritten, IsAlone, IsThrou
 abbrev pub Next : Shape → ℕ → List ℕ → Phase → LaneNow → List Entry → Stepped → Type 0
 Next x own words phase q entries answer =
     ((is_done answer ≡ true) × (q.phase ≡ Idle) × HasWritten own words entries)
-    ⊎ ((is_done answer ≡ false) × Writes own words q.phase q entries × (steps_left x q.phase < steps_left x phase))
+    ⊎ ((is_done answer ≡ false) × IsInWrite own words q.phase q entries × (steps_left x q.phase < steps_left x phase))
 
 module _ (x : Shape) (row : RowWords) (p : LaneNow) (past : Recorded) (own : ℕ) (words : List ℕ) where
   abbrev Goes : Phase → Type 0
   Goes phase = Next x own words phase (lane_after x 0 row p phase) (past_after x 0 row p past phase).entries (answer_after x 0 row p phase)
 
-  scanning : (j : ℕ) → word_at x row (Reader (other_lane 0 j)) ≡ 0 → j + 2 ≤ x.lanes → Writes own words (Scanning j) p past.entries → Goes (Scanning j)
+  scanning : (j : ℕ) → word_at x row (Reader (other_lane 0 j)) ≡ 0 → j + 2 ≤ x.lanes → IsInWrite own words (Scanning j) p past.entries → Goes (Scanning j)
   scanning j none few w = subst (λ (n : ℕ). Next x own words (Scanning j) (record p { phase = scanned x n p.block j }) past.entries (stepped.Went step.RttScan)) (sym none) free
     where
       free : Next x own words (Scanning j) (record p { phase = scanned x 0 p.block j }) past.entries (stepped.Went step.RttScan)
@@ -51,23 +51,23 @@ module _ (x : Shape) (row : RowWords) (p : LaneNow) (past : Recorded) (own : ℕ
         | inr more ↦ rw (ne_eqb (j + 2) x.lanes more) (inr (refl, record { busy = refl; before = w.before; behind = λ e. never e }, omega (arith, more, few)))
       ])
 
-  kept : (k : ℕ) → k < 2 * x.width → (Writes own words (Staging k) p past.entries) → (s : Stepped) → is_done s ≡ false
+  kept : (k : ℕ) → k < 2 * x.width → (IsInWrite own words (Staging k) p past.entries) → (s : Stepped) → is_done s ≡ false
       → Next x own words (Staging k) (record p { phase = kept_phase x k }) past.entries s
   kept k few w s going = elim (cases_eq (k + 1) (2 * x.width)) [
     | inl last ↦ rw (eq-eqb (k + 1) (2 * x.width) last) (inr (going, record { busy = refl; before = w.before; behind = λ e. never e }, omega (arith, last)))
     | inr more ↦ rw (ne_eqb (k + 1) (2 * x.width) more) (inr (going, record { busy = refl; before = w.before; behind = λ e. never e }, omega (arith, more, few)))
   ]
 
-  staging : (k : ℕ) → k < 2 * x.width → Writes own words (Staging k) p past.entries → Goes (Staging k)
+  staging : (k : ℕ) → k < 2 * x.width → IsInWrite own words (Staging k) p past.entries → Goes (Staging k)
   staging k few w = elim (cases_Bool (nat_lt k x.width)) [
     | inl store ↦ rw store (inr (refl, record { busy = refl; before = w.before; behind = λ e. never e }, omega (arith, few)))
     | inr keep ↦ rw keep (kept k few w (stepped.Went step.DataKeep) refl)
   ]
 
-  staged : is_free x 0 row p ≡ true → Writes own words Staged p past.entries → Goes Staged
+  staged : is_free x 0 row p ≡ true → IsInWrite own words Staged p past.entries → Goes Staged
   staged free w = rw free (inr (refl, record { busy = refl; before = w.before; behind = λ e. never e }, omega arith))
 
-  logged : Writes own words Logged p past.entries → Goes Logged
+  logged : IsInWrite own words Logged p past.entries → Goes Logged
   logged w =
       let b = w.before refl in
       inr (
@@ -84,7 +84,7 @@ module _ (x : Shape) (row : RowWords) (p : LaneNow) (past : Recorded) (own : ℕ
   goes : (phase : Phase) → p.phase ≡ phase
       → ((j : ℕ) → p.phase ≡ Scanning j → (word_at x row (Reader (other_lane 0 j)) ≡ 0) × (j + 2 ≤ x.lanes))
       → ((k : ℕ) → p.phase ≡ Staging k → k < 2 * x.width) → (p.phase ≡ Staged → is_free x 0 row p ≡ true)
-      → Writes own words phase p past.entries → Goes phase
+      → IsInWrite own words phase p past.entries → Goes phase
   goes Idle is scans stages frees w = never w.busy
   goes (Scanning j) is scans stages frees w = scanning j (scans j is).0 (scans j is).1 w
   goes (Staging k) is scans stages frees w = staging k (stages k is) w
@@ -119,7 +119,7 @@ pub no_suc : {A : Type 0} (n : ℕ) → 0 ≡ suc n → A
 no_suc n e = cc
 
 behind_zero : (j : ℕ) → other_lane 0 j ≡ j + 1
-behind_zero j = rw (le-ltb 0 j (omega arith)) refl
+behind_zero j = rw (le-ltb j 0 (omega arith)) refl
 
 module _ (x : Shape) (row : RowWords) (lanes : List LaneNow) (past : Recorded) (first : Cells) (s : State) (h : ShowsSound x row lanes past first s)
     (others : (l : ℕ) (q : LaneNow) → 0 < l → slice_get lanes l ≡ Some q → q.phase ≡ Idle) where
@@ -257,8 +257,8 @@ module _ (old new : Core) (result : Stepped) (steps : (p : LaneNow) → slice_ge
       others = others_now;
       mine = λ p at.
           let same : mine_now ≡ p = same_lane (sym here_now ∙ at) in
-          subst (λ (q : LaneNow). Writes own words q.phase q new.history.entries) same
-          (subst (λ (es : List Entry). Writes own words mine_now.phase mine_now es) (sym entries_now) m.1);
+          subst (λ (q : LaneNow). IsInWrite own words q.phase q new.history.entries) same
+          (subst (λ (es : List Entry). IsInWrite own words mine_now.phase mine_now es) (sym entries_now) m.1);
     }
   ]
 

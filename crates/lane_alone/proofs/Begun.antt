@@ -15,8 +15,8 @@ use Rattle.lane_core.specs.Idle.{idle_of}
 use Rattle.lane_core.specs.Machines.{IsFresh}
 use Rattle.lane_core.specs.Reopening.{IsCoreOf, first_cells}
 use Rattle.lane_core.proofs.Put.{never}
-use Rattle.shell_sectors.specs.Alone.{IsAlone, Writes}
-use Rattle.shell_sectors.proofs.Lone.{same_lane, set_elsewhere, set_here, there}
+use Rattle.lane_alone.specs.Alone.{IsAlone, IsInWrite}
+use Rattle.lane_alone.proofs.Lone.{same_lane, set_elsewhere, set_here, there}
 
 idle_in : (lanes : List LaneState) (l : ℕ) (p : LaneNow) → slice_get (map idle_of lanes) l ≡ Some p → p.phase ≡ Idle
 idle_in [] l p at = absurd (let e = at in cc)
@@ -24,7 +24,7 @@ idle_in (lane ∷ lanes) zero p at = ap (λ (q : LaneNow). q.phase) (sym (same_l
 idle_in (lane ∷ lanes) (suc l) p at = idle_in lanes l p at
 
 begun_writes : (b : Bool) (p : LaneNow) (tag : Tag) (sector : ℕ) (words : List ℕ) (entries : List Entry) → entries ≡ []
-    → Writes sector words (if b then Staging 0 else Scanning 0) (record p { phase = if b then Staging 0 else Scanning 0; words = words; next = tag; next_sector = sector }) entries
+    → IsInWrite sector words (if b then Staging 0 else Scanning 0) (record p { phase = if b then Staging 0 else Scanning 0; words = words; next = tag; next_sector = sector }) entries
 begun_writes true p tag sector words entries none = record { busy = refl; before = λ e. (none, refl, refl); behind = λ e. never e }
 begun_writes false p tag sector words entries none = record { busy = refl; before = λ e. (none, refl, refl); behind = λ e. never e }
 
@@ -42,7 +42,7 @@ begun state old new tag sector words fresh was arena w =
       mine = λ p at.
           let same : write_begun old.shape first.0 tag sector words ≡ p =
           same_lane (sym (ap (λ (ls : List LaneNow). slice_get ls 0) lanes ∙ set_here old.lanes.items first.0 (write_begun old.shape first.0 tag sector words) first.1) ∙ at) in
-          subst (λ (q : LaneNow). Writes sector words q.phase q new.history.entries) same
+          subst (λ (q : LaneNow). IsInWrite sector words q.phase q new.history.entries) same
           (begun_writes (old.shape.lanes == 1) first.0 tag sector words new.history.entries (w.rest.entries ∙ fresh.history));
     }
 

@@ -1,5 +1,5 @@
-use Rattle.shell_sectors.proofs.Begun.{begun}
-use Rattle.shell_sectors.proofs.alone.begin_alone.Goals as goal
+use Rattle.lane_alone.proofs.Begun.{begun}
+use Rattle.lane_alone.proofs.alone.begin_alone.Goals as goal
 
 pub returns-in-Ok : goal.returns-in-Ok
 returns-in-Ok c =

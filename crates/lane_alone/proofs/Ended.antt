@@ -35,6 +35,7 @@ use Rattle.lane_core.specs.Arenas.{areas_of, shape_in}
 use Rattle.lane_core.specs.Cores.{ShowsSound}
 use Rattle.lane_core.specs.Cut.{AreLeft, IsCurrent, Recovers, half_at, is_open}
 use Rattle.lane_core.specs.Fixed.{SameFixed}
+use Rattle.lane_core.specs.Held.{held_by}
 use Rattle.lane_core.specs.History.{Cells, end_of, left_of}
 use Rattle.lane_core.specs.Invariant.{Halves, is_log_a_stored, is_log_b_stored, is_logged, is_switched, switching}
 use Rattle.lane_core.specs.Machine.{State, other}
@@ -43,8 +44,8 @@ use Rattle.lane_core.specs.Places.{geometry, shape_of}
 use Rattle.lane_core.specs.Reopening.{IsCoreOf, IsFoundAgain, IsInFlight, MaySurvive, Reopens, first_cells}
 use Rattle.lane_core.proofs.Again.{found_arena, left_opens}
 use Rattle.lane_core.proofs.Put.{never, same_or_not}
-use Rattle.shell_sectors.specs.Alone.{HasWritten, IsThrough, IsWritten, IsWrittenIn}
-use Rattle.shell_sectors.proofs.Lone.{no_suc, there}
+use Rattle.lane_alone.specs.Alone.{HasWritten, IsThrough, IsWritten, IsWrittenIn}
+use Rattle.lane_alone.proofs.Lone.{no_suc, there}
 
 both_same : (a b c : ℕ) → (a ≡ b) ⊎ (a ≡ c) → b ≡ c → a ≡ c
 both_same a b c (inl e) same = e ∙ same
@@ -135,7 +136,7 @@ module _ (first : Cells) (core : Core) (s : State) (left : List ℕ) (k : ShowsS
 
 -- ---- the arena
 
-module _ (state : ArenaState) (own : ℕ) (words : List ℕ) (core : Core) (left : List ℕ) (t : IsThrough state own words core) (cut : CutSurvives core left) (again : Reopens state core left) where
+module _ (state : ArenaState) (own : ℕ) (words : List ℕ) (core : Core) (left : List ℕ) (t : IsThrough state own words core) (cut : CutSurvives core left) (again : Reopens state (held_by core) left) where
   h : IsCoreOf state core
   h = t.arena
 
@@ -195,12 +196,12 @@ module _ (state : ArenaState) (own : ℕ) (words : List ℕ) (core : Core) (left
       ap (λ (es : List Entry). end_of (first_cells state) es i) t.wrote.1
       ∙ (λ j. put (first_cells state) (t.wrote.2 j) (left_of (t.wrote.3 j) (first_cells state (t.wrote.2 j))) i)
 
-  survives : (i : ℕ) (c : Cell) → MaySurvive (first_cells state) core i c → c ≡ put (first_cells state) own (cell.Bytes words) i
+  survives : (i : ℕ) (c : Cell) → MaySurvive (first_cells state) (held_by core) i c → c ≡ put (first_cells state) own (cell.Bytes words) i
   survives i c (inl e) = e ∙ wrote i
   survives i c (inr f) = never (sym (ap is_open (t.idle f.lane f.call f.there)) ∙ f.unfinished)
 
   module _ (behind parent : List ℕ) (arena : Opened) (opens : opening (state.words ++ behind) parent ≡ Ok arena) where
-    f : IsFoundAgain (first_cells state) core (left ++ behind) parent
+    f : IsFoundAgain state (held_by core) (left ++ behind) parent
     f = again.opens behind parent arena opens
 
     p : Parts (state.words ++ behind) parent arena
@@ -244,7 +245,7 @@ module _ (state : ArenaState) (own : ℕ) (words : List ℕ) (core : Core) (left
     written_in = record {
       opened = f.arena;
       opens = f.opens;
-      info = f.info ∙ t.arena.info;
+      info = f.info;
       none = ap (λ (o : Opened). o.moves) (ok_same f.arena found (opening (left ++ behind) parent) f.opens found_opens) ∙ none_left;
       cells = λ i lt. survives i (cell_at f.arena.info.layout (state_of (left ++ behind) f.arena).words i) (f.contents i (subst (λ (x : Shape). i < x.sectors) (sym t.arena.shape) lt));
     }

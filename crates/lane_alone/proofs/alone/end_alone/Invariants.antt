@@ -1,5 +1,5 @@
-use Rattle.shell_sectors.specs.Alone.{GoesOn, IsWriting, steps_in}
-use Rattle.shell_sectors.proofs.alone.end_alone.Given as goal
+use Rattle.lane_alone.specs.Alone.{GoesOn, IsWriting, steps_in}
+use Rattle.lane_alone.proofs.alone.end_alone.Given as goal
 
 abbrev pub invariant-steps : goal.invariant-steps
 invariant-steps l = record {

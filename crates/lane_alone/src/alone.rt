@@ -5,7 +5,7 @@ ghost use Rattle.lane_core.specs.declared.now.LaneNow.{LaneNow};
 ghost use Rattle.lane_core.specs.declared.phase.Phase.TheVariants.{Idle};
 ghost use Rattle.lane_core.specs.Machines.{IsFresh};
 ghost use Rattle.lane_core.specs.Reopening.{IsCoreOf};
-ghost use Rattle.shell_sectors.specs.Alone.{is_done, steps_in, Ends, GoesOn, IsAlone, IsThrough, IsWriting, IsWritten};
+ghost use Rattle.lane_alone.specs.Alone.{is_done, steps_in, Ends, GoesOn, IsAlone, IsThrough, IsWriting, IsWritten};
 
 use arena_open::ArenaState;
 use lane_core::{Call, Core, Stepped};
@@ -26,7 +26,7 @@ fn begin_alone(
     requires state { IsOpenState state }
     requires sector { sector < state.info.layout.external }
     requires words { length words.items ≡ state.info.layout.sector / 8 }
-    ensures alone { IfOk result (IsAlone state sector words.items) }
+    ensures { IfOk result (IsAlone state sector words.items) }
 {
     let mut core = Core::of(alloc, state)?;
     let tag = Tag {
@@ -52,7 +52,7 @@ fn is_done(stepped: Stepped) -> bool
 
 /// Makes a step of the lane, and returns whether its write is done.
 fn step_alone(core: &mut Core) -> bool
-    requires writing { IsWriting core.old }
+    requires { IsWriting core.old }
     ensures through { result ≡ true → Ends core.old core.new }
     ensures alone { result ≡ false → GoesOn core.old core.new }
     ensures fewer { result ≡ false → steps_in core.new < steps_in core.old }
@@ -63,7 +63,7 @@ fn step_alone(core: &mut Core) -> bool
 
 /// Makes steps of the lane until its write is done.
 fn end_alone(core: &mut Core)
-    requires writing { IsWriting core.old }
+    requires { IsWriting core.old }
     ensures { Ends core.old core.new }
 {
     'steps: loop {
@@ -78,7 +78,7 @@ fn end_alone(core: &mut Core)
 /// The state must be as [`open_arena`](arena_open::open_arena) returns it, the sector must exist,
 /// and `words` must have as many words as a sector. No word is pending at the end, so the words
 /// don't depend on what a power cut leaves. The call fails only if memory runs out.
-pub(crate) fn write_alone(
+pub fn write_alone(
     alloc: Global,
     state: ArenaState,
     sector: u32,
