@@ -1,7 +1,6 @@
 -- From the words of a namespace to what the command comes to.
 use Rattle.std.proofs.Common.{◌≡◌, ◌≢◌, ◌⊎◌, ℕ, suc, List, [], ◌∷◌, length, Option, Ok, Err, Result, refl, sym, ap, ◌∙◌, subst, inl, inr}
 use Rattle.cut_words.specs.Words.{Words}
-use Rattle.nfit_reader.specs.declared.table.Mapping.{Mapping}
 use Rattle.arena_open.specs.declared.chain_refused.ChainRefused.{ChainRefused}
 use Rattle.arena_open.specs.declared.state.ArenaState.{ArenaState}
 use Rattle.arena_open.specs.Writes.{IsSettled}
@@ -10,8 +9,6 @@ use Rattle.lane_replay.specs.Playing.{replay_text}
 use Rattle.power_cut.specs.Namespace.{Namespace, beside_of, over, words_of}
 use Rattle.power_cut.specs.Placed.{IsBesideSame}
 use Rattle.image_set.specs.Load.{ImageSet}
-use Rattle.namespace_areas.specs.Finding.{set_at}
-use Rattle.namespace_ops.specs.Opening.{sets_of}
 use Rattle.sector_namespaces.specs.Changing.{AreServed}
 use Rattle.sector_namespaces.specs.View.{opened_view, rows_of}
 use Rattle.shell_reports.specs.declared.outcome.Report.{Report}
@@ -64,41 +61,31 @@ others_comes leaves set uuid schedule loaded outcome (state ∷ []) other said =
 others_comes leaves set uuid schedule loaded outcome (state ∷ next ∷ states) other said = said
 
 module _ (leaves : ℕ → List (Option Words) → List (Option (List ℕ)) → Type 0) (loaded : ImageSet) (uuid : List ℕ) (schedule : Schedule) (set : FoundSet) (f : IsFoundIn loaded uuid set)
-    (region : List Mapping) (at : region ≡ set_at set.rest.registry.sets set.found.region) (outcome : Outcome) where
-  abbrev was : Namespace
-  was = over region set.found.offset set.found.raw set.contents
-
-  -- it is the place of the namespace in the loaded set
-  place_is : (modules : List Words) → over region set.found.offset set.found.raw modules ≡ place_of loaded set.found modules
-  place_is modules =
-      let set_is : region ≡ set_at (sets_of loaded.nfit) set.found.region = at ∙ ap (λ (ss : List (List Mapping)). set_at ss set.found.region) f.sets in
-      λ i. over (set_is i) set.found.offset set.found.raw modules
-
-  was_is : was ≡ place_of loaded set.found (rows_of loaded.contents)
-  was_is = place_is set.contents ∙ ap (place_of loaded set.found) f.contents
-
-  on_read : (r : Result (List ArenaState) ChainRefused) → opened_view (words_of was).kept uuid ≡ r → OnArenas (ReplaysArenas leaves uuid schedule loaded outcome set.found) uuid outcome r
+    (n : Namespace) (is : n ≡ place_of loaded set.found (rows_of loaded.contents)) (outcome : Outcome) where
+  on_read : (r : Result (List ArenaState) ChainRefused) → opened_view (words_of n).kept uuid ≡ r → OnArenas (ReplaysArenas leaves uuid schedule loaded outcome set.found) uuid outcome r
       → ReplayComes leaves uuid schedule loaded outcome
-  on_read r is arenas =
+  on_read r read arenas =
       found_comes (ReplaysArenas leaves uuid schedule loaded outcome) uuid loaded outcome set f
-      (on_words (ReplaysArenas leaves uuid schedule loaded outcome) uuid loaded outcome set.found r (ap (λ (n : Namespace). opened_view (words_of n).kept uuid) (sym was_is) ∙ is) arenas)
+      (on_words (ReplaysArenas leaves uuid schedule loaded outcome) uuid loaded outcome set.found r (ap (λ (m : Namespace). opened_view (words_of m).kept uuid) (sym is) ∙ read) arenas)
 
-  pub turned_down : IsTurnedDown was uuid outcome → ReplayComes leaves uuid schedule loaded outcome
-  turned_down (inl (states, is, (other, said))) = on_read (Ok states) is (others_comes leaves set uuid schedule loaded outcome states other said)
-  turned_down (inr (fault, is, said)) = on_read (Err fault) is said
+  -- nothing is saved
+  pub comes_not : IsTurnedDown n uuid outcome → ReplayComes leaves uuid schedule loaded outcome
+  comes_not (inl (states, read, (other, said))) = on_read (Ok states) read (others_comes leaves set uuid schedule loaded outcome states other said)
+  comes_not (inr (fault, read, said)) = on_read (Err fault) read said
 
-  pub saved_comes : (report : Report) (modules : List Words) (state : ArenaState) → report.ending ≡ ending.Done → opened_view (words_of was).kept uuid ≡ Ok (state ∷ [])
-      → report.text.items ≡ replay_text (opened_held state) schedule.lines → IsReplayed leaves was uuid schedule (words_of was).kept state modules → SavesWith report set.rest modules outcome
+  -- the set is saved
+  pub comes_done : (report : Report) (modules : List Words) (state : ArenaState) → report.ending ≡ ending.Done → opened_view (words_of n).kept uuid ≡ Ok (state ∷ [])
+      → report.text.items ≡ replay_text (opened_held state) schedule.lines → IsReplayed leaves n uuid schedule (words_of n).kept state modules → SavesWith report set.rest modules outcome
       → ReplayComes leaves uuid schedule loaded outcome
-  saved_comes report modules state ends is says r saves =
-      let Like : List ℕ → Type 0 = HasReplayed leaves uuid schedule state (words_of (place_of loaded set.found (rows_of loaded.contents))).kept in
+  comes_done report modules state ends read says r saves =
+      let moved : moved_to n modules ≡ place_of loaded set.found modules = ap (λ (m : Namespace). moved_to m modules) is in
       let has : HasReplayed leaves uuid schedule state (words_of (place_of loaded set.found (rows_of loaded.contents))).kept (words_of (place_of loaded set.found modules)).kept =
-      subst (λ (m : Namespace). HasReplayed leaves uuid schedule state (words_of (place_of loaded set.found (rows_of loaded.contents))).kept (words_of m).kept) (place_is modules)
-      (subst (λ (m : Namespace). HasReplayed leaves uuid schedule state (words_of m).kept (words_of (moved_to was modules)).kept) was_is r.has) in
-      let kept : IsSettled (words_of (place_of loaded set.found modules)) = subst (λ (m : Namespace). IsSettled (words_of m)) (place_is modules) r.settled in
-      let beside : beside_of (place_of loaded set.found modules) ≡ beside_of (place_of loaded set.found (rows_of loaded.contents)) =
-      ap beside_of (sym (place_is modules)) ∙ r.beside ∙ ap beside_of was_is in
-      let saved = saves_namespace loaded uuid set f report modules outcome Like saves kept beside has in
-      on_read (Ok (state ∷ [])) is
-      (subst (λ (e : Ending). SavesNamespace set.found loaded Like e (replay_text (opened_held state) schedule.lines) outcome) ends
-      (subst (λ (t : List ℕ). SavesNamespace set.found loaded Like report.ending t outcome) says saved))
+      subst (λ (m : Namespace). HasReplayed leaves uuid schedule state (words_of (place_of loaded set.found (rows_of loaded.contents))).kept (words_of m).kept) moved
+      (subst (λ (m : Namespace). HasReplayed leaves uuid schedule state (words_of m).kept (words_of (moved_to n modules)).kept) is r.has) in
+      let kept : IsSettled (words_of (place_of loaded set.found modules)) = subst (λ (m : Namespace). IsSettled (words_of m)) moved r.settled in
+      let beside : beside_of (place_of loaded set.found modules) ≡ beside_of (place_of loaded set.found (rows_of loaded.contents)) = ap beside_of (sym moved) ∙ r.beside ∙ ap beside_of is in
+      let saved : SavesNamespace set.found loaded (HasReplayed leaves uuid schedule state (words_of (place_of loaded set.found (rows_of loaded.contents))).kept) report.ending report.text.items outcome =
+      saves_namespace loaded uuid set f report modules outcome (HasReplayed leaves uuid schedule state (words_of (place_of loaded set.found (rows_of loaded.contents))).kept) saves kept beside has in
+      on_read (Ok (state ∷ [])) read
+      (subst (λ (e : Ending). SavesNamespace set.found loaded (HasReplayed leaves uuid schedule state (words_of (place_of loaded set.found (rows_of loaded.contents))).kept) e (replay_text (opened_held state) schedule.lines) outcome) ends
+      (subst (λ (t : List ℕ). SavesNamespace set.found loaded (HasReplayed leaves uuid schedule state (words_of (place_of loaded set.found (rows_of loaded.contents))).kept) report.ending t outcome) says saved))

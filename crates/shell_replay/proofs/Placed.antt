@@ -22,9 +22,12 @@ use Rattle.shell_replay.specs.declared.schedule.Schedule.{Schedule}
 use Rattle.shell_replay.specs.Answering.{AreKept, IsReplayed}
 use Rattle.shell_replay.specs.Replay.{held_at_end}
 
+pub opened_here : (n : Namespace) (uuid was : List ℕ) (state : ArenaState) → AreKept n uuid was (state ∷ []) → IsOpenState state
+opened_here n uuid was state k = All-head IsOpenState state [] k.are_open.each
+
 module _ (n : Namespace) (uuid was : List ℕ) (state : ArenaState) (k : AreKept n uuid was (state ∷ [])) (left : List ℕ) (size : length left ≡ length state.words) where
   is_open : IsOpenState state
-  is_open = All-head IsOpenState state [] k.are_open.each
+  is_open = opened_here n uuid was state k
 
   there : 0 < length (state ∷ [])
   there = omega arith

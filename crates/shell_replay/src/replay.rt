@@ -9,12 +9,14 @@ ghost use Rattle.sector_namespaces.specs.View.{IsUsable};
 ghost use Rattle.shell_changes.specs.Answers.{whole_outcome};
 ghost use Rattle.shell_changes.specs.Remains.{LeavesBy};
 ghost use Rattle.shell_changes.specs.Saved.{copies_contents};
+ghost use Rattle.shell_reports.specs.Faults.{refused_outcome};
+ghost use Rattle.shell_reports.specs.Saved.{outcome_of};
 ghost use Rattle.shell_sectors.specs.Found.{IsFoundIn};
 ghost use Rattle.shell_replay.specs.Answering.{AreKept, ReplaysInto, ReplaysOn};
-ghost use Rattle.shell_replay.specs.Replay.{ReplayComes};
+ghost use Rattle.shell_replay.specs.Replay.{ReplayComes, arenas_refusal};
 
 use crate::opening::{open_kept, only_arena};
-use crate::playing::{Ended, play_and_cut};
+use crate::playing::play_and_cut;
 use crate::schedule::Schedule;
 use arena_open::{ArenaState, Chain};
 use cut_words::CutWords;
@@ -55,8 +57,17 @@ fn replay_only<C: Chooser>(
 {
     one_arena_changes();
     replays_stand();
-    let Ended { text, left } = play_and_cut(alloc, state, schedule, choose)?;
-    Ok(Replayed::Done(text, put_arena(space, 0, &left)))
+    let ended = play_and_cut(alloc, state, schedule, choose)?;
+    let modules = put_arena(space, 0, &ended.left);
+    Ok(Replayed::Done(ended.text, modules))
+}
+
+/// The answer if there isn't one arena.
+fn arenas_answer(alloc: Global, count: usize) -> Result<Report, AllocError>
+    ensures { IfOk result (λ report. outcome_of report ≡ refused_outcome (arenas_refusal count)) }
+{
+    let refusal = format!(in alloc; "Arenas {}", count)?;
+    refused_answer(alloc, &refusal)
 }
 
 /// Plays a schedule on a namespace whose arenas are open, if it has one arena.
@@ -74,8 +85,8 @@ fn replay_arenas<C: Chooser>(
     match only_arena(chain) {
         Ok(state) => replay_only(alloc, space, state, schedule, choose),
         Err(count) => {
-            let refusal = format!(in alloc; "Arenas {}", count)?;
-            Ok(Replayed::Not(refused_answer(alloc, &refusal)?))
+            let report = arenas_answer(alloc, count)?;
+            Ok(Replayed::Not(report))
         }
     }
 }
@@ -99,7 +110,10 @@ fn replay_found<C: Chooser>(
 {
     match open_kept(alloc, set, found, modules, uuid) {
         Ok(OpenArenas { words, chain }) => replay_arenas(alloc, words, chain, schedule, choose),
-        Err(refused) => Ok(Replayed::Not(arena_answer(alloc, uuid, refused)?)),
+        Err(refused) => {
+            let report = arena_answer(alloc, uuid, refused)?;
+            Ok(Replayed::Not(report))
+        }
     }
 }
 
@@ -123,7 +137,8 @@ fn found_answer<C: Chooser>(
     } = set;
     let modules = contents.into_vec();
     let region = rest.registry.set(found.region);
-    match replay_found(alloc, region, &found, modules, uuid, schedule, choose)? {
+    let replayed = replay_found(alloc, region, &found, modules, uuid, schedule, choose)?;
+    match replayed {
         Replayed::Done(text, modules) => {
             let report = Report {
                 ending: Ending::Done,
@@ -159,7 +174,8 @@ pub fn replay_answer<C: Chooser>(
     ensures comes { IfOk result (λ answer. ReplayComes (LeavesBy C.begins C.picks choose.old) uuid.now schedule.now (image_set_in loaded) (whole_outcome answer)) }
     ensures whole { IfOk result (λ answer. copies_contents answer.saved ≡ false) }
 {
-    match find_in_set(alloc, loaded, uuid)? {
+    let found = find_in_set(alloc, loaded, uuid)?;
+    match found {
         SetFound::Found(set) => found_answer(alloc, set, uuid, schedule, choose),
         SetFound::Not(report) => Ok(without_set(report)),
     }
