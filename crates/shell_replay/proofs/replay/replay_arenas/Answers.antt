@@ -9,15 +9,15 @@ use Rattle.shell_replay.proofs.replay.replay_arenas.Goals as goal
 
 pub replay_only-requires-clause-ready : goal.replay_only-requires-clause-ready
 replay_only-requires-clause-ready g c =
-    (c.requires.ready.0, c.requires.ready.1, subst (λ (ss : List ArenaState). AreKept c.args.space c.requires.ready.0 c.requires.ready.1 ss) c.in-Ok.ensures c.requires.ready.2)
+    (c.requires.ready.0, c.requires.ready.1, subst (λ (ss : List ArenaState). AreKept c.args.space c.requires.ready.0 c.requires.ready.1 ss) c.in-Ok.ensures.one c.requires.ready.2)
 
 pub returns-in-Ok : goal.returns-in-Ok
 returns-in-Ok g c =
     let leaves = LeavesBy g.C.Chooser.begins g.C.Chooser.picks c.args.choose.now in
     ok_then _ _ c.replay_only.result
     (λ done into uuid was k.
-        subst (λ (ss : List ArenaState). ReplaysInto leaves c.args.space uuid c.args.schedule.now was ss done) (sym c.in-Ok.ensures)
-        (into uuid was (subst (λ (ss : List ArenaState). AreKept c.args.space uuid was ss) c.in-Ok.ensures k)))
+        subst (λ (ss : List ArenaState). ReplaysInto leaves c.args.space uuid c.args.schedule.now was ss done) (sym c.in-Ok.ensures.one)
+        (into uuid was (subst (λ (ss : List ArenaState). AreKept c.args.space uuid was ss) c.in-Ok.ensures.one k)))
     c.replay_only.ensures
 
 pub returns-in-Err : goal.returns-in-Err
