@@ -30,10 +30,10 @@ use Rattle.shell_replay.specs.Replay.{HasReplayed, ReplayComes, ReplaysArenas, a
 
 -- ---- what was opened
 
-module _ (leaves : ℕ → List (Option Words) → List (Option (List ℕ)) → Type 0) (n now : Namespace) (uuid : List ℕ) (schedule : Schedule) (states : List ArenaState) (s : AreServed n now uuid states) where
-  pub are_kept : KeepsBehind (words_of n).kept (words_of now).kept states → AreKept now uuid (words_of n).kept states
-  are_kept kept = record { settled = s.settled; few = s.few; are_open = s.are_open; found = s.found; kept = kept }
+pub are_kept : (n now : Namespace) (uuid : List ℕ) (states : List ArenaState) → AreServed n now uuid states → KeepsBehind (words_of n).kept (words_of now).kept states → AreKept now uuid (words_of n).kept states
+are_kept n now uuid states s kept = record { settled = s.settled; few = s.few; are_open = s.are_open; found = s.found; kept = kept }
 
+module _ (leaves : ℕ → List (Option Words) → List (Option (List ℕ)) → Type 0) (n now : Namespace) (uuid : List ℕ) (schedule : Schedule) (states : List ArenaState) (s : AreServed n now uuid states) where
   moved_is : (modules : List Words) → moved_to now modules ≡ moved_to n modules
   moved_is modules = λ i. record { set = s.beside.set i; offset = s.beside.offset i; raw = s.beside.raw i; modules = modules }
 

@@ -28,9 +28,7 @@ one_link (suc n) words parent opened some is last =
 module _ (old new : Words) (left : Option ℕ) (uuid : List ℕ) (was_settled : IsSettled old) (some : length old.kept ≢ 0) (made : Recovers old new None left uuid 0) where
   same_behind : (state : ArenaState) → Walk old.kept uuid 0 (state ∷ []) → drop (state.info.layout.size / 8) new.kept ≡ drop (state.info.layout.size / 8) old.kept
   same_behind state w =
-      let o : Opened = w.0 in
       let last : w.0.info.next ≡ 0 = elim w.4 [ inl l ↦ l.0 | inr r ↦ absurd r.1 ] in
-      let link : Link = record { at = 0; opened = w.0 } in
       let links : (chain_of old.kept uuid 0).links ≡ record { at = 0; opened = w.0 } ∷ [] = one_link (length old.kept) old.kept uuid w.0 some w.1 last in
       let steps : chain_steps old.kept (chain_of old.kept uuid 0).links ≡ write_steps (writes_of 0 old.kept w.0) =
       ap (chain_steps old.kept) links ∙ append-nil (write_steps (writes_of 0 old.kept w.0)) in

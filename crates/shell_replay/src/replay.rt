@@ -53,7 +53,7 @@ fn replay_only<C: Chooser>(
 ) -> Result<Replayed, AllocError>
     requires ready { (uuid was : List ℕ) × AreKept space uuid was (state ∷ []) }
     requires few { length schedule.now.lines < 2 ^ 32 }
-    ensures { IfOk result (λ done. (uuid was : List ℕ) → AreKept space uuid was (state ∷ []) → ReplaysInto (LeavesBy C.begins C.picks choose.old) space.entry uuid schedule.now was (state ∷ []) done) }
+    ensures { IfOk result (λ done. (uuid was : List ℕ) → AreKept space.entry uuid was (state ∷ []) → ReplaysInto (LeavesBy C.begins C.picks choose.old) space.entry uuid schedule.now was (state ∷ []) done) }
 {
     one_arena_changes();
     replays_stand();
@@ -80,7 +80,7 @@ fn replay_arenas<C: Chooser>(
 ) -> Result<Replayed, AllocError>
     requires ready { (uuid was : List ℕ) × AreKept space uuid was chain }
     requires few { length schedule.now.lines < 2 ^ 32 }
-    ensures { IfOk result (λ done. (uuid was : List ℕ) → AreKept space uuid was chain → ReplaysInto (LeavesBy C.begins C.picks choose.old) space.entry uuid schedule.now was chain done) }
+    ensures { IfOk result (λ done. (uuid was : List ℕ) → AreKept space.entry uuid was chain → ReplaysInto (LeavesBy C.begins C.picks choose.old) space.entry uuid schedule.now was chain done) }
 {
     match only_arena(chain) {
         Ok(state) => replay_only(alloc, space, state, schedule, choose),
@@ -109,7 +109,10 @@ fn replay_found<C: Chooser>(
     ensures { IfOk result (ReplaysOn (LeavesBy C.begins C.picks choose.old) (over set.now found.now.offset found.now.raw modules.items) uuid.now schedule.now) }
 {
     match open_kept(alloc, set, found, modules, uuid) {
-        Ok(OpenArenas { words, chain }) => replay_arenas(alloc, words, chain, schedule, choose),
+        Ok(opened) => {
+            let OpenArenas { words, chain } = opened;
+            replay_arenas(alloc, words, chain, schedule, choose)
+        }
         Err(refused) => {
             let report = arena_answer(alloc, uuid, refused)?;
             Ok(Replayed::Not(report))

@@ -13,6 +13,7 @@ use Rattle.cut_words.proofs.Put.{length_put}
 use Rattle.arena_layout.specs.declared.info.Info.{Info}
 use Rattle.arena_open.specs.declared.cell.Cell.{Cell}
 use Rattle.arena_open.specs.declared.cell.Cell.TheVariants as cell
+use Rattle.arena_open.specs.declared.opened.Opened.{Opened}
 use Rattle.arena_open.specs.declared.state.ArenaState.{ArenaState}
 use Rattle.arena_open.specs.Chain.{found_again}
 use Rattle.arena_open.specs.ChainCells.{LiesIn, cells_of, contents_of, external_of, sectors_of}

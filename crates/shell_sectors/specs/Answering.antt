@@ -1,34 +1,22 @@
 -- From the words of a namespace to the answer of `write`.
-use Rattle.std.specs.Prelude.{◌≡◌, ◌⊎◌, ℕ, ◌<◌, ◌^◌, List, length, map, slice_index, Option, Some, None, Ok, Err}
-use Rattle.std.specs.Option.{option_map}
-use Rattle.std.specs.List.{All}
-use Rattle.cut_words.specs.Words.{Words, IsLeft}
+use Rattle.std.specs.Prelude.{◌≡◌, ◌⊎◌, ℕ, List, slice_index, Some, None, Ok, Err}
+use Rattle.cut_words.specs.Words.{Words}
 use Rattle.cut_words.specs.WordBytes.{words_in}
-use Rattle.nfit_reader.specs.declared.table.Mapping.{Mapping}
 use Rattle.arena_open.specs.declared.chain_refused.ChainRefused.{ChainRefused}
 use Rattle.arena_open.specs.declared.state.ArenaState.{ArenaState}
 use Rattle.arena_open.specs.ChainCells.{LiesIn, sizes_of}
 use Rattle.arena_open.specs.Writes.{IsSettled}
-use Rattle.power_cut.specs.Left.{Each}
 use Rattle.power_cut.specs.Namespace.{Namespace, beside_of, words_of}
-use Rattle.image_set.specs.Changed.{objects_of}
-use Rattle.image_set.specs.Load.{ImageSet, bytes_kept}
-use Rattle.namespace_areas.specs.declared.area.Area.{Area}
-use Rattle.namespace_areas.specs.Seen.{words_of as area_words}
-use Rattle.namespace_ops.specs.Opening.{sets_of}
-use Rattle.sector_namespaces.specs.View.{opened_view, rows_of}
+use Rattle.sector_namespaces.specs.View.{opened_view}
 use Rattle.session_script.specs.declared.payload.Payload.{Payload}
-use Rattle.shell_reports.specs.declared.status.Ending.TheVariants as ending
-use Rattle.shell_reports.specs.Cut.{done_text}
 use Rattle.shell_reports.specs.Faults.{arena_outcome, refused_outcome}
 use Rattle.shell_reports.specs.Outcome.{Outcome}
-use Rattle.shell_reports.specs.Saved.{IsSaving, outcome_of}
-use Rattle.shell_sectors.specs.declared.saving.Rest.{Rest}
+use Rattle.shell_reports.specs.Saved.{outcome_of}
 use Rattle.shell_sectors.specs.declared.write.Written.{Written}
 use Rattle.shell_sectors.specs.declared.write.Written.TheVariants as written
 use Rattle.shell_sectors.specs.Changed.{IsChanged, moved_to}
 use Rattle.shell_sectors.specs.Value.{bytes_for}
-use Rattle.shell_sectors.specs.Write.{HasSector, with_contents, write_refusal}
+use Rattle.shell_sectors.specs.Write.{HasSector, write_refusal}
 
 -- ---- on arenas that are open
 

@@ -20,7 +20,7 @@ returns-in-Ok g c =
         (into uuid was (subst (λ (ss : List ArenaState). AreKept c.args.space uuid was ss) c.in-Ok.ensures.one k)))
     c.replay_only.ensures
 
-pub returns-in-Err : goal.returns-in-Err
-returns-in-Err g c = λ uuid was k.
+pub returns-in_ok-report-in-Err : goal.returns-in_ok-report-in-Err
+returns-in_ok-report-in-Err g c = λ uuid was k.
     let others = c.only_arena.ensures.others c.in-Err.count c.in-Err.is in
-    (others.1, c.in_ok-report.ensures ∙ ap (λ (n : ℕ). refused_outcome (arenas_refusal n)) others.0)
+    (others.1, c.in_ok-report-in-Err.ensures ∙ ap (λ (n : ℕ). refused_outcome (arenas_refusal n)) others.0)
