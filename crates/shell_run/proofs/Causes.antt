@@ -1,6 +1,6 @@
 -- The status is the one that is due.
-use Rattle.std.proofs.Common.{◌≡◌, ℕ, ◌/◌, Bool, true, false, List, [], length, Option, Some, None, Result, Ok, Err, refl, sym, ap, ◌∙◌, subst, inl, inr, arith}
-use Rattle.std.specs.Prelude.{◌⊎◌, ◌||◌, not, nat_lt, is_some, is_err, MatchBool, MatchOption, IsTrue, if◌then◌else◌}
+use Rattle.std.proofs.Common.{◌≡◌, ℕ, ◌/◌, Bool, true, false, List, [], ◌∷◌, length, Option, Some, None, Result, Ok, Err, refl, sym, ap, ◌∙◌, subst, inl, inr, arith}
+use Rattle.std.specs.Prelude.{◌⊎◌, ◌||◌, not, nat_lt, is_some, is_err, MatchBool, MatchOption, IsTrue, ⊤, if◌then◌else◌}
 use Rattle.nvd_media.specs.Images.{Images}
 use Rattle.cut_words.specs.Words.{Words}
 use Rattle.cut_words.specs.Fuses.{lasts}
@@ -321,7 +321,7 @@ module _ (leaves : ℕ → List (Option Words) → List (Option (List ℕ)) → 
       script_ending command script set outcome (due script told) ∙ sym (ap (λ (o : Option Command). ending_with o script (loading set)) is)
 
   pub status_due : StatusIsDue leaves
-  status_due words set script left made made' text text' faulted status.ReadFault told ends = inr tt
-  status_due words set script left made made' text text' faulted status.WriteFault told ends = inr tt
-  status_due words set script left made made' text text' faulted status.OutOfMemory told ends = inr tt
-  status_due words set script left made made' text text' faulted other told ends = inl (sym ends.2 ∙ ap status_of (due_by words set script left ends.0 (command_of words) refl told ends.1))
+  status_due words set script left made made' text text' images images' source source' status.ReadFault told ends = inr tt
+  status_due words set script left made made' text text' images images' source source' status.WriteFault told ends = inr tt
+  status_due words set script left made made' text text' images images' source source' status.OutOfMemory told ends = inr tt
+  status_due words set script left made made' text text' images images' source source' other told ends = inl (sym ends.2 ∙ ap status_of (due_by words set script left ends.0 (command_of words) refl told ends.1))

@@ -1,5 +1,6 @@
 -- Laws about what a run comes to.
 use Rattle.std.specs.Prelude.{⊤, ◌≡◌, ◌⊎◌, ℕ, ◌/◌, Bool, IsTrue, List, length, Option, Some, MatchOption}
+use Rattle.nvd_media.specs.Causes.{Rose}
 use Rattle.nvd_media.specs.Images.{Images, IsSameSet}
 use Rattle.cut_words.specs.Words.{Words}
 use Rattle.cut_words.specs.WordBytes.{bytes_of}
@@ -24,8 +25,8 @@ IsScriptTold words left script = MatchOption (command_of words) ⊤ (λ command.
 
 -- a law: the status is the one that is due by the table, unless something outside failed or memory ran out
 abbrev pub StatusIsDue : (ℕ → List (Option Words) → List (Option (List ℕ)) → Type 0) → Type 0
-StatusIsDue leaves = (words : List (List ℕ)) (set : Images) (script : List ℕ) (left : Option (List ℕ)) (made made' : Option Images) (text text' : Option (List ℕ)) (faulted : Type 0) (s : Status)
-    → IsScriptTold words left script → Ends faulted (copies_by words) (IsDue leaves words (Some set) left) made made' text text' s
+StatusIsDue leaves = (words : List (List ℕ)) (set : Images) (script : List ℕ) (left : Option (List ℕ)) (made made' : Option Images) (text text' : Option (List ℕ)) (images images' source source' : ℕ) (s : Status)
+    → IsScriptTold words left script → Ends (Rose images images' ⊎ Rose source source') (copies_by words) (IsDue leaves words (Some set) left) made made' text text' s
     → (s ≡ status_of (ending_due words script set)) ⊎ IsFromOutside s
 
 -- ---- what `init` leaves
