@@ -1,8 +1,8 @@
 -- What a write leaves of an arena's words once it is through, and no lane is in a call.
-use Rattle.std.proofs.Common.{◌≡◌, ◌≢◌, ◌⊎◌, ℕ, zero, suc, ◌+◌, ◌-◌, ◌*◌, ◌/◌, ◌<◌, ◌≤◌, Bool, true, false, not, List, [], ◌∷◌, ◌++◌, length, map, take, get_or, slice_get, Some, Ok, Result, refl, sym, ap, ◌∙◌, subst, inl, inr, arith}
+use Rattle.std.proofs.Common.{◌≡◌, ◌≢◌, ◌⊎◌, ℕ, zero, suc, ◌+◌, ◌*◌, ◌/◌, ◌<◌, ◌≤◌, Bool, true, false, not, List, [], ◌++◌, length, map, get_or, Ok, Result, refl, sym, ap, ◌∙◌, subst, inl, inr, arith}
 use Rattle.std.specs.Prelude.{◌&&◌, ◌==◌, filter, if◌then◌else◌}
 use Rattle.std.specs.List.{range_with_len}
-use Rattle.std.proofs.lemmas.Bool.{cases_Bool, eq-eqb, ne_eqb}
+use Rattle.std.proofs.lemmas.Bool.{eq-eqb, ne_eqb}
 use Rattle.std.proofs.lemmas.List.{get_or_append_left, take-append-le}
 use Rattle.std.proofs.lemmas.List.FromFn.{get_or-map-range_with_len}
 use Rattle.cut_words.specs.WordBytes.{bytes_of}
@@ -23,7 +23,6 @@ use Rattle.arena_open.specs.Reading.{cell_at, info_bytes, map_in, opening}
 use Rattle.arena_open.specs.Reading.{entry_at as found_entry, is_pending as is_found_pending}
 use Rattle.arena_open.proofs.Apart.{ordered}
 use Rattle.arena_open.proofs.Opening.{Parts, parts}
-use Rattle.lane_core.specs.declared.history.Act.{Act}
 use Rattle.lane_core.specs.declared.history.Entry.{Entry}
 use Rattle.lane_core.specs.declared.lane.Lane.{Lane}
 use Rattle.lane_core.specs.declared.machine.Core.{Core}
@@ -31,20 +30,20 @@ use Rattle.lane_core.specs.declared.phase.Phase.{Phase}
 use Rattle.lane_core.specs.declared.phase.Phase.TheVariants.{Idle}
 use Rattle.lane_core.specs.declared.shape.Shape.{Shape}
 use Rattle.lane_core.specs.Areas.{Areas, IsNewer, block_in, entry_at, half_in, mapped, put, seq_in}
-use Rattle.lane_core.specs.Arenas.{areas_of, shape_in}
+use Rattle.lane_core.specs.Arenas.{areas_of}
 use Rattle.lane_core.specs.Cores.{ShowsSound}
 use Rattle.lane_core.specs.Cut.{AreLeft, IsCurrent, Recovers, half_at, is_open}
 use Rattle.lane_core.specs.Fixed.{SameFixed}
 use Rattle.lane_core.specs.Held.{held_by}
 use Rattle.lane_core.specs.History.{Cells, end_of, left_of}
-use Rattle.lane_core.specs.Invariant.{Halves, is_log_a_stored, is_log_b_stored, is_logged, is_switched, switching}
+use Rattle.lane_core.specs.Invariant.{Halves, is_log_a_stored, is_log_b_stored, is_logged, is_switched}
 use Rattle.lane_core.specs.Machine.{State, other}
 use Rattle.lane_core.specs.Machines.{CutSurvives}
 use Rattle.lane_core.specs.Places.{geometry, shape_of}
-use Rattle.lane_core.specs.Reopening.{IsCoreOf, IsFoundAgain, IsInFlight, MaySurvive, Reopens, first_cells}
+use Rattle.lane_core.specs.Reopening.{IsCoreOf, IsFoundAgain, MaySurvive, Reopens, first_cells}
 use Rattle.lane_core.proofs.Again.{found_arena, left_opens}
 use Rattle.lane_core.proofs.Put.{never, same_or_not}
-use Rattle.lane_alone.specs.Alone.{HasWritten, IsThrough, IsWritten, IsWrittenIn}
+use Rattle.lane_alone.specs.Alone.{IsThrough, IsWritten, IsWrittenIn}
 use Rattle.lane_alone.proofs.Lone.{no_suc, there}
 
 both_same : (a b c : ℕ) → (a ≡ b) ⊎ (a ≡ c) → b ≡ c → a ≡ c

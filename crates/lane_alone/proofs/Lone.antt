@@ -1,8 +1,7 @@
 -- A lane that writes while no other lane is in a call: it goes on with each step, and ends.
-use Rattle.std.proofs.Common.{◌≡◌, ◌≢◌, ◌⊎◌, ℕ, zero, suc, ◌+◌, ◌-◌, ◌*◌, ◌/◌, ◌%◌, ◌<◌, ◌≤◌, Bool, true, false, List, [], ◌∷◌, ◌++◌, length, get_or, slice_get, slice_set, Some, None, refl, sym, ap, ◌∙◌, subst, inl, inr, arith, mod-lt}
-use Rattle.std.specs.Prelude.{◌==◌, nat_lt, if◌then◌else◌}
+use Rattle.std.proofs.Common.{◌≡◌, ◌⊎◌, ℕ, zero, suc, ◌+◌, ◌*◌, ◌/◌, ◌<◌, ◌≤◌, true, false, List, [], ◌∷◌, ◌++◌, length, slice_get, slice_set, Some, refl, sym, ap, ◌∙◌, subst, inl, inr, arith, mod-lt}
+use Rattle.std.specs.Prelude.{nat_lt, if◌then◌else◌}
 use Rattle.std.proofs.lemmas.Bool.{cases_Bool, cases_eq, eq-eqb, ne_eqb, le-ltb}
-use Rattle.std.proofs.lemmas.Option.{slice_get-get_or}
 use Rattle.arena_open.specs.declared.state.ArenaState.{ArenaState}
 use Rattle.lane_core.specs.declared.history.Act.TheVariants as act
 use Rattle.lane_core.specs.declared.history.Entry.{Entry}
@@ -25,10 +24,9 @@ use Rattle.lane_core.specs.Lines.{kept_phase, scanned, word_at, wrote_now}
 use Rattle.lane_core.specs.Machine.{State, lock_of, looked, other_lane}
 use Rattle.lane_core.specs.Machines.{StepsOnce}
 use Rattle.lane_core.specs.Places.{geometry, Lock, Reader}
-use Rattle.lane_core.specs.Rows.{Recorded, RowWords, grown}
-use Rattle.lane_core.specs.Sessions.{least_steps, write_steps}
+use Rattle.lane_core.specs.Rows.{Recorded, RowWords}
 use Rattle.lane_core.proofs.Put.{never}
-use Rattle.lane_alone.specs.Alone.{GoesOn, Ends, HasWritten, IsAlone, IsThrough, IsWriting, IsInWrite, is_done, sector_at, steps_in, steps_left, steps_of}
+use Rattle.lane_alone.specs.Alone.{HasWritten, IsAlone, IsThrough, IsInWrite, is_done, steps_in, steps_left, steps_of}
 
 -- ---- a line of the lane
 

@@ -52,7 +52,8 @@ fn power_in(values: &Parsed<'_>) -> Option<Power>
 
 /// The command `write`.
 fn write_in(alloc: Global, values: &Parsed<'_>) -> Result<Option<Command>, AllocError>
-    ensures { IfOk result (λ command. command ≡ write_in (rows values.now)) }
+    ensures command { IfOk result (λ command. command ≡ write_in (rows values.now)) }
+    ensures name { IfOk result (λ command. IfSome command GivesGoodName) }
 {
     let Some(uuid) = values.uuid("uuid") else {
         return Ok(None);

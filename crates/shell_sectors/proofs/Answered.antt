@@ -1,7 +1,6 @@
 -- From the arenas of a namespace to what a write on it comes to.
-use Rattle.std.proofs.Common.{◌≡◌, ◌≢◌, ◌⊎◌, ℕ, ◌%◌, ◌<◌, ◌≤◌, Bool, true, false, List, [], ◌∷◌, length, map, get_or, Option, Some, None, Result, Ok, Err, refl, sym, ap, ◌∙◌, subst, inl, inr, arith}
-use Rattle.std.specs.Prelude.{◌==◌, nat_lt, if◌then◌else◌, slice_index, MatchOption, IsTrue}
-use Rattle.std.specs.List.{range_with_len}
+use Rattle.std.proofs.Common.{◌≡◌, ◌≢◌, ℕ, ◌%◌, ◌<◌, ◌≤◌, List, [], ◌∷◌, length, get_or, Option, Some, None, Result, Ok, Err, refl, sym, ap, ◌∙◌, subst, inl, inr, arith}
+use Rattle.std.specs.Prelude.{slice_index, MatchOption, IsTrue}
 use Rattle.std.proofs.lemmas.Bool.{eq-eqb, ne_eqb, le-ltb, lt-ltb}
 use Rattle.std.proofs.lemmas.List.FromFn.{length-map-range_with_len}
 use Rattle.std.proofs.lemmas.List.Sums.{sum_by_more_le}
@@ -9,7 +8,6 @@ use Rattle.cut_words.specs.Words.{Words}
 use Rattle.cut_words.specs.WordBytes.{words_in}
 use Rattle.nfit_reader.specs.declared.table.Mapping.{Mapping}
 use Rattle.arena_layout.specs.Layout.{is_sector}
-use Rattle.arena_layout.proofs.Sectors.{sector_elim}
 use Rattle.arena_open.specs.declared.chain_refused.ChainRefused.{ChainRefused}
 use Rattle.arena_open.specs.declared.state.ArenaState.{ArenaState}
 use Rattle.arena_open.specs.ChainCells.{AreOpen, LiesIn, external_of, sectors_of, sizes_of}
@@ -19,7 +17,6 @@ use Rattle.arena_open.proofs.ChainSectors.{size_there}
 use Rattle.power_cut.specs.Namespace.{Namespace, beside_of, over, row_beside, words_of}
 use Rattle.power_cut.specs.Placed.{IsBesideSame}
 use Rattle.image_set.specs.Load.{ImageSet}
-use Rattle.namespace_areas.specs.declared.found.Found.{Found}
 use Rattle.namespace_areas.specs.Finding.{set_at}
 use Rattle.sector_namespaces.specs.Changing.{AreServed, IsWithin}
 use Rattle.sector_namespaces.specs.Creation.{AreSettled}
@@ -31,7 +28,6 @@ use Rattle.shell_reports.specs.declared.status.Ending.TheVariants as ending
 use Rattle.shell_reports.specs.Cut.{done_text}
 use Rattle.shell_reports.specs.Faults.{refused_outcome}
 use Rattle.shell_reports.specs.Outcome.{Outcome}
-use Rattle.shell_reports.specs.Saved.{outcome_of}
 use Rattle.shell_sectors.specs.declared.finding.FoundSet.{FoundSet}
 use Rattle.shell_sectors.specs.declared.write.Written.{Written}
 use Rattle.shell_sectors.specs.declared.write.Written.TheVariants as written
@@ -42,9 +38,6 @@ use Rattle.shell_sectors.specs.Saving.{SavesWith}
 use Rattle.shell_sectors.specs.Value.{bytes_for}
 use Rattle.shell_sectors.specs.Write.{HasSector, WriteComes, Writes, WritesArenas, length_refusal, length_text, range_text, write_refusal}
 use Rattle.shell_sectors.proofs.Coming.{found_comes, on_words, rows_settled, saves_namespace}
-
-is_true : {b : Bool} → IsTrue b → b ≡ true
-is_true {true} t = refl
 
 count_beside : (n : Namespace) → length (beside_of n) ≡ length n.modules
 unfolding beside_of
@@ -81,10 +74,13 @@ some_state [] k lt = absurd (omega (arith, lt))
 some_state (state ∷ states) k lt = state
 
 eights : (bytes : ℕ) → IsTrue (is_sector bytes) → bytes % 8 ≡ 0
-eights bytes is = sector_elim (λ (n : ℕ). n % 8 ≡ 0) refl refl refl refl refl refl refl bytes (is_true is)
+unfolding is_sector
+eights bytes is = grind arith
 
-pub eights_at : (states : List ArenaState) (k : ℕ) (d : ArenaState) → k < length states → AreOpen states → (get_or states k d).info.layout.sector % 8 ≡ 0
-eights_at states k d lt are = let s : IsOpenState (get_or states k d) = are.each k d lt in eights (get_or states k d).info.layout.sector s.sound.layout.sector
+pub eights_there : (states : List ArenaState) (k : ℕ) → k < length states → AreOpen states → (had : ℕ) → ((d : ArenaState) → had ≡ (get_or states k d).info.layout.sector) → had % 8 ≡ 0
+eights_there states k lt are had is =
+    let s : IsOpenState (get_or states k (some_state states k lt)) = are.each k (some_state states k lt) lt in
+    eights had (subst (λ (n : ℕ). IsTrue (is_sector n)) (sym (is (some_state states k lt))) s.sound.layout.sector)
 
 module _ (states : List ArenaState) (sector which own : ℕ) (value : Payload) (l : LiesIn states sector which own)
     (had : ℕ) (is : (d : ArenaState) → had ≡ (get_or states which d).info.layout.sector) where

@@ -1,6 +1,6 @@
 -- A namespace's words after one sector of one of its arenas was written.
-use Rattle.std.proofs.Common.{◌≡◌, ◌≢◌, ℕ, zero, suc, ◌+◌, ◌-◌, ◌/◌, ◌<◌, ◌≤◌, List, [], ◌∷◌, ◌++◌, length, map, take, drop, get_or, Option, Some, Ok, refl, sym, ap, ◌∙◌, subst, inl, inr, arith}
-use Rattle.std.specs.List.{All, flat_map, range_with_len, slice_get}
+use Rattle.std.proofs.Common.{◌≡◌, ◌≢◌, ℕ, zero, suc, ◌+◌, ◌-◌, ◌/◌, ◌<◌, ◌≤◌, List, [], ◌∷◌, ◌++◌, length, map, take, drop, get_or, Some, Ok, refl, sym, ap, ◌∙◌, subst, inl, inr, arith}
+use Rattle.std.specs.List.{All, flat_map, slice_get}
 use Rattle.std.specs.Option.{option_map}
 use Rattle.std.proofs.Math.ListN.{set}
 use Rattle.std.proofs.lemmas.List.{drop-drop, drop_at, ext_get_or, get_or-map, get_or-set_other, get_or-set_same, length-append, length-drop, length-map, length-set, length-take-le, map-set, nil_from_length, set-append_left, set-append_right, set-get_or, take-append-drop, take_at}
@@ -153,10 +153,10 @@ module _ (W : List ℕ) (states : List ArenaState) (which : ℕ) (state : ArenaS
   }
 
   module _ (o : Opened) (opens : opening (left ++ behind_of) uuid ≡ Ok o) (info : o.info ≡ state.info) where
-    abbrev new : ArenaState
-    new = state_of (left ++ behind_of) o
+    abbrev put_state : ArenaState
+    put_state = state_of (left ++ behind_of) o
 
-    found : IsFoundAs (drop p now) uuid new
+    found : IsFoundAs (drop p now) uuid put_state
     found = record {
       opened = o;
       opens = ap (λ (ws : List ℕ). opening ws uuid) now_drop ∙ opens;
@@ -166,9 +166,9 @@ module _ (W : List ℕ) (states : List ArenaState) (which : ℕ) (state : ArenaS
     -- then only this arena is another one
     pub opens_now : OneArenaChanges → opened_view (put_at W (start_of (take which states)) left) uuid ≡ Ok (set (map found_again states) which (state_of (left ++ behind_of) o))
     opens_now law =
-        law W now uuid (map found_again states) which (found_again state) new e count (sym again_is) info
+        law W now uuid (map found_again states) which (found_again state) put_state e count (sym again_is) info
         (subst (λ (q : ℕ). DifferIn q (state.info.layout.size / 8) W now) (sym (start_take which states)) differ)
-        (subst (λ (q : ℕ). IsFoundAs (drop q now) uuid new) (sym (start_take which states)) found)
+        (subst (λ (q : ℕ). IsFoundAs (drop q now) uuid put_state) (sym (start_take which states)) found)
 
 -- ---- a sector is written
 

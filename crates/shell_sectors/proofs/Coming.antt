@@ -1,7 +1,6 @@
 -- From a loaded set to what a command on the arenas of one of its namespaces comes to.
-use Rattle.std.proofs.Common.{◌≡◌, ◌⊎◌, ℕ, List, [], ◌∷◌, length, map, Option, Some, None, Result, Ok, Err, refl, sym, ap, ◌∙◌, subst, inl, inr}
+use Rattle.std.proofs.Common.{◌≡◌, ℕ, List, [], ◌∷◌, length, map, Option, Result, Ok, Err, refl, sym, ◌∙◌, subst, inl, inr}
 use Rattle.std.specs.Prelude.{IfOk, MatchOption}
-use Rattle.std.specs.List.{All}
 use Rattle.std.proofs.lemmas.List.Elements.{All-cons, All-nil}
 use Rattle.std.proofs.lemmas.Simd.{map-map}
 use Rattle.cut_words.specs.Words.{Words, settled}
@@ -22,7 +21,7 @@ use Rattle.sector_namespaces.specs.View.{opened_view, rows_of, view_words}
 use Rattle.sector_namespaces.proofs.Formats.{same_counts}
 use Rattle.shell_changes.proofs.Contents.{left_beside, left_words}
 use Rattle.shell_reports.specs.declared.outcome.Report.{Report}
-use Rattle.shell_reports.specs.Causes.{fault_in, found_in, opened_in}
+use Rattle.shell_reports.specs.Causes.{found_in, opened_in}
 use Rattle.shell_reports.specs.List.{open_outcome}
 use Rattle.shell_reports.specs.Outcome.{Outcome}
 use Rattle.shell_sectors.specs.declared.finding.FoundSet.{FoundSet}

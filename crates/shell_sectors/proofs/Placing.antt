@@ -1,12 +1,11 @@
 -- From the words of an arena to those of all modules.
-use Rattle.std.proofs.Common.{◌≡◌, ℕ, ◌+◌, ◌*◌, ◌/◌, ◌^◌, ◌<◌, ◌≤◌, List, length, map, take, get_or, Ok, refl, sym, ap, ◌∙◌, subst, arith}
+use Rattle.std.proofs.Common.{◌≡◌, ℕ, ◌+◌, ◌^◌, ◌<◌, ◌≤◌, List, length, map, take, get_or, sym, ap, subst, arith}
 use Rattle.cut_words.specs.Words.{Words, settled}
 use Rattle.cut_words.specs.WordBytes.{put_at}
 use Rattle.arena_open.specs.declared.state.ArenaState.{ArenaState}
 use Rattle.arena_open.specs.Chain.{found_again}
 use Rattle.arena_open.specs.ChainCells.{AreOpen}
 use Rattle.arena_open.specs.Moves.{IsOpenState}
-use Rattle.arena_open.specs.Writes.{IsSettled}
 use Rattle.power_cut.specs.Namespace.{Namespace, beside_of, words_of}
 use Rattle.power_cut.specs.Placed.{IsBesideSame}
 use Rattle.sector_namespaces.specs.Changing.{OneArenaChanges, start_of}

@@ -1,6 +1,5 @@
 -- The set that is saved with the words of the contents.
 use Rattle.std.proofs.Common.{◌≡◌, ℕ, zero, suc, ◌^◌, ◌<◌, List, [], ◌∷◌, length, map, get_or, Option, Some, None, refl, sym, ap, ◌∙◌, subst}
-use Rattle.std.specs.List.{slice_get}
 use Rattle.std.specs.Option.{option_map}
 use Rattle.std.proofs.lemmas.List.Elements.{All-head, All-tail}
 use Rattle.std.proofs.lemmas.Option.{slice_get-map}
@@ -18,7 +17,9 @@ use Rattle.namespace_areas.specs.Opening.{AreWhole, IsWhole}
 use Rattle.namespace_areas.specs.Seen.{words_of as area_words}
 use Rattle.namespace_areas.proofs.Seen.{left_kept}
 use Rattle.shell_reports.specs.declared.outcome.Report.{Report}
-use Rattle.shell_reports.specs.Outcome.{Outcome}
+use Rattle.shell_changes.specs.declared.answer.Left.{Left as SavedLeft}
+use Rattle.shell_changes.specs.declared.answer.Left.TheVariants.{Whole}
+use Rattle.shell_changes.specs.Saved.{objects_saved}
 use Rattle.shell_sectors.specs.declared.finding.Unchanged.{Unchanged}
 use Rattle.shell_sectors.specs.Found.{HasModules, IsUnchanged, with_contents}
 use Rattle.shell_sectors.specs.Saving.{SavesWith}
@@ -65,16 +66,16 @@ module _ (rest : Unchanged) (contents : List Words) (images : Left) (left : IsLe
   same_set loaded is (object.Contents k) = sym (slice_get-map bytes_of images.contents k)
   same_set loaded is (object.BadRanges k) = ap (λ (bad : List (Option (List ℕ))). get_or bad k None) (sym is.bad)
 
-  pub saves_with : (report : Report) (outcome : Outcome)
-      → outcome ≡ record { ending = report.ending; text = report.text.items; saved = Some (set_of rest.nfit_bytes images rest.bad) } → SavesWith report rest contents outcome
-  saves_with report outcome is = (
+  pub saves_with : (report : Report) (saved : SavedLeft) → saved ≡ Whole (record { nfit = rest.nfit_bytes; images = images; bad = rest.bad })
+      → SavesWith report rest contents (record { ending = report.ending; text = report.text.items; saved = Some (objects_saved [] saved) })
+  saves_with report saved is = (
     images.contents,
     left.contents,
     λ loaded same. record {
-      ends = ap (λ (o : Outcome). o.ending) is;
-      says = ap (λ (o : Outcome). o.text) is;
+      ends = refl;
+      says = refl;
       saved = set_of rest.nfit_bytes images rest.bad;
-      saves = ap (λ (o : Outcome). o.saved) is;
+      saves = ap (λ (l : SavedLeft). Some (objects_saved [] l)) is;
       same = same_set loaded same;
     },
   )

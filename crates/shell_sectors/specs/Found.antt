@@ -20,7 +20,6 @@ use Rattle.namespace_ops.specs.Registered.{state_of}
 use Rattle.namespace_ops.specs.declared.registry.OpenFault.{OpenFault}
 use Rattle.namespace_ops.specs.Opening.{sets_of}
 use Rattle.sector_namespaces.specs.View.{AreUsable, rows_of}
-use Rattle.shell_reports.specs.declared.outcome.Report.{Report}
 use Rattle.shell_reports.specs.declared.status.Ending.{Ending}
 use Rattle.shell_reports.specs.Causes.{fault_in, found_in, opened_in}
 use Rattle.shell_reports.specs.Faults.{arena_outcome, find_refusal, refused_outcome}

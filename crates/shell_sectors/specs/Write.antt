@@ -1,5 +1,5 @@
 -- The command `write`: one sector of a sector namespace gets a value. UEFI 2.10, chapter 6; the order of refusals is this project's rule.
-use Rattle.std.specs.Prelude.{◌≡◌, ◌≢◌, ℕ, ◌==◌, nat_lt, if◌then◌else◌, List, [], ◌∷◌, ◌++◌, length, map, slice_index, slice_set, Option, Some, None, Result, Ok, Err, MatchOption, codes}
+use Rattle.std.specs.Prelude.{◌≡◌, ◌≢◌, ℕ, ◌==◌, nat_lt, if◌then◌else◌, List, ◌++◌, length, map, slice_index, slice_set, Option, Some, None, Ok, MatchOption, codes}
 use Rattle.std.specs.Option.{option_map}
 use Rattle.std.specs.List.{All, slice_get}
 use Rattle.std.specs.Fmt.{decimal}
@@ -18,7 +18,7 @@ use Rattle.session_script.specs.declared.payload.Payload.{Payload}
 use Rattle.shell_reports.specs.declared.status.Ending.TheVariants as ending
 use Rattle.shell_reports.specs.Cut.{done_text}
 use Rattle.shell_reports.specs.Faults.{refused_outcome}
-use Rattle.shell_reports.specs.Outcome.{Outcome, joined}
+use Rattle.shell_reports.specs.Outcome.{Outcome}
 use Rattle.shell_sectors.specs.Found.{OnSet, SavesNamespace}
 use Rattle.shell_sectors.specs.Value.{bytes_for}
 
@@ -26,11 +26,11 @@ use Rattle.shell_sectors.specs.Value.{bytes_for}
 
 -- the value and the sector have these lengths, which differ
 abbrev pub length_text : ℕ → ℕ → List ℕ
-length_text said had = joined (codes "Length " ∷ decimal said ∷ codes " " ∷ decimal had ∷ [])
+length_text said had = codes "Length " ++ (decimal said ++ (codes " " ++ decimal had))
 
 -- all arenas together have so many sectors
 abbrev pub range_text : ℕ → List ℕ
-range_text count = joined (codes "Range " ∷ decimal count ∷ [])
+range_text count = codes "Range " ++ decimal count
 
 -- the value doesn't have the sector's length
 abbrev pub length_refusal : ℕ → ℕ → Option (List ℕ)

@@ -1,5 +1,5 @@
 //! The command `write`: one sector of a namespace.
-ghost use Rattle.std.specs.Prelude.{◌≡◌, ◌%◌, ◌<◌, ℕ, IfOk, false, length, slice_index_or};
+ghost use Rattle.std.specs.Prelude.{◌≡◌, ◌<◌, ℕ, IfOk, false, length, slice_index_or};
 ghost use Rattle.arena_open.specs.declared.state.ArenaState.{ArenaState as State};
 ghost use Rattle.arena_open.specs.ChainCells.{LiesIn};
 ghost use Rattle.cut_words.specs.WordBytes.{words_in};
@@ -50,8 +50,7 @@ enum Written {
 /// Returns the size of the sectors of an arena, in bytes.
 fn size_at(chain: &Chain, which: usize) -> u32
     requires { which < length chain.now }
-    ensures size { (d : State) → result ≡ (slice_index_or chain.now which d).info.layout.sector }
-    ensures eights { result % 8 ≡ 0 }
+    ensures { (d : State) → result ≡ (slice_index_or chain.now which d).info.layout.sector }
 {
     chain.arenas()[which].info.layout.sector
 }
@@ -60,16 +59,14 @@ fn size_at(chain: &Chain, which: usize) -> u32
 fn length_answer(alloc: Global, said: usize, had: u32) -> Result<Report, AllocError>
     ensures { IfOk result (λ report. outcome_of report ≡ refused_outcome (length_text said had)) }
 {
-    let refusal = format!(in alloc; "Length {} {}", said, had)?;
-    refused_answer(alloc, &refusal)
+    refused_answer(alloc, &format!(in alloc; "Length {} {}", said, had)?)
 }
 
 /// The answer if there is no such sector.
 fn range_answer(alloc: Global, sectors: u64) -> Result<Report, AllocError>
     ensures { IfOk result (λ report. outcome_of report ≡ refused_outcome (range_text sectors)) }
 {
-    let refusal = format!(in alloc; "Range {}", sectors)?;
-    refused_answer(alloc, &refusal)
+    refused_answer(alloc, &format!(in alloc; "Range {}", sectors)?)
 }
 
 /// Writes a value that has the length of the sector, `had` bytes.
@@ -84,7 +81,6 @@ fn write_fitting(
     requires ready { IsReady space chain }
     requires lies { (sector : ℕ) × LiesIn chain sector place.0 place.1 }
     requires size { (d : State) → had ≡ (slice_index_or chain place.0 d).info.layout.sector }
-    requires eights { had % 8 ≡ 0 }
     requires fits { length (bytes_for had value) ≡ had }
     ensures { IfOk result (λ modules. IsChanged space.entry chain place.0 place.1 (words_in (bytes_for had value)) modules.items) }
 {
@@ -119,16 +115,16 @@ fn write_located(
 /// Writes a sector of a namespace whose arenas are open, if it exists.
 fn write_opened(
     alloc: Global,
-    space: SetWords<'_>,
-    chain: Chain,
+    opened: OpenArenas<'_>,
     sector: u64,
     value: Payload,
 ) -> Result<Written, AllocError>
-    requires { IsReady space chain }
-    ensures { IfOk result (WritesInto space.entry chain sector value) }
+    requires { IsReady opened.words opened.chain }
+    ensures { IfOk result (WritesInto opened.entry.words opened.entry.chain sector value) }
 {
+    let OpenArenas { words, chain } = opened;
     match chain.locate(sector) {
-        Some(place) => write_located(alloc, space, chain, place, value),
+        Some(place) => write_located(alloc, words, chain, place, value),
         None => {
             let report = range_answer(alloc, chain.sectors())?;
             Ok(Written::Not(report))
@@ -153,7 +149,7 @@ fn write_found(
     ensures { IfOk result (WritesOn (over set.now found.now.offset found.now.raw modules.items) uuid.now sector value) }
 {
     match open_arenas(alloc, set, found, modules, uuid) {
-        Ok(OpenArenas { words, chain }) => write_opened(alloc, words, chain, sector, value),
+        Ok(opened) => write_opened(alloc, opened, sector, value),
         Err(refused) => {
             let report = arena_answer(alloc, uuid, refused)?;
             Ok(Written::Not(report))

@@ -1,4 +1,4 @@
-use Rattle.std.proofs.Common.{ap, sym, ◌∙◌}
+use Rattle.std.proofs.Common.{sym, ◌∙◌}
 use Rattle.lane_alone.proofs.Lone.{fewer, goes_on, through}
 use Rattle.lane_alone.proofs.alone.step_alone.Goals as goal
 

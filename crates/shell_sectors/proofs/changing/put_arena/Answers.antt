@@ -1,8 +1,5 @@
-use Rattle.std.proofs.Common.{◌≡◌, ◌∙◌, List, ap, sym}
-use Rattle.cut_words.specs.Words.{Words}
-use Rattle.power_cut.specs.Namespace.{Namespace, beside_of, words_of}
-use Rattle.power_cut.specs.Placed.{IsBesideSame}
-use Rattle.shell_sectors.specs.Changed.{moved_to}
+use Rattle.std.proofs.Common.{◌∙◌, ap}
+use Rattle.power_cut.specs.Namespace.{beside_of, words_of}
 use Rattle.shell_sectors.proofs.Placing.{moved_is}
 use Rattle.shell_sectors.proofs.changing.put_arena.Goals as goal
 

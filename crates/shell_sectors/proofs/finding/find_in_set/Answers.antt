@@ -1,7 +1,6 @@
-use Rattle.std.proofs.Common.{◌≡◌, List, Ok, Err, inl}
-use Rattle.image_set.specs.Load.{ImageSet, image_set_in}
-use Rattle.shell_sectors.specs.declared.finding.SetFound.{SetFound}
-use Rattle.shell_sectors.specs.Found.{FindsIn, IsOpenOn}
+use Rattle.std.proofs.Common.{◌≡◌, inl}
+use Rattle.image_set.specs.Load.{image_set_in}
+use Rattle.shell_sectors.specs.Found.{FindsIn}
 use Rattle.shell_sectors.proofs.Coming.{ok_then}
 use Rattle.shell_sectors.proofs.Loaded.{are_whole, fault_found, held, open_on}
 use Rattle.shell_sectors.proofs.finding.find_in_set.Goals as goal
@@ -26,11 +25,11 @@ returns-in-Ok c =
     (open_on c.args.loaded c.requires c.args.uuid.now c.in_ok-areas.areas c.in_ok-areas.ensures c.in-Ok.registry (c.in-Ok.ensures (λ e. cc))))
     c.find_named.ensures
 
-pub returns-in-Err : goal.returns-in-Err
-returns-in-Err c =
+pub returns-in_ok-report-in-Err : goal.returns-in_ok-report-in-Err
+returns-in_ok-report-in-Err c =
     inl (
       c.in-Err.fault,
       fault_found c.args.loaded c.requires c.args.uuid.now c.in_ok-areas.areas c.in_ok-areas.ensures c.in-Err.fault
-          (c.in-Err.ensures (λ e. c.in_ok-report.ensures.finding (let same : c.in-Err.fault ≡ _ = cc in same))),
-      c.in_ok-report.ensures.text,
+          (c.in-Err.ensures (λ e. c.in_ok-report-in-Err.ensures.finding (let same : c.in-Err.fault ≡ _ = cc in same))),
+      c.in_ok-report-in-Err.ensures.text,
     )

@@ -17,5 +17,5 @@ returns-in-Ok c = λ loaded o. record {
   modules = o.modules;
 }
 
-pub returns-in-Err : goal.returns-in-Err
-returns-in-Err c = λ loaded o. inr (o.none, (c.in-Err.refused, sym o.is ∙ sym c.in-Err.ensures.found, c.in_ok-report.ensures))
+pub returns-in_ok-report-in-Err : goal.returns-in_ok-report-in-Err
+returns-in_ok-report-in-Err c = λ loaded o. inr (o.none, (c.in-Err.refused, sym o.is ∙ sym c.in-Err.ensures.found, c.in_ok-report-in-Err.ensures))

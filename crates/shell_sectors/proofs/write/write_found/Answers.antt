@@ -7,13 +7,13 @@ use Rattle.shell_sectors.proofs.write.write_found.Goals as goal
 
 pub write_opened-requires : goal.write_opened-requires
 write_opened-requires c =
-    ready (over c.args.set.now c.args.found.now.offset c.args.found.now.raw c.args.modules.items) c.in-Ok.words c.args.uuid.now c.in-Ok.chain c.in-Ok.ensures.served
+    ready (over c.args.set.now c.args.found.now.offset c.args.found.now.raw c.args.modules.items) c.in-Ok.opened.words c.args.uuid.now c.in-Ok.opened.chain c.in-Ok.ensures.served
 
 pub returns-in-Ok : goal.returns-in-Ok
 returns-in-Ok c =
     ok_then _ (WritesOn (over c.args.set.now c.args.found.now.offset c.args.found.now.raw c.args.modules.items) c.args.uuid.now c.args.sector c.args.value) c.write_opened.result
-    (λ written writes. served_on (over c.args.set.now c.args.found.now.offset c.args.found.now.raw c.args.modules.items) c.in-Ok.words c.args.uuid.now c.in-Ok.chain c.args.sector c.args.value written c.in-Ok.ensures.served writes)
+    (λ written writes. served_on (over c.args.set.now c.args.found.now.offset c.args.found.now.raw c.args.modules.items) c.in-Ok.opened.words c.args.uuid.now c.in-Ok.opened.chain c.args.sector c.args.value written c.in-Ok.ensures.served writes)
     c.write_opened.ensures
 
-pub returns-in-Err : goal.returns-in-Err
-returns-in-Err c = inr (c.in-Err.refused, c.in-Err.ensures.refused c.in-Err.refused refl c.in_ok-report.ensures.finding, c.in_ok-report.ensures.text)
+pub returns-in_ok-report-in-Err : goal.returns-in_ok-report-in-Err
+returns-in_ok-report-in-Err c = inr (c.in-Err.refused, c.in-Err.ensures.refused c.in-Err.refused refl c.in_ok-report-in-Err.ensures.finding, c.in_ok-report-in-Err.ensures.text)
