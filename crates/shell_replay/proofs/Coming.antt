@@ -1,22 +1,20 @@
 -- From the words of a namespace to what the command comes to.
-use Rattle.std.proofs.Common.{◌≡◌, ◌≢◌, ◌⊎◌, ℕ, suc, List, [], ◌∷◌, length, Option, Ok, Err, Result, refl, sym, ap, ◌∙◌, subst, inl, inr}
+use Rattle.std.proofs.Common.{◌≡◌, ◌≢◌, ℕ, List, [], ◌∷◌, length, Option, Ok, Err, Result, refl, sym, ap, ◌∙◌, subst, inl, inr}
 use Rattle.cut_words.specs.Words.{Words}
 use Rattle.arena_open.specs.declared.chain_refused.ChainRefused.{ChainRefused}
 use Rattle.arena_open.specs.declared.state.ArenaState.{ArenaState}
 use Rattle.arena_open.specs.Writes.{IsSettled}
 use Rattle.lane_core.specs.Schedules.{opened_held}
 use Rattle.lane_replay.specs.Playing.{replay_text}
-use Rattle.power_cut.specs.Namespace.{Namespace, beside_of, over, words_of}
-use Rattle.power_cut.specs.Placed.{IsBesideSame}
+use Rattle.power_cut.specs.Namespace.{Namespace, beside_of, words_of}
 use Rattle.image_set.specs.Load.{ImageSet}
 use Rattle.sector_namespaces.specs.Changing.{AreServed}
 use Rattle.sector_namespaces.specs.View.{opened_view, rows_of}
 use Rattle.shell_reports.specs.declared.outcome.Report.{Report}
 use Rattle.shell_reports.specs.declared.status.Ending.{Ending}
 use Rattle.shell_reports.specs.declared.status.Ending.TheVariants as ending
-use Rattle.shell_reports.specs.Faults.{arena_outcome, refused_outcome}
+use Rattle.shell_reports.specs.Faults.{refused_outcome}
 use Rattle.shell_reports.specs.Outcome.{Outcome}
-use Rattle.shell_reports.specs.Saved.{outcome_of}
 use Rattle.shell_sectors.specs.declared.finding.FoundSet.{FoundSet}
 use Rattle.shell_sectors.specs.Changed.{moved_to}
 use Rattle.shell_sectors.specs.Found.{IsFoundIn, OnArenas, SavesNamespace, place_of}

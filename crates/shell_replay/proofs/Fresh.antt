@@ -1,6 +1,5 @@
 -- A core that was just made, and what a cut leaves of its words.
-use Rattle.std.proofs.Common.{◌≡◌, ℕ, Bool, List, [], ◌∷◌, Option, Some, refl, sym, ap, subst}
-use Rattle.cut_words.specs.Words.{Words}
+use Rattle.std.proofs.Common.{◌≡◌, ℕ, Bool, List, [], ◌∷◌, Some, refl, subst}
 use Rattle.cut_words.specs.Leaving.{LeavesFrom}
 use Rattle.arena_open.specs.declared.state.ArenaState.{ArenaState}
 use Rattle.lane_core.specs.declared.machine.Core.{Core}

@@ -1,13 +1,12 @@
 -- The words behind a namespace's one arena, once its pending moves are made.
-use Rattle.std.proofs.Common.{◌≡◌, ◌≢◌, ℕ, zero, suc, ◌+◌, ◌/◌, true, List, [], ◌∷◌, ◌++◌, length, drop, Option, None, Result, Ok, Err, refl, sym, ap, ◌∙◌, subst, inl, inr, arith, append-nil}
+use Rattle.std.proofs.Common.{◌≡◌, ◌≢◌, ℕ, zero, suc, ◌+◌, ◌/◌, true, List, [], ◌∷◌, length, drop, Option, None, Result, Ok, refl, ap, ◌∙◌, subst, inl, inr, arith, append-nil}
 use Rattle.std.proofs.lemmas.Bool.{eq-eqb}
 use Rattle.cut_words.specs.Words.{Step, Words, settled}
-use Rattle.cut_words.specs.Fuses.{Makes, lasts}
+use Rattle.cut_words.specs.Fuses.{Makes}
 use Rattle.arena_open.specs.declared.opened.Opened.{Opened}
 use Rattle.arena_open.specs.declared.refused.OpenRefused.{OpenRefused}
 use Rattle.arena_open.specs.declared.state.ArenaState.{ArenaState}
-use Rattle.arena_open.specs.Chain.{Link, Recovers, chain_of, chain_steps, chain_within, linked}
-use Rattle.arena_open.specs.Moves.{opened_steps, state_of}
+use Rattle.arena_open.specs.Chain.{Recovers, chain_of, chain_steps, chain_within, linked}
 use Rattle.arena_open.specs.Reading.{opening}
 use Rattle.arena_open.specs.Writes.{IsSettled, write_steps, written_over}
 use Rattle.arena_open.proofs.Outside.{drop_over, writes_in, writes_of}

@@ -15,7 +15,7 @@ ghost use Rattle.shell_sectors.specs.Found.{IsFoundIn};
 ghost use Rattle.shell_replay.specs.Answering.{AreKept, ReplaysInto, ReplaysOn};
 ghost use Rattle.shell_replay.specs.Replay.{ReplayComes, arenas_refusal};
 
-use crate::opening::{open_kept, only_arena};
+use crate::opening::{only_arena, open_kept};
 use crate::playing::play_and_cut;
 use crate::schedule::Schedule;
 use arena_open::{ArenaState, Chain};

@@ -1,4 +1,4 @@
-use Rattle.std.proofs.Common.{◌≡◌, ◌≢◌, ℕ, ◌*◌, ◌/◌, ◌%◌, ◌^◌, ◌≤◌, ◌∙◌, List, length, Option, None, Ok, Err, ap, sym, subst, arith}
+use Rattle.std.proofs.Common.{◌≡◌, ◌≢◌, ℕ, ◌*◌, ◌/◌, ◌%◌, ◌≤◌, ◌∙◌, List, length, Option, None, Ok, Err, ap, sym, subst, arith}
 use Rattle.std.specs.List.{All}
 use Rattle.std.proofs.Math.Nat.{mul-le-mul}
 use Rattle.interleave.specs.Places.{unit_of}
@@ -8,7 +8,7 @@ use Rattle.arena_open.specs.ChainCells.{AreOpen}
 use Rattle.arena_open.specs.Writes.{IsSettled}
 use Rattle.sector_namespaces.specs.View.{opened_view}
 use Rattle.arena_open.specs.declared.chain_refused.ChainRefused.{ChainRefused}
-use Rattle.power_cut.specs.Namespace.{Namespace, count_of, over, words_of}
+use Rattle.power_cut.specs.Namespace.{Namespace, over, words_of}
 use Rattle.power_cut.specs.Placed.{IsBesideSame, beside_and_place}
 use Rattle.power_cut.proofs.Spread.{count_is}
 use Rattle.sector_namespaces.proofs.Views.{length_view, no_words, page_words, pages_of, some_words, view_settled}

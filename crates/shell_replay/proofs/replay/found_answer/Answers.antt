@@ -1,10 +1,9 @@
-use Rattle.std.proofs.Common.{◌≡◌, ◌∙◌, ap, ℕ, List, [], refl, subst, sym}
+use Rattle.std.proofs.Common.{ℕ, [], refl, subst, sym}
 use Rattle.image_set.specs.Load.{ImageSet}
 use Rattle.power_cut.specs.Namespace.{over}
 use Rattle.shell_changes.specs.declared.answer.Answer.{Answer}
 use Rattle.shell_changes.specs.Answers.{whole_outcome}
 use Rattle.shell_changes.specs.Remains.{LeavesBy}
-use Rattle.shell_reports.specs.declared.outcome.Report.{Report}
 use Rattle.shell_reports.specs.declared.status.Ending.TheVariants as ending
 use Rattle.shell_reports.specs.Outcome.{Outcome}
 use Rattle.shell_sectors.specs.Found.{HasModules, IsFoundIn}
@@ -49,9 +48,9 @@ returns-in-Done-clause-comes g c =
     let done = subst (λ (done : Replayed). ReplaysOn (LeavesBy g.C.Chooser.begins g.C.Chooser.picks c.args.choose.now) (over c.set-region.result.now c.args.set.found.offset c.args.set.found.raw c.into_vec-modules.result.items) c.args.uuid.now c.args.schedule.now done) c.in-Done.is c.in_ok-replayed.ensures in
     ok_then _ (λ (answer : Answer). (loaded : ImageSet) → IsFoundIn loaded c.args.uuid.now c.args.set → ReplayComes leaves c.args.uuid.now c.args.schedule.now loaded (whole_outcome answer)) c.saved_answer.result
     (λ answer saves loaded f.
-        comes_done leaves loaded c.args.uuid.now c.args.schedule.now c.args.set f (over c.set-region.result.now c.args.set.found.offset c.args.set.found.raw c.into_vec-modules.result.items)
-        (at_place loaded c.args.uuid.now c.args.set f c.set-region.result.now c.set-region.ensures c.into_vec-modules.result.items c.into_vec-modules.ensures) (whole_outcome answer)
-        (record { ending = ending.Done; text = c.in-Done.text }) c.in-Done.modules.items done.0 refl done.1 done.2 done.3 saves)
+    comes_done leaves loaded c.args.uuid.now c.args.schedule.now c.args.set f (over c.set-region.result.now c.args.set.found.offset c.args.set.found.raw c.into_vec-modules.result.items)
+    (at_place loaded c.args.uuid.now c.args.set f c.set-region.result.now c.set-region.ensures c.into_vec-modules.result.items c.into_vec-modules.ensures) (whole_outcome answer)
+    (record { ending = ending.Done; text = c.in-Done.text }) c.in-Done.modules.items done.0 refl done.1 done.2 done.3 saves)
     c.saved_answer.ensures.saved
 
 pub returns-in-Not-clause-comes : goal.returns-in-Not-clause-comes

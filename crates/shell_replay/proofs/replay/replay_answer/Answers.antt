@@ -1,5 +1,5 @@
-use Rattle.std.proofs.Common.{[], List, subst, sym}
-use Rattle.image_set.specs.Load.{ImageSet, image_set_in}
+use Rattle.std.proofs.Common.{[], subst, sym}
+use Rattle.image_set.specs.Load.{image_set_in}
 use Rattle.shell_changes.specs.declared.answer.Answer.{Answer}
 use Rattle.shell_changes.specs.Answers.{whole_outcome}
 use Rattle.shell_changes.specs.Remains.{LeavesBy}

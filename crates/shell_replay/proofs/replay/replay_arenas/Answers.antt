@@ -1,4 +1,4 @@
-use Rattle.std.proofs.Common.{◌≡◌, ◌≢◌, ◌∙◌, ℕ, List, [], ◌∷◌, length, refl, sym, ap, subst}
+use Rattle.std.proofs.Common.{◌∙◌, ℕ, List, sym, ap, subst}
 use Rattle.arena_open.specs.declared.state.ArenaState.{ArenaState}
 use Rattle.shell_changes.specs.Remains.{LeavesBy}
 use Rattle.shell_reports.specs.Faults.{refused_outcome}
@@ -16,8 +16,8 @@ returns-in-Ok g c =
     let leaves = LeavesBy g.C.Chooser.begins g.C.Chooser.picks c.args.choose.now in
     ok_then _ _ c.replay_only.result
     (λ done into uuid was k.
-        subst (λ (ss : List ArenaState). ReplaysInto leaves c.args.space uuid c.args.schedule.now was ss done) (sym c.in-Ok.ensures.one)
-        (into uuid was (subst (λ (ss : List ArenaState). AreKept c.args.space uuid was ss) c.in-Ok.ensures.one k)))
+    subst (λ (ss : List ArenaState). ReplaysInto leaves c.args.space uuid c.args.schedule.now was ss done) (sym c.in-Ok.ensures.one)
+    (into uuid was (subst (λ (ss : List ArenaState). AreKept c.args.space uuid was ss) c.in-Ok.ensures.one k)))
     c.replay_only.ensures
 
 pub returns-in_ok-report-in-Err : goal.returns-in_ok-report-in-Err
