@@ -1,4 +1,4 @@
-use Rattle.std.proofs.Common.{inl}
+use Rattle.std.proofs.Common.{◌∙◌, sym, inl}
 use Rattle.std.specs.Prelude.{IsTrue}
 use Rattle.shell_changes.specs.declared.answer.Answer.{Answer}
 use Rattle.shell_changes.specs.Remains.{LeavesBy}
@@ -17,7 +17,10 @@ returns-then-reads_script-clause-there g c =
     let held = g.S.ImageSource.held c.args.images.now in
     if_then _ (λ (answer : Answer). HasContentsOf held answer.saved) c.perform_scripted.result (λ answer whole. whole_there held answer.saved whole) c.perform_scripted.ensures.whole
 
-pub returns-clause-told : goal.returns-clause-told
-returns-clause-told g c =
+pub returns-else-reads_script-clause-told : goal.returns-else-reads_script-clause-told
+returns-else-reads_script-clause-told g c =
     plain_due (LeavesBy g.C.Chooser.begins g.C.Chooser.picks c.args.choose.now) (g.S.ImageSource.held c.args.images.now) (g.T.TextSource.left c.args.script.now)
-    c.args.command c.perform_plain.result c.perform_plain.requires.plain c.perform_plain.ensures.told
+    c.args.command c.perform_plain.result (sym c.reads_script.ensures ∙ c.if-reads_script.false) c.perform_plain.ensures.told
+
+pub returns-else-reads_script-clause-failed : goal.returns-else-reads_script-clause-failed
+returns-else-reads_script-clause-failed g c = λ e. inl (c.perform_plain.ensures.failed e)

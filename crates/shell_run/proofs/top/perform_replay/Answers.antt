@@ -12,7 +12,7 @@ returns-in-Ok-clause-told g c =
 pub returns-in-Err-Refused-clause-told : goal.returns-in-Err-Refused-clause-told
 returns-in-Err-Refused-clause-told g c =
     misread_due (LeavesBy g.C.Chooser.begins g.C.Chooser.picks c.args.choose.now) (g.S.ImageSource.held c.args.images.now) (g.T.TextSource.left c.args.script.now)
-    c.args.uuid c.args.seed c.in-Err-Refused.why c.misread.result (c.read_schedule.ensures.refused c.in-Err-Refused.why (rw c.in-Err-Refused.field-0-is at c.in-Err-Refused.is)) c.misread.ensures.text c.misread.ensures.saved
+    c.args.uuid c.args.seed c.in-Err-Refused.why c.misread.result (c.read_schedule.ensures.refused c.in-Err-Refused.why (rw c.in-Err-Refused.field-0-is at c.in-Err-Refused.is)) (rw c.in-Err-Refused.field-0-is at c.misread.ensures.text) c.misread.ensures.saved
 
 pub returns-in-Err-Refused-clause-whole : goal.returns-in-Err-Refused-clause-whole
 returns-in-Err-Refused-clause-whole g c = if_then _ _ c.misread.result (λ answer none. copies_none answer none) c.misread.ensures.saved

@@ -5,8 +5,8 @@ use Rattle.shell_run.specs.declared.words.Command.{Command}
 use Rattle.shell_run.proofs.Comes.{IsDueFor, is_replay}
 use Rattle.shell_run.proofs.top.perform_scripted.Goals as goal
 
-pub returns-in-Replay-clause-told : goal.returns-in-Replay-clause-told
-returns-in-Replay-clause-told g c =
+pub returns-clause-told : goal.returns-clause-told
+returns-clause-told g c =
     let leaves = LeavesBy g.C.Chooser.begins g.C.Chooser.picks c.args.choose.now in
     let held = g.S.ImageSource.held c.args.images.now in
     let left = g.T.TextSource.left c.args.script.now in
