@@ -29,11 +29,11 @@ use nvd_media::{Chooser, Gate, ImageSink, ImageSource, TextSink, TextSource};
 use shell_changes::{
     Answer, SavedSet, SetRead, change_answer, init_answer, makes_sectors, without_set,
 };
+use shell_replay::{Schedule, replay_answer};
 use shell_reports::{
     Ending, Report, Status, Stop, info_answer, labels_answer, list_answer, load_answer,
     nfit_answer, read_answer, usage_answer,
 };
-use shell_replay::{Schedule, replay_answer};
 use shell_sectors::write_answer;
 use std::alloc::{AllocError, Global};
 use std::sync::Wait;
