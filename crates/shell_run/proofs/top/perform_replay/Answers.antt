@@ -1,4 +1,4 @@
-use Rattle.std.proofs.Common.{◌≡◌, ap, refl, inl, inr}
+use Rattle.std.proofs.Common.{refl}
 use Rattle.shell_changes.specs.Remains.{LeavesBy}
 use Rattle.shell_changes.proofs.Remains.{copies_none}
 use Rattle.shell_run.proofs.Comes.{if_then, misread_due, read_due}

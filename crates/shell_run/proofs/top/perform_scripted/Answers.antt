@@ -2,7 +2,7 @@ use Rattle.std.proofs.Common.{sym, subst}
 use Rattle.std.specs.Prelude.{IfOk}
 use Rattle.shell_changes.specs.Remains.{LeavesBy}
 use Rattle.shell_run.specs.declared.words.Command.{Command}
-use Rattle.shell_run.proofs.Comes.{IsDueFor, is_replay}
+use Rattle.shell_run.proofs.Comes.{IsDueFor}
 use Rattle.shell_run.proofs.top.perform_scripted.Goals as goal
 
 pub returns-clause-told : goal.returns-clause-told
