@@ -2,7 +2,7 @@
 # Shows what nvdimm_shell does: `nvd demo` runs this.
 #
 # It makes an image set of two blank modules in a temporary directory, initialises it, and creates, renames and deletes namespaces.
-# It cuts power in between, lists the state after the crash, and recovers. If xz is there, it reads a sector namespace that Linux
+# It cuts power in between, lists the state after the crash, and recovers. It runs a race of two lanes. If xz is there, it reads a sector namespace that Linux
 # wrote. Each command is shown with its output and its exit status. Nothing is left behind. The exit status is 0 only if
 # every command ended with the right status.
 #
@@ -108,6 +108,20 @@ step 4 both none create --uuid 33333333-3333-4333-8333-333333333333 --name big -
 tell 'The space of a deleted namespace is free again.'
 step 0 both last delete $first
 step 0 last - list
+
+tell 'Two lanes of a sector namespace race, as the schedule samples/races/block_comes_back says: a reader whose block comes back.'
+python3 "$top/samples/make_blank.py" racers --modules 1 --size 16777216 --labels 4096
+step 0 racers racers0 init 0
+step 0 racers0 arena create --uuid $first --name race --region 0 --size 16777216 --mode sector --lanes 2
+cat "$top/samples/races/block_comes_back"
+step 0 arena raced replay $first <"$top/samples/races/block_comes_back"
+
+tell 'A write loses power when its log entry is whole. Opening completes it, and the next write takes another block:'
+cat "$top/samples/races/lost_write"
+step 0 arena torn3 replay $first <"$top/samples/races/lost_write"
+step 0 torn3 - info $first
+step 0 torn3 later replay $first <"$top/samples/races/next_write"
+step 0 later - read $first 9
 
 if command -v xz >/dev/null 2>&1; then
     tell 'A set that Linux wrote, samples/linux/ns12: the arenas of a sector namespace, a sector, and one past the end.'

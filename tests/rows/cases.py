@@ -143,7 +143,8 @@ def command_lines():
             ["init", "0", "--help"], ["info"], ["info", "0"], ["info", NONE, "0"], ["read", NONE], ["read", NONE, "01"],
             ["read", NONE, "18446744073709551616"], ["write", NONE, "0"], ["write", NONE, "0", "5a"], ["write", NONE, "0", "fill:5"],
             ["write", NONE, "0", "fill:5a5a"], ["write", NONE, "0", "fill:xx"], ["write", NONE, "0", "hex:5"], ["write", NONE, "01", "fill:00"],
-            ["write", NONE, "0", "fill:00", "--cut", "1"], ["delete", "1"], ["rename", FIRST], ["create", "--uuid", SECOND, "--name", "v"],
+            ["write", NONE, "0", "fill:00", "--cut", "1"], ["replay"], ["replay", "9"], ["replay", NONE, "0"], ["replay", NONE, "--cut", "1"],
+            ["replay", NONE, "--evict", "01"], ["replay", NONE, "--evict"], ["delete", "1"], ["rename", FIRST], ["create", "--uuid", SECOND, "--name", "v"],
             create(SECOND, mode="Raw")[1:])
     for words in none:
         yield pair(), ["OUT", *words], USAGE, "usage\n"
@@ -197,7 +198,8 @@ def sectors():
             (with_areas(first, None, TWO_LINES), NONE, IMAGE, "image region 0 Cover 1\n"),
             # zeros aren't an arena, and no sector is read
             (with_areas(first, second), FIRST, IMAGE, f"image arena {FIRST} 0 Info Signature\n")):
-        for words in (["-", "info", uuid], ["-", "read", uuid, "99"], ["OUT", "write", uuid, "99", "hex:"]):
+        for words in (["-", "info", uuid], ["-", "read", uuid, "99"], ["OUT", "write", uuid, "99", "hex:"],
+                      ["OUT", "replay", uuid, "--evict", "7"]):
             yield files, words, status, text
 
 

@@ -1,6 +1,6 @@
 -- The status is the one that is due.
-use Rattle.std.proofs.Common.{◌≡◌, ℕ, ◌/◌, Bool, true, false, List, [], length, Option, Some, None, Result, Ok, Err, refl, sym, ap, ◌∙◌, subst, inl, inr, arith}
-use Rattle.std.specs.Prelude.{◌⊎◌, ◌||◌, not, nat_lt, is_some, is_err, MatchBool, MatchOption}
+use Rattle.std.proofs.Common.{◌≡◌, ℕ, ◌/◌, Bool, true, false, List, [], ◌∷◌, length, Option, Some, None, Result, Ok, Err, refl, sym, ap, ◌∙◌, subst, inl, inr, arith}
+use Rattle.std.specs.Prelude.{◌⊎◌, ◌||◌, not, nat_lt, is_some, is_err, MatchBool, MatchOption, IsTrue, ⊤, if◌then◌else◌}
 use Rattle.nvd_media.specs.Images.{Images}
 use Rattle.cut_words.specs.Words.{Words}
 use Rattle.cut_words.specs.Fuses.{lasts}
@@ -20,7 +20,7 @@ use Rattle.shell_reports.specs.declared.status.Ending.{Ending}
 use Rattle.shell_reports.specs.declared.status.Ending.TheVariants as ending
 use Rattle.shell_reports.specs.declared.status.Status.TheVariants as status
 use Rattle.shell_run.specs.declared.words.Command.{Command}
-use Rattle.shell_run.specs.declared.words.Command.TheVariants.{Labels, Nfit, Init, Change, Info, Read, Write}
+use Rattle.shell_run.specs.declared.words.Command.TheVariants.{Labels, Nfit, Init, Change, Info, Read, Write, Replay}
 use Rattle.shell_run.specs.declared.words.Command.TheVariants as command
 use Rattle.shell_reports.specs.declared.power.Power.{Power}
 use Rattle.nfit_reader.specs.declared.table.Mapping.{Mapping}
@@ -49,8 +49,15 @@ use Rattle.session_script.specs.declared.payload.Payload.{Payload}
 use Rattle.shell_sectors.specs.Causes.{bars, bars_found}
 use Rattle.shell_sectors.specs.Write.{Writes, WritesArenas, write_refusal}
 use Rattle.shell_sectors.proofs.Causes.{SetCase, set_broken, set_case, set_faulty, set_opened, set_unfound}
-use Rattle.shell_run.specs.Run.{LoadedComes, OnLoaded, ComesTold}
-use Rattle.shell_run.specs.Statuses.{ending_by, ending_due, ending_with, has_block, is_barred, is_cut, is_short, keeps_area, refuses_area, refuses_images}
+use Rattle.session_script.specs.declared.schedule.Replay.{Replay as Schedules}
+use Rattle.session_script.specs.Schedule.{replay_reading}
+use Rattle.shell_replay.specs.declared.schedule.Schedule.{Schedule}
+use Rattle.shell_replay.specs.Causes.{has_others, others_found}
+use Rattle.shell_replay.specs.Replay.{ReplayComes, ReplaysArenas, arenas_refusal}
+use Rattle.shell_run.specs.declared.scripts.ScriptRefused.{ScriptRefused}
+use Rattle.shell_run.specs.Run.{Comes, LoadedComes, OnImages, OnLoaded, OnScript, ComesTold, reads_script}
+use Rattle.shell_run.specs.Scripts.{script_in, script_outcome}
+use Rattle.shell_run.specs.Statuses.{ending_by, ending_due, ending_on, ending_with, has_block, is_barred, is_cut, is_short, keeps_area, refuses_area, refuses_images}
 use Rattle.shell_run.specs.Laws.{StatusIsDue}
 
 -- the ways in which a command on images is answered
@@ -228,6 +235,25 @@ write_case uuid sector value loaded outcome (set_broken found fault is read e) =
 write_case uuid sector value loaded outcome (set_opened found states none is read on) =
     taken_case uuid sector value loaded outcome found states (opened_reads uuid loaded found states none is read) is read (write_refusal sector value states) refl on
 
+-- there is one arena, or there are others
+one_case : (leaves : ℕ → List (Option Words) → List (Option (List ℕ)) → Type 0) (uuid : List ℕ) (seed : ℕ) (schedule : Schedule) (loaded : ImageSet) (outcome : Outcome) (found : Found) (states : List ArenaState) → is_broken loaded uuid ≡ false
+    → found_in loaded uuid ≡ Ok found → opened_in loaded uuid found ≡ Ok states → ReplaysArenas leaves uuid schedule loaded outcome found states → CommandCase (Replay uuid seed) (Ok loaded) outcome.ending
+one_case leaves uuid seed schedule loaded outcome found [] readable is read said =
+    is_turned_down readable refl (ap (others_found loaded uuid) is ∙ ap has_others read) (ending_of outcome (sector_refusal (arenas_refusal 0)) said)
+one_case leaves uuid seed schedule loaded outcome found (state ∷ []) readable is read saved = is_done readable refl (ap (others_found loaded uuid) is ∙ ap has_others read) saved.saves.ends
+one_case leaves uuid seed schedule loaded outcome found (state ∷ next ∷ states) readable is read said =
+    is_turned_down readable refl (ap (others_found loaded uuid) is ∙ ap has_others read) (ending_of outcome (sector_refusal (arenas_refusal (length (state ∷ next ∷ states)))) said)
+
+replay_case : (leaves : ℕ → List (Option Words) → List (Option (List ℕ)) → Type 0) (uuid : List ℕ) (seed : ℕ) (schedule : Schedule) (loaded : ImageSet) (outcome : Outcome)
+    → SetCase (ReplaysArenas leaves uuid schedule loaded outcome) loaded uuid outcome → CommandCase (Replay uuid seed) (Ok loaded) outcome.ending
+replay_case leaves uuid seed schedule loaded outcome (set_faulty fault is e) = is_refused (table_broken uuid loaded fault is) (ending_of outcome (open_outcome fault) e)
+replay_case leaves uuid seed schedule loaded outcome (set_unfound refusal none is e) =
+    is_turned_down (unfound_reads uuid loaded refusal none is) refl (ap (others_found loaded uuid) is) (ending_of outcome (sector_refusal (find_refusal refusal)) e)
+replay_case leaves uuid seed schedule loaded outcome (set_broken found fault is read e) =
+    is_refused (arena_broken uuid loaded found fault is read) (ending_of outcome (arena_outcome uuid fault) e)
+replay_case leaves uuid seed schedule loaded outcome (set_opened found states none is read on) =
+    one_case leaves uuid seed schedule loaded outcome found states (opened_reads uuid loaded found states none is read) is read on
+
 -- ---- any command
 
 module _ (leaves : ℕ → List (Option Words) → List (Option (List ℕ)) → Type 0) where
@@ -244,40 +270,58 @@ module _ (leaves : ℕ → List (Option Words) → List (Option (List ℕ)) → 
   command_case (Read uuid sector) (Ok loaded) outcome comes = read_case uuid sector loaded outcome (sectors_case (sector_outcome sector) loaded uuid outcome comes)
   command_case (Write uuid sector value) (Ok loaded) outcome comes =
       write_case uuid sector value loaded outcome (set_case (WritesArenas uuid sector value loaded outcome) loaded uuid outcome comes)
-
-  -- what is due for a command, whatever the script
-  command_due : (command : Command) (set : Images) (left : Option (List ℕ)) (outcome : Outcome) → ComesTold leaves command (Some set) left outcome
-      → OnLoaded (LoadedComes leaves command) (loading set) outcome
-  command_due (Labels m) set left outcome comes = comes set [] refl (λ reads. absurd (let e = reads in cc))
-  command_due Nfit set left outcome comes = comes set [] refl (λ reads. absurd (let e = reads in cc))
-  command_due command.List set left outcome comes = comes set [] refl (λ reads. absurd (let e = reads in cc))
-  command_due (Init m power) set left outcome comes = comes set [] refl (λ reads. absurd (let e = reads in cc))
-  command_due (Change c power) set left outcome comes = comes set [] refl (λ reads. absurd (let e = reads in cc))
-  command_due (Info uuid) set left outcome comes = comes set [] refl (λ reads. absurd (let e = reads in cc))
-  command_due (Read uuid sector) set left outcome comes = comes set [] refl (λ reads. absurd (let e = reads in cc))
-  command_due (Write uuid sector value) set left outcome comes = comes set [] refl (λ reads. absurd (let e = reads in cc))
+  command_case (Replay uuid seed) (Ok loaded) outcome comes = absurd comes
 
   -- ---- the ending that is due
 
   by_three : (command : Command) (found : Result ImageSet LoadFault) (a b c : Bool) → refuses_images command found ≡ a → is_cut command found ≡ b → is_barred command found ≡ c
-      → ending_with (Some command) found ≡ ending_by a b c
+      → ending_on command found ≡ ending_by a b c
   by_three command found a b c p q r = λ i. ending_by (p i) (q i) (r i)
 
-  case_ending : (command : Command) (found : Result ImageSet LoadFault) (e : Ending) → CommandCase command found e → e ≡ ending_with (Some command) found
+  case_ending : (command : Command) (found : Result ImageSet LoadFault) (e : Ending) → CommandCase command found e → e ≡ ending_on command found
   case_ending command found e (is_refused refused image) = image ∙ sym (by_three command found true (is_cut command found) (is_barred command found) refused refl refl)
   case_ending command found e (is_done accepted long allowed done) = done ∙ sym (by_three command found false false false accepted long allowed)
   case_ending command found e (is_turned_down accepted long barred refused) = refused ∙ sym (by_three command found false false true accepted long barred)
   case_ending command found e (is_cut_short accepted short cut) = cut ∙ sym (by_three command found false true (is_barred command found) accepted short refl)
 
-  due_by : (words : List (List ℕ)) (set : Images) (left : Option (List ℕ)) (outcome : Outcome) (found : Option Command) → command_of words ≡ found
-      → MatchOption found (outcome ≡ usage) (λ command. ComesTold leaves command (Some set) left outcome) → outcome.ending ≡ ending_due words set
-  due_by words set left outcome None is due = ending_of outcome _ due ∙ sym (ap (λ (o : Option Command). ending_with o (loading set)) is)
-  due_by words set left outcome (Some command) is due =
-      case_ending command (loading set) outcome.ending (command_case command (loading set) outcome (command_due command set left outcome due))
-      ∙ sym (ap (λ (o : Option Command). ending_with o (loading set)) is)
+  -- a command without a script
+  plain_ending : (command : Command) (set : Images) (outcome : Outcome) → OnImages (LoadedComes leaves command) (Some set) outcome → outcome.ending ≡ ending_on command (loading set)
+  plain_ending command set outcome on = case_ending command (loading set) outcome.ending (command_case command (loading set) outcome (on set refl))
+
+  -- `replay`, by its script
+  replay_loaded : (uuid : List ℕ) (seed : ℕ) (schedule : Schedule) (found : Result ImageSet LoadFault) (outcome : Outcome) → OnLoaded (ReplayComes leaves uuid schedule) found outcome → CommandCase (Replay uuid seed) found outcome.ending
+  replay_loaded uuid seed schedule (Ok loaded) outcome comes = replay_case leaves uuid seed schedule loaded outcome (set_case (ReplaysArenas leaves uuid schedule loaded outcome) loaded uuid outcome comes)
+  replay_loaded uuid seed schedule (Err fault) outcome comes = is_refused refl (ending_of outcome _ comes)
+
+  abbrev ending_for : ℕ → List ℕ → Images → Result Schedules ScriptRefused → Ending
+  ending_for seed uuid set r = if is_err r then ending.Usage else ending_on (Replay uuid seed) (loading set)
+
+  replay_ending : (uuid : List ℕ) (seed : ℕ) (set : Images) (outcome : Outcome) (r : Result Schedules ScriptRefused)
+      → OnScript (λ (q : Schedules). OnImages (ReplayComes leaves uuid (record { lines = q.lines; seed = seed })) (Some set)) r outcome → outcome.ending ≡ ending_for seed uuid set r
+  replay_ending uuid seed set outcome (Ok q) on =
+      case_ending (Replay uuid seed) (loading set) outcome.ending (replay_loaded uuid seed (record { lines = q.lines; seed = seed }) (loading set) outcome (on set refl))
+  replay_ending uuid seed set outcome (Err why) said = ending_of outcome (script_outcome why) said
+
+  script_ending : (command : Command) (script : List ℕ) (set : Images) (outcome : Outcome) → Comes leaves command (Some set) script outcome → outcome.ending ≡ ending_with (Some command) script (loading set)
+  script_ending (Labels m) script set outcome comes = plain_ending (Labels m) set outcome comes
+  script_ending Nfit script set outcome comes = plain_ending Nfit set outcome comes
+  script_ending command.List script set outcome comes = plain_ending command.List set outcome comes
+  script_ending (Init m power) script set outcome comes = plain_ending (Init m power) set outcome comes
+  script_ending (Change c power) script set outcome comes = plain_ending (Change c power) set outcome comes
+  script_ending (Info uuid) script set outcome comes = plain_ending (Info uuid) set outcome comes
+  script_ending (Read uuid sector) script set outcome comes = plain_ending (Read uuid sector) set outcome comes
+  script_ending (Write uuid sector value) script set outcome comes = plain_ending (Write uuid sector value) set outcome comes
+  script_ending (Replay uuid seed) script set outcome comes = replay_ending uuid seed set outcome (script_in replay_reading script) comes
+
+  due_by : (words : List (List ℕ)) (set : Images) (script : List ℕ) (left : Option (List ℕ)) (outcome : Outcome) (found : Option Command) → command_of words ≡ found
+      → MatchOption found ⊤ (λ command. IsTrue (reads_script command) → left ≡ Some script)
+      → MatchOption found (outcome ≡ usage) (λ command. ComesTold leaves command (Some set) left outcome) → outcome.ending ≡ ending_due words script set
+  due_by words set script left outcome None is told due = ending_of outcome _ due ∙ sym (ap (λ (o : Option Command). ending_with o script (loading set)) is)
+  due_by words set script left outcome (Some command) is told due =
+      script_ending command script set outcome (due script told) ∙ sym (ap (λ (o : Option Command). ending_with o script (loading set)) is)
 
   pub status_due : StatusIsDue leaves
-  status_due words set left made made' text text' before now status.ReadFault ends = inr tt
-  status_due words set left made made' text text' before now status.WriteFault ends = inr tt
-  status_due words set left made made' text text' before now status.OutOfMemory ends = inr tt
-  status_due words set left made made' text text' before now other ends = inl (sym ends.2 ∙ ap status_of (due_by words set left ends.0 (command_of words) refl ends.1))
+  status_due words set script left made made' text text' images images' source source' status.ReadFault told ends = inr tt
+  status_due words set script left made made' text text' images images' source source' status.WriteFault told ends = inr tt
+  status_due words set script left made made' text text' images images' source source' status.OutOfMemory told ends = inr tt
+  status_due words set script left made made' text text' images images' source source' other told ends = inl (sym ends.2 ∙ ap status_of (due_by words set script left ends.0 (command_of words) refl told ends.1))

@@ -19,8 +19,16 @@ use Rattle.shell_changes.specs.declared.answer.Left.{Left}
 use Rattle.shell_changes.specs.declared.answer.Left.TheVariants.{Whole, Copied}
 use Rattle.shell_changes.specs.Answers.{ComesFrom, HasSizes, outcome_with, whole_outcome}
 use Rattle.shell_changes.specs.Saved.{AreObjects, AreSaved, HasContentsOf, HasItsContents, HasSize, Stores, copies_contents, objects_saved}
+use Rattle.session_script.specs.declared.schedule.Replay.{Replay}
+use Rattle.session_script.specs.Schedule.{replay_reading}
+use Rattle.shell_replay.specs.declared.schedule.Schedule.{Schedule}
+use Rattle.shell_replay.specs.Replay.{ReplayComes}
+use Rattle.shell_run.specs.declared.scripts.ScriptRefused.{ScriptRefused}
 use Rattle.shell_run.specs.declared.words.Command.{Command}
-use Rattle.shell_run.specs.Run.{ComesTold, IsDue, LoadedComes, OnLoaded, copies, copies_by, copies_found, needs_contents}
+use Rattle.shell_run.specs.declared.words.Command.TheVariants.{Labels, Nfit, Init, Change, Info, Read, Write, Replay as AskReplay}
+use Rattle.shell_run.specs.declared.words.Command.TheVariants as command
+use Rattle.shell_run.specs.Run.{Comes, ComesTold, IsDue, LoadedComes, OnImages, OnLoaded, OnScript, copies, copies_by, copies_found, needs_contents, reads_script}
+use Rattle.shell_run.specs.Scripts.{script_in, script_outcome}
 use Rattle.shell_run.specs.Words.{command_of}
 
 -- ---- the outcome of an answer
@@ -154,59 +162,112 @@ set_saved held saved set made made' kept kept' is (Ok x) (objects, are, saves, s
     subst (λ (s : Option Left). (all : Option Images) × AreSaved held s all × Saves all made made' × Stores all kept kept') (sym is) (Some objects, (objects, are, refl), saves, stores)
 set_saved held saved set made made' kept kept' is (Err e) none = tt
 
--- ---- a command
+-- ---- on the images that are loaded
 
-module _ (leaves : ℕ → List (Option Words) → List (Option (List ℕ)) → Type 0) (command : Command) (held : Option Images) (left : Option (List ℕ)) where
-  -- what an answer comes to is what a command is told
+module _ (comes : ImageSet → Outcome → Type 0) (held : Option Images) where
+  -- what an answer comes to is due on the images, as far as they are told
   abbrev pub IsTold : Answer → Type 0
-  IsTold answer = (outcome : Outcome) → ComesFrom held answer outcome → ComesTold leaves command held left outcome
+  IsTold answer = (outcome : Outcome) → ComesFrom held answer outcome → OnImages comes held outcome
 
   pub outlined_told : (loaded : Result Outline LoadFault) (outline : Outline) (answer : Answer) → loaded ≡ Ok outline → ForSome held (Outlines loaded) → HasSizes outline.sizes answer
-      → ((contents : List (List ℕ)) → LoadedComes leaves command (image_set_with outline contents) (outcome_with answer contents)) → IsTold answer
-  outlined_told loaded outline answer is told sized comes = λ outcome from set script at reads.
+      → ((contents : List (List ℕ)) → comes (image_set_with outline contents) (outcome_with answer contents)) → IsTold answer
+  outlined_told loaded outline answer is told sized due = λ outcome from set at.
       let contents = contents_in set (length outline.sizes) in
       let told' : ForSome held (Outlines (Ok outline)) = subst (λ (l : Result Outline LoadFault). ForSome held (Outlines l)) is told in
       let loads : Ok (image_set_with outline contents) ≡ loading set = told' set at (λ e. (let h = e in cc)) (λ e. (let h = e in cc)) in
       let same : outcome ≡ outcome_with answer contents = from_with held set outline.sizes answer outcome at sized from in
-      subst (λ (o : Outcome). OnLoaded (LoadedComes leaves command) (loading set) o) (sym same)
-      (subst (λ (l : Result ImageSet LoadFault). OnLoaded (LoadedComes leaves command) l (outcome_with answer contents)) loads (comes contents))
+      subst (λ (o : Outcome). OnLoaded comes (loading set) o) (sym same)
+      (subst (λ (l : Result ImageSet LoadFault). OnLoaded comes l (outcome_with answer contents)) loads (due contents))
 
   pub unoutlined_told : (loaded : Result Outline LoadFault) (fault : LoadFault) (answer : Answer) → loaded ≡ Err fault → ForSome held (Outlines loaded) → answer.saved ≡ None
       → ((contents : List (List ℕ)) → outcome_with answer contents ≡ load_outcome fault) → fault ≢ ReadFault → fault ≢ OutOfMemory → IsTold answer
-  unoutlined_told loaded fault answer is told nothing says read memory = λ outcome from set script at reads.
+  unoutlined_told loaded fault answer is told nothing says read memory = λ outcome from set at.
       let told' : ForSome held (Outlines (Err fault)) = subst (λ (l : Result Outline LoadFault). ForSome held (Outlines l)) is told in
       let none : Err fault ≡ loading set = told' set at (λ e. read (let h = e in cc)) (λ e. memory (let h = e in cc)) in
-      subst (λ (l : Result ImageSet LoadFault). OnLoaded (LoadedComes leaves command) l outcome) none (from_none held answer outcome (load_outcome fault) nothing says from)
+      subst (λ (l : Result ImageSet LoadFault). OnLoaded comes l outcome) none (from_none held answer outcome (load_outcome fault) nothing says from)
 
   pub loaded_told : (found : Result Loaded LoadFault) (loaded : Loaded) (answer : Answer) → found ≡ Ok loaded → ForSome held (Loads found) → copies_contents answer.saved ≡ false
-      → LoadedComes leaves command (image_set_in loaded) (whole_outcome answer) → IsTold answer
-  loaded_told found loaded answer is told whole comes = λ outcome from set script at reads.
+      → comes (image_set_in loaded) (whole_outcome answer) → IsTold answer
+  loaded_told found loaded answer is told whole due = λ outcome from set at.
       let told' : ForSome held (Loads (Ok loaded)) = subst (λ (l : Result Loaded LoadFault). ForSome held (Loads l)) is told in
       let loads : Ok (image_set_in loaded) ≡ loading set = told' set at (λ e. (let h = e in cc)) (λ e. (let h = e in cc)) in
       let same : outcome ≡ whole_outcome answer = from_whole held [] answer outcome whole from in
-      subst (λ (o : Outcome). OnLoaded (LoadedComes leaves command) (loading set) o) (sym same)
-      (subst (λ (l : Result ImageSet LoadFault). OnLoaded (LoadedComes leaves command) l (whole_outcome answer)) loads comes)
+      subst (λ (o : Outcome). OnLoaded comes (loading set) o) (sym same)
+      (subst (λ (l : Result ImageSet LoadFault). OnLoaded comes l (whole_outcome answer)) loads due)
 
   pub unloaded_told : (found : Result Loaded LoadFault) (fault : LoadFault) (answer : Answer) → found ≡ Err fault → ForSome held (Loads found) → answer.saved ≡ None
       → ((contents : List (List ℕ)) → outcome_with answer contents ≡ load_outcome fault) → fault ≢ ReadFault → fault ≢ OutOfMemory → IsTold answer
-  unloaded_told found fault answer is told nothing says read memory = λ outcome from set script at reads.
+  unloaded_told found fault answer is told nothing says read memory = λ outcome from set at.
       let told' : ForSome held (Loads (Err fault)) = subst (λ (l : Result Loaded LoadFault). ForSome held (Loads l)) is told in
       let none : Err fault ≡ loading set = told' set at (λ e. read (let h = e in cc)) (λ e. memory (let h = e in cc)) in
-      subst (λ (l : Result ImageSet LoadFault). OnLoaded (LoadedComes leaves command) l outcome) none (from_none held answer outcome (load_outcome fault) nothing says from)
+      subst (λ (l : Result ImageSet LoadFault). OnLoaded comes l outcome) none (from_none held answer outcome (load_outcome fault) nothing says from)
 
 -- an answer on a set that isn't loaded, from the four things that are known of it
-pub if_told : {E : Type 0} (leaves : ℕ → List (Option Words) → List (Option (List ℕ)) → Type 0) (command : Command) (held : Option Images) (left : Option (List ℕ)) (r : Result Answer E) (fault : LoadFault)
-    → ((answer : Answer) → answer.saved ≡ None → ((contents : List (List ℕ)) → outcome_with answer contents ≡ load_outcome fault) → fault ≢ ReadFault → fault ≢ OutOfMemory → IsTold leaves command held left answer)
+pub if_told : {E : Type 0} (P : Answer → Type 0) (r : Result Answer E) (fault : LoadFault)
+    → ((answer : Answer) → answer.saved ≡ None → ((contents : List (List ℕ)) → outcome_with answer contents ≡ load_outcome fault) → fault ≢ ReadFault → fault ≢ OutOfMemory → P answer)
     → IfOk r (λ answer. answer.saved ≡ None) → IfOk r (λ answer. (contents : List (List ℕ)) → outcome_with answer contents ≡ load_outcome fault)
-    → IfOk r (λ answer. fault ≢ ReadFault) → IfOk r (λ answer. fault ≢ OutOfMemory) → IfOk r (IsTold leaves command held left)
-if_told leaves command held left (Ok answer) fault all nothing says read memory = all answer nothing says read memory
-if_told leaves command held left (Err e) fault all nothing says read memory = tt
+    → IfOk r (λ answer. fault ≢ ReadFault) → IfOk r (λ answer. fault ≢ OutOfMemory) → IfOk r P
+if_told P (Ok answer) fault all nothing says read memory = all answer nothing says read memory
+if_told P (Err e) fault all nothing says read memory = tt
+
+-- ---- a command
+
+module _ (leaves : ℕ → List (Option Words) → List (Option (List ℕ)) → Type 0) (held : Option Images) (script : List ℕ) (outcome : Outcome) where
+  -- a command without a script comes to what is due on the images
+  pub plain_comes : (command : Command) → reads_script command ≡ false → OnImages (LoadedComes leaves command) held outcome → Comes leaves command held script outcome
+  plain_comes (Labels m) plain on = on
+  plain_comes Nfit plain on = on
+  plain_comes command.List plain on = on
+  plain_comes (Init m power) plain on = on
+  plain_comes (Change c power) plain on = on
+  plain_comes (Info uuid) plain on = on
+  plain_comes (Read uuid sector) plain on = on
+  plain_comes (Write uuid sector value) plain on = on
+  plain_comes (AskReplay uuid seed) plain on = absurd (let e = plain in cc)
+
+-- only `replay` has a script
+pub is_replay : (command : Command) → reads_script command ≡ true → (uuid : List ℕ) × (seed : ℕ) × (command ≡ AskReplay uuid seed)
+is_replay (Labels m) reads = absurd (let e = reads in cc)
+is_replay Nfit reads = absurd (let e = reads in cc)
+is_replay command.List reads = absurd (let e = reads in cc)
+is_replay (Init m power) reads = absurd (let e = reads in cc)
+is_replay (Change c power) reads = absurd (let e = reads in cc)
+is_replay (Info uuid) reads = absurd (let e = reads in cc)
+is_replay (Read uuid sector) reads = absurd (let e = reads in cc)
+is_replay (Write uuid sector value) reads = absurd (let e = reads in cc)
+is_replay (AskReplay uuid seed) reads = (uuid, seed, refl)
+
+module _ (leaves : ℕ → List (Option Words) → List (Option (List ℕ)) → Type 0) (held : Option Images) (left : Option (List ℕ)) where
+  abbrev pub IsDueFor : Command → Answer → Type 0
+  IsDueFor command answer = (outcome : Outcome) → ComesFrom held answer outcome → ComesTold leaves command held left outcome
+
+  pub plain_due : {E : Type 0} (command : Command) (r : Result Answer E) → reads_script command ≡ false → IfOk r (IsTold (LoadedComes leaves command) held) → IfOk r (IsDueFor command)
+  plain_due command (Ok answer) plain told = λ outcome from script reads. plain_comes leaves held script outcome command plain (told outcome from)
+  plain_due command (Err e) plain told = tt
+
+  -- a schedule was read
+  pub read_due : {E : Type 0} (uuid : List ℕ) (seed : ℕ) (schedule : Schedule) (replay : Replay) (r : Result Answer E) → schedule ≡ record { lines = replay.lines; seed = seed }
+      → ForSome left (λ text. script_in replay_reading text ≡ Ok replay) → IfOk r (IsTold (ReplayComes leaves uuid schedule) held) → IfOk r (IsDueFor (AskReplay uuid seed))
+  read_due uuid seed schedule replay (Ok answer) is read told = λ outcome from script reads.
+      let due : OnImages (ReplayComes leaves uuid (record { lines = replay.lines; seed = seed })) held outcome =
+      subst (λ (s : Schedule). OnImages (ReplayComes leaves uuid s) held outcome) is (told outcome from) in
+      subst (λ (s : Result Replay ScriptRefused). OnScript (λ (q : Replay). OnImages (ReplayComes leaves uuid (record { lines = q.lines; seed = seed })) held) s outcome)
+      (sym (read script (reads refl))) due
+  read_due uuid seed schedule replay (Err e) is read told = tt
+
+  -- none was
+  pub misread_due : {E : Type 0} (uuid : List ℕ) (seed : ℕ) (why : ScriptRefused) (r : Result Answer E) → ForSome left (λ text. script_in replay_reading text ≡ Err why)
+      → IfOk r (λ answer. (contents : List (List ℕ)) → outcome_with answer contents ≡ script_outcome why) → IfOk r (λ answer. answer.saved ≡ None) → IfOk r (IsDueFor (AskReplay uuid seed))
+  misread_due uuid seed why (Ok answer) refused says nothing = λ outcome from script reads.
+      subst (λ (s : Result Replay ScriptRefused). OnScript (λ (q : Replay). OnImages (ReplayComes leaves uuid (record { lines = q.lines; seed = seed })) held) s outcome)
+      (sym (refused script (reads refl))) (from_none held answer outcome (script_outcome why) nothing says from)
+  misread_due uuid seed why (Err e) refused says nothing = tt
 
 -- ---- the words
 
 -- what is found for a command is what is due for its words
 pub command_due : {E : Type 0} (leaves : ℕ → List (Option Words) → List (Option (List ℕ)) → Type 0) (words : List (List ℕ)) (held : Option Images) (left : Option (List ℕ)) (command : Command) (r : Result Answer E)
-    → command_of words ≡ Some command → IfOk r (IsTold leaves command held left) → IfOk r (λ answer. (outcome : Outcome) → ComesFrom held answer outcome → IsDue leaves words held left outcome)
+    → command_of words ≡ Some command → IfOk r (IsDueFor leaves held left command) → IfOk r (λ answer. (outcome : Outcome) → ComesFrom held answer outcome → IsDue leaves words held left outcome)
 command_due leaves words held left command (Ok answer) said told = λ outcome comes.
     subst (λ (o : Option Command). MatchOption o (outcome ≡ usage) (λ c. ComesTold leaves c held left outcome)) (sym said) (told outcome comes)
 command_due leaves words held left command (Err e) said told = tt

@@ -19,6 +19,7 @@ kind_of name =
     else if bytes_eq name (codes "info") then Some kind.Info
     else if bytes_eq name (codes "read") then Some kind.Read
     else if bytes_eq name (codes "write") then Some kind.Write
+    else if bytes_eq name (codes "replay") then Some kind.Replay
     else None
 
 -- the options on power cuts
@@ -39,3 +40,4 @@ arguments_of kind.Rename = (codes "uuid", Place) ∷ (codes "name", Place) ∷ p
 arguments_of kind.Info = (codes "uuid", Place) ∷ []
 arguments_of kind.Read = (codes "uuid", Place) ∷ (codes "sector", Place) ∷ []
 arguments_of kind.Write = (codes "uuid", Place) ∷ (codes "sector", Place) ∷ (codes "value", Place) ∷ []
+arguments_of kind.Replay = (codes "uuid", Place) ∷ (codes "evict", Optional) ∷ []

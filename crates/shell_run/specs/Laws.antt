@@ -1,5 +1,5 @@
 -- Laws about what a run comes to.
-use Rattle.std.specs.Prelude.{◌≡◌, ◌≢◌, ◌⊎◌, ℕ, ◌+◌, ◌*◌, ◌/◌, ◌<◌, ◌≤◌, Bool, List, length, Option, Some, None, Ok}
+use Rattle.std.specs.Prelude.{◌≡◌, ◌≢◌, ◌⊎◌, ℕ, ◌+◌, ◌*◌, ◌/◌, ◌<◌, ◌≤◌, Bool, List, length, Option, Some, None, Ok, ⊤, IsTrue, MatchOption}
 use Rattle.nvd_media.specs.Causes.{Rose}
 use Rattle.nvd_media.specs.Images.{Images, IsSameSet}
 use Rattle.cut_words.specs.Words.{Words}
@@ -19,13 +19,19 @@ use Rattle.shell_reports.specs.declared.power.Power.{Power}
 use Rattle.shell_reports.specs.Outcome.{Outcome, status_of}
 use Rattle.shell_changes.specs.Init.{InitComes}
 use Rattle.shell_changes.specs.Remains.{LeavesBy}
-use Rattle.shell_run.specs.Run.{IsDue, Ends, copies_by}
+use Rattle.shell_run.specs.Run.{IsDue, Ends, copies_by, reads_script}
 use Rattle.shell_run.specs.Statuses.{IsFromOutside, ending_due}
+use Rattle.shell_run.specs.Words.{command_of}
+
+-- the script is told, if the words are those of a command that reads it
+abbrev pub IsScriptTold : List (List ℕ) → Option (List ℕ) → List ℕ → Type 0
+IsScriptTold words left script = MatchOption (command_of words) ⊤ (λ command. IsTrue (reads_script command) → left ≡ Some script)
 
 -- a law: the status is the one that is due by the table, unless something outside failed or memory ran out
 abbrev pub StatusIsDue : (ℕ → List (Option Words) → List (Option (List ℕ)) → Type 0) → Type 0
-StatusIsDue leaves = (words : List (List ℕ)) (set : Images) (left : Option (List ℕ)) (made made' : Option Images) (text text' : Option (List ℕ)) (before now : ℕ) (s : Status)
-    → Ends (Rose before now) (copies_by words) (IsDue leaves words (Some set) left) made made' text text' s → (s ≡ status_of (ending_due words set)) ⊎ IsFromOutside s
+StatusIsDue leaves = (words : List (List ℕ)) (set : Images) (script : List ℕ) (left : Option (List ℕ)) (made made' : Option Images) (text text' : Option (List ℕ)) (images images' source source' : ℕ) (s : Status)
+    → IsScriptTold words left script → Ends (Rose images images' ⊎ Rose source source') (copies_by words) (IsDue leaves words (Some set) left) made made' text text' s
+    → (s ≡ status_of (ending_due words script set)) ⊎ IsFromOutside s
 
 -- ---- what `init` leaves
 

@@ -1,5 +1,6 @@
 pub mod Commands
 pub mod Words
+pub mod Scripts
 pub mod Run
 pub mod Statuses
 pub mod Laws

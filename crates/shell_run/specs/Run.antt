@@ -1,5 +1,6 @@
 -- What a run does, seen from outside.
 use Rattle.std.specs.Prelude.{◌≡◌, ⊤, ◌⊎◌, ℕ, Bool, true, false, not, IsTrue, IsSome, List, ◌++◌, Option, Some, None, Result, Ok, Err, MatchOption, codes, take}
+use Rattle.std.specs.Option.{ForSome}
 use Rattle.std.specs.Io.KnownBytes.{Keeps, Appends}
 use Rattle.nvd_media.specs.Images.{Images, Becomes, IsUnfinished}
 use Rattle.nvd_media.specs.Images.{Keeps as StillTells}
@@ -9,7 +10,7 @@ use Rattle.image_set.specs.Load.{ImageSet, loading}
 use Rattle.shell_reports.specs.declared.status.Status.{Status}
 use Rattle.shell_reports.specs.declared.status.Status.TheVariants as status
 use Rattle.shell_run.specs.declared.words.Command.{Command}
-use Rattle.shell_run.specs.declared.words.Command.TheVariants.{Labels, Nfit, Init, Change, Info, Read, Write}
+use Rattle.shell_run.specs.declared.words.Command.TheVariants.{Labels, Nfit, Init, Change, Info, Read, Write, Replay}
 use Rattle.shell_run.specs.declared.words.Command.TheVariants as command
 use Rattle.shell_run.specs.Words.{command_of}
 use Rattle.shell_reports.specs.Outcome.{Outcome, usage, lf, status_of}
@@ -24,10 +25,14 @@ use Rattle.shell_reports.specs.List.{list_outcome}
 use Rattle.shell_reports.specs.Sectors.{info_outcome, read_outcome}
 use Rattle.namespace_ops.specs.Counted.{makes_sectors}
 use Rattle.shell_sectors.specs.Write.{WriteComes}
+use Rattle.shell_replay.specs.Replay.{ReplayComes}
+use Rattle.session_script.specs.Schedule.{replay_reading}
+use Rattle.shell_run.specs.declared.scripts.ScriptRefused.{ScriptRefused}
+use Rattle.shell_run.specs.Scripts.{script_in, script_outcome}
 
 -- ---- a case for each command
 
--- what a command may come to on the set that it loads; `leaves` says what a power cut may leave of rows of words, by the number from
+-- what a command without a script may come to on the set that it loads; `leaves` says what a power cut may leave of rows of words, by the number from
 -- which the chooser is begun
 abbrev pub LoadedComes : (ℕ → List (Option Words) → List (Option (List ℕ)) → Type 0) → Command → ImageSet → Outcome → Type 0
 LoadedComes leaves (Labels m) loaded outcome = outcome ≡ labels_outcome m loaded
@@ -38,15 +43,27 @@ LoadedComes leaves (Change c power) loaded outcome = ChangeComes leaves c power 
 LoadedComes leaves (Info uuid) loaded outcome = outcome ≡ info_outcome uuid loaded
 LoadedComes leaves (Read uuid sector) loaded outcome = outcome ≡ read_outcome uuid sector loaded
 LoadedComes leaves (Write uuid sector value) loaded outcome = WriteComes uuid sector value loaded outcome
+LoadedComes leaves (Replay uuid seed) loaded outcome = ⊥
 
 -- by the set that is loaded, or by why none is
 abbrev pub OnLoaded : (ImageSet → Outcome → Type 0) → Result ImageSet LoadFault → Outcome → Type 0
 OnLoaded comes (Ok loaded) outcome = comes loaded outcome
 OnLoaded comes (Err fault) outcome = outcome ≡ load_outcome fault
 
--- what a command may come to, for images and a script: the whole set is loaded first
-abbrev pub Comes : (ℕ → List (Option Words) → List (Option (List ℕ)) → Type 0) → Command → Images → List ℕ → Outcome → Type 0
-Comes leaves command set script outcome = OnLoaded (LoadedComes leaves command) (loading set) outcome
+-- by the images, as far as they are told: the whole set is loaded
+abbrev pub OnImages : (ImageSet → Outcome → Type 0) → Option Images → Outcome → Type 0
+OnImages comes held outcome = ForSome held (λ set. OnLoaded comes (loading set) outcome)
+
+-- by the script that is read, or by why none is
+abbrev pub OnScript : {A : Type 0} → (A → Outcome → Type 0) → Result A ScriptRefused → Outcome → Type 0
+OnScript comes (Ok script) outcome = comes script outcome
+OnScript comes (Err why) outcome = outcome ≡ script_outcome why
+
+-- what a command may come to, for images and a script: a command with a script reads it to its end first, and then loads the whole set
+abbrev pub Comes : (ℕ → List (Option Words) → List (Option (List ℕ)) → Type 0) → Command → Option Images → List ℕ → Outcome → Type 0
+Comes leaves (Replay uuid seed) held script outcome =
+    OnScript (λ schedule. OnImages (ReplayComes leaves uuid (record { lines = schedule.lines; seed = seed })) held) (script_in replay_reading script) outcome
+Comes leaves command held script outcome = OnImages (LoadedComes leaves command) held outcome
 
 -- whether a command reads the script
 abbrev pub reads_script : Command → Bool
@@ -58,6 +75,7 @@ reads_script (Change c power) = false
 reads_script (Info uuid) = false
 reads_script (Read uuid sector) = false
 reads_script (Write uuid sector value) = false
+reads_script (Replay uuid seed) = true
 
 -- whether a command copies contents as it saves, so that reading may fail then
 abbrev pub copies : Command → Bool
@@ -69,6 +87,7 @@ copies (Change c power) = not (makes_sectors c)
 copies (Info uuid) = false
 copies (Read uuid sector) = false
 copies (Write uuid sector value) = false
+copies (Replay uuid seed) = false
 
 -- whether a command works on the contents of modules, so that they are loaded
 abbrev pub needs_contents : Command → Bool
@@ -80,6 +99,7 @@ needs_contents (Change c power) = makes_sectors c
 needs_contents (Info uuid) = true
 needs_contents (Read uuid sector) = true
 needs_contents (Write uuid sector value) = true
+needs_contents (Replay uuid seed) = true
 
 -- whether the words are those of a command that copies contents
 abbrev pub copies_found : Option Command → Bool
@@ -91,10 +111,10 @@ copies_by words = copies_found (command_of words)
 
 -- ---- once for all commands
 
--- a command comes to this, whatever images and script are told
+-- a command comes to this, as far as images and script are told
 abbrev pub ComesTold : (ℕ → List (Option Words) → List (Option (List ℕ)) → Type 0) → Command → Option Images → Option (List ℕ) → Outcome → Type 0
 ComesTold leaves command held left outcome =
-    (set : Images) (script : List ℕ) → held ≡ Some set → (IsTrue (reads_script command) → left ≡ Some script) → Comes leaves command set script outcome
+    (script : List ℕ) → (IsTrue (reads_script command) → left ≡ Some script) → Comes leaves command held script outcome
 
 -- what the words come to
 abbrev pub IsDue : (ℕ → List (Option Words) → List (Option (List ℕ)) → Type 0) → List (List ℕ) → Option Images → Option (List ℕ) → Outcome → Type 0
@@ -122,8 +142,8 @@ FailedToWrite faulted copying due made made' text text' =
     ⊎ ((outcome : Outcome) × due outcome × Saves outcome.saved made made' × AppendsPart text text' outcome.text)
     ⊎ (faulted × FailedToRead copying due made made' × AppendsPart text text' (codes "read fault" ++ lf))
 
--- what stands outside after a status, of a command that copies contents as it saves or doesn't; `faulted` says that the images had a
--- fault of reading
+-- what stands outside after a status, of a command that copies contents as it saves or doesn't; `faulted` says that the images or
+-- the script had a fault of reading
 abbrev pub Ends : Type 0 → Bool → (Outcome → Type 0) → Option Images → Option Images → Option (List ℕ) → Option (List ℕ) → Status → Type 0
 Ends faulted copying due made made' text text' status.ReadFault = faulted × FailedToRead copying due made made' × Appends text text' (codes "read fault" ++ lf)
 Ends faulted copying due made made' text text' status.WriteFault = FailedToWrite faulted copying due made made' text text'

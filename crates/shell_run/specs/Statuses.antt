@@ -19,10 +19,19 @@ use Rattle.shell_reports.specs.Causes.{is_broken, refuses_info, refuses_read}
 use Rattle.shell_changes.specs.Namespaces as changes
 use Rattle.shell_changes.specs.Namespaces.{sets_in, refuses}
 use Rattle.shell_sectors.specs.Causes.{refuses_write}
+use Rattle.shell_replay.specs.Causes.{refuses_replay}
+use Rattle.session_script.specs.Schedule.{replay_reading}
+use Rattle.shell_run.specs.Scripts.{script_in}
 use Rattle.shell_run.specs.declared.words.Command.{Command}
-use Rattle.shell_run.specs.declared.words.Command.TheVariants.{Labels, Nfit, Init, Change, Info, Read, Write}
+use Rattle.shell_run.specs.declared.words.Command.TheVariants.{Labels, Nfit, Init, Change, Info, Read, Write, Replay}
 use Rattle.shell_run.specs.declared.words.Command.TheVariants as command
 use Rattle.shell_run.specs.Words.{command_of}
+
+-- ---- a script that isn't taken
+
+abbrev pub refuses_script : Command → List ℕ → Bool
+refuses_script (Replay uuid seed) script = is_err (script_in replay_reading script)
+refuses_script command script = false
 
 -- ---- images that are refused for a command
 
@@ -51,6 +60,7 @@ refuses_images (Change c power) (Ok loaded) = is_err (sets_in loaded)
 refuses_images (Info uuid) (Ok loaded) = is_broken loaded uuid
 refuses_images (Read uuid sector) (Ok loaded) = is_broken loaded uuid
 refuses_images (Write uuid sector value) (Ok loaded) = is_broken loaded uuid
+refuses_images (Replay uuid seed) (Ok loaded) = is_broken loaded uuid
 
 -- ---- steps and refusals
 
@@ -71,6 +81,7 @@ is_barred (Change c power) (Ok loaded) = refuses loaded c
 is_barred (Info uuid) (Ok loaded) = refuses_info loaded uuid
 is_barred (Read uuid sector) (Ok loaded) = refuses_read loaded uuid sector
 is_barred (Write uuid sector value) (Ok loaded) = refuses_write loaded uuid sector value
+is_barred (Replay uuid seed) (Ok loaded) = refuses_replay loaded uuid
 is_barred command found = false
 
 -- ---- the table
@@ -79,13 +90,16 @@ is_barred command found = false
 abbrev pub ending_by : Bool → Bool → Bool → Ending
 ending_by refused cut barred = if refused then ending.Image else if cut then ending.PowerCut else if barred then ending.Refused else ending.Done
 
-abbrev pub ending_with : Option Command → Result ImageSet LoadFault → Ending
-ending_with None found = ending.Usage
-ending_with (Some command) found = ending_by (refuses_images command found) (is_cut command found) (is_barred command found)
+abbrev pub ending_on : Command → Result ImageSet LoadFault → Ending
+ending_on command found = ending_by (refuses_images command found) (is_cut command found) (is_barred command found)
 
--- the ending that is due: words that are no command line come first
-abbrev pub ending_due : List (List ℕ) → Images → Ending
-ending_due words set = ending_with (command_of words) (loading set)
+abbrev pub ending_with : Option Command → List ℕ → Result ImageSet LoadFault → Ending
+ending_with None script found = ending.Usage
+ending_with (Some command) script found = if refuses_script command script then ending.Usage else ending_on command found
+
+-- the ending that is due: words that are no command line come first, then a script that isn't taken
+abbrev pub ending_due : List (List ℕ) → List ℕ → Images → Ending
+ending_due words script set = ending_with (command_of words) script (loading set)
 
 -- a status that says that something outside failed, or that memory ran out
 abbrev pub IsFromOutside : Status → Type 0

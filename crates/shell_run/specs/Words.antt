@@ -6,7 +6,7 @@ use Rattle.command_words.specs.Parsed.{parsed, number_in, optional_number_in, uu
 use Rattle.shell_run.specs.declared.commands.Kind.{Kind}
 use Rattle.shell_run.specs.declared.commands.Kind.TheVariants as kind
 use Rattle.shell_run.specs.declared.words.Command.{Command}
-use Rattle.shell_run.specs.declared.words.Command.TheVariants.{Labels, Nfit, Init, Change, Info, Read, Write}
+use Rattle.shell_run.specs.declared.words.Command.TheVariants.{Labels, Nfit, Init, Change, Info, Read, Write, Replay}
 use Rattle.shell_run.specs.declared.words.Command.TheVariants as command
 use Rattle.shell_reports.specs.declared.power.Power.{Power}
 use Rattle.namespace_ops.specs.Carried.{HasGoodName}
@@ -32,6 +32,10 @@ write_in values =
     option_and_then (λ uuid. option_and_then (λ sector. option_map (λ value. Write uuid sector value) (option_and_then value_of (first_of (codes "value") values)))
     (number_in 0 most (codes "sector") values)) (uuid_in (codes "uuid") values)
 
+-- replay UUID [--evict S]
+abbrev pub replay_in : List Row → Option Command
+replay_in values = option_and_then (λ uuid. option_map (λ seed. Replay uuid (unwrap_or seed 0)) (optional_number_in 0 most (codes "evict") values)) (uuid_in (codes "uuid") values)
+
 -- the command that the values of its arguments make; modules are numbered 0 to 63
 abbrev pub command_in : Kind → List Row → Option Command
 command_in kind.Labels values = option_map (λ m. Labels m) (number_in 0 63 (codes "module") values)
@@ -43,6 +47,7 @@ command_in kind.Rename values = option_and_then (λ c. option_map (λ power. Cha
 command_in kind.Info values = option_map (λ uuid. Info uuid) (uuid_in (codes "uuid") values)
 command_in kind.Read values = option_and_then (λ uuid. option_map (λ sector. Read uuid sector) (number_in 0 most (codes "sector") values)) (uuid_in (codes "uuid") values)
 command_in kind.Write values = write_in values
+command_in kind.Replay values = replay_in values
 command_in kind.Init values = option_and_then (λ m. option_map (λ power. Init m power) (power_in values)) (number_in 0 63 (codes "module") values)
 
 -- the command of a name with the words after it
@@ -64,3 +69,4 @@ GivesGoodName (Change c power) = HasGoodName c
 GivesGoodName (Info uuid) = ⊤
 GivesGoodName (Read uuid sector) = ⊤
 GivesGoodName (Write uuid sector value) = ⊤
+GivesGoodName (Replay uuid seed) = ⊤

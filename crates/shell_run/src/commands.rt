@@ -24,6 +24,8 @@ pub enum Kind {
     Read,
     /// Writes a sector of a namespace.
     Write,
+    /// Plays a schedule on the lanes of a namespace's arena.
+    Replay,
 }
 
 /// The number of a module.
@@ -150,6 +152,9 @@ impl Kind {
         if name == "write" {
             return Some(Kind::Write);
         }
+        if name == "replay" {
+            return Some(Kind::Replay);
+        }
         None
     }
 
@@ -178,6 +183,7 @@ impl Kind {
             Kind::Info => &[UUID],
             Kind::Read => &[UUID, SECTOR],
             Kind::Write => &[UUID, SECTOR, VALUE],
+            Kind::Replay => &[UUID, EVICT],
         }
     }
 }

@@ -1,25 +1,28 @@
-//! A run of the program over the outside's traits: words, an image set, and what is printed and saved.
+//! A run of the program over the outside's traits: words, a script, an image set, and what is printed and saved.
 //!
 //! ```text
 //!  words ──► command                                        words, commands, command_words
+//!  script ──► schedule     of `replay` alone                scripts, session_script
 //!  image set ──► lines ──► text, status                     top
 //!      │   labels, nfit, list, info, read
 //!      │
 //!      ├──► a changed set, or its state after a crash ──► image set
-//!      │       init, create, delete, rename, write
+//!      │       init, create, delete, rename, write, replay
 //!      └──► the first object that is missing or outside its limits
 //! ```
 //!
 //! [`run`] does the work, so its contract says all of it; `nvdimm_shell` gives it directories and the standard streams.
 //!
 //! A command is an entry of the table in `specs/Commands.antt`, a case of `Comes` in `specs/Run.antt`, and a handler that
-//! makes an answer from the set that was loaded, without a source or a sink. Loading, faults of reading and writing and
+//! makes an answer from the set that was loaded, without a source or a sink. A command with a script reads it to its end
+//! before anything is loaded (`OnScript`); its handler gets what was read. Loading, faults of reading and writing and
 //! running out of memory are handled once, for all commands, by `OnLoaded`, by `Ends` and in `top`. Contents are loaded for
-//! `info`, `read`, `write` and `create --mode sector` alone (`needs_contents`); the other commands that save copy them (`copies`).
+//! `info`, `read`, `write`, `replay` and `create --mode sector` alone (`needs_contents`); the other commands that save copy them (`copies`).
 #![tactic(auto)]
 
 mod commands;
 mod laws;
+mod scripts;
 mod top;
 mod words;
 

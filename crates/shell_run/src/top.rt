@@ -1,4 +1,4 @@
-ghost use Rattle.std.specs.Prelude.{◌≡◌, ◌≢◌, ◌⊎◌, ◌++◌, ◌≤◌, ℕ, List, codes, map, string_bytes, true, false, IfOk, IsSome, IsTrue, OnOk, None, Ok, Err, Option};
+ghost use Rattle.std.specs.Prelude.{◌≡◌, ◌≢◌, ◌⊎◌, ◌++◌, ◌≤◌, ◌<◌, ◌^◌, ℕ, List, codes, length, map, string_bytes, true, false, IfOk, IsSome, IsTrue, OnOk, None, Ok, Err, Option};
 ghost use Rattle.std.specs.Option.{ForSome};
 ghost use Rattle.std.specs.Io.KnownBytes.{Appends};
 ghost use Rattle.nvd_media.specs.Causes.{Rose};
@@ -16,9 +16,12 @@ ghost use Rattle.shell_reports.specs.Sectors.{info_outcome, read_outcome};
 ghost use Rattle.shell_changes.specs.Answers.{ComesFrom, HasSizes, outcome_with, whole_outcome};
 ghost use Rattle.shell_changes.specs.Remains.{LeavesBy};
 ghost use Rattle.shell_changes.specs.Saved.{AreSaved, HasContentsOf, Stores, copies_contents};
-ghost use Rattle.shell_run.specs.Run.{ComesTold, Ends, AppendsPart, Holds, IsDue, LeavesScript, LoadedComes, copies, copies_by, needs_contents, reads_script};
+ghost use Rattle.shell_replay.specs.Replay.{ReplayComes};
+ghost use Rattle.shell_run.specs.Scripts.{script_outcome};
+ghost use Rattle.shell_run.specs.Run.{ComesTold, Ends, AppendsPart, Holds, IsDue, LeavesScript, LoadedComes, OnImages, copies, copies_by, needs_contents, reads_script};
 ghost use Rattle.shell_run.specs.Words.{GivesGoodName};
 
+use crate::scripts::{ScriptRefused, ScriptStop, read_schedule, script_answer};
 use crate::words::{Command, command_from};
 use command_words::WordsFault;
 use image_set::{CopyFault, LoadFault, Loaded, Outline, load, load_outline};
@@ -26,6 +29,7 @@ use nvd_media::{Chooser, Gate, ImageSink, ImageSource, TextSink, TextSource};
 use shell_changes::{
     Answer, SavedSet, SetRead, change_answer, init_answer, makes_sectors, without_set,
 };
+use shell_replay::{Schedule, replay_answer};
 use shell_reports::{
     Ending, Report, Status, Stop, info_answer, labels_answer, list_answer, load_answer,
     nfit_answer, read_answer, usage_answer,
@@ -126,10 +130,28 @@ fn needs_contents(command: &Command) -> bool
         Command::Info(_) => true,
         Command::Read(_, _) => true,
         Command::Write(_, _, _) => true,
+        Command::Replay(_, _) => true,
     }
 }
 
-/// What a command comes to on the set that it loads but for its contents.
+/// Whether a command reads the script.
+fn reads_script(command: &Command) -> bool
+    ensures { result ≡ reads_script command.now }
+{
+    match command {
+        Command::Labels(_) => false,
+        Command::Nfit => false,
+        Command::List => false,
+        Command::Init(_, _) => false,
+        Command::Change(_, _) => false,
+        Command::Info(_) => false,
+        Command::Read(_, _) => false,
+        Command::Write(_, _, _) => false,
+        Command::Replay(_, _) => true,
+    }
+}
+
+/// What a command without a script comes to on the set that it loads but for its contents.
 fn outlined_answer<C: Chooser>(
     alloc: Global,
     command: Command,
@@ -154,10 +176,11 @@ fn outlined_answer<C: Chooser>(
         Command::Info(_) => unreachable!(),
         Command::Read(_, _) => unreachable!(),
         Command::Write(_, _, _) => unreachable!(),
+        Command::Replay(_, _) => unreachable!(),
     }
 }
 
-/// What a command comes to on the set that it loads with its contents.
+/// What a command without a script comes to on the set that it loads with its contents.
 fn loaded_answer<C: Chooser>(
     alloc: Global,
     command: Command,
@@ -167,6 +190,7 @@ fn loaded_answer<C: Chooser>(
     requires sound { IsSound loaded }
     requires name { GivesGoodName command }
     requires whole { needs_contents command ≡ true }
+    requires plain { reads_script command ≡ false }
     ensures comes { IfOk result (λ answer. LoadedComes (LeavesBy C.begins C.picks choose.old) command (image_set_in loaded) (whole_outcome answer)) }
     ensures whole { IfOk result (λ answer. copies_contents answer.saved ≡ false) }
 {
@@ -181,6 +205,7 @@ fn loaded_answer<C: Chooser>(
         Command::Info(uuid) => arenas_found(alloc, &uuid, loaded),
         Command::Read(uuid, sector) => sector_found(alloc, &uuid, sector, loaded),
         Command::Write(uuid, sector, value) => write_answer(alloc, &uuid, sector, value, loaded),
+        Command::Replay(_, _) => unreachable!(),
     }
 }
 
@@ -199,21 +224,19 @@ fn unloaded(alloc: Global, fault: LoadFault) -> Result<Answer, Stop>
     }
 }
 
-/// What a command comes to that needs no contents: the set is loaded but for them.
-fn perform_outlined<S: ImageSource, T: TextSource, C: Chooser>(
+/// What a command without a script comes to that needs no contents: the set is loaded but for them.
+fn perform_outlined<S: ImageSource, C: Chooser>(
     alloc: Global,
     command: Command,
     images: &mut S,
-    _script: &mut T,
     choose: &mut C,
 ) -> Result<Answer, Stop>
     requires name { GivesGoodName command }
     requires outlined { needs_contents command ≡ false }
-    ensures told { IfOk result (λ answer. (outcome : Outcome) → ComesFrom (S.held images.old) answer outcome → ComesTold (LeavesBy C.begins C.picks choose.old) command (S.held images.old) (T.left _script.old) outcome) }
+    ensures told { IfOk result (λ answer. (outcome : Outcome) → ComesFrom (S.held images.old) answer outcome → OnImages (LoadedComes (LeavesBy C.begins C.picks choose.old) command) (S.held images.old) outcome) }
     ensures copying { IfOk result (λ answer. IsTrue (copies_contents answer.saved) → IsTrue (copies command)) }
     ensures there { IfOk result (λ answer. HasContentsOf (S.held images.old) answer.saved) }
     ensures same { S.held images.new ≡ S.held images.old }
-    ensures unread { reads_script command ≡ false → T.left _script.new ≡ T.left _script.old }
     ensures failed { result ≡ Err Stop.ReadFault → Rose (S.faults images.old) (S.faults images.new) }
     ensures later { S.faults images.old ≤ S.faults images.new }
 {
@@ -223,26 +246,127 @@ fn perform_outlined<S: ImageSource, T: TextSource, C: Chooser>(
     }
 }
 
-/// What a command comes to that needs contents: the whole set is loaded.
-fn perform_whole<S: ImageSource, T: TextSource, C: Chooser>(
+/// What a command without a script comes to that needs contents: the whole set is loaded.
+fn perform_whole<S: ImageSource, C: Chooser>(
     alloc: Global,
     command: Command,
     images: &mut S,
-    _script: &mut T,
     choose: &mut C,
 ) -> Result<Answer, Stop>
     requires name { GivesGoodName command }
     requires whole { needs_contents command ≡ true }
-    ensures told { IfOk result (λ answer. (outcome : Outcome) → ComesFrom (S.held images.old) answer outcome → ComesTold (LeavesBy C.begins C.picks choose.old) command (S.held images.old) (T.left _script.old) outcome) }
+    requires plain { reads_script command ≡ false }
+    ensures told { IfOk result (λ answer. (outcome : Outcome) → ComesFrom (S.held images.old) answer outcome → OnImages (LoadedComes (LeavesBy C.begins C.picks choose.old) command) (S.held images.old) outcome) }
     ensures whole { IfOk result (λ answer. copies_contents answer.saved ≡ false) }
     ensures same { S.held images.new ≡ S.held images.old }
-    ensures unread { reads_script command ≡ false → T.left _script.new ≡ T.left _script.old }
     ensures failed { result ≡ Err Stop.ReadFault → Rose (S.faults images.old) (S.faults images.new) }
     ensures later { S.faults images.old ≤ S.faults images.new }
 {
     match load(alloc, images) {
         Ok(loaded) => found_memory(loaded_answer(alloc, command, loaded, choose)),
         Err(why) => unloaded(alloc, why),
+    }
+}
+
+/// What `replay` comes to once its schedule is read: the whole set is loaded.
+fn replay_loaded<S: ImageSource, C: Chooser>(
+    alloc: Global,
+    uuid: &Uuid,
+    schedule: &Schedule,
+    images: &mut S,
+    choose: &mut C,
+) -> Result<Answer, Stop>
+    requires few { length schedule.now.lines < 2 ^ 32 }
+    ensures told { IfOk result (λ answer. (outcome : Outcome) → ComesFrom (S.held images.old) answer outcome → OnImages (ReplayComes (LeavesBy C.begins C.picks choose.old) uuid.now schedule.now) (S.held images.old) outcome) }
+    ensures whole { IfOk result (λ answer. copies_contents answer.saved ≡ false) }
+    ensures same { S.held images.new ≡ S.held images.old }
+    ensures failed { result ≡ Err Stop.ReadFault → Rose (S.faults images.old) (S.faults images.new) }
+    ensures later { S.faults images.old ≤ S.faults images.new }
+{
+    match load(alloc, images) {
+        Ok(loaded) => found_memory(replay_answer(alloc, uuid, schedule, loaded, choose)),
+        Err(why) => unloaded(alloc, why),
+    }
+}
+
+/// The answer to a script that isn't taken.
+fn misread(alloc: Global, why: ScriptRefused) -> Result<Answer, Stop>
+    ensures text { IfOk result (λ answer. (contents : List (List ℕ)) → outcome_with answer contents ≡ script_outcome why) }
+    ensures saved { IfOk result (λ answer. answer.saved ≡ None) }
+    ensures memory { result ≢ Err Stop.ReadFault }
+{
+    found_memory(reported(script_answer(alloc, why)))
+}
+
+/// What `replay` comes to: its schedule is read first.
+fn perform_replay<S: ImageSource, T: TextSource, C: Chooser>(
+    alloc: Global,
+    uuid: Uuid,
+    seed: u64,
+    images: &mut S,
+    script: &mut T,
+    choose: &mut C,
+) -> Result<Answer, Stop>
+    ensures told { IfOk result (λ answer. (outcome : Outcome) → ComesFrom (S.held images.old) answer outcome → ComesTold (LeavesBy C.begins C.picks choose.old) (Command.Replay uuid seed) (S.held images.old) (T.left script.old) outcome) }
+    ensures whole { IfOk result (λ answer. copies_contents answer.saved ≡ false) }
+    ensures same { S.held images.new ≡ S.held images.old }
+    ensures failed { result ≡ Err Stop.ReadFault → Rose (S.faults images.old) (S.faults images.new) ⊎ Rose (T.faults script.old) (T.faults script.new) }
+    ensures later { S.faults images.old ≤ S.faults images.new }
+{
+    match read_schedule(alloc, script) {
+        Ok(replay) => {
+            let schedule = Schedule {
+                lines: replay.lines,
+                seed,
+            };
+            replay_loaded(alloc, &uuid, &schedule, images, choose)
+        }
+        Err(ScriptStop::Refused(why)) => misread(alloc, why),
+        Err(ScriptStop::Stop(stop)) => Err(stop),
+    }
+}
+
+/// What a command with a script comes to.
+fn perform_scripted<S: ImageSource, T: TextSource, C: Chooser>(
+    alloc: Global,
+    command: Command,
+    images: &mut S,
+    script: &mut T,
+    choose: &mut C,
+) -> Result<Answer, Stop>
+    requires scripted { reads_script command ≡ true }
+    ensures told { IfOk result (λ answer. (outcome : Outcome) → ComesFrom (S.held images.old) answer outcome → ComesTold (LeavesBy C.begins C.picks choose.old) command (S.held images.old) (T.left script.old) outcome) }
+    ensures whole { IfOk result (λ answer. copies_contents answer.saved ≡ false) }
+    ensures same { S.held images.new ≡ S.held images.old }
+    ensures failed { result ≡ Err Stop.ReadFault → Rose (S.faults images.old) (S.faults images.new) ⊎ Rose (T.faults script.old) (T.faults script.new) }
+    ensures later { S.faults images.old ≤ S.faults images.new }
+{
+    match command {
+        Command::Replay(uuid, seed) => perform_replay(alloc, uuid, seed, images, script, choose),
+        _ => unreachable!(),
+    }
+}
+
+/// What a command without a script comes to.
+fn perform_plain<S: ImageSource, C: Chooser>(
+    alloc: Global,
+    command: Command,
+    images: &mut S,
+    choose: &mut C,
+) -> Result<Answer, Stop>
+    requires name { GivesGoodName command }
+    requires plain { reads_script command ≡ false }
+    ensures told { IfOk result (λ answer. (outcome : Outcome) → ComesFrom (S.held images.old) answer outcome → OnImages (LoadedComes (LeavesBy C.begins C.picks choose.old) command) (S.held images.old) outcome) }
+    ensures copying { IfOk result (λ answer. IsTrue (copies_contents answer.saved) → IsTrue (copies command)) }
+    ensures there { IfOk result (λ answer. HasContentsOf (S.held images.old) answer.saved) }
+    ensures same { S.held images.new ≡ S.held images.old }
+    ensures failed { result ≡ Err Stop.ReadFault → Rose (S.faults images.old) (S.faults images.new) }
+    ensures later { S.faults images.old ≤ S.faults images.new }
+{
+    if needs_contents(&command) {
+        perform_whole(alloc, command, images, choose)
+    } else {
+        perform_outlined(alloc, command, images, choose)
     }
 }
 
@@ -260,13 +384,13 @@ fn perform<S: ImageSource, T: TextSource, C: Chooser>(
     ensures there { IfOk result (λ answer. HasContentsOf (S.held images.old) answer.saved) }
     ensures same { S.held images.new ≡ S.held images.old }
     ensures unread { reads_script command ≡ false → T.left script.new ≡ T.left script.old }
-    ensures failed { result ≡ Err Stop.ReadFault → Rose (S.faults images.old) (S.faults images.new) }
+    ensures failed { result ≡ Err Stop.ReadFault → Rose (S.faults images.old) (S.faults images.new) ⊎ Rose (T.faults script.old) (T.faults script.new) }
     ensures later { S.faults images.old ≤ S.faults images.new }
 {
-    if needs_contents(&command) {
-        perform_whole(alloc, command, images, script, choose)
+    if reads_script(&command) {
+        perform_scripted(alloc, command, images, script, choose)
     } else {
-        perform_outlined(alloc, command, images, script, choose)
+        perform_plain(alloc, command, images, choose)
     }
 }
 
@@ -293,7 +417,7 @@ fn answer_to<S: ImageSource, T: TextSource, C: Chooser>(
     ensures there { IfOk result (λ answer. HasContentsOf (S.held images.old) answer.saved) }
     ensures same { S.held images.new ≡ S.held images.old }
     ensures unread { LeavesScript (map string_bytes words.now) (T.left script.old) (T.left script.new) }
-    ensures failed { result ≡ Err Stop.ReadFault → Rose (S.faults images.old) (S.faults images.new) }
+    ensures failed { result ≡ Err Stop.ReadFault → Rose (S.faults images.old) (S.faults images.new) ⊎ Rose (T.faults script.old) (T.faults script.new) }
     ensures later { S.faults images.old ≤ S.faults images.new }
 {
     match command_from(alloc, words) {
@@ -391,13 +515,13 @@ fn conclude<S: ImageSource, K: ImageSink, O: TextSink>(
 /// written to `out` before, if it tells.
 ///
 /// - `ends`: the text and the saved set are those that are due for the words, the images and the script, as far as these
-///   are told (`specs/Run.antt`). The table of statuses says which status is due (`status_is_due`). After 5 the text is
+///   are told (`specs/Run.antt`). A command with a script reads it to its end before it loads the images. The table of statuses says which status is due (`status_is_due`). After 5 the text is
 ///   `read fault`, and nothing was written; or a set that isn't finished, of a command that copies contents as it saves
 ///   (`copies`). After 6 the set isn't finished, or the text stopped before its end. 7 means out of memory, may always come,
 ///   and prints nothing. If power is cut, the chooser is begun once and picks what survives.
 /// - `stored`: after 0, 2, 3, 4 and 8, sinks that tell that they stored everything hold the set and the text that are due.
-/// - `read_fault`, `write_fault`: 5 comes only if the count of faults of the images rose in this call, 6 only if that of
-///   `out` or of the text did.
+/// - `read_fault`, `write_fault`: 5 comes only if the count of faults of the images or of the script rose in this call, 6
+///   only if that of `out` or of the text did.
 /// - `kept`, `unread`: the images are never written. A script that the command doesn't read is left as it was.
 #[tactic(auto, using(crate::proofs::Ending::endings))]
 pub fn run<
@@ -420,10 +544,10 @@ pub fn run<
     _gate: &G,
 ) -> Status
     requires { ForSome (K.made out.old) IsEmptySet }
-    ensures ends { Ends (Rose (S.faults images.old) (S.faults images.new)) (copies_by (map string_bytes words.now)) (IsDue (LeavesBy C.begins C.picks choose.old) (map string_bytes words.now) (S.held images.old) (T.left script.old))
+    ensures ends { Ends (Rose (S.faults images.old) (S.faults images.new) ⊎ Rose (T.faults script.old) (T.faults script.new)) (copies_by (map string_bytes words.now)) (IsDue (LeavesBy C.begins C.picks choose.old) (map string_bytes words.now) (S.held images.old) (T.left script.old))
         (K.made out.old) (K.made out.new) (O.written text.old) (O.written text.new) result }
     ensures stored { Holds (IsDue (LeavesBy C.begins C.picks choose.old) (map string_bytes words.now) (S.held images.old) (T.left script.old)) (K.kept out.old) (K.kept out.new) (O.kept text.old) (O.kept text.new) result }
-    ensures read_fault { result ≡ Status.ReadFault → Rose (S.faults images.old) (S.faults images.new) }
+    ensures read_fault { result ≡ Status.ReadFault → Rose (S.faults images.old) (S.faults images.new) ⊎ Rose (T.faults script.old) (T.faults script.new) }
     ensures write_fault { result ≡ Status.WriteFault → Rose (K.faults out.old) (K.faults out.new) ⊎ Rose (O.faults text.old) (O.faults text.new) }
     ensures kept { S.held images.new ≡ S.held images.old }
     ensures unread { LeavesScript (map string_bytes words.now) (T.left script.old) (T.left script.new) }

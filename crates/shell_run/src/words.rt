@@ -30,6 +30,9 @@ pub enum Command {
     Read(Uuid, u64),
     /// Write a sector of a namespace.
     Write(Uuid, u64, Payload),
+    /// Play the schedule that the script states on a namespace's arena; the chooser of the power cut at its end begins from
+    /// this number.
+    Replay(Uuid, u64),
 }
 
 /// The greatest number of a module.
@@ -112,6 +115,11 @@ fn command_in(kind: Kind, values: &Parsed<'_>) -> Option<Command>
             Some(Command::Read(uuid, values.number("sector", 0, u64::MAX)?))
         }
         Kind::Write => unreachable!(),
+        Kind::Replay => {
+            let uuid = values.uuid("uuid")?;
+            let seed = values.optional_number("evict", 0, u64::MAX)?;
+            Some(Command::Replay(uuid, seed.unwrap_or(0)))
+        }
     }
 }
 

@@ -74,3 +74,8 @@ pub unreachable-requires-in-Write : goal.unreachable-requires-in-Write
 unreachable-requires-in-Write g c =
     let both = sym c.requires.outlined ∙ ap needs_contents c.in-Write.is in
     (let e = both in cc)
+
+pub unreachable-requires-in-Replay : goal.unreachable-requires-in-Replay
+unreachable-requires-in-Replay g c =
+    let both = sym c.requires.outlined ∙ ap needs_contents c.in-Replay.is in
+    (let e = both in cc)

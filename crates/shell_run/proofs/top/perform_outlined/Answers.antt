@@ -2,7 +2,7 @@ use Rattle.std.specs.Prelude.{IsTrue}
 use Rattle.shell_changes.specs.declared.answer.Answer.{Answer}
 use Rattle.shell_changes.specs.Remains.{LeavesBy}
 use Rattle.shell_changes.specs.Saved.{HasContentsOf, copies_contents}
-use Rattle.shell_run.specs.Run.{copies}
+use Rattle.shell_run.specs.Run.{LoadedComes, copies}
 use Rattle.shell_run.proofs.Comes.{if_told, IsTold, if_both, if_same, if_then, none_copied, outline_there, outlined_told, unoutlined_told, whole_there}
 use Rattle.shell_changes.proofs.Remains.{copies_none}
 use Rattle.shell_run.proofs.top.perform_outlined.Goals as goal
@@ -11,10 +11,9 @@ pub returns-in-Ok-clause-told : goal.returns-in-Ok-clause-told
 returns-in-Ok-clause-told g c =
     let leaves = LeavesBy g.C.Chooser.begins g.C.Chooser.picks c.args.choose.now in
     let held = g.S.ImageSource.held c.args.images.now in
-    let left = g.T.TextSource.left c.args._script.now in
-    if_same (IsTold leaves c.args.command held left) c.found_memory.result c.outlined_answer.result c.found_memory.ensures.same
-    (if_both _ _ (IsTold leaves c.args.command held left) c.outlined_answer.result
-    (λ answer comes sized. outlined_told leaves c.args.command held left c.load_outline.result c.in-Ok.outline answer c.in-Ok.is c.load_outline.ensures.told sized comes)
+    if_same (IsTold (LoadedComes leaves c.args.command) held) c.found_memory.result c.outlined_answer.result c.found_memory.ensures.same
+    (if_both _ _ (IsTold (LoadedComes leaves c.args.command) held) c.outlined_answer.result
+    (λ answer comes sized. outlined_told (LoadedComes leaves c.args.command) held c.load_outline.result c.in-Ok.outline answer c.in-Ok.is c.load_outline.ensures.told sized comes)
     c.outlined_answer.ensures.comes c.outlined_answer.ensures.sizes)
 
 pub returns-in-Ok-clause-copying : goal.returns-in-Ok-clause-copying
@@ -32,9 +31,8 @@ pub returns-in-Err-clause-told : goal.returns-in-Err-clause-told
 returns-in-Err-clause-told g c =
     let leaves = LeavesBy g.C.Chooser.begins g.C.Chooser.picks c.args.choose.now in
     let held = g.S.ImageSource.held c.args.images.now in
-    let left = g.T.TextSource.left c.args._script.now in
-    if_told leaves c.args.command held left c.unloaded.result c.in-Err.fault
-    (λ answer nothing says read memory. unoutlined_told leaves c.args.command held left c.load_outline.result c.in-Err.fault answer c.in-Err.is c.load_outline.ensures.told nothing says read memory)
+    if_told (IsTold (LoadedComes leaves c.args.command) held) c.unloaded.result c.in-Err.fault
+    (λ answer nothing says read memory. unoutlined_told (LoadedComes leaves c.args.command) held c.load_outline.result c.in-Err.fault answer c.in-Err.is c.load_outline.ensures.told nothing says read memory)
     c.unloaded.ensures.saved c.unloaded.ensures.text c.unloaded.ensures.source c.unloaded.ensures.memory
 
 pub returns-in-Err-clause-copying : goal.returns-in-Err-clause-copying

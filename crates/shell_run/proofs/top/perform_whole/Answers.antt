@@ -3,6 +3,7 @@ use Rattle.shell_changes.specs.declared.answer.Answer.{Answer}
 use Rattle.shell_changes.specs.Remains.{LeavesBy}
 use Rattle.shell_changes.specs.Saved.{copies_contents}
 use Rattle.shell_changes.proofs.Remains.{copies_none}
+use Rattle.shell_run.specs.Run.{LoadedComes}
 use Rattle.shell_run.proofs.Comes.{IsTold, if_both, if_same, if_then, if_told, loaded_told, unloaded_told}
 use Rattle.shell_run.proofs.top.perform_whole.Goals as goal
 
@@ -10,10 +11,9 @@ pub returns-in-Ok-clause-told : goal.returns-in-Ok-clause-told
 returns-in-Ok-clause-told g c =
     let leaves = LeavesBy g.C.Chooser.begins g.C.Chooser.picks c.args.choose.now in
     let held = g.S.ImageSource.held c.args.images.now in
-    let left = g.T.TextSource.left c.args._script.now in
-    if_same (IsTold leaves c.args.command held left) c.found_memory.result c.loaded_answer.result c.found_memory.ensures.same
-    (if_both _ _ (IsTold leaves c.args.command held left) c.loaded_answer.result
-    (λ answer comes whole. loaded_told leaves c.args.command held left c.load.result c.in-Ok.loaded answer c.in-Ok.is c.load.ensures.told whole comes)
+    if_same (IsTold (LoadedComes leaves c.args.command) held) c.found_memory.result c.loaded_answer.result c.found_memory.ensures.same
+    (if_both _ _ (IsTold (LoadedComes leaves c.args.command) held) c.loaded_answer.result
+    (λ answer comes whole. loaded_told (LoadedComes leaves c.args.command) held c.load.result c.in-Ok.loaded answer c.in-Ok.is c.load.ensures.told whole comes)
     c.loaded_answer.ensures.comes c.loaded_answer.ensures.whole)
 
 pub returns-in-Ok-clause-whole : goal.returns-in-Ok-clause-whole
@@ -24,9 +24,8 @@ pub returns-in-Err-clause-told : goal.returns-in-Err-clause-told
 returns-in-Err-clause-told g c =
     let leaves = LeavesBy g.C.Chooser.begins g.C.Chooser.picks c.args.choose.now in
     let held = g.S.ImageSource.held c.args.images.now in
-    let left = g.T.TextSource.left c.args._script.now in
-    if_told leaves c.args.command held left c.unloaded.result c.in-Err.why
-    (λ answer nothing says read memory. unloaded_told leaves c.args.command held left c.load.result c.in-Err.why answer c.in-Err.is c.load.ensures.told nothing says read memory)
+    if_told (IsTold (LoadedComes leaves c.args.command) held) c.unloaded.result c.in-Err.why
+    (λ answer nothing says read memory. unloaded_told (LoadedComes leaves c.args.command) held c.load.result c.in-Err.why answer c.in-Err.is c.load.ensures.told nothing says read memory)
     c.unloaded.ensures.saved c.unloaded.ensures.text c.unloaded.ensures.source c.unloaded.ensures.memory
 
 pub returns-in-Err-clause-whole : goal.returns-in-Err-clause-whole

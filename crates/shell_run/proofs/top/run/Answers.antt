@@ -1,4 +1,4 @@
-use Rattle.std.proofs.Common.{Option, Err, inl, inr, sym, ap, ◌∙◌, subst, arith}
+use Rattle.std.proofs.Common.{◌⊎◌, Option, Err, inl, inr, sym, ap, ◌∙◌, subst, arith}
 use Rattle.std.specs.Prelude.{map, string_bytes}
 use Rattle.nvd_media.specs.Images.{Images}
 use Rattle.nvd_media.specs.Causes.{Rose}
@@ -27,13 +27,13 @@ returns-in-Ok-clause-ends g c =
     let between = g.S.ImageSource.faults c.answer_to.new.images in
     let after = g.S.ImageSource.faults c.conclude.new.images in
     let later = c.answer_to.ensures.later in
-    ends_more (Rose between after) (Rose before after) (copies_contents answer.saved) (copies_by words) (ComesFrom held answer) due made made' text text' c.conclude.result (λ rose. omega (arith, later, rose)) c.in-Ok.ensures.copying c.in-Ok.ensures.due
+    ends_more (Rose between after) (Rose before after ⊎ Rose (g.T.TextSource.faults c.args.script.now) (g.T.TextSource.faults c.answer_to.new.script)) (copies_contents answer.saved) (copies_by words) (ComesFrom held answer) due made made' text text' c.conclude.result (λ rose. inl (omega (arith, later, rose))) c.in-Ok.ensures.copying c.in-Ok.ensures.due
     (subst (λ (h : Option Images). Ends (Rose between after) (copies_contents answer.saved) (ComesFrom h answer) made made' text text' c.conclude.result) c.answer_to.ensures.same c.conclude.ensures.ends)
 
 pub returns-in-Err-clause-ends : goal.returns-in-Err-clause-ends
 returns-in-Err-clause-ends g c =
     let words = map string_bytes c.args.words.now in
-    ends_stopped (Rose (g.S.ImageSource.faults c.args.images.now) (g.S.ImageSource.faults c.answer_to.new.images)) (copies_by words) (IsDue (LeavesBy g.C.Chooser.begins g.C.Chooser.picks c.args.choose.now) words (g.S.ImageSource.held c.args.images.now) (g.T.TextSource.left c.args.script.now))
+    ends_stopped (Rose (g.S.ImageSource.faults c.args.images.now) (g.S.ImageSource.faults c.answer_to.new.images) ⊎ Rose (g.T.TextSource.faults c.args.script.now) (g.T.TextSource.faults c.answer_to.new.script)) (copies_by words) (IsDue (LeavesBy g.C.Chooser.begins g.C.Chooser.picks c.args.choose.now) words (g.S.ImageSource.held c.args.images.now) (g.T.TextSource.left c.args.script.now))
     (g.K.ImageSink.made c.args.out.now) (g.O.TextSink.written c.args.text.now) (g.O.TextSink.written c.stopped.new.text) c.stopped.result c.in-Err.stop (λ is. c.answer_to.ensures.failed (c.in-Err.is ∙ ap (λ (s : Stop). Err s) is)) c.stopped.ensures.memory c.stopped.ensures.read
 
 pub returns-in-Ok-clause-stored : goal.returns-in-Ok-clause-stored
@@ -58,4 +58,4 @@ pub returns-in-Ok-clause-read_fault : goal.returns-in-Ok-clause-read_fault
 returns-in-Ok-clause-read_fault g c = λ is.
     let later = c.answer_to.ensures.later in
     let rose = c.conclude.ensures.read is in
-    omega (arith, later, rose)
+    inl (omega (arith, later, rose))

@@ -1,0 +1,4 @@
+pub mod Kept
+pub mod Fresh
+pub mod Placed
+pub mod Coming

@@ -1,0 +1,25 @@
+use Rattle.std.proofs.Common.{[], subst, sym}
+use Rattle.image_set.specs.Load.{image_set_in}
+use Rattle.shell_changes.specs.declared.answer.Answer.{Answer}
+use Rattle.shell_changes.specs.Answers.{whole_outcome}
+use Rattle.shell_changes.specs.Remains.{LeavesBy}
+use Rattle.shell_reports.specs.Outcome.{Outcome}
+use Rattle.shell_sectors.specs.declared.finding.SetFound.{SetFound}
+use Rattle.shell_sectors.specs.Found.{FindsIn, IsUnfound}
+use Rattle.shell_sectors.proofs.Coming.{ok_then, unfound_comes}
+use Rattle.shell_replay.specs.Replay.{ReplayComes, ReplaysArenas}
+use Rattle.shell_replay.proofs.replay.replay_answer.Goals as goal
+
+pub found_answer-requires-clause-found : goal.found_answer-requires-clause-found
+found_answer-requires-clause-found g c = (image_set_in c.args.loaded, subst (λ (found : SetFound). FindsIn (image_set_in c.args.loaded) c.args.uuid.now found) c.in-Found.is c.in_ok-found.ensures)
+
+pub returns-in-Found-clause-comes : goal.returns-in-Found-clause-comes
+returns-in-Found-clause-comes g c =
+    ok_then _ (λ (answer : Answer). ReplayComes (LeavesBy g.C.Chooser.begins g.C.Chooser.picks c.args.choose.now) c.args.uuid.now c.args.schedule.now (image_set_in c.args.loaded) (whole_outcome answer)) c.found_answer.result
+    (λ answer comes. comes (image_set_in c.args.loaded) (subst (λ (found : SetFound). FindsIn (image_set_in c.args.loaded) c.args.uuid.now found) c.in-Found.is c.in_ok-found.ensures)) c.found_answer.ensures.comes
+
+pub returns-in-Not-clause-comes : goal.returns-in-Not-clause-comes
+returns-in-Not-clause-comes g c =
+    unfound_comes (ReplaysArenas (LeavesBy g.C.Chooser.begins g.C.Chooser.picks c.args.choose.now) c.args.uuid.now c.args.schedule.now (image_set_in c.args.loaded) _) c.args.uuid.now (image_set_in c.args.loaded) _
+    (subst (λ (o : Outcome). IsUnfound (image_set_in c.args.loaded) c.args.uuid.now o) (sym (c.without_set.ensures.same []))
+    (subst (λ (found : SetFound). FindsIn (image_set_in c.args.loaded) c.args.uuid.now found) c.in-Not.is c.in_ok-found.ensures))

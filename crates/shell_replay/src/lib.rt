@@ -1,0 +1,36 @@
+//! The command `replay`: the lanes of an arena take their steps by a schedule, and then power is cut.
+//!
+//! A driver that gets the order of its stores wrong fails only if two lanes meet in a certain way, or
+//! if power is lost at a certain step. A schedule states this way, so that it can be run:
+//!
+//! ```text
+//! loaded set ──► namespace ──► its one arena, pending moves made        refused Arenas N
+//!                                   │
+//!                                   ▼
+//!              line by line: lane 1 begins to write, makes 138 steps, ..       text
+//!                                   │
+//!                                   ▼
+//!              power is cut: a chooser decides for each word that wasn't flushed
+//!                                   │
+//! saved set ◄── contents with the arena's words
+//! ```
+//!
+//! | promise of [`replay_answer`] | definition |
+//! |---|---|
+//! | each refusal, in its order; else the text of the lines, and what is saved | `ReplayComes` |
+//! | the arena's words are those that the cut leaves; every other word is as loaded | `HasReplayed` |
+//! | the history of the calls is legal, and has each answer once | `ReplayStands` of `lane_replay` |
+//! | the saved arena opens; a sector is as the history ends, or as one write in flight | `ReopensIn` |
+//!
+//! Definitions are in `specs/Replay.antt`. `lane_replay` plays the lines, `lane_core` makes the steps
+//! and the cut, and `shell_sectors` finds the namespace and saves the set. Schedules and texts are this
+//! project's own.
+#![tactic(auto)]
+
+mod opening;
+mod playing;
+mod replay;
+mod schedule;
+
+pub use replay::replay_answer;
+pub use schedule::Schedule;

@@ -1,0 +1,143 @@
+//! The script of a command: what is left of a text source.
+ghost use Rattle.std.specs.Prelude.{◌≡◌, ◌≢◌, ◌≤◌, ◌<◌, ◌^◌, ℕ, length, string_bytes, IfOk, Ok, Err};
+ghost use Rattle.std.specs.Option.{ForSome};
+ghost use Rattle.nvd_media.specs.Causes.{Rose};
+ghost use Rattle.session_script.specs.Schedule.{replay_reading};
+ghost use Rattle.shell_reports.specs.Saved.{outcome_of};
+ghost use Rattle.shell_run.specs.Scripts.{kind_text, limit_text, most_bytes, refused_text, script_in, script_outcome};
+
+use nvd_media::{TextFault, TextSource, read_all};
+use session_script::{LineKind, Replay, ScriptFault, ScriptLimit, read_replay};
+use shell_reports::{Ending, Report, Stop};
+use std::alloc::{AllocError, Global};
+
+/// The greatest number of bytes of a script.
+const MOST_BYTES: usize = 16777216;
+
+/// Why a script isn't taken.
+#[derive(Clone, Copy, Debug, PartialEq, Eq)]
+pub enum ScriptRefused {
+    /// It has more than 16,777,216 bytes.
+    TooLong,
+    /// A line isn't in the grammar, or passes a limit.
+    Fault(ScriptFault),
+}
+
+/// Why a run goes no further than its script.
+#[derive(Clone, Copy, Debug, PartialEq, Eq)]
+pub(crate) enum ScriptStop {
+    /// The script isn't taken.
+    Refused(ScriptRefused),
+    /// It can't be read, or memory ran out.
+    Stop(Stop),
+}
+
+/// Reads a script to its end.
+fn text_in<T: TextSource>(alloc: Global, script: &mut T) -> Result<Vec<u8>, ScriptStop>
+    ensures all { IfOk result (λ bytes. ForSome (T.left script.old) (λ text. bytes.items ≡ text)) }
+    ensures within { IfOk result (λ bytes. length bytes.items ≤ most_bytes) }
+    ensures too_long { (why : ScriptRefused) → result ≡ Err (ScriptStop.Refused why) → (why ≡ ScriptRefused.TooLong) × ForSome (T.left script.old) (λ text. most_bytes < length text) }
+    ensures failed { result ≡ Err (ScriptStop.Stop Stop.ReadFault) → Rose (T.faults script.old) (T.faults script.new) }
+{
+    match read_all(alloc, script, MOST_BYTES) {
+        Ok(bytes) => Ok(bytes),
+        Err(TextFault::ReadFault) => Err(ScriptStop::Stop(Stop::ReadFault)),
+        Err(TextFault::TooLong { .. }) => Err(ScriptStop::Refused(ScriptRefused::TooLong)),
+        Err(TextFault::OutOfMemory) => Err(ScriptStop::Stop(Stop::OutOfMemory)),
+    }
+}
+
+/// A text that isn't in the grammar, or the stop if memory ran out.
+fn fault_stop(fault: ScriptFault) -> ScriptStop
+    ensures refused { (why : ScriptRefused) → result ≡ ScriptStop.Refused why → (why ≡ ScriptRefused.Fault fault) × (fault ≢ ScriptFault.OutOfMemory) }
+    ensures unread { result ≢ ScriptStop.Stop Stop.ReadFault }
+{
+    match fault {
+        ScriptFault::OutOfMemory => ScriptStop::Stop(Stop::OutOfMemory),
+        _ => ScriptStop::Refused(ScriptRefused::Fault(fault)),
+    }
+}
+
+/// Reads a schedule from its text.
+fn schedule_in(alloc: Global, text: &[u8]) -> Result<Replay, ScriptStop>
+    requires within { length text.now ≤ most_bytes }
+    ensures read { IfOk result (λ replay. script_in replay_reading text.now ≡ Ok replay) }
+    ensures few { IfOk result (λ replay. length replay.lines < 2 ^ 32) }
+    ensures refused { (why : ScriptRefused) → result ≡ Err (ScriptStop.Refused why) → script_in replay_reading text.now ≡ Err why }
+    ensures unread { result ≢ Err (ScriptStop.Stop Stop.ReadFault) }
+{
+    match read_replay(alloc, text) {
+        Ok(replay) => Ok(replay),
+        Err(fault) => Err(fault_stop(fault)),
+    }
+}
+
+/// Reads a schedule, which is all that is left of the script.
+///
+/// It is refused with `TooLong`, or with the first line that isn't in the grammar or passes a limit. It stops with `ReadFault`
+/// only if the script's count of faults rose in this call.
+pub(crate) fn read_schedule<T: TextSource>(
+    alloc: Global,
+    script: &mut T,
+) -> Result<Replay, ScriptStop>
+    ensures read { IfOk result (λ replay. ForSome (T.left script.old) (λ text. script_in replay_reading text ≡ Ok replay)) }
+    ensures few { IfOk result (λ replay. length replay.lines < 2 ^ 32) }
+    ensures refused { (why : ScriptRefused) → result ≡ Err (ScriptStop.Refused why) → ForSome (T.left script.old) (λ text. script_in replay_reading text ≡ Err why) }
+    ensures failed { result ≡ Err (ScriptStop.Stop Stop.ReadFault) → Rose (T.faults script.old) (T.faults script.new) }
+{
+    match text_in(alloc, script) {
+        Ok(text) => schedule_in(alloc, &text),
+        Err(stop) => Err(stop),
+    }
+}
+
+fn kind_text(kind: LineKind) -> &'static str
+    ensures { result.now ≡ kind_text kind }
+{
+    match kind {
+        LineKind::Encoding => "Encoding",
+        LineKind::Word => "Word",
+        LineKind::Number => "Number",
+        LineKind::Uuid => "Uuid",
+        LineKind::Value => "Value",
+        LineKind::Name => "Name",
+        LineKind::Order => "Order",
+    }
+}
+
+fn limit_text(what: ScriptLimit) -> &'static str
+    ensures { result.now ≡ limit_text what }
+{
+    match what {
+        ScriptLimit::Sessions => "Sessions",
+        ScriptLimit::Calls => "Calls",
+        ScriptLimit::Bytes => "Bytes",
+    }
+}
+
+/// Returns the line for a script that isn't taken.
+fn refused_text(alloc: Global, why: ScriptRefused) -> Result<String, AllocError>
+    ensures { IfOk result (λ text. string_bytes text ≡ refused_text why) }
+{
+    match why {
+        ScriptRefused::TooLong => format!(in alloc; "script TooLong {}\n", MOST_BYTES),
+        ScriptRefused::Fault(ScriptFault::Line { number, kind }) => {
+            format!(in alloc; "script Line {} {}\n", number, kind_text(kind))
+        }
+        ScriptRefused::Fault(ScriptFault::TooMany { what }) => {
+            format!(in alloc; "script TooMany {}\n", limit_text(what))
+        }
+        ScriptRefused::Fault(ScriptFault::OutOfMemory) => Ok(String::new(alloc)),
+    }
+}
+
+/// The answer to a script that isn't taken.
+pub(crate) fn script_answer(alloc: Global, why: ScriptRefused) -> Result<Report, AllocError>
+    ensures { IfOk result (λ answer. outcome_of answer ≡ script_outcome why) }
+{
+    let text = refused_text(alloc, why)?;
+    Ok(Report {
+        ending: Ending::Usage,
+        text: text.into_bytes(),
+    })
+}
