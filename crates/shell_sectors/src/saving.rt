@@ -21,8 +21,8 @@ use std::alloc::{AllocError, Global};
 /// Answers with a report, and with the loaded set in which the modules have these contents.
 ///
 /// Labels aren't recovered: label areas, the firmware's table and bad ranges are as loaded, and no
-/// word of the label areas is pending. There are contents for each module. A word of the contents
-/// that is pending is saved as it was kept. The call fails only if memory runs out.
+/// word of the label areas is pending. There are contents for each module. Of a word of the contents
+/// that is pending, either value may be saved. The call fails only if memory runs out.
 pub fn saved_answer(
     alloc: Global,
     report: Report,
