@@ -18,7 +18,7 @@ use Rattle.sector_service.specs.declared.calls.Heard.TheVariants as heard
 use Rattle.sector_service.specs.declared.served.OneStep.TheVariants as one
 use Rattle.sector_service.specs.declared.served.ServedPart.{ServedPart}
 use Rattle.sector_service.specs.Served.{Served, begun, shape_of, with_mine}
-use Rattle.sector_service.specs.Calls.{IsCall, IsInLane, IsLeft, IsRead, IsReading, IsStopped, IsWrite, IsWriting, OneGoes, Paid, StepTells, answered, reading, tag_by, within}
+use Rattle.sector_service.specs.Calls.{IsCall, IsInLane, IsLeft, IsReading, IsStopped, IsWriting, Paid, StepTells, answered, reading, tag_by, within}
 
 pub if_some : {X : Type 0} (P : X → Type 0) (o : Option X) (x : X) → o ≡ Some x → IfSome o P → P x
 if_some P o x e h = subst (λ (o : Option _). IfSome o P) e h

@@ -1,5 +1,5 @@
 -- A core behind a lock goes on serving sessions.
-use Rattle.std.proofs.Common.{◌≡◌, ◌≢◌, ℕ, ◌<◌, zero, suc, arith, Bool, true, false, List, [], ◌∷◌, length, Option, Some, Ok, slice_get, refl, sym, ap, ◌∙◌, subst}
+use Rattle.std.proofs.Common.{◌≡◌, ◌≢◌, ℕ, ◌<◌, zero, suc, arith, List, [], ◌∷◌, length, Some, slice_get, refl, sym, ap, ◌∙◌, subst}
 use Rattle.nvd_words.specs.declared.tag.Tag.{Tag}
 use Rattle.arena_open.specs.declared.state.ArenaState.{ArenaState}
 use Rattle.arena_open.specs.Moves.{IsOpenState}
@@ -22,11 +22,10 @@ use Rattle.lane_core.specs.Schedules.{Read, Write, Step, answer_in, held_after}
 use Rattle.lane_core.proofs.Holding.{core_is_held}
 use Rattle.session_parts.specs.declared.parts.CorePart.{CorePart}
 use Rattle.session_parts.specs.Laws.{Begins, IsIdleIn, IsOwn, IsServed, MayBegin, Steps}
-use Rattle.session_parts.specs.Parts.{core_part, part}
+use Rattle.session_parts.specs.Parts.{core_part}
 use Rattle.session_parts.specs.Steps.{StepGoes, read_call, write_call}
 use Rattle.session_parts.proofs.Laws.{begins_are_own, opened_is_served, shape_stays, steps_are_own}
 use Rattle.sector_service.specs.declared.served.OneStep.{OneStep}
-use Rattle.sector_service.specs.declared.served.ServedPart.{ServedPart}
 use Rattle.sector_service.specs.Calls.{OneGoes}
 use Rattle.sector_service.specs.Served.{IsServing, Served, begun, fresh, part_at, served, served_part}
 use Rattle.sector_service.specs.Steps.{IsOneStep}

@@ -1,14 +1,13 @@
 -- One turn of a session at a core.
-use Rattle.std.proofs.Common.{◌≡◌, ℕ, List, [], ◌∷◌, Option, Some, None, Result, Ok, Err, refl, sym, ap, ◌∙◌, subst}
+use Rattle.std.proofs.Common.{◌≡◌, ℕ, List, [], ◌∷◌, Option, Some, None, Result, Ok, Err, sym, ap, ◌∙◌, subst}
 use Rattle.std.specs.Prelude.{IfOk, IfSome, OnErr}
 use Rattle.turn_lock.specs.declared.parted.Parted.{Ghosts}
 use Rattle.turn_lock.specs.declared.pass.TurnPass.{TurnPass}
 use Rattle.turn_lock.specs.Passes.{part_of, PartBecomes}
-use Rattle.arena_open.specs.declared.state.ArenaState.{ArenaState}
 use Rattle.lane_core.specs.declared.in_call.InCall.{InCall}
 use Rattle.lane_core.specs.Arenas.{shape_in}
 use Rattle.session_parts.specs.declared.parts.CorePart.{CorePart}
-use Rattle.session_parts.specs.Laws.{IsOwn, MayBegin}
+use Rattle.session_parts.specs.Laws.{IsOwn}
 use Rattle.session_parts.specs.Parts.{core_part}
 use Rattle.sector_service.specs.declared.served.OneStep.{OneStep}
 use Rattle.sector_service.specs.declared.served.ServedPart.{ServedPart}

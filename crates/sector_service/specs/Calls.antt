@@ -1,10 +1,9 @@
 -- What a session's call does to what its pass of a core knows.
-use Rattle.std.specs.Prelude.{◌≡◌, ◌⊎◌, ℕ, ◌+◌, ◌<◌, ◌≤◌, List, [], ◌∷◌, ◌++◌, length, Bool, true, false, cond, Option, Some, None}
+use Rattle.std.specs.Prelude.{◌≡◌, ◌⊎◌, ℕ, ◌+◌, ◌<◌, ◌≤◌, List, [], ◌∷◌, ◌++◌, length, true, false, cond, Option, Some, None}
 use Rattle.turn_lock.specs.declared.parted.Parted.{Ghosts}
 use Rattle.turn_lock.specs.declared.pass.TurnPass.{TurnPass}
 use Rattle.turn_lock.specs.Passes.{part_of}
 use Rattle.nvd_words.specs.declared.tag.Tag.{Tag}
-use Rattle.lane_core.specs.declared.history.Act.{Act}
 use Rattle.lane_core.specs.declared.history.Act.TheVariants as act
 use Rattle.lane_core.specs.declared.in_call.InCall.{InCall}
 use Rattle.lane_core.specs.declared.shape.Shape.{Shape}

@@ -1,5 +1,5 @@
 -- A session's passes of all cores.
-use Rattle.std.specs.Prelude.{◌≡◌, ℕ, ◌<◌, List, length, eqb, cond}
+use Rattle.std.specs.Prelude.{◌≡◌, ℕ, List, eqb, cond}
 use Rattle.atomic_table.specs.Seated.{TableId}
 use Rattle.turn_lock.specs.declared.parted.Parted.{Ghosts}
 use Rattle.turn_lock.specs.declared.pass.TurnPass.{TurnPass}

@@ -1,5 +1,5 @@
 -- A core behind a lock, and a caller's part of it.
-use Rattle.std.specs.Prelude.{◌≡◌, ℕ, ◌<◌, List, [], ◌∷◌, IfSome, Option, Some, slice_get}
+use Rattle.std.specs.Prelude.{ℕ, [], ◌∷◌}
 use Rattle.arena_open.specs.declared.state.ArenaState.{ArenaState}
 use Rattle.lane_core.specs.declared.in_call.InCall.{InCall}
 use Rattle.lane_core.specs.declared.machine.Core.{Core}

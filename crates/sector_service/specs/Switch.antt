@@ -1,5 +1,5 @@
 -- What a session's pass of the power switch knows.
-use Rattle.std.specs.Prelude.{◌≡◌, true, Some}
+use Rattle.std.specs.Prelude.{◌≡◌, ◌+◌, true, Some}
 use Rattle.atomic_table.specs.Seated.{TableId}
 use Rattle.turn_lock.specs.declared.parted.Parted.{Ghosts}
 use Rattle.turn_lock.specs.declared.pass.TurnPass.{TurnPass}
@@ -20,3 +20,7 @@ module _ {g : Ghosts Desk Mine} where
 -- its pass of the switch may still ask, and the number of its next call is the same
 abbrev pub IsSameCaller : TableId → Caller → Caller → Type 0
 IsSameCaller lock c c' = IsSamePass c.switch c'.switch × CanAsk lock c'.switch × (c'.call ≡ c.call)
+
+-- the same, and its next call has the next number
+abbrev pub IsNextCaller : TableId → Caller → Caller → Type 0
+IsNextCaller lock c c' = IsSamePass c.switch c'.switch × CanAsk lock c'.switch × (c'.call ≡ c.call + 1)

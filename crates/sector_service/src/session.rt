@@ -3,12 +3,14 @@ ghost use Rattle.std.specs.Prelude.{◌≡◌, ◌+◌, ◌^◌, ◌<◌, length
 ghost use Rattle.turn_lock.specs.Passes.{lock_id};
 ghost use Rattle.arena_open.specs.declared.cell.Cell.{Cell};
 ghost use Rattle.lane_core.specs.declared.history.Act.TheVariants as act;
+ghost use Rattle.lane_core.specs.Sessions.{write_steps};
 ghost use Rattle.session_parts.specs.Parts.{stand_at};
 ghost use Rattle.sector_service.specs.declared.calls.Heard.TheVariants as heard;
 ghost use Rattle.sector_service.specs.declared.calls.Wrote.TheVariants as wrote;
-ghost use Rattle.sector_service.specs.Calls.{IsLeft, IsStopped, MayRead, MayWrite, answered};
-ghost use Rattle.sector_service.specs.Rows.{KnowsAt, OneBecomes, OneGoes};
-ghost use Rattle.sector_service.specs.Switch.{CanAsk, IsTold};
+ghost use Rattle.sector_service.specs.Calls.{IsLeft, IsStopped, MayRead, MayWrite, Paid, answered};
+ghost use Rattle.sector_service.specs.Rows.{Know, KnowsAt, OneBecomes, OneGoes, Parts};
+ghost use Rattle.sector_service.specs.Served.{shape_of};
+ghost use Rattle.sector_service.specs.Switch.{CanAsk, IsNextCaller, IsTold};
 
 use crate::calls::{Heard, Wrote, read_at, write_at};
 use crate::power::Caller;
@@ -44,9 +46,9 @@ pub fn write<R: Wait>(
     requires can_ask { CanAsk (lock_id power.now) session.old.caller.switch }
     requires calls { session.old.caller.call + 1 < 2 ^ 32 }
     ensures number { session.new.number ≡ session.old.number }
-    ensures call { session.new.caller.call ≡ session.old.caller.call + 1 }
-    ensures can_ask { CanAsk (lock_id power.now) session.new.caller.switch }
+    ensures caller { IsNextCaller (lock_id power.now) session.old.caller session.new.caller }
     ensures done { result ≡ wrote.Done → OneBecomes (map lock_id turns.now) session.old.number place (answered (stand_at session.old.caller.call sector (act.Write words.now))) session.old.passes.items session.new.passes.items }
+    ensures paid { result ≡ wrote.Done → (parts : Parts) → Know (map lock_id turns.now) session.old.number parts session.old.passes.items → Paid (write_steps (shape_of (parts place))) session.old.caller.left session.new.caller.left }
     ensures cut { result ≡ wrote.Cut → OneGoes (map lock_id turns.now) session.old.number place (IsStopped session.old.number session.old.caller.call sector words.now) session.old.passes.items session.new.passes.items }
     ensures told { result ≡ wrote.Cut → IsTold session.new.caller.switch }
     ensures refused { result ≡ wrote.OutOfMemory → OneBecomes (map lock_id turns.now) session.old.number place (λ m. m) session.old.passes.items session.new.passes.items }
@@ -73,9 +75,9 @@ pub fn read<R: Wait>(
     requires can_ask { CanAsk (lock_id power.now) session.old.caller.switch }
     requires calls { session.old.caller.call + 1 < 2 ^ 32 }
     ensures number { session.new.number ≡ session.old.number }
-    ensures call { session.new.caller.call ≡ session.old.caller.call + 1 }
-    ensures can_ask { CanAsk (lock_id power.now) session.new.caller.switch }
+    ensures caller { IsNextCaller (lock_id power.now) session.old.caller session.new.caller }
     ensures done { (found : Cell) → result ≡ heard.Got found → OneBecomes (map lock_id turns.now) session.old.number place (answered (stand_at session.old.caller.call sector (act.Read found))) session.old.passes.items session.new.passes.items }
+    ensures paid { (found : Cell) → result ≡ heard.Got found → Paid 1 session.old.caller.left session.new.caller.left }
     ensures cut { result ≡ heard.Cut → OneGoes (map lock_id turns.now) session.old.number place (IsLeft session.old.number session.old.caller.call sector) session.old.passes.items session.new.passes.items }
     ensures told { result ≡ heard.Cut → IsTold session.new.caller.switch }
     ensures refused { result ≡ heard.OutOfMemory → OneBecomes (map lock_id turns.now) session.old.number place (λ m. m) session.old.passes.items session.new.passes.items }

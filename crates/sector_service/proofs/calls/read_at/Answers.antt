@@ -1,4 +1,4 @@
-use Rattle.std.proofs.Common.{ℕ, Option, Some, sym, ap, ◌∙◌, refl, subst}
+use Rattle.std.proofs.Common.{Some, ap, ◌∙◌, refl}
 use Rattle.turn_lock.specs.Passes.{number_of}
 use Rattle.arena_open.specs.declared.cell.Cell.{Cell}
 use Rattle.lane_core.specs.declared.history.Act.TheVariants as act

@@ -1,4 +1,4 @@
-use Rattle.std.proofs.Common.{◌<◌, ℕ, length, map, Some, subst, ◌∙◌, arith}
+use Rattle.std.proofs.Common.{◌<◌, ℕ, length, map, subst, ◌∙◌, arith}
 use Rattle.std.proofs.lemmas.List.{length-map}
 use Rattle.atomic_table.specs.Seated.{TableId}
 use Rattle.turn_lock.specs.Passes.{lock_id}
@@ -38,6 +38,18 @@ returns-clause-done g c = λ is parts row.
     let k = know_at locks q parts ps c.args.place c.index_mut-pass.result.now (lock_id t) row inside (lock_is (lock_id t)) c.index_mut-pass.ensures.value in
     let w = c.write_at-wrote.ensures in
     know_set locks q parts ps c.args.place c.write_at-wrote.new.pass (lock_id t) (answered (stand_at c.args.session.now.caller.call c.args.sector (act.Write c.args.words.now)) (parts c.args.place)) row inside lock_is (w.pass.0.0 ∙ k.0) (w.pass.0.1 ∙ k.1) w.pass.1 (w.done is (parts c.args.place) k.3)
+
+pub returns-clause-paid : goal.returns-clause-paid
+returns-clause-paid g c = λ is parts row.
+    let locks = map lock_id c.args.turns.now in
+    let t = c.index-turns-place.result in
+    let ps = c.args.session.now.passes.items in
+    let inside : c.args.place < length locks = omega (arith, length-map c.args.turns.now lock_id, c.requires.place) in
+    let q : ℕ = c.args.session.now.number in
+    let lock_is = λ (e : TableId). lock_at c.args.turns.now c.args.place t e c.requires.place c.index-turns-place.is in
+    let k = know_at locks q parts ps c.args.place c.index_mut-pass.result.now (lock_id t) row inside (lock_is (lock_id t)) c.index_mut-pass.ensures.value in
+    let w = c.write_at-wrote.ensures in
+    w.paid is (parts c.args.place) k.3
 
 pub returns-clause-cut : goal.returns-clause-cut
 returns-clause-cut g c = λ is parts row.
