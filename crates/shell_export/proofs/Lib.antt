@@ -1,0 +1,5 @@
+pub mod Fronts
+pub mod Searched
+pub mod Told
+pub mod Places
+pub mod Opened

@@ -1,0 +1,156 @@
+//! The bytes of all sectors of a namespace.
+ghost use Rattle.std.specs.Prelude.{◌≡◌, ◌++◌, ◌<◌, ◌≤◌, IfOk, Ok, OnOk, OnErr, codes, length};
+ghost use Rattle.std.specs.Fmt.{decimal};
+ghost use Rattle.std.specs.Io.KnownBytes.{Appends};
+ghost use Rattle.nvd_media.specs.Causes.{HasCause, Rose};
+ghost use Rattle.arena_open.specs.ChainCells.{sectors_of};
+ghost use Rattle.shell_reports.specs.Faults.{refused_outcome};
+ghost use Rattle.shell_reports.specs.Saved.{outcome_of};
+ghost use Rattle.shell_export.specs.Export.{cell_in, cell_words, first_bad, is_bad, refused_at, sector_bytes, sectors_bytes, sectors_outcome, sector_words};
+ghost use Rattle.shell_export.specs.Printing.{AppendsFront, HasRoom, IsPrinted};
+
+use crate::pieces::{WORD, print_report, print_words, status_after};
+use arena_open::{CellKind, ReadChain};
+use cut_words::WordSpace;
+use nvd_media::{Failed, TextSink};
+use shell_reports::{Report, Status, refused_answer};
+use std::alloc::{AllocError, Global};
+
+/// Returns how many words a sector has, 0 if there is no such sector.
+fn sector_words<W: WordSpace>(chain: &ReadChain<W>, sector: u64) -> usize
+    ensures { result ≡ sector_words chain.now sector }
+{
+    chain.sector_size(sector).unwrap_or(0) as usize / WORD
+}
+
+/// Returns how many words the greatest sector has.
+fn most_words<W: WordSpace>(chain: &ReadChain<W>) -> usize
+    ensures { HasRoom chain.now result }
+{
+    let mut most = 0;
+    for sector in 0..chain.sectors() {
+        most = most.max(sector_words(chain, sector));
+    }
+    most
+}
+
+/// Returns whether a sector is bad. The buffer has room for it.
+fn is_bad<W: WordSpace>(chain: &ReadChain<W>, sector: u64, words: &mut [u64]) -> bool
+    requires there { sector < sectors_of chain.now }
+    requires room { sector_words chain.now sector ≤ length words.old }
+    ensures bad { result ≡ is_bad (cell_in chain.now sector) }
+    ensures room { length words.new ≡ length words.old }
+{
+    let count = sector_words(chain, sector);
+    match chain.read(sector, &mut words[..count]) {
+        CellKind::Bytes => false,
+        CellKind::Bad => true,
+    }
+}
+
+/// Returns the first sector that is bad.
+fn first_bad<W: WordSpace>(chain: &ReadChain<W>, words: &mut [u64]) -> Option<u64>
+    requires room { HasRoom chain.now (length words.old) }
+    ensures bad { result ≡ first_bad chain.now }
+    ensures room { length words.new ≡ length words.old }
+{
+    for sector in 0..chain.sectors() {
+        if is_bad(chain, sector, words) {
+            return Some(sector);
+        }
+    }
+    None
+}
+
+/// Returns the bad sector for which the export is refused.
+fn refused_at<W: WordSpace>(chain: &ReadChain<W>, zeros: bool, words: &mut [u64]) -> Option<u64>
+    requires room { HasRoom chain.now (length words.old) }
+    ensures bad { result ≡ refused_at zeros chain.now }
+    ensures room { length words.new ≡ length words.old }
+{
+    if zeros {
+        return None;
+    }
+    first_bad(chain, words)
+}
+
+/// Reads a sector, a bad one as zeros.
+fn read_words<W: WordSpace>(chain: &ReadChain<W>, sector: u64, words: &mut [u64])
+    requires there { sector < sectors_of chain.now }
+    requires room { length words.old ≡ sector_words chain.now sector }
+    ensures { words.new ≡ cell_words (sector_words chain.now sector) (cell_in chain.now sector) }
+{
+    match chain.read(sector, words) {
+        CellKind::Bytes => (),
+        CellKind::Bad => words.fill(0),
+    }
+}
+
+/// Prints a sector. The buffers have room for it.
+fn print_sector<W: WordSpace, O: TextSink>(
+    chain: &ReadChain<W>,
+    sector: u64,
+    words: &mut [u64],
+    room: &mut [[u8; WORD]],
+    text: &mut O,
+) -> Result<(), Failed>
+    requires there { sector < sectors_of chain.now }
+    requires words { sector_words chain.now sector ≤ length words.old }
+    requires room { length room.old ≡ length words.old }
+    ensures all { OnOk result (Appends (O.written text.old) (O.written text.new) (sector_bytes chain.now sector)) }
+    ensures part { OnErr result (AppendsFront (O.written text.old) (O.written text.new) (sector_bytes chain.now sector)) }
+    ensures cause { HasCause (O.faults text.old) (O.faults text.new) result }
+    ensures words { length words.new ≡ length words.old }
+    ensures bytes { length room.new ≡ length room.old }
+{
+    let count = sector_words(chain, sector);
+    read_words(chain, sector, &mut words[..count]);
+    print_words(&words[..count], room, text)
+}
+
+/// Prints all sectors, in order.
+fn print_sectors<W: WordSpace, O: TextSink>(
+    chain: &ReadChain<W>,
+    words: &mut [u64],
+    room: &mut [[u8; WORD]],
+    text: &mut O,
+) -> Result<(), Failed>
+    requires words { HasRoom chain.now (length words.old) }
+    requires room { length room.old ≡ length words.old }
+    ensures all { OnOk result (Appends (O.written text.old) (O.written text.new) (sectors_bytes chain.now)) }
+    ensures part { OnErr result (AppendsFront (O.written text.old) (O.written text.new) (sectors_bytes chain.now)) }
+    ensures cause { OnErr result (Rose (O.faults text.old) (O.faults text.new)) }
+{
+    for sector in 0..chain.sectors() {
+        print_sector(chain, sector, words, room, text)?;
+    }
+    Ok(())
+}
+
+/// The report that the export is refused for a bad sector.
+fn bad_answer(alloc: Global, sector: u64) -> Result<Report, AllocError>
+    ensures { IfOk result (λ answer. outcome_of answer ≡ refused_outcome (codes "BadSector " ++ decimal sector)) }
+{
+    refused_answer(alloc, &format!(in alloc; "BadSector {}", sector)?)
+}
+
+/// Prints the bytes of all sectors, or refuses for the first one that is bad, unless bad ones count as zeros. Refusals and
+/// out of memory come before the first byte.
+pub(crate) fn sectors_answer<W: WordSpace, O: TextSink>(
+    alloc: Global,
+    chain: &ReadChain<W>,
+    zeros: bool,
+    text: &mut O,
+) -> Result<Status, AllocError>
+    ensures printed { IfOk result (IsPrinted (sectors_outcome zeros chain.now) (O.written text.old) (O.written text.new)) }
+    ensures failed { result ≡ Ok Status.WriteFault → Rose (O.faults text.old) (O.faults text.new) }
+    ensures memory { OnErr result (O.written text.new ≡ O.written text.old) }
+{
+    let most = most_words(chain);
+    let mut words = vec![in alloc; 0; most]?;
+    let mut room = vec![in alloc; [0; WORD]; most]?;
+    match refused_at(chain, zeros, &mut words) {
+        Some(sector) => Ok(print_report(&bad_answer(alloc, sector)?, text)),
+        None => Ok(status_after(print_sectors(chain, &mut words, &mut room, text))),
+    }
+}
