@@ -3,7 +3,7 @@
 import struct
 
 from sets import FIRST, INNER, LINE, OUTER, SECOND, SIZE, SLOTS, THIRD, area, checked, control, info, interleave, mapping, of_version, pair, part
-from sets import sectors, spa, table, two
+from sets import chain, sectors, spa, table, two
 
 CREATE = ["OUT", "create", "--uuid", str(THIRD), "--name", "c", "--region", "0", "--size", "8192", "--mode", "raw"]
 LIST, NFIT, LABELS, INFO, READ = ["-", "list"], ["-", "nfit"], ["-", "labels", "0"], ["-", "info", str(FIRST)], ["-", "read", str(FIRST), "0"]
@@ -155,7 +155,8 @@ def refusals():
             ("ReadOnlyLabel 1", locked, DELETE), ("ReadOnlyLabel 1", locked, RENAME),
             ("NotSector", whole(), INFO), ("NotSector", whole(), READ), ("NotSector", whole(), WRITE), ("NotSector", whole(), REPLAY),
             (f"Range {OUTER}", sectors(), [*READ[:-1], str(OUTER)]), (f"Range {OUTER}", sectors(), [*WRITE[:-2], str(OUTER), "hex:"]),
-            ("Length 0 4096", sectors(), [*WRITE[:-1], "hex:"]), ("Length 513 4096", sectors(), [*WRITE[:-1], "hex:" + 513 * "5a"])):
+            ("Length 0 4096", sectors(), [*WRITE[:-1], "hex:"]), ("Length 513 4096", sectors(), [*WRITE[:-1], "hex:" + 513 * "5a"]),
+            ("Arenas 2", chain(), REPLAY)):
         yield refused(text, files, words)
 
 
@@ -180,6 +181,17 @@ def arenas():
             (f"Flog 0 Range {INNER}", {"halves": {0: group(INNER, INNER, 1)}}), (f"Block Range {INNER}", {"entries": {0: 1 << 31 | INNER}}),
             ("Block Twice 1", {"entries": {0: 1 << 31 | 1}})):
         yield image(f"arena {FIRST} 0 {text}", sectors(**other), INFO)
+
+
+def scripts():
+    """Schedules that aren't taken, which is told before any image is looked at."""
+    yield "step 0 1\r\n", "Line 1 Encoding"
+    yield "step 0 1\nstep 0\n", "Line 2 Word"
+    yield "step 01 1\n", "Line 1 Number"
+    yield "call 0 write 1 fill:1\n", "Line 1 Value"
+    yield "call 0 read 1\n" * 65537, "TooMany Calls"
+    yield "call 0 write 1 hex:" + "00" * 16385 + "\n", "TooMany Bytes"
+    yield "step 0 1\n" * 1864136, "TooLong 16777216"
 
 
 def cases():

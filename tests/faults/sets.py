@@ -112,6 +112,16 @@ def sectors(first=None, entries=(), halves=(), mode=BTT_2_0):
     return {"nfit.bin": nfit, "labels-0.bin": labels, "contents-0.bin": (ARENA, pieces), "complete": b""}
 
 
+def chain():
+    """A set of one module with a sector namespace of two arenas of 16 MiB, of which the first names the second."""
+    _, pieces = sectors()["contents-0.bin"]
+    first = info(next=ARENA)
+    both = {**pieces, 0: first, INFO_AT: first, **{ARENA + at: piece for at, piece in pieces.items()}}
+    labels = area([label(FIRST, b"a", 0, 2 * ARENA, count=1, position=0, cookie=cookie(1), lba=SECTOR, abstraction=BTT_2_0)])
+    nfit = table(spa(length=2 * ARENA), mapping(0, size=2 * ARENA, lines=0, ways=1), control(0))
+    return {"nfit.bin": nfit, "labels-0.bin": labels, "contents-0.bin": (2 * ARENA, both), "complete": b""}
+
+
 def write(folder, files):
     """Writes a set: a file is its bytes, its length, or its length with bytes at some places; None is a directory in its place."""
     os.mkdir(folder)

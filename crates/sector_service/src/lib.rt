@@ -27,8 +27,8 @@
 #![tactic(auto)]
 
 mod calls;
-mod core;
 mod fuse;
+mod lanes;
 mod power;
 mod served;
 mod session;

@@ -3,7 +3,7 @@ ghost use Rattle.std.specs.Prelude.{◌≡◌, ◌≢◌, ◌<◌, ℕ};
 ghost use Rattle.lane_core.specs.declared.stepped.Stepped.TheVariants.{Nothing};
 ghost use Rattle.sector_service.specs.Steps.{IsOneStep};
 
-use crate::core::{begin_in, idle_lane};
+use crate::lanes::{begin_in, idle_lane};
 use arena_open::{ArenaState, Cell};
 use lane_core::{Answer, Call, Core, Stepped};
 use nvd_words::Tag;
