@@ -2,13 +2,16 @@
 ghost use Rattle.std.specs.Prelude.{◌≡◌, ◌≤◌, None};
 ghost use Rattle.nvd_media.specs.Causes.{Rose};
 
-use crate::object_file::ObjectFile;
+use crate::object_file::{ObjectFile, join_all};
 use crate::paths::{above, file_path, stands_in};
 use nvd_media::{Failed, ImageSink, Object};
 use std::fs::{File, OpenOptions};
 use std::rt::Files;
-use std::thread::Threads;
-use std::{fs, io};
+use std::thread::{JoinHandle, Threads};
+use std::{fs, io, mem};
+
+/// At most so many objects are synced at one time.
+const SETTLING: usize = 16;
 
 /// How far the directory was made.
 #[derive(Drop)]
@@ -28,10 +31,10 @@ enum Progress {
 /// directory above it can't be opened to be synced; or it is `-`, which means none. After one
 /// failed call, all later calls fail.
 ///
-/// The bytes of an object are on the disk, as far as the system's sync calls ensure, before another
-/// object is written. `finish` returns Ok once the whole set is on the disk, its mark last. If it
-/// fails after it made the mark, it removes the mark again; only if the system refuses that too may
-/// the mark be there after `Failed`.
+/// Threads sync an object, as far as the system's sync calls ensure, while the next ones are
+/// written. `finish` waits for them, and returns Ok once the whole set is on the disk, its mark
+/// last. If it fails after it made the mark, it removes the mark again; only if the system refuses
+/// that too may the mark be there after `Failed`.
 #[derive(Drop)]
 pub struct DirSink<'a, R: Files<File = File> + AllocGlobal + Threads> {
     rt: &'a R,
@@ -41,6 +44,8 @@ pub struct DirSink<'a, R: Files<File = File> + AllocGlobal + Threads> {
     progress: Progress,
     /// The object that was written last.
     last: Option<ObjectFile>,
+    /// The threads that sync earlier objects.
+    settling: Vec<JoinHandle<io::Result<()>>>,
     faults: u64,
 }
 
@@ -54,6 +59,7 @@ impl<'a, R: Files<File = File> + AllocGlobal + Threads> DirSink<'a, R> {
             source,
             progress: Progress::Untouched,
             last: None,
+            settling: Vec::new(rt.alloc()),
             faults: 0,
         }
     }
@@ -87,23 +93,46 @@ impl<'a, R: Files<File = File> + AllocGlobal + Threads> DirSink<'a, R> {
         }
     }
 
-    /// Syncs the last object.
-    fn settle(&mut self) -> io::Result<()>
+    /// Waits for the threads that sync objects.
+    fn join_all(&mut self) -> io::Result<()>
         ensures { self.new.faults ≡ self.old.faults }
     {
-        match self.last.take() {
-            Some(file) => file.settle(self.rt),
-            None => Ok(()),
-        }
+        let threads = mem::replace(&mut self.settling, Vec::new(self.rt.alloc()));
+        join_all(self.rt, threads)
     }
 
-    /// Returns the file of an object. It first syncs that of another object.
+    /// Lets a thread sync an object that is written.
+    fn settle(&mut self, file: ObjectFile) -> io::Result<()>
+        ensures { self.new.faults ≡ self.old.faults }
+    {
+        if self.settling.len() >= SETTLING {
+            self.join_all()?;
+        }
+        // (a thread that is started must be kept)
+        self.settling.reserve(1)?;
+        if let Some(thread) = file.settle(self.rt)? {
+            self.settling.push(thread)?;
+        }
+        Ok(())
+    }
+
+    /// Syncs all objects.
+    fn settle_all(&mut self) -> io::Result<()>
+        ensures { self.new.faults ≡ self.old.faults }
+    {
+        if let Some(file) = self.last.take() {
+            self.settle(file)?;
+        }
+        self.join_all()
+    }
+
+    /// Returns the file of an object. It lets a thread sync that of another object.
     fn object_file(&mut self, object: Object) -> io::Result<ObjectFile>
         ensures { self.new.faults ≡ self.old.faults }
     {
         match self.last.take() {
             Some(file) if file.object == object => return Ok(file),
-            Some(file) => file.settle(self.rt)?,
+            Some(file) => self.settle(file)?,
             None => {}
         }
         ObjectFile::open(self.rt, object, &self.path(object)?)
@@ -156,7 +185,7 @@ impl<'a, R: Files<File = File> + AllocGlobal + Threads> DirSink<'a, R> {
         ensures { self.new.faults ≡ self.old.faults }
     {
         self.begin()?;
-        self.settle()?;
+        self.settle_all()?;
         self.sync_names()?;
         let path = self.path(Object::Mark)?;
         let made = self.make_mark(&path);

@@ -8,8 +8,11 @@ use std::simd::prelude::*;
 use std::thread::{JoinHandle, Threads};
 use std::{io, thread};
 
-/// After this many bytes a thread begins to sync them while the next ones are written: 32 MiB.
-const SETTLED_TOGETHER: u64 = 32 << 20;
+/// After this many bytes a thread begins to sync them while the next ones are written: 8 MiB.
+const SETTLED_TOGETHER: u64 = 8 << 20;
+
+/// At most so many threads sync bytes of one object.
+const SETTLING: usize = 8;
 
 /// The size of the blocks that most file systems allocate or leave out.
 const BLOCK: usize = 4096;
@@ -37,13 +40,25 @@ pub(crate) struct ObjectFile {
     length: u64,
     /// How many bytes were written since a thread last began to sync.
     unsettled: u64,
-    /// The thread that syncs what was written before.
-    settling: Option<JoinHandle<io::Result<()>>>,
+    /// The threads that sync what was written before, the oldest first.
+    settling: Vec<JoinHandle<io::Result<()>>>,
+}
+
+/// Waits for all these threads, and fails if one of them failed.
+pub(crate) fn join_all<R: Threads>(
+    rt: &R,
+    threads: Vec<JoinHandle<io::Result<()>>>,
+) -> io::Result<()> {
+    let mut joined = Ok(());
+    for thread in threads {
+        joined = joined.and(thread.join(rt));
+    }
+    joined
 }
 
 impl ObjectFile {
     /// Opens the file of an object, and makes it if it doesn't exist.
-    pub(crate) fn open<R: Files<File = File>>(
+    pub(crate) fn open<R: Files<File = File> + AllocGlobal>(
         rt: &R,
         object: Object,
         path: &str,
@@ -55,7 +70,7 @@ impl ObjectFile {
             file,
             length,
             unsettled: 0,
-            settling: None,
+            settling: Vec::new(rt.alloc()),
         })
     }
 
@@ -87,31 +102,40 @@ impl ObjectFile {
         self.put(&bytes[written..])
     }
 
-    /// Waits for the thread that syncs earlier bytes.
-    fn join<R: Threads>(&mut self, rt: &R) -> io::Result<()> {
-        match self.settling.take() {
-            Some(thread) => thread.join(rt),
-            None => Ok(()),
-        }
-    }
-
-    /// Lets a thread sync what was written, once it is 32 MiB and the previous thread has ended.
-    /// If no thread can be started, `settle` syncs it all.
+    /// Lets a thread sync what was written, once it is 8 MiB. If eight threads do so, it waits for
+    /// the oldest first. If no thread can be started, `settle` syncs it all.
     pub(crate) fn settle_behind<R: Threads>(&mut self, rt: &R) -> io::Result<()> {
         if self.unsettled < SETTLED_TOGETHER {
             return Ok(());
         }
-        self.join(rt)?;
         self.unsettled = 0;
+        if self.settling.len() >= SETTLING {
+            self.settling.remove(0).join(rt)?;
+        }
+        // (a thread that is started must be kept)
+        self.settling.reserve(1)?;
         let file = self.file.try_clone()?;
-        self.settling = thread::spawn(rt, move || file.sync_data()).ok();
+        if let Ok(thread) = thread::spawn(rt, move || file.sync_data()) {
+            self.settling.push(thread)?;
+        }
         Ok(())
     }
 
-    /// Gives the file its full length, and syncs it.
-    pub(crate) fn settle<R: Threads>(mut self, rt: &R) -> io::Result<()> {
-        self.join(rt)?;
+    /// Gives the file its full length, and lets a thread sync it. If no thread can be started, it is
+    /// synced here, and none is returned.
+    pub(crate) fn settle<R: Threads>(
+        self,
+        rt: &R,
+    ) -> io::Result<Option<JoinHandle<io::Result<()>>>> {
+        join_all(rt, self.settling)?;
         self.file.set_len(self.length)?;
-        self.file.sync_all()
+        let file = self.file.try_clone()?;
+        match thread::spawn(rt, move || file.sync_all()) {
+            Ok(thread) => Ok(Some(thread)),
+            Err(_) => {
+                self.file.sync_all()?;
+                Ok(None)
+            }
+        }
     }
 }
