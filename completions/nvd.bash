@@ -7,7 +7,7 @@
 # and a proved build is there: that runs the program.
 
 # what a pattern and an action of awk print of the table of commands
-# shellcheck disable=SC2016  # $1 and $5 are awk's
+# shellcheck disable=SC2016  # $1 and $6 are awk's
 _nvd_table() {
     "${COMP_WORDS[0]/#\~/$HOME}" --commands 2>/dev/null | awk '!/^#/ && '"$1"
 }
@@ -17,7 +17,7 @@ _nvd_options() {
     local options option
     case $1 in
     labels | nfit | list | free | info) options='--json' ;;
-    *) options=$(_nvd_table "\$1 == \"$1\" { print \$3 \",\" \$4 }" | tr , '\n' | sed '/^-$/d; s/^/--/') ;;
+    *) options=$(_nvd_table "\$1 == \"$1\" { print \$3 \",\" \$4 \",\" \$5 }" | tr , '\n' | sed '/^-$/d; s/^/--/') ;;
     esac
     for option in $options; do
         case " ${COMP_WORDS[*]:0:COMP_CWORD} " in
@@ -43,13 +43,14 @@ _nvd_uuids() {
     NVD_BUILD=kept "${COMP_WORDS[0]}" "$1" - list 2>/dev/null | awk '$1 == "ns" { print $2 }'
 }
 
-# how many of the words before the cursor are a command's own places, and no options or their values
+# how many of the words before the cursor are a command's own places, and no options or their values; FLAGS are its options without a value
 _nvd_place() {
     local i count=0
     for ((i = 4; i < COMP_CWORD; i++)); do
-        case ${COMP_WORDS[i]} in
-        --*) ((i++)) ;;
-        =) ((i++)) ;;
+        case ",$1,${COMP_WORDS[i]}" in
+        *",${COMP_WORDS[i]#--},"*,--*) ;;
+        *,--*) ((i++)) ;;
+        *,=) ((i++)) ;;
         *) ((++count)) ;;
         esac
     done
@@ -71,7 +72,7 @@ _nvd_words() {
 }
 
 _nvd() {
-    local current=${COMP_WORDS[COMP_CWORD]} before='' command=${COMP_WORDS[3]:-} set=${COMP_WORDS[1]:-} places
+    local current=${COMP_WORDS[COMP_CWORD]} before='' command=${COMP_WORDS[3]:-} set=${COMP_WORDS[1]:-} places flags
     [ "$COMP_CWORD" -lt 1 ] || before=${COMP_WORDS[COMP_CWORD - 1]}
     # bash parts a word at `=`: `--mode=r` comes as three words
     if [ "$current" = = ]; then
@@ -100,8 +101,8 @@ _nvd() {
     3)
         # a command that writes has an OUT, one that prints has `-`
         case ${COMP_WORDS[2]} in
-        -) _nvd_words "$(_nvd_table '$5 == "no" { print $1 }') free" "$current" ;;
-        *) _nvd_words "$(_nvd_table '$5 == "yes" { print $1 }')" "$current" ;;
+        -) _nvd_words "$(_nvd_table '$6 == "no" { print $1 }') free" "$current" ;;
+        *) _nvd_words "$(_nvd_table '$6 == "yes" { print $1 }')" "$current" ;;
         esac
         return
         ;;
@@ -113,7 +114,8 @@ _nvd() {
     --uuid | --name | --size | --lanes | --cut | --evict) ;;
     *)
         places=$(_nvd_table "\$1 == \"$command\" { print \$2 }")
-        case ${places%%,*},$(_nvd_place),$current in
+        flags=$(_nvd_table "\$1 == \"$command\" { print \$5 }")
+        case ${places%%,*},$(_nvd_place "$flags"),$current in
         *,*,-*) _nvd_words "$(_nvd_options "$command")" "$current" ;;
         module,0,*) _nvd_words "$(_nvd_modules "$set")" "$current" ;;
         uuid,0,*) _nvd_words "$(_nvd_uuids "$set")" "$current" ;;

@@ -12,8 +12,8 @@ LIB = os.path.dirname(os.path.abspath(__file__))
 TABLE = os.path.join(LIB, "commands.txt")
 HEAD = """\
 # The program's commands, made from crates/shell_run by lib/commands.py --write. `-` stands for none; places are in their order.
-# command, places, options that must be given, options that may be, whether it writes an image set, whether it reads a script, and what it does
-# with the contents of modules: it leaves them unread, loads them, or copies them as it saves
+# command, places, options that must be given, options that may be, those without a value, whether it writes an image set, whether it reads a
+# script, and what it does with the contents of modules: it leaves them unread, loads them, or copies them as it saves
 """
 
 
@@ -21,8 +21,8 @@ class Command:
     """A row of the table."""
 
     def __init__(self, fields):
-        self.name, places, needed, others, writes, script, self.contents = fields
-        self.places, self.needed, self.others = ([] if it == "-" else it.split(",") for it in (places, needed, others))
+        self.name, places, needed, others, flags, writes, script, self.contents = fields
+        self.places, self.needed, self.others, self.flags = ([] if it == "-" else it.split(",") for it in (places, needed, others, flags))
         self.writes, self.script = writes == "yes", script == "yes"
 
 
@@ -47,10 +47,10 @@ def cases(text, name):
 
 def arguments_in(text):
     """The places, the options that must be given and the others, by the command's kind."""
-    forms = {name: (word, form) for name, word, form in re.findall(r'const (\w+): Argument = Argument \{\s*name: "(\w+)",\s*form: Form::(\w+),', text)}
+    forms = {name: (word, form) for name, word, form in re.findall(r'const (\w+): Argument = Argument \{\s*name: "([\w-]+)",\s*form: Form::(\w+),', text)}
     for kind, names in re.findall(r"Kind::(\w+) => &\[([^\]]*)\]", text):
         said = [forms[it] for it in re.findall(r"\w+", names)]
-        yield kind, ["".join(f",{word}" for word, form in said if form == it)[1:] or "-" for it in ("Place", "Required", "Optional")]
+        yield kind, ["".join(f",{word}" for word, form in said if form == it)[1:] or "-" for it in ("Place", "Required", "Optional", "Flag")]
 
 
 def holds(value, sector):

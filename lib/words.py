@@ -6,7 +6,7 @@ from commands import commands
 UUID = re.compile(r"(?:urn:uuid:)?[0-9a-fA-F]{8}(?:-[0-9a-fA-F]{4}){3}-[0-9a-fA-F]{12}|\{[0-9a-fA-F]{8}(?:-[0-9a-fA-F]{4}){3}-[0-9a-fA-F]{12}\}|[0-9a-fA-F]{32}")
 UNITS = {"K": 1 << 10, "M": 1 << 20, "G": 1 << 30}
 MOST = (1 << 64) - 1
-# What the value of a place (in capitals) or an option is: "UUID", "text", "value", or a number with its least and greatest value.
+# What the value of a place (in capitals) or an option is: "UUID", "text", "value", or a number with its least and greatest value. A "flag" has none.
 KINDS = {
     "MODULE": ("a number", 0, 63), "SECTOR": ("a number", 0, MOST), "UUID": "UUID", "VALUE": "value",
     "--uuid": "UUID", "--region": ("a number", 0, (1 << 32) - 1), "--size": ("a size", 0, MOST), "--mode": "mode",
@@ -16,7 +16,7 @@ TABLE = commands()
 # each command: its places by name, and its options, with what their values are
 COMMANDS = {
     it.name: ([(word.upper(), KINDS.get(word.upper(), "text")) for word in it.places],
-              {f"--{word}": KINDS.get(f"--{word}", "text") for word in it.needed + it.others})
+              {f"--{word}": KINDS.get(f"--{word}", "text") for word in it.needed + it.others} | {f"--{word}": "flag" for word in it.flags})
     for it in TABLE.values()
 }
 
@@ -51,7 +51,11 @@ def taken(command, words):
                 return got, f"'{command}' has no option '{name}': its options are {known}"
             if any(it[0] == name for it in got):
                 return got, f"'{name}' is given twice"
-            if has_value:
+            if options[name] == "flag" and has_value:
+                return got, f"'{name}' takes no value"
+            if options[name] == "flag":
+                got.append((name, None, at, False))
+            elif has_value:
                 got.append((name, value, at, True))
             elif at + 1 == len(words) or words[at + 1].startswith("-"):
                 return got, f"'{name}' has no value behind it (a value that begins with - stands as {name}=-1)"
@@ -70,7 +74,7 @@ def kind_of(command, name):
 def fault_of_value(command, name, value):
     """What is wrong with a value, and the remedy; None if nothing is."""
     kind = kind_of(command, name)
-    if kind == "text":
+    if kind in ("text", "flag"):
         return None
     if kind == "UUID":
         return None if is_uuid(value) else f"'{value}' is no UUID, and no namespace alone has this name: 'nvd IN - list' shows both"

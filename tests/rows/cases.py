@@ -144,7 +144,9 @@ def command_lines():
             ["read", NONE, "18446744073709551616"], ["write", NONE, "0"], ["write", NONE, "0", "5a"], ["write", NONE, "0", "fill:5"],
             ["write", NONE, "0", "fill:5a5a"], ["write", NONE, "0", "fill:xx"], ["write", NONE, "0", "hex:5"], ["write", NONE, "01", "fill:00"],
             ["write", NONE, "0", "fill:00", "--cut", "1"], ["replay"], ["replay", "9"], ["replay", NONE, "0"], ["replay", NONE, "--cut", "1"],
-            ["replay", NONE, "--evict", "01"], ["replay", NONE, "--evict"], ["delete", "1"], ["rename", FIRST], ["create", "--uuid", SECOND, "--name", "v"],
+            ["replay", NONE, "--evict", "01"], ["replay", NONE, "--evict"], ["export"], ["export", "a"], ["export", NONE, "0"],
+            ["export", NONE, "--bad-as-zeros", "--bad-as-zeros"], ["export", NONE, "--bad-as-zeros=true"], ["export", NONE, "--bad-as-zeros", "true"],
+            ["export", NONE, "--evict", "1"], ["delete", "1"], ["rename", FIRST], ["create", "--uuid", SECOND, "--name", "v"],
             create(SECOND, mode="Raw")[1:])
     for words in none:
         yield pair(), ["OUT", *words], USAGE, "usage\n"
@@ -158,6 +160,8 @@ def command_lines():
     for value in ("fill:aF", "hex:", "hex:0aF1"):
         yield pair(), ["OUT", "write", NONE, "18446744073709551615", value], REFUSED, "refused NoSuch\n"
     yield pair(), ["-", "info", "{11111111-1111-4111-8111-111111111112}"], REFUSED, "refused NoSuch\n"
+    for words in ([NONE, "--bad-as-zeros"], ["--bad-as-zeros", NONE], ["--bad-as-zeros", "--", NONE]):
+        yield pair(), ["-", "export", *words], REFUSED, "refused NoSuch\n"
     # the ranges of --sector and --lanes count in either mode
     for mode in ("raw", "sector"):
         for more in (["--lanes", "0"], ["--lanes", "257"], ["--lanes", "01"], ["--sector", "4294967296"], ["--sector", "0512"], ["--sector", "x"]):
@@ -201,6 +205,11 @@ def sectors():
         for words in (["-", "info", uuid], ["-", "read", uuid, "99"], ["OUT", "write", uuid, "99", "hex:"],
                       ["OUT", "replay", uuid, "--evict", "7"]):
             yield files, words, status, text
+        # a raw namespace is exported
+        for words in (["-", "export", uuid], ["-", "export", uuid, "--bad-as-zeros"]):
+            yield files, words, *((OK, "\0" * 2 * 4096) if text == "refused NotSector\n" else (status, text))
+    # and one of another use isn't
+    yield with_areas(*LISTS[-1][:2]), ["-", "export", FIRST], REFUSED, "refused NotSector\n"
 
 
 def cases():

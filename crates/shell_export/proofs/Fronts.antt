@@ -1,13 +1,27 @@
 -- A text that is printed piece by piece.
-use Rattle.std.proofs.Common.{◌≡◌, ℕ, zero, suc, ◌+◌, ◌<◌, ◌≤◌, List, [], ◌∷◌, ◌++◌, length, take, drop, get_or, ◌-◌, Option, refl, sym, ap, ◌∙◌, subst, arith, append_assoc, append-nil, take-append-drop}
+use Rattle.std.proofs.Common.{◌≡◌, ℕ, zero, suc, ◌+◌, ◌<◌, ◌≤◌, List, [], ◌++◌, length, take, drop, get_or, ◌-◌, Option, sym, ap, ◌∙◌, subst, arith, append_assoc, append-nil, take-append-drop}
 use Rattle.std.specs.Io.KnownBytes.{Appends}
 use Rattle.std.specs.List.{flat_map, range_with_len}
 use Rattle.std.proofs.KnownBytes.{Appends-trans}
 use Rattle.std.proofs.Math.Seq.{take-add}
 use Rattle.std.proofs.lemmas.List.{take-append-le, take_all, ext_get_or, get_or-take, get_or-drop, length-take, length-drop}
+use Rattle.nvd_media.specs.Images.{Keeps}
 use Rattle.cut_words.specs.WordBytes.{bytes_of}
 use Rattle.cut_words.proofs.Put.{bytes_of-append}
-use Rattle.shell_export.specs.Printing.{AppendsFront}
+use Rattle.shell_export.specs.Printing.{AppendsAll, AppendsFront}
+
+-- ---- whole pieces
+
+keeps_more : (a b c : Option (List ℕ)) (xs ys : List ℕ) → Keeps a b (λ was now. now ≡ was ++ xs) → Keeps b c (λ was now. now ≡ was ++ ys) → Keeps a c (λ was now. now ≡ was ++ (xs ++ ys))
+keeps_more a b c xs ys before after = λ now is.
+    let later = after now is in
+    let earlier = before later.0 later.1 in
+    (earlier.0, earlier.1, later.2 ∙ ap (λ (text : List ℕ). text ++ ys) earlier.2 ∙ append_assoc earlier.0 xs ys)
+
+-- one piece behind others
+pub piece_more : (a b c a' b' c' : Option (List ℕ)) (xs ys whole : List ℕ) → whole ≡ xs ++ ys → AppendsAll a b a' b' xs → AppendsAll b c b' c' ys → AppendsAll a c a' c' whole
+piece_more a b c a' b' c' xs ys whole is before after =
+    subst (AppendsAll a c a' c') (sym is) (Appends-trans a b c xs ys before.0 after.0, keeps_more a' b' c' xs ys before.1 after.1)
 
 -- ---- a front of a piece
 

@@ -3,3 +3,4 @@ pub mod Searched
 pub mod Told
 pub mod Places
 pub mod Opened
+pub mod Causes

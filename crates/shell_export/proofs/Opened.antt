@@ -12,7 +12,6 @@ use Rattle.image_set.specs.Sound.{IsArea}
 use Rattle.namespace_areas.proofs.Opening.{held_all}
 use Rattle.namespace_areas.specs.Opening.{AreWhole, as_area, opened_as}
 use Rattle.std.specs.Option.{option_map}
-use Rattle.nfit_reader.specs.declared.table.Nfit.{Nfit}
 use Rattle.label_set.specs.declared.placed.Placed.{Placed}
 use Rattle.namespace_areas.specs.declared.area.Area.{Area}
 use Rattle.namespace_areas.specs.Areas.{shown_in, labels_of}

@@ -12,9 +12,8 @@ use Rattle.label_set.specs.Status.{status_of}
 use Rattle.namespace_map.specs.declared.listed.Namespace.{Namespace}
 use Rattle.namespace_map.specs.declared.refused.OpRefused.{OpRefused}
 use Rattle.namespace_map.specs.declared.refused.OpRefused.TheVariants.{NotComplete, NotSector}
-use Rattle.namespace_map.specs.Namespaces.{Entry, Part, claims_of, entry_at, entry_with, extent_of, labels_with, listed, lookup, namespace_of, part_of, region_of, status_in}
+use Rattle.namespace_map.specs.Namespaces.{Entry, Part, claims_of, entry_with, extent_of, labels_with, listed, lookup, namespace_of, part_of, region_of, status_in}
 use Rattle.namespace_map.specs.Commands.{is_complete, is_sector}
-use Rattle.namespace_areas.specs.declared.area.Area.{Area}
 use Rattle.namespace_areas.specs.declared.found.Found.{Found}
 use Rattle.namespace_areas.specs.Areas.{labels_of}
 use Rattle.namespace_areas.specs.Finding.{LiesIn, found_at, found_by, found_of, set_at}

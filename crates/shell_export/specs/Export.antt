@@ -1,5 +1,5 @@
 -- The command `export`: the bytes of a whole namespace. UEFI 2.10, chapter 6 (BTT) and section 13.19 (labels), with this project's rules.
-use Rattle.std.specs.Prelude.{ℕ, ◌/◌, Bool, true, false, not, ◌||◌, if◌then◌else◌, List, [], ◌∷◌, ◌++◌, find, map, replicate, slice_index_or, Option, Some, None, Result, Ok, Err, codes}
+use Rattle.std.specs.Prelude.{ℕ, ◌/◌, Bool, true, false, not, ◌||◌, if◌then◌else◌, List, ◌++◌, find, replicate, slice_index_or, Option, Some, None, Result, Ok, Err, codes}
 use Rattle.std.specs.List.{flat_map, range_with_len}
 use Rattle.std.specs.Fmt.{decimal}
 use Rattle.cut_words.specs.WordBytes.{bytes_of}

@@ -1,3 +1,4 @@
 pub mod Export
 pub mod Listed
 pub mod Printing
+pub mod Causes

@@ -44,7 +44,7 @@ fn raw_answer<O: TextSink>(
     requires lies { LiesOn set.now found.now }
     requires rows { All IsContents contents }
     requires usable { IsUsable set.now contents }
-    ensures printed { IfOk result (IsPrinted (printed (bytes_of (view_words set.now found.now contents))) (O.written text.old) (O.written text.new)) }
+    ensures printed { IfOk result (IsPrinted (printed (bytes_of (view_words set.now found.now contents))) (O.written text.old) (O.written text.new) (O.kept text.old) (O.kept text.new)) }
     ensures failed { result ≡ Ok Status.WriteFault → Rose (O.faults text.old) (O.faults text.new) }
     ensures memory { OnErr result (O.written text.new ≡ O.written text.old) }
 {
@@ -67,7 +67,7 @@ fn chain_answer<O: TextSink>(
     requires sector { found.now.mode ≡ Mode.Sector }
     requires rows { All IsContents contents }
     requires usable { IsUsable set.now contents }
-    ensures printed { IfOk result (IsPrinted (on_arenas uuid.now (sectors_outcome zeros) (opened_view (view_words set.now found.now contents) uuid.now)) (O.written text.old) (O.written text.new)) }
+    ensures printed { IfOk result (IsPrinted (on_arenas uuid.now (sectors_outcome zeros) (opened_view (view_words set.now found.now contents) uuid.now)) (O.written text.old) (O.written text.new) (O.kept text.old) (O.kept text.new)) }
     ensures failed { result ≡ Ok Status.WriteFault → Rose (O.faults text.old) (O.faults text.new) }
     ensures memory { OnErr result (O.written text.new ≡ O.written text.old) }
 {
@@ -93,7 +93,7 @@ fn found_answer<O: TextSink>(
     requires lies { LiesOn set.now found.now }
     requires rows { All IsContents contents }
     requires usable { IsUsable set.now contents }
-    ensures printed { IfOk result (IsPrinted (words_outcome uuid.now zeros found.now.mode (view_words set.now found.now contents)) (O.written text.old) (O.written text.new)) }
+    ensures printed { IfOk result (IsPrinted (words_outcome uuid.now zeros found.now.mode (view_words set.now found.now contents)) (O.written text.old) (O.written text.new) (O.kept text.old) (O.kept text.new)) }
     ensures failed { result ≡ Ok Status.WriteFault → Rose (O.faults text.old) (O.faults text.new) }
     ensures memory { OnErr result (O.written text.new ≡ O.written text.old) }
 {
@@ -117,7 +117,7 @@ fn named_answer<O: TextSink>(
     requires held { AreHeld registry.now.areas }
     requires rows { All IsContents contents }
     requires usable { AreUsable registry.now.sets contents }
-    ensures printed { IfOk result (IsPrinted (on_place uuid.now zeros registry.now.sets (map bytes_kept contents) (place_of registry.now.sets (lookup uuid.now (namespaces_in (state_of registry.now)).entries))) (O.written text.old) (O.written text.new)) }
+    ensures printed { IfOk result (IsPrinted (on_place uuid.now zeros registry.now.sets (map bytes_kept contents) (place_of registry.now.sets (lookup uuid.now (namespaces_in (state_of registry.now)).entries))) (O.written text.old) (O.written text.new) (O.kept text.old) (O.kept text.new)) }
     ensures failed { result ≡ Ok Status.WriteFault → Rose (O.faults text.old) (O.faults text.new) }
     ensures memory { OnErr result (O.written text.new ≡ O.written text.old) }
 {
@@ -152,7 +152,7 @@ pub fn export_answer<O: TextSink>(
     text: &mut O,
 ) -> Result<Status, AllocError>
     requires { IsSound loaded }
-    ensures printed { IfOk result (IsPrinted (export_outcome uuid.now zeros (image_set_in loaded)) (O.written text.old) (O.written text.new)) }
+    ensures printed { IfOk result (IsPrinted (export_outcome uuid.now zeros (image_set_in loaded)) (O.written text.old) (O.written text.new) (O.kept text.old) (O.kept text.new)) }
     ensures failed { result ≡ Ok Status.WriteFault → Rose (O.faults text.old) (O.faults text.new) }
     ensures memory { OnErr result (O.written text.new ≡ O.written text.old) }
 {

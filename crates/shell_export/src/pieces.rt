@@ -1,11 +1,10 @@
 //! Pieces of a text, on their way to a sink.
 ghost use Rattle.std.specs.Prelude.{◌≡◌, ◌≤◌, IfOk, OnOk, OnErr, length};
-ghost use Rattle.std.specs.Io.KnownBytes.{Appends};
 ghost use Rattle.nvd_media.specs.Causes.{HasCause, Rose};
 ghost use Rattle.cut_words.specs.WordBytes.{bytes_of};
 ghost use Rattle.shell_reports.specs.Outcome.{status_of};
 ghost use Rattle.shell_reports.specs.Saved.{outcome_of};
-ghost use Rattle.shell_export.specs.Printing.{AppendsFront, IsPrinted};
+ghost use Rattle.shell_export.specs.Printing.{AppendsAll, AppendsFront, IsPrinted};
 
 use nvd_media::{Failed, TextSink};
 use shell_reports::{Report, Status};
@@ -31,7 +30,7 @@ pub(crate) fn print_words<O: TextSink>(
     text: &mut O,
 ) -> Result<(), Failed>
     requires { length words.now ≤ length room.old }
-    ensures all { OnOk result (Appends (O.written text.old) (O.written text.new) (bytes_of words.now)) }
+    ensures all { OnOk result (AppendsAll (O.written text.old) (O.written text.new) (O.kept text.old) (O.kept text.new) (bytes_of words.now)) }
     ensures part { OnErr result (AppendsFront (O.written text.old) (O.written text.new) (bytes_of words.now)) }
     ensures cause { HasCause (O.faults text.old) (O.faults text.new) result }
     ensures room { length room.new ≡ length room.old }
@@ -42,7 +41,7 @@ pub(crate) fn print_words<O: TextSink>(
 
 /// Prints a report.
 pub(crate) fn print_report<O: TextSink>(report: &Report, text: &mut O) -> Status
-    ensures printed { IsPrinted (outcome_of report.now) (O.written text.old) (O.written text.new) result }
+    ensures printed { IsPrinted (outcome_of report.now) (O.written text.old) (O.written text.new) (O.kept text.old) (O.kept text.new) result }
     ensures failed { result ≡ Status.WriteFault → Rose (O.faults text.old) (O.faults text.new) }
 {
     match text.write(&report.text) {

@@ -1,13 +1,12 @@
 //! The bytes of all sectors of a namespace.
 ghost use Rattle.std.specs.Prelude.{◌≡◌, ◌++◌, ◌<◌, ◌≤◌, IfOk, Ok, OnOk, OnErr, codes, length};
 ghost use Rattle.std.specs.Fmt.{decimal};
-ghost use Rattle.std.specs.Io.KnownBytes.{Appends};
 ghost use Rattle.nvd_media.specs.Causes.{HasCause, Rose};
 ghost use Rattle.arena_open.specs.ChainCells.{sectors_of};
 ghost use Rattle.shell_reports.specs.Faults.{refused_outcome};
 ghost use Rattle.shell_reports.specs.Saved.{outcome_of};
 ghost use Rattle.shell_export.specs.Export.{cell_in, cell_words, first_bad, is_bad, refused_at, sector_bytes, sectors_bytes, sectors_outcome, sector_words};
-ghost use Rattle.shell_export.specs.Printing.{AppendsFront, HasRoom, IsPrinted};
+ghost use Rattle.shell_export.specs.Printing.{AppendsAll, AppendsFront, HasRoom, IsPrinted};
 
 use crate::pieces::{WORD, print_report, print_words, status_after};
 use arena_open::{CellKind, ReadChain};
@@ -97,11 +96,10 @@ fn print_sector<W: WordSpace, O: TextSink>(
     requires there { sector < sectors_of chain.now }
     requires words { sector_words chain.now sector ≤ length words.old }
     requires room { length room.old ≡ length words.old }
-    ensures all { OnOk result (Appends (O.written text.old) (O.written text.new) (sector_bytes chain.now sector)) }
+    ensures all { OnOk result (AppendsAll (O.written text.old) (O.written text.new) (O.kept text.old) (O.kept text.new) (sector_bytes chain.now sector)) }
     ensures part { OnErr result (AppendsFront (O.written text.old) (O.written text.new) (sector_bytes chain.now sector)) }
     ensures cause { HasCause (O.faults text.old) (O.faults text.new) result }
-    ensures words { length words.new ≡ length words.old }
-    ensures bytes { length room.new ≡ length room.old }
+    ensures sizes { (length words.new ≡ length words.old) × (length room.new ≡ length room.old) }
 {
     let count = sector_words(chain, sector);
     read_words(chain, sector, &mut words[..count]);
@@ -117,7 +115,7 @@ fn print_sectors<W: WordSpace, O: TextSink>(
 ) -> Result<(), Failed>
     requires words { HasRoom chain.now (length words.old) }
     requires room { length room.old ≡ length words.old }
-    ensures all { OnOk result (Appends (O.written text.old) (O.written text.new) (sectors_bytes chain.now)) }
+    ensures all { OnOk result (AppendsAll (O.written text.old) (O.written text.new) (O.kept text.old) (O.kept text.new) (sectors_bytes chain.now)) }
     ensures part { OnErr result (AppendsFront (O.written text.old) (O.written text.new) (sectors_bytes chain.now)) }
     ensures cause { OnErr result (Rose (O.faults text.old) (O.faults text.new)) }
 {
@@ -142,7 +140,7 @@ pub(crate) fn sectors_answer<W: WordSpace, O: TextSink>(
     zeros: bool,
     text: &mut O,
 ) -> Result<Status, AllocError>
-    ensures printed { IfOk result (IsPrinted (sectors_outcome zeros chain.now) (O.written text.old) (O.written text.new)) }
+    ensures printed { IfOk result (IsPrinted (sectors_outcome zeros chain.now) (O.written text.old) (O.written text.new) (O.kept text.old) (O.kept text.new)) }
     ensures failed { result ≡ Ok Status.WriteFault → Rose (O.faults text.old) (O.faults text.new) }
     ensures memory { OnErr result (O.written text.new ≡ O.written text.old) }
 {

@@ -1,11 +1,10 @@
 //! The bytes of a raw namespace.
 ghost use Rattle.std.specs.Prelude.{◌≡◌, ◌+◌, ◌*◌, ◌%◌, ◌^◌, ◌<◌, ◌≤◌, IfOk, Ok, OnOk, OnErr, drop, length, take};
-ghost use Rattle.std.specs.Io.KnownBytes.{Appends};
 ghost use Rattle.nvd_media.specs.Causes.{HasCause, Rose};
 ghost use Rattle.arena_open.specs.Writes.{IsSettled};
 ghost use Rattle.cut_words.specs.WordBytes.{bytes_of};
 ghost use Rattle.shell_reports.specs.Outcome.{printed};
-ghost use Rattle.shell_export.specs.Printing.{AppendsFront, IsPrinted};
+ghost use Rattle.shell_export.specs.Printing.{AppendsAll, AppendsFront, IsPrinted};
 
 use crate::pieces::{WORD, print_words, status_after};
 use cut_words::WordSpace;
@@ -40,11 +39,10 @@ fn print_piece<W: WordSpace, O: TextSink>(
     requires small { length (W.words space.now).kept < 2 ^ 60 }
     requires settled { IsSettled (W.words space.now) }
     requires room { length room.old ≡ length words.old }
-    ensures all { OnOk result (Appends (O.written text.old) (O.written text.new) (bytes_of (take (length words.old) (drop first (W.words space.now).kept)))) }
+    ensures all { OnOk result (AppendsAll (O.written text.old) (O.written text.new) (O.kept text.old) (O.kept text.new) (bytes_of (take (length words.old) (drop first (W.words space.now).kept)))) }
     ensures part { OnErr result (AppendsFront (O.written text.old) (O.written text.new) (bytes_of (take (length words.old) (drop first (W.words space.now).kept)))) }
     ensures cause { HasCause (O.faults text.old) (O.faults text.new) result }
-    ensures words { length words.new ≡ length words.old }
-    ensures bytes { length room.new ≡ length room.old }
+    ensures sizes { (length words.new ≡ length words.old) × (length room.new ≡ length room.old) }
 {
     load_words(space, first, words);
     print_words(words, room, text)
@@ -62,7 +60,7 @@ fn print_pages<W: WordSpace, O: TextSink>(
     requires settled { IsSettled (W.words space.now) }
     requires words { length words.old ≡ 512 }
     requires room { length room.old ≡ 512 }
-    ensures all { OnOk result (Appends (O.written text.old) (O.written text.new) (bytes_of (W.words space.now).kept)) }
+    ensures all { OnOk result (AppendsAll (O.written text.old) (O.written text.new) (O.kept text.old) (O.kept text.new) (bytes_of (W.words space.now).kept)) }
     ensures part { OnErr result (AppendsFront (O.written text.old) (O.written text.new) (bytes_of (W.words space.now).kept)) }
     ensures cause { OnErr result (Rose (O.faults text.old) (O.faults text.new)) }
 {
@@ -82,7 +80,7 @@ pub(crate) fn words_answer<W: WordSpace, O: TextSink>(
     requires pages { length (W.words space.now).kept % 512 ≡ 0 }
     requires small { length (W.words space.now).kept < 2 ^ 60 }
     requires settled { IsSettled (W.words space.now) }
-    ensures printed { IfOk result (IsPrinted (printed (bytes_of (W.words space.now).kept)) (O.written text.old) (O.written text.new)) }
+    ensures printed { IfOk result (IsPrinted (printed (bytes_of (W.words space.now).kept)) (O.written text.old) (O.written text.new) (O.kept text.old) (O.kept text.new)) }
     ensures failed { result ≡ Ok Status.WriteFault → Rose (O.faults text.old) (O.faults text.new) }
     ensures memory { OnErr result (O.written text.new ≡ O.written text.old) }
 {

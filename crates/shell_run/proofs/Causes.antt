@@ -20,7 +20,7 @@ use Rattle.shell_reports.specs.declared.status.Ending.{Ending}
 use Rattle.shell_reports.specs.declared.status.Ending.TheVariants as ending
 use Rattle.shell_reports.specs.declared.status.Status.TheVariants as status
 use Rattle.shell_run.specs.declared.words.Command.{Command}
-use Rattle.shell_run.specs.declared.words.Command.TheVariants.{Labels, Nfit, Init, Change, Info, Read, Write, Replay}
+use Rattle.shell_run.specs.declared.words.Command.TheVariants.{Labels, Nfit, Init, Change, Info, Read, Write, Replay, Export}
 use Rattle.shell_run.specs.declared.words.Command.TheVariants as command
 use Rattle.shell_reports.specs.declared.power.Power.{Power}
 use Rattle.nfit_reader.specs.declared.table.Mapping.{Mapping}
@@ -49,6 +49,9 @@ use Rattle.session_script.specs.declared.payload.Payload.{Payload}
 use Rattle.shell_sectors.specs.Causes.{bars, bars_found}
 use Rattle.shell_sectors.specs.Write.{Writes, WritesArenas, write_refusal}
 use Rattle.shell_sectors.proofs.Causes.{SetCase, set_broken, set_case, set_faulty, set_opened, set_unfound}
+use Rattle.shell_export.specs.Causes.{breaks_export, refuses_export}
+use Rattle.shell_export.specs.Export.{export_outcome}
+use Rattle.shell_export.proofs.Causes.{export_ends, ending_for as ending_by_cause}
 use Rattle.session_script.specs.declared.schedule.Replay.{Replay as Schedules}
 use Rattle.session_script.specs.Schedule.{replay_reading}
 use Rattle.shell_replay.specs.declared.schedule.Schedule.{Schedule}
@@ -254,6 +257,18 @@ replay_case leaves uuid seed schedule loaded outcome (set_broken found fault is 
 replay_case leaves uuid seed schedule loaded outcome (set_opened found states none is read on) =
     one_case leaves uuid seed schedule loaded outcome found states (opened_reads uuid loaded found states none is read) is read on
 
+-- ---- `export`
+
+export_by : (uuid : List ℕ) (zeros : Bool) (loaded : ImageSet) (e : Ending) (b c : Bool) → breaks_export loaded uuid ≡ b → refuses_export loaded uuid zeros ≡ c
+    → e ≡ ending_by_cause b c → CommandCase (Export uuid zeros) (Ok loaded) e
+export_by uuid zeros loaded e true c p q is = is_refused p is
+export_by uuid zeros loaded e false true p q is = is_turned_down p refl q is
+export_by uuid zeros loaded e false false p q is = is_done p refl q is
+
+export_case : (uuid : List ℕ) (zeros : Bool) (loaded : ImageSet) (outcome : Outcome) → outcome ≡ export_outcome uuid zeros loaded → CommandCase (Export uuid zeros) (Ok loaded) outcome.ending
+export_case uuid zeros loaded outcome comes =
+    export_by uuid zeros loaded outcome.ending (breaks_export loaded uuid) (refuses_export loaded uuid zeros) refl refl (ending_of outcome (export_outcome uuid zeros loaded) comes ∙ (export_ends loaded uuid zeros).0)
+
 -- ---- any command
 
 module _ (leaves : ℕ → List (Option Words) → List (Option (List ℕ)) → Type 0) where
@@ -271,6 +286,7 @@ module _ (leaves : ℕ → List (Option Words) → List (Option (List ℕ)) → 
   command_case (Write uuid sector value) (Ok loaded) outcome comes =
       write_case uuid sector value loaded outcome (set_case (WritesArenas uuid sector value loaded outcome) loaded uuid outcome comes)
   command_case (Replay uuid seed) (Ok loaded) outcome comes = absurd comes
+  command_case (Export uuid zeros) (Ok loaded) outcome comes = export_case uuid zeros loaded outcome comes
 
   -- ---- the ending that is due
 
@@ -311,6 +327,7 @@ module _ (leaves : ℕ → List (Option Words) → List (Option (List ℕ)) → 
   script_ending (Info uuid) script set outcome comes = plain_ending (Info uuid) set outcome comes
   script_ending (Read uuid sector) script set outcome comes = plain_ending (Read uuid sector) set outcome comes
   script_ending (Write uuid sector value) script set outcome comes = plain_ending (Write uuid sector value) set outcome comes
+  script_ending (Export uuid zeros) script set outcome comes = plain_ending (Export uuid zeros) set outcome comes
   script_ending (Replay uuid seed) script set outcome comes = replay_ending uuid seed set outcome (script_in replay_reading script) comes
 
   due_by : (words : List (List ℕ)) (set : Images) (script : List ℕ) (left : Option (List ℕ)) (outcome : Outcome) (found : Option Command) → command_of words ≡ found

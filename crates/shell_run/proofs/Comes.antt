@@ -25,8 +25,9 @@ use Rattle.shell_replay.specs.declared.schedule.Schedule.{Schedule}
 use Rattle.shell_replay.specs.Replay.{ReplayComes}
 use Rattle.shell_run.specs.declared.scripts.ScriptRefused.{ScriptRefused}
 use Rattle.shell_run.specs.declared.words.Command.{Command}
-use Rattle.shell_run.specs.declared.words.Command.TheVariants.{Labels, Nfit, Init, Change, Info, Read, Write, Replay as AskReplay}
+use Rattle.shell_run.specs.declared.words.Command.TheVariants.{Labels, Nfit, Init, Change, Info, Read, Write, Replay as AskReplay, Export}
 use Rattle.shell_run.specs.declared.words.Command.TheVariants as command
+use Rattle.shell_run.specs.Printed.{Exports, IsReported, IsUnloaded}
 use Rattle.shell_run.specs.Run.{Comes, ComesTold, IsDue, LoadedComes, OnImages, OnLoaded, OnScript, copies, copies_by, copies_found, needs_contents, reads_script}
 use Rattle.shell_run.specs.Scripts.{script_in, script_outcome}
 use Rattle.shell_run.specs.Words.{command_of}
@@ -186,21 +187,29 @@ module _ (comes : ImageSet → Outcome → Type 0) (held : Option Images) where
       let none : Err fault ≡ loading set = told' set at (λ e. read (let h = e in cc)) (λ e. memory (let h = e in cc)) in
       subst (λ (l : Result ImageSet LoadFault). OnLoaded comes l outcome) none (from_none held answer outcome (load_outcome fault) nothing says from)
 
-  pub loaded_told : (found : Result Loaded LoadFault) (loaded : Loaded) (answer : Answer) → found ≡ Ok loaded → ForSome held (Loads found) → copies_contents answer.saved ≡ false
-      → comes (image_set_in loaded) (whole_outcome answer) → IsTold answer
-  loaded_told found loaded answer is told whole due = λ outcome from set at.
+  -- an outcome on the set that is loaded
+  pub loaded_on : (found : Result Loaded LoadFault) (loaded : Loaded) (outcome : Outcome) → found ≡ Ok loaded → ForSome held (Loads found) → comes (image_set_in loaded) outcome → OnImages comes held outcome
+  loaded_on found loaded outcome is told due = λ set at.
       let told' : ForSome held (Loads (Ok loaded)) = subst (λ (l : Result Loaded LoadFault). ForSome held (Loads l)) is told in
       let loads : Ok (image_set_in loaded) ≡ loading set = told' set at (λ e. (let h = e in cc)) (λ e. (let h = e in cc)) in
-      let same : outcome ≡ whole_outcome answer = from_whole held [] answer outcome whole from in
-      subst (λ (o : Outcome). OnLoaded comes (loading set) o) (sym same)
-      (subst (λ (l : Result ImageSet LoadFault). OnLoaded comes l (whole_outcome answer)) loads due)
+      subst (λ (l : Result ImageSet LoadFault). OnLoaded comes l outcome) loads due
+
+  -- the outcome if none is
+  pub unloaded_on : (found : Result Loaded LoadFault) (fault : LoadFault) (outcome : Outcome) → found ≡ Err fault → ForSome held (Loads found) → IsUnloaded fault outcome → OnImages comes held outcome
+  unloaded_on found fault outcome is told unloaded = λ set at.
+      let told' : ForSome held (Loads (Err fault)) = subst (λ (l : Result Loaded LoadFault). ForSome held (Loads l)) is told in
+      let none : Err fault ≡ loading set = told' set at (λ e. unloaded.0 (let h = e in cc)) (λ e. unloaded.1 (let h = e in cc)) in
+      subst (λ (l : Result ImageSet LoadFault). OnLoaded comes l outcome) none unloaded.2
+
+  pub loaded_told : (found : Result Loaded LoadFault) (loaded : Loaded) (answer : Answer) → found ≡ Ok loaded → ForSome held (Loads found) → copies_contents answer.saved ≡ false
+      → comes (image_set_in loaded) (whole_outcome answer) → IsTold answer
+  loaded_told found loaded answer is told whole due = λ outcome from.
+      subst (λ (o : Outcome). OnImages comes held o) (sym (from_whole held [] answer outcome whole from)) (loaded_on found loaded (whole_outcome answer) is told due)
 
   pub unloaded_told : (found : Result Loaded LoadFault) (fault : LoadFault) (answer : Answer) → found ≡ Err fault → ForSome held (Loads found) → answer.saved ≡ None
       → ((contents : List (List ℕ)) → outcome_with answer contents ≡ load_outcome fault) → fault ≢ ReadFault → fault ≢ OutOfMemory → IsTold answer
-  unloaded_told found fault answer is told nothing says read memory = λ outcome from set at.
-      let told' : ForSome held (Loads (Err fault)) = subst (λ (l : Result Loaded LoadFault). ForSome held (Loads l)) is told in
-      let none : Err fault ≡ loading set = told' set at (λ e. read (let h = e in cc)) (λ e. memory (let h = e in cc)) in
-      subst (λ (l : Result ImageSet LoadFault). OnLoaded comes l outcome) none (from_none held answer outcome (load_outcome fault) nothing says from)
+  unloaded_told found fault answer is told nothing says read memory = λ outcome from.
+      unloaded_on found fault outcome is told (read, memory, from_none held answer outcome (load_outcome fault) nothing says from)
 
 -- an answer on a set that isn't loaded, from the four things that are known of it
 pub if_told : {E : Type 0} (P : Answer → Type 0) (r : Result Answer E) (fault : LoadFault)
@@ -224,6 +233,7 @@ module _ (leaves : ℕ → List (Option Words) → List (Option (List ℕ)) → 
   plain_comes (Read uuid sector) plain on = on
   plain_comes (Write uuid sector value) plain on = on
   plain_comes (AskReplay uuid seed) plain on = absurd (let e = plain in cc)
+  plain_comes (Export uuid zeros) plain on = on
 
 -- only `replay` has a script
 pub is_replay : (command : Command) → reads_script command ≡ true → (uuid : List ℕ) × (seed : ℕ) × (command ≡ AskReplay uuid seed)
@@ -236,6 +246,7 @@ is_replay (Info uuid) reads = absurd (let e = reads in cc)
 is_replay (Read uuid sector) reads = absurd (let e = reads in cc)
 is_replay (Write uuid sector value) reads = absurd (let e = reads in cc)
 is_replay (AskReplay uuid seed) reads = (uuid, seed, refl)
+is_replay (Export uuid zeros) reads = absurd (let e = reads in cc)
 
 module _ (leaves : ℕ → List (Option Words) → List (Option (List ℕ)) → Type 0) (held : Option Images) (left : Option (List ℕ)) where
   abbrev pub IsDueFor : Command → Answer → Type 0
@@ -265,24 +276,37 @@ module _ (leaves : ℕ → List (Option Words) → List (Option (List ℕ)) → 
 
 -- ---- the words
 
--- what is found for a command is what is due for its words
-pub command_due : {E : Type 0} (leaves : ℕ → List (Option Words) → List (Option (List ℕ)) → Type 0) (words : List (List ℕ)) (held : Option Images) (left : Option (List ℕ)) (command : Command) (r : Result Answer E)
-    → command_of words ≡ Some command → IfOk r (IsDueFor leaves held left command) → IfOk r (λ answer. (outcome : Outcome) → ComesFrom held answer outcome → IsDue leaves words held left outcome)
-command_due leaves words held left command (Ok answer) said told = λ outcome comes.
-    subst (λ (o : Option Command). MatchOption o (outcome ≡ usage) (λ c. ComesTold leaves c held left outcome)) (sym said) (told outcome comes)
-command_due leaves words held left command (Err e) said told = tt
+module _ (leaves : ℕ → List (Option Words) → List (Option (List ℕ)) → Type 0) (words : List (List ℕ)) (held : Option Images) (left : Option (List ℕ)) (outcome : Outcome) where
+  -- what a command comes to is what is due for its words
+  pub command_due : (command : Command) → command_of words ≡ Some command → ComesTold leaves command held left outcome → IsDue leaves words held left outcome
+  command_due command said told = subst (λ (o : Option Command). MatchOption o (outcome ≡ usage) (λ c. ComesTold leaves c held left outcome)) (sym said) told
 
--- and so is what is said of words that aren't a command line
-pub usage_due : (leaves : ℕ → List (Option Words) → List (Option (List ℕ)) → Type 0) (words : List (List ℕ)) (held : Option Images) (left : Option (List ℕ)) (answer : Answer)
-    → command_of words ≡ None → answer.saved ≡ None → ((contents : List (List ℕ)) → outcome_with answer contents ≡ usage) → (outcome : Outcome) → ComesFrom held answer outcome → IsDue leaves words held left outcome
-usage_due leaves words held left answer none nothing says = λ outcome comes.
-    subst (λ (o : Option Command). MatchOption o (outcome ≡ usage) (λ c. ComesTold leaves c held left outcome)) (sym none) (from_none held answer outcome usage nothing says comes)
+  -- and so is what is said of words that aren't a command line
+  pub usage_due : command_of words ≡ None → outcome ≡ usage → IsDue leaves words held left outcome
+  usage_due none says = subst (λ (o : Option Command). MatchOption o (outcome ≡ usage) (λ c. ComesTold leaves c held left outcome)) (sym none) says
 
 -- a command that copies contents is one of the words
-pub command_copies : {E : Type 0} (words : List (List ℕ)) (command : Command) (r : Result Answer E) → command_of words ≡ Some command
-    → IfOk r (λ answer. IsTrue (copies_contents answer.saved) → IsTrue (copies command)) → IfOk r (λ answer. IsTrue (copies_contents answer.saved) → IsTrue (copies_by words))
-command_copies words command (Ok answer) said does = λ copied. subst (λ (o : Option Command). IsTrue (copies_found o)) (sym said) (does copied)
-command_copies words command (Err e) said does = tt
+pub command_copies : (words : List (List ℕ)) (command : Command) → command_of words ≡ Some command → IsTrue (copies command) → IsTrue (copies_by words)
+command_copies words command said does = subst (λ (o : Option Command). IsTrue (copies_found o)) (sym said) does
+
+-- ---- what is only printed
+
+-- the outcome of a report
+pub reported_is : {E : Type 0} (r : Result Report E) (due outcome : Outcome) → IfOk r (λ report. outcome_of report ≡ due) → IsReported r outcome → outcome ≡ due
+reported_is {E} r due outcome says (report, is, same) = same ∙ subst (λ (x : Result Report E). IfOk x (λ report. outcome_of report ≡ due)) is says
+
+-- and that for a set that isn't loaded
+pub reported_unloaded : {E : Type 0} (r : Result Report E) (fault : LoadFault) (outcome : Outcome) → IfOk r (λ report. outcome_of report ≡ load_outcome fault) → IfOk r (λ _. fault ≢ ReadFault)
+    → IfOk r (λ _. fault ≢ OutOfMemory) → IsReported r outcome → IsUnloaded fault outcome
+reported_unloaded {E} r fault outcome says read memory (report, is, same) = (
+  subst (λ (x : Result Report E). IfOk x (λ _. fault ≢ ReadFault)) is read,
+  subst (λ (x : Result Report E). IfOk x (λ _. fault ≢ OutOfMemory)) is memory,
+  reported_is r (load_outcome fault) outcome says (report, is, same),
+)
+
+pub export_due : (leaves : ℕ → List (Option Words) → List (Option (List ℕ)) → Type 0) (command : Command) (uuid : List ℕ) (zeros : Bool) (held : Option Images) (left : Option (List ℕ)) (outcome : Outcome)
+    → command ≡ Export uuid zeros → OnImages (Exports uuid zeros) held outcome → ComesTold leaves command held left outcome
+export_due leaves command uuid zeros held left outcome is due = λ script reads. subst (λ (c : Command). Comes leaves c held script outcome) (sym is) due
 
 -- ---- a set that isn't finished
 

@@ -1,6 +1,7 @@
 -- How a run ends.
-use Rattle.std.proofs.Common.{◌≡◌, ◌≢◌, ℕ, Bool, List, ◌++◌, Option, Some, None, refl, sym, ap, subst, inl, inr, codes}
-use Rattle.std.specs.Prelude.{◌⊎◌, IsSome, IsTrue}
+use Rattle.std.proofs.Common.{◌≡◌, ◌≢◌, ℕ, Bool, false, List, ◌++◌, Option, Some, None, Result, Ok, Err, refl, sym, ap, subst, inl, inr, codes}
+use Rattle.std.specs.Prelude.{◌⊎◌, IfOk, IsSome, IsTrue, OnErr}
+use Rattle.std.specs.Result.{result_unwrap_or}
 use Rattle.std.specs.Io.KnownBytes.{Keeps, Appends}
 use Rattle.nvd_media.specs.Images.{Images, Becomes, IsUnfinished}
 use Rattle.nvd_media.specs.Images.{Keeps as StillTells}
@@ -13,7 +14,9 @@ use Rattle.shell_reports.specs.declared.status.Stop.TheVariants as stop
 use Rattle.shell_reports.specs.Outcome.{Outcome, lf, status_of}
 use Rattle.shell_reports.specs.Saved.{Saves}
 use Rattle.shell_changes.specs.Saved.{Stores}
+use Rattle.shell_export.specs.Printing.{IsPrinted}
 use Rattle.shell_run.specs.Run.{Ends, FailedToRead, AppendsPart, Holds}
+use Rattle.shell_run.specs.Printed.{EndsPrinting, HoldsPrinted}
 
 -- what is due may be said of more, and so may what copies contents
 failed_more : (copying copying' : Bool) (due wider : Outcome → Type 0) (made made' : Option Images)
@@ -159,5 +162,36 @@ module _ (due : Outcome → Type 0) (kept kept' : Option Images) (text text' : O
   pub holds_printed : (s : Status) → (s ≡ status_of outcome.ending → StillTells text text' (λ was now. now ≡ was ++ outcome.text)) → (s ≢ status_of outcome.ending → s ≡ status.WriteFault)
       → Holds due kept kept' text text' s
   holds_printed s all part = holds_by s (same_or_other s outcome.ending) all part
+
+-- ---- what is only printed
+
+pub printing_more : (faulted faulted' : Type 0) (copying : Bool) (due wider : Outcome → Type 0) (made : Option Images) (text text' : Option (List ℕ)) (s : Status)
+    → (faulted → faulted') → ((outcome : Outcome) → due outcome → wider outcome) → EndsPrinting faulted due text text' s → Ends faulted' copying wider made made text text' s
+printing_more faulted faulted' copying due wider made text text' s rose more ends =
+    ends_more faulted faulted' false copying due wider made made text text' s rose (λ does. absurd (let e = does in cc)) more (ends made)
+
+pub stored_more : (due wider : Outcome → Type 0) (kept : Option Images) (text text' : Option (List ℕ)) (s : Status) → ((outcome : Outcome) → due outcome → wider outcome)
+    → HoldsPrinted due text text' s → Holds wider kept kept text text' s
+stored_more due wider kept text text' s more holds = holds_more due wider kept kept text text' s more (holds kept)
+
+saves_none : (saved : Option Images) (made : Option Images) → saved ≡ None → Saves saved made made
+saves_none saved made nothing = rw nothing refl
+
+stores_none : (saved : Option Images) (made : Option Images) → saved ≡ None → Stores saved made made
+stores_none saved made nothing = rw nothing refl
+
+-- a text that was printed piece by piece, or of which a front was; or memory ran out
+module _ {E : Type 0} (faulted : Type 0) (due : Outcome → Type 0) (outcome : Outcome) (is : due outcome) (nothing : outcome.saved ≡ None) (text text' kept kept' : Option (List ℕ)) where
+  pub streamed_ends : (r : Result Status E) (s : Status) → s ≡ result_unwrap_or r status.OutOfMemory → IfOk r (IsPrinted outcome text text' kept kept') → OnErr r (text' ≡ text) → EndsPrinting faulted due text text' s
+  streamed_ends (Ok ended) s same (inl whole) none = λ made.
+      rw same (subst (λ (t : Status). Ends faulted false due made made text text' t) (sym whole.0) (ends_whole faulted false due made made text text' outcome is (saves_none outcome.saved made nothing) outcome.ending refl whole.1.0))
+  streamed_ends (Ok ended) s same (inr part) none = λ made. rw (same, part.0) (inr (inl (outcome, is, saves_none outcome.saved made nothing, part.1)))
+  streamed_ends (Err e) s same printed none = λ made. ends_memory faulted false due made text text' s same none
+
+  pub streamed_holds : (r : Result Status E) (s : Status) → s ≡ result_unwrap_or r status.OutOfMemory → IfOk r (IsPrinted outcome text text' kept kept') → HoldsPrinted due kept kept' s
+  streamed_holds (Ok ended) s same (inl whole) = λ made.
+      rw same (subst (λ (t : Status). Holds due made made kept kept' t) (sym whole.0) (holds_whole due made made kept kept' outcome is (stores_none outcome.saved made nothing) outcome.ending refl whole.1.1))
+  streamed_holds (Ok ended) s same (inr part) = λ made. rw (same, part.0) tt
+  streamed_holds (Err e) s same printed = λ made. rw same tt
 
 pub ruleset endings = (ends_more, ends_memory, ends_read)

@@ -45,3 +45,15 @@ nfit_more = refl
 pub no_command : command_of (codes "help" ∷ []) ≡ None
 unfolding clap_on_literals parsed kind_of
 no_command = refl
+
+pub export_alone : command_of (codes "export" ∷ []) ≡ None
+unfolding clap_on_literals parsed kind_of
+export_alone = refl
+
+pub export_flag_valued : command_of (codes "export" ∷ codes "11111111111111111111111111111111" ∷ codes "--bad-as-zeros=true" ∷ []) ≡ None
+unfolding clap_on_literals parsed kind_of
+export_flag_valued = refl
+
+pub export_flag_twice : command_of (codes "export" ∷ codes "--bad-as-zeros" ∷ codes "11111111111111111111111111111111" ∷ codes "--bad-as-zeros" ∷ []) ≡ None
+unfolding clap_on_literals parsed kind_of
+export_flag_twice = refl

@@ -2,7 +2,7 @@
 use Rattle.std.specs.Prelude.{List, [], ◌∷◌, ℕ, Option, Some, None, if◌then◌else◌, codes}
 use Rattle.std.specs.Str.{bytes_eq}
 use Rattle.command_words.specs.App.{Described}
-use Rattle.command_words.specs.declared.argument.Form.TheVariants.{Place, Optional, Required}
+use Rattle.command_words.specs.declared.argument.Form.TheVariants.{Place, Optional, Required, Flag}
 use Rattle.shell_run.specs.declared.commands.Kind.{Kind}
 use Rattle.shell_run.specs.declared.commands.Kind.TheVariants as kind
 
@@ -20,6 +20,7 @@ kind_of name =
     else if bytes_eq name (codes "read") then Some kind.Read
     else if bytes_eq name (codes "write") then Some kind.Write
     else if bytes_eq name (codes "replay") then Some kind.Replay
+    else if bytes_eq name (codes "export") then Some kind.Export
     else None
 
 -- the options on power cuts
@@ -41,3 +42,4 @@ arguments_of kind.Info = (codes "uuid", Place) ∷ []
 arguments_of kind.Read = (codes "uuid", Place) ∷ (codes "sector", Place) ∷ []
 arguments_of kind.Write = (codes "uuid", Place) ∷ (codes "sector", Place) ∷ (codes "value", Place) ∷ []
 arguments_of kind.Replay = (codes "uuid", Place) ∷ (codes "evict", Optional) ∷ []
+arguments_of kind.Export = (codes "uuid", Place) ∷ (codes "bad-as-zeros", Flag) ∷ []

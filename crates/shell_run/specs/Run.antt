@@ -10,9 +10,9 @@ use Rattle.image_set.specs.Load.{ImageSet, loading}
 use Rattle.shell_reports.specs.declared.status.Status.{Status}
 use Rattle.shell_reports.specs.declared.status.Status.TheVariants as status
 use Rattle.shell_run.specs.declared.words.Command.{Command}
-use Rattle.shell_run.specs.declared.words.Command.TheVariants.{Labels, Nfit, Init, Change, Info, Read, Write, Replay}
+use Rattle.shell_run.specs.declared.words.Command.TheVariants.{Labels, Nfit, Init, Change, Info, Read, Write, Replay, Export}
 use Rattle.shell_run.specs.declared.words.Command.TheVariants as command
-use Rattle.shell_run.specs.Words.{command_of}
+use Rattle.shell_run.specs.Words.{GivesGoodName, command_of}
 use Rattle.shell_reports.specs.Outcome.{Outcome, usage, lf, status_of}
 use Rattle.shell_reports.specs.LoadFaults.{load_outcome}
 use Rattle.shell_reports.specs.Labels.{labels_outcome}
@@ -25,6 +25,7 @@ use Rattle.shell_reports.specs.List.{list_outcome}
 use Rattle.shell_reports.specs.Sectors.{info_outcome, read_outcome}
 use Rattle.namespace_ops.specs.Counted.{makes_sectors}
 use Rattle.shell_sectors.specs.Write.{WriteComes}
+use Rattle.shell_export.specs.Export.{export_outcome}
 use Rattle.shell_replay.specs.Replay.{ReplayComes}
 use Rattle.session_script.specs.Schedule.{replay_reading}
 use Rattle.shell_run.specs.declared.scripts.ScriptRefused.{ScriptRefused}
@@ -44,6 +45,7 @@ LoadedComes leaves (Info uuid) loaded outcome = outcome ≡ info_outcome uuid lo
 LoadedComes leaves (Read uuid sector) loaded outcome = outcome ≡ read_outcome uuid sector loaded
 LoadedComes leaves (Write uuid sector value) loaded outcome = WriteComes uuid sector value loaded outcome
 LoadedComes leaves (Replay uuid seed) loaded outcome = ⊥
+LoadedComes leaves (Export uuid zeros) loaded outcome = outcome ≡ export_outcome uuid zeros loaded
 
 -- by the set that is loaded, or by why none is
 abbrev pub OnLoaded : (ImageSet → Outcome → Type 0) → Result ImageSet LoadFault → Outcome → Type 0
@@ -76,6 +78,28 @@ reads_script (Info uuid) = false
 reads_script (Read uuid sector) = false
 reads_script (Write uuid sector value) = false
 reads_script (Replay uuid seed) = true
+reads_script (Export uuid zeros) = false
+
+-- whether a command prints its text piece by piece, as the text may be as long as the contents; it writes no set
+abbrev pub streams : Command → Bool
+streams (Labels m) = false
+streams Nfit = false
+streams command.List = false
+streams (Init m power) = false
+streams (Change c power) = false
+streams (Info uuid) = false
+streams (Read uuid sector) = false
+streams (Write uuid sector value) = false
+streams (Replay uuid seed) = false
+streams (Export uuid zeros) = true
+
+-- a command that makes an answer, of the loaded set alone
+abbrev pub IsPlain : Command → Type 0
+IsPlain command = (reads_script command ≡ false) × (streams command ≡ false)
+
+-- a command that makes an answer, and gives no name that has a zero byte
+abbrev pub IsAnswered : Command → Type 0
+IsAnswered command = GivesGoodName command × (streams command ≡ false)
 
 -- whether a command copies contents as it saves, so that reading may fail then
 abbrev pub copies : Command → Bool
@@ -88,6 +112,7 @@ copies (Info uuid) = false
 copies (Read uuid sector) = false
 copies (Write uuid sector value) = false
 copies (Replay uuid seed) = false
+copies (Export uuid zeros) = false
 
 -- whether a command works on the contents of modules, so that they are loaded
 abbrev pub needs_contents : Command → Bool
@@ -100,6 +125,7 @@ needs_contents (Info uuid) = true
 needs_contents (Read uuid sector) = true
 needs_contents (Write uuid sector value) = true
 needs_contents (Replay uuid seed) = true
+needs_contents (Export uuid zeros) = true
 
 -- whether the words are those of a command that copies contents
 abbrev pub copies_found : Option Command → Bool

@@ -19,11 +19,12 @@ use Rattle.shell_reports.specs.Causes.{is_broken, refuses_info, refuses_read}
 use Rattle.shell_changes.specs.Namespaces as changes
 use Rattle.shell_changes.specs.Namespaces.{sets_in, refuses}
 use Rattle.shell_sectors.specs.Causes.{refuses_write}
+use Rattle.shell_export.specs.Causes.{breaks_export, refuses_export}
 use Rattle.shell_replay.specs.Causes.{refuses_replay}
 use Rattle.session_script.specs.Schedule.{replay_reading}
 use Rattle.shell_run.specs.Scripts.{script_in}
 use Rattle.shell_run.specs.declared.words.Command.{Command}
-use Rattle.shell_run.specs.declared.words.Command.TheVariants.{Labels, Nfit, Init, Change, Info, Read, Write, Replay}
+use Rattle.shell_run.specs.declared.words.Command.TheVariants.{Labels, Nfit, Init, Change, Info, Read, Write, Replay, Export}
 use Rattle.shell_run.specs.declared.words.Command.TheVariants as command
 use Rattle.shell_run.specs.Words.{command_of}
 
@@ -61,6 +62,7 @@ refuses_images (Info uuid) (Ok loaded) = is_broken loaded uuid
 refuses_images (Read uuid sector) (Ok loaded) = is_broken loaded uuid
 refuses_images (Write uuid sector value) (Ok loaded) = is_broken loaded uuid
 refuses_images (Replay uuid seed) (Ok loaded) = is_broken loaded uuid
+refuses_images (Export uuid zeros) (Ok loaded) = breaks_export loaded uuid
 
 -- ---- steps and refusals
 
@@ -82,6 +84,7 @@ is_barred (Info uuid) (Ok loaded) = refuses_info loaded uuid
 is_barred (Read uuid sector) (Ok loaded) = refuses_read loaded uuid sector
 is_barred (Write uuid sector value) (Ok loaded) = refuses_write loaded uuid sector value
 is_barred (Replay uuid seed) (Ok loaded) = refuses_replay loaded uuid
+is_barred (Export uuid zeros) (Ok loaded) = refuses_export loaded uuid zeros
 is_barred command found = false
 
 -- ---- the table

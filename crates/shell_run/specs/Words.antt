@@ -2,11 +2,11 @@
 use Rattle.std.specs.Prelude.{⊤, List, [], ◌∷◌, ℕ, Option, Some, None, unwrap_or, codes}
 use Rattle.std.specs.Option.{option_map, option_and_then}
 use Rattle.clap.specs.Words.{Row, first_of}
-use Rattle.command_words.specs.Parsed.{parsed, number_in, optional_number_in, uuid_in}
+use Rattle.command_words.specs.Parsed.{parsed, number_in, optional_number_in, uuid_in, flag_in}
 use Rattle.shell_run.specs.declared.commands.Kind.{Kind}
 use Rattle.shell_run.specs.declared.commands.Kind.TheVariants as kind
 use Rattle.shell_run.specs.declared.words.Command.{Command}
-use Rattle.shell_run.specs.declared.words.Command.TheVariants.{Labels, Nfit, Init, Change, Info, Read, Write, Replay}
+use Rattle.shell_run.specs.declared.words.Command.TheVariants.{Labels, Nfit, Init, Change, Info, Read, Write, Replay, Export}
 use Rattle.shell_run.specs.declared.words.Command.TheVariants as command
 use Rattle.shell_reports.specs.declared.power.Power.{Power}
 use Rattle.namespace_ops.specs.Carried.{HasGoodName}
@@ -48,6 +48,7 @@ command_in kind.Info values = option_map (λ uuid. Info uuid) (uuid_in (codes "u
 command_in kind.Read values = option_and_then (λ uuid. option_map (λ sector. Read uuid sector) (number_in 0 most (codes "sector") values)) (uuid_in (codes "uuid") values)
 command_in kind.Write values = write_in values
 command_in kind.Replay values = replay_in values
+command_in kind.Export values = option_map (λ uuid. Export uuid (flag_in (codes "bad-as-zeros") values)) (uuid_in (codes "uuid") values)
 command_in kind.Init values = option_and_then (λ m. option_map (λ power. Init m power) (power_in values)) (number_in 0 63 (codes "module") values)
 
 -- the command of a name with the words after it
@@ -70,3 +71,4 @@ GivesGoodName (Info uuid) = ⊤
 GivesGoodName (Read uuid sector) = ⊤
 GivesGoodName (Write uuid sector value) = ⊤
 GivesGoodName (Replay uuid seed) = ⊤
+GivesGoodName (Export uuid zeros) = ⊤

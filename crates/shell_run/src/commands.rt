@@ -26,6 +26,8 @@ pub enum Kind {
     Write,
     /// Plays a schedule on the lanes of a namespace's arena.
     Replay,
+    /// Prints all bytes of a namespace.
+    Export,
 }
 
 /// The number of a module.
@@ -112,6 +114,12 @@ const EVICT: Argument = Argument {
     form: Form::Optional,
 };
 
+/// Whether bad sectors count as zeros.
+const BAD_AS_ZEROS: Argument = Argument {
+    name: "bad-as-zeros",
+    form: Form::Flag,
+};
+
 impl Kind {
     ghost use Rattle.std.specs.Prelude.{◌≡◌, map};
     ghost use Rattle.command_words.specs.App.{said};
@@ -155,6 +163,9 @@ impl Kind {
         if name == "replay" {
             return Some(Kind::Replay);
         }
+        if name == "export" {
+            return Some(Kind::Export);
+        }
         None
     }
 
@@ -184,6 +195,7 @@ impl Kind {
             Kind::Read => &[UUID, SECTOR],
             Kind::Write => &[UUID, SECTOR, VALUE],
             Kind::Replay => &[UUID, EVICT],
+            Kind::Export => &[UUID, BAD_AS_ZEROS],
         }
     }
 }

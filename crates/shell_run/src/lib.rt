@@ -4,7 +4,7 @@
 //!  words ──► command                                        words, commands, command_words
 //!  script ──► schedule     of `replay` alone                scripts, session_script
 //!  image set ──► lines ──► text, status                     top
-//!      │   labels, nfit, list, info, read
+//!      │   labels, nfit, list, info, read; export, which prints piece by piece
 //!      │
 //!      ├──► a changed set, or its state after a crash ──► image set
 //!      │       init, create, delete, rename, write, replay
@@ -15,9 +15,10 @@
 //!
 //! A command is an entry of the table in `specs/Commands.antt`, a case of `Comes` in `specs/Run.antt`, and a handler that
 //! makes an answer from the set that was loaded, without a source or a sink. A command with a script reads it to its end
-//! before anything is loaded (`OnScript`); its handler gets what was read. Loading, faults of reading and writing and
+//! before anything is loaded (`OnScript`); its handler gets what was read. `export` alone gets the text sink (`streams`), since its
+//! text may be as long as the contents. Loading, faults of reading and writing and
 //! running out of memory are handled once, for all commands, by `OnLoaded`, by `Ends` and in `top`. Contents are loaded for
-//! `info`, `read`, `write`, `replay` and `create --mode sector` alone (`needs_contents`); the other commands that save copy them (`copies`).
+//! `info`, `read`, `write`, `replay`, `export` and `create --mode sector` alone (`needs_contents`); the other commands that save copy them (`copies`).
 #![tactic(auto)]
 
 mod commands;

@@ -18,7 +18,8 @@ ghost use Rattle.shell_changes.specs.Remains.{LeavesBy};
 ghost use Rattle.shell_changes.specs.Saved.{AreSaved, HasContentsOf, Stores, copies_contents};
 ghost use Rattle.shell_replay.specs.Replay.{ReplayComes};
 ghost use Rattle.shell_run.specs.Scripts.{script_outcome};
-ghost use Rattle.shell_run.specs.Run.{ComesTold, Ends, AppendsPart, Holds, IsDue, LeavesScript, LoadedComes, OnImages, copies, copies_by, needs_contents, reads_script};
+ghost use Rattle.shell_run.specs.Run.{AppendsPart, ComesTold, Ends, Holds, IsAnswered, IsDue, IsPlain, LeavesScript, LoadedComes, OnImages, copies, copies_by, needs_contents, reads_script};
+ghost use Rattle.shell_run.specs.Printed.{EndsPrinting, Exports, HoldsPrinted, IsMisused, IsReported, IsUnloaded};
 ghost use Rattle.shell_run.specs.Words.{GivesGoodName};
 
 use crate::scripts::{ScriptRefused, ScriptStop, read_schedule, script_answer};
@@ -29,6 +30,7 @@ use nvd_media::{Chooser, Gate, ImageSink, ImageSource, TextSink, TextSource};
 use shell_changes::{
     Answer, SavedSet, SetRead, change_answer, init_answer, makes_sectors, without_set,
 };
+use shell_export::export_answer;
 use shell_replay::{Schedule, replay_answer};
 use shell_reports::{
     Ending, Report, Status, Stop, info_answer, labels_answer, list_answer, load_answer,
@@ -131,6 +133,7 @@ fn needs_contents(command: &Command) -> bool
         Command::Read(_, _) => true,
         Command::Write(_, _, _) => true,
         Command::Replay(_, _) => true,
+        Command::Export(_, _) => true,
     }
 }
 
@@ -148,6 +151,7 @@ fn reads_script(command: &Command) -> bool
         Command::Read(_, _) => false,
         Command::Write(_, _, _) => false,
         Command::Replay(_, _) => true,
+        Command::Export(_, _) => false,
     }
 }
 
@@ -177,6 +181,7 @@ fn outlined_answer<C: Chooser>(
         Command::Read(_, _) => unreachable!(),
         Command::Write(_, _, _) => unreachable!(),
         Command::Replay(_, _) => unreachable!(),
+        Command::Export(_, _) => unreachable!(),
     }
 }
 
@@ -190,7 +195,7 @@ fn loaded_answer<C: Chooser>(
     requires sound { IsSound loaded }
     requires name { GivesGoodName command }
     requires whole { needs_contents command ≡ true }
-    requires plain { reads_script command ≡ false }
+    requires plain { IsPlain command }
     ensures comes { IfOk result (λ answer. LoadedComes (LeavesBy C.begins C.picks choose.old) command (image_set_in loaded) (whole_outcome answer)) }
     ensures whole { IfOk result (λ answer. copies_contents answer.saved ≡ false) }
 {
@@ -206,6 +211,7 @@ fn loaded_answer<C: Chooser>(
         Command::Read(uuid, sector) => sector_found(alloc, &uuid, sector, loaded),
         Command::Write(uuid, sector, value) => write_answer(alloc, &uuid, sector, value, loaded),
         Command::Replay(_, _) => unreachable!(),
+        Command::Export(_, _) => unreachable!(),
     }
 }
 
@@ -255,7 +261,7 @@ fn perform_whole<S: ImageSource, C: Chooser>(
 ) -> Result<Answer, Stop>
     requires name { GivesGoodName command }
     requires whole { needs_contents command ≡ true }
-    requires plain { reads_script command ≡ false }
+    requires plain { IsPlain command }
     ensures told { IfOk result (λ answer. (outcome : Outcome) → ComesFrom (S.held images.old) answer outcome → OnImages (LoadedComes (LeavesBy C.begins C.picks choose.old) command) (S.held images.old) outcome) }
     ensures whole { IfOk result (λ answer. copies_contents answer.saved ≡ false) }
     ensures same { S.held images.new ≡ S.held images.old }
@@ -355,7 +361,7 @@ fn perform_plain<S: ImageSource, C: Chooser>(
     choose: &mut C,
 ) -> Result<Answer, Stop>
     requires name { GivesGoodName command }
-    requires plain { reads_script command ≡ false }
+    requires plain { IsPlain command }
     ensures told { IfOk result (λ answer. (outcome : Outcome) → ComesFrom (S.held images.old) answer outcome → OnImages (LoadedComes (LeavesBy C.begins C.picks choose.old) command) (S.held images.old) outcome) }
     ensures copying { IfOk result (λ answer. IsTrue (copies_contents answer.saved) → IsTrue (copies command)) }
     ensures there { IfOk result (λ answer. HasContentsOf (S.held images.old) answer.saved) }
@@ -370,7 +376,7 @@ fn perform_plain<S: ImageSource, C: Chooser>(
     }
 }
 
-/// What a command comes to.
+/// What a command comes to that makes an answer.
 fn perform<S: ImageSource, T: TextSource, C: Chooser>(
     alloc: Global,
     command: Command,
@@ -378,7 +384,7 @@ fn perform<S: ImageSource, T: TextSource, C: Chooser>(
     script: &mut T,
     choose: &mut C,
 ) -> Result<Answer, Stop>
-    requires name { GivesGoodName command }
+    requires asked { IsAnswered command }
     ensures told { IfOk result (λ answer. (outcome : Outcome) → ComesFrom (S.held images.old) answer outcome → ComesTold (LeavesBy C.begins C.picks choose.old) command (S.held images.old) (T.left script.old) outcome) }
     ensures copying { IfOk result (λ answer. IsTrue (copies_contents answer.saved) → IsTrue (copies command)) }
     ensures there { IfOk result (λ answer. HasContentsOf (S.held images.old) answer.saved) }
@@ -391,39 +397,6 @@ fn perform<S: ImageSource, T: TextSource, C: Chooser>(
         perform_scripted(alloc, command, images, script, choose)
     } else {
         perform_plain(alloc, command, images, choose)
-    }
-}
-
-/// The answer to words that aren't a command line.
-fn misused(alloc: Global) -> Result<Answer, Stop>
-    ensures text { IfOk result (λ answer. (contents : List (List ℕ)) → outcome_with answer contents ≡ usage) }
-    ensures saved { IfOk result (λ answer. answer.saved ≡ None) }
-    ensures memory { result ≢ Err Stop.ReadFault }
-{
-    found_memory(reported(usage_answer(alloc)))
-}
-
-/// What the words come to.
-fn answer_to<S: ImageSource, T: TextSource, C: Chooser>(
-    alloc: Global,
-    words: &[String],
-    images: &mut S,
-    script: &mut T,
-    choose: &mut C,
-) -> Result<Answer, Stop>
-    ensures due { IfOk result (λ answer. (outcome : Outcome) → ComesFrom (S.held images.old) answer outcome
-        → IsDue (LeavesBy C.begins C.picks choose.old) (map string_bytes words.now) (S.held images.old) (T.left script.old) outcome) }
-    ensures copying { IfOk result (λ answer. IsTrue (copies_contents answer.saved) → IsTrue (copies_by (map string_bytes words.now))) }
-    ensures there { IfOk result (λ answer. HasContentsOf (S.held images.old) answer.saved) }
-    ensures same { S.held images.new ≡ S.held images.old }
-    ensures unread { LeavesScript (map string_bytes words.now) (T.left script.old) (T.left script.new) }
-    ensures failed { result ≡ Err Stop.ReadFault → Rose (S.faults images.old) (S.faults images.new) ⊎ Rose (T.faults script.old) (T.faults script.new) }
-    ensures later { S.faults images.old ≤ S.faults images.new }
-{
-    match command_from(alloc, words) {
-        Ok(command) => perform(alloc, command, images, script, choose),
-        Err(WordsFault::Usage) => misused(alloc),
-        Err(WordsFault::OutOfMemory) => Err(Stop::OutOfMemory),
     }
 }
 
@@ -509,6 +482,120 @@ fn conclude<S: ImageSource, K: ImageSink, O: TextSink>(
     }
 }
 
+/// Carries out a command that makes an answer: its image set, if it has one, is saved, and then its text is printed.
+fn answer<S: ImageSource, T: TextSource, K: ImageSink, O: TextSink, C: Chooser>(
+    alloc: Global,
+    command: Command,
+    images: &mut S,
+    script: &mut T,
+    out: &mut K,
+    text: &mut O,
+    choose: &mut C,
+) -> Status
+    requires empty { ForSome (K.made out.old) IsEmptySet }
+    requires asked { IsAnswered command }
+    ensures ends { Ends (Rose (S.faults images.old) (S.faults images.new) ⊎ Rose (T.faults script.old) (T.faults script.new)) (copies command) (ComesTold (LeavesBy C.begins C.picks choose.old) command (S.held images.old) (T.left script.old))
+        (K.made out.old) (K.made out.new) (O.written text.old) (O.written text.new) result }
+    ensures stored { Holds (ComesTold (LeavesBy C.begins C.picks choose.old) command (S.held images.old) (T.left script.old)) (K.kept out.old) (K.kept out.new) (O.kept text.old) (O.kept text.new) result }
+    ensures read { result ≡ Status.ReadFault → Rose (S.faults images.old) (S.faults images.new) ⊎ Rose (T.faults script.old) (T.faults script.new) }
+    ensures failed { result ≡ Status.WriteFault → Rose (K.faults out.old) (K.faults out.new) ⊎ Rose (O.faults text.old) (O.faults text.new) }
+    ensures same { S.held images.new ≡ S.held images.old }
+    ensures unread { reads_script command ≡ false → T.left script.new ≡ T.left script.old }
+{
+    match perform(alloc, command, images, script, choose) {
+        Ok(answer) => conclude(alloc, answer, images, out, text),
+        Err(stop) => stopped(stop, text),
+    }
+}
+
+/// Prints a report, which saves nothing, or ends the run if memory ran out.
+fn report<O: TextSink>(report: Result<Report, AllocError>, text: &mut O) -> Status
+    ensures ends { EndsPrinting ⊥ (IsReported report) (O.written text.old) (O.written text.new) result }
+    ensures stored { HoldsPrinted (IsReported report) (O.kept text.old) (O.kept text.new) result }
+    ensures read { result ≢ Status.ReadFault }
+    ensures failed { result ≡ Status.WriteFault → Rose (O.faults text.old) (O.faults text.new) }
+{
+    match report {
+        Ok(report) => printed(report.ending, &report.text, text),
+        Err(_) => Status::OutOfMemory,
+    }
+}
+
+/// Tells why an image set isn't loaded, of a command that prints its text itself.
+fn tell_unloaded<O: TextSink>(alloc: Global, fault: LoadFault, text: &mut O) -> Status
+    ensures ends { EndsPrinting (fault ≡ LoadFault.ReadFault) (IsUnloaded fault) (O.written text.old) (O.written text.new) result }
+    ensures stored { HoldsPrinted (IsUnloaded fault) (O.kept text.old) (O.kept text.new) result }
+    ensures read { result ≡ Status.ReadFault → fault ≡ LoadFault.ReadFault }
+    ensures failed { result ≡ Status.WriteFault → Rose (O.faults text.old) (O.faults text.new) }
+{
+    match fault {
+        LoadFault::ReadFault => stopped(Stop::ReadFault, text),
+        LoadFault::OutOfMemory => stopped(Stop::OutOfMemory, text),
+        _ => report(load_answer(alloc, fault), text),
+    }
+}
+
+/// Carries out `export`: the whole set is loaded, and the namespace's bytes are printed as they are found.
+fn export<S: ImageSource, O: TextSink>(
+    alloc: Global,
+    uuid: &Uuid,
+    zeros: bool,
+    images: &mut S,
+    text: &mut O,
+) -> Status
+    ensures ends { EndsPrinting (Rose (S.faults images.old) (S.faults images.new)) (OnImages (Exports uuid.now zeros) (S.held images.old)) (O.written text.old) (O.written text.new) result }
+    ensures stored { HoldsPrinted (OnImages (Exports uuid.now zeros) (S.held images.old)) (O.kept text.old) (O.kept text.new) result }
+    ensures read { result ≡ Status.ReadFault → Rose (S.faults images.old) (S.faults images.new) }
+    ensures failed { result ≡ Status.WriteFault → Rose (O.faults text.old) (O.faults text.new) }
+    ensures same { S.held images.new ≡ S.held images.old }
+{
+    match load(alloc, images) {
+        Ok(loaded) => export_answer(alloc, uuid, zeros, loaded, text).unwrap_or(
+            Status::OutOfMemory,
+        ),
+        Err(fault) => tell_unloaded(alloc, fault, text),
+    }
+}
+
+/// Carries out a command.
+fn carry_out<S: ImageSource, T: TextSource, K: ImageSink, O: TextSink, C: Chooser>(
+    alloc: Global,
+    command: Command,
+    images: &mut S,
+    script: &mut T,
+    out: &mut K,
+    text: &mut O,
+    choose: &mut C,
+) -> Status
+    requires empty { ForSome (K.made out.old) IsEmptySet }
+    requires name { GivesGoodName command }
+    ensures ends { Ends (Rose (S.faults images.old) (S.faults images.new) ⊎ Rose (T.faults script.old) (T.faults script.new)) (copies command) (ComesTold (LeavesBy C.begins C.picks choose.old) command (S.held images.old) (T.left script.old))
+        (K.made out.old) (K.made out.new) (O.written text.old) (O.written text.new) result }
+    ensures stored { Holds (ComesTold (LeavesBy C.begins C.picks choose.old) command (S.held images.old) (T.left script.old)) (K.kept out.old) (K.kept out.new) (O.kept text.old) (O.kept text.new) result }
+    ensures read { result ≡ Status.ReadFault → Rose (S.faults images.old) (S.faults images.new) ⊎ Rose (T.faults script.old) (T.faults script.new) }
+    ensures failed { result ≡ Status.WriteFault → Rose (K.faults out.old) (K.faults out.new) ⊎ Rose (O.faults text.old) (O.faults text.new) }
+    ensures same { S.held images.new ≡ S.held images.old }
+    ensures unread { reads_script command ≡ false → T.left script.new ≡ T.left script.old }
+{
+    match command {
+        Command::Export(uuid, zeros) => export(alloc, &uuid, zeros, images, text),
+        _ => answer(alloc, command, images, script, out, text, choose),
+    }
+}
+
+/// Answers words that aren't a command line, or ends the run if memory ran out.
+fn misused<O: TextSink>(alloc: Global, fault: WordsFault, text: &mut O) -> Status
+    ensures ends { EndsPrinting ⊥ (IsMisused fault) (O.written text.old) (O.written text.new) result }
+    ensures stored { HoldsPrinted (IsMisused fault) (O.kept text.old) (O.kept text.new) result }
+    ensures read { result ≢ Status.ReadFault }
+    ensures failed { result ≡ Status.WriteFault → Rose (O.faults text.old) (O.faults text.new) }
+{
+    match fault {
+        WordsFault::Usage => report(usage_answer(alloc), text),
+        WordsFault::OutOfMemory => Status::OutOfMemory,
+    }
+}
+
 /// Carries out a command, and returns its exit status.
 ///
 /// The words are those after the two directories of the command line: the command's name and its arguments. Nothing was
@@ -552,8 +639,8 @@ pub fn run<
     ensures kept { S.held images.new ≡ S.held images.old }
     ensures unread { LeavesScript (map string_bytes words.now) (T.left script.old) (T.left script.new) }
 {
-    match answer_to(alloc, words, images, script, choose) {
-        Ok(answer) => conclude(alloc, answer, images, out, text),
-        Err(stop) => stopped(stop, text),
+    match command_from(alloc, words) {
+        Ok(command) => carry_out(alloc, command, images, script, out, text, choose),
+        Err(fault) => misused(alloc, fault, text),
     }
 }

@@ -33,6 +33,8 @@ pub enum Command {
     /// Play the schedule that the script states on a namespace's arena; the chooser of the power cut at its end begins from
     /// this number.
     Replay(Uuid, u64),
+    /// Print all bytes of a namespace; whether bad sectors count as zeros.
+    Export(Uuid, bool),
 }
 
 /// The greatest number of a module.
@@ -119,6 +121,10 @@ fn command_in(kind: Kind, values: &Parsed<'_>) -> Option<Command>
             let uuid = values.uuid("uuid")?;
             let seed = values.optional_number("evict", 0, u64::MAX)?;
             Some(Command::Replay(uuid, seed.unwrap_or(0)))
+        }
+        Kind::Export => {
+            let uuid = values.uuid("uuid")?;
+            Some(Command::Export(uuid, values.flag("bad-as-zeros")))
         }
     }
 }

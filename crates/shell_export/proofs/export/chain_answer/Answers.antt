@@ -1,4 +1,4 @@
-use Rattle.std.proofs.Common.{◌≡◌, ℕ, List, Result, Err, ap, subst}
+use Rattle.std.proofs.Common.{◌≡◌, List, Result, Err, ap, subst}
 use Rattle.arena_open.specs.declared.state.ArenaState.{ArenaState}
 use Rattle.arena_open.specs.declared.chain_refused.ChainRefused.{ChainRefused}
 use Rattle.arena_open.specs.Chain.{HasMemory, wants_memory}
@@ -12,8 +12,10 @@ pub returns-in_ok-report-in-Err-clause-printed : goal.returns-in_ok-report-in-Er
 returns-in_ok-report-in-Err-clause-printed g c =
     let text = g.O.TextSink.written c.args.text.now in
     let text' = g.O.TextSink.written c.print_report.new.text in
+    let kept = g.O.TextSink.kept c.args.text.now in
+    let kept' = g.O.TextSink.kept c.print_report.new.text in
     let said = c.in_ok-report-in-Err.ensures in
     let memory : HasMemory (Err c.in-Err.refused) =
     λ k e. said.finding (let same : c.in-Err.refused ≡ wants_memory k = cc in ap (λ (r : ChainRefused). r.fault) same) in
-    subst (λ (r : Result (List ArenaState) ChainRefused). IsPrinted (on_arenas c.args.uuid.now (sectors_outcome c.args.zeros) r) text text' c.print_report.result) (c.in-Err.ensures memory)
-    (subst (λ (o : Outcome). IsPrinted o text text' c.print_report.result) said.text c.print_report.ensures.printed)
+    subst (λ (r : Result (List ArenaState) ChainRefused). IsPrinted (on_arenas c.args.uuid.now (sectors_outcome c.args.zeros) r) text text' kept kept' c.print_report.result) (c.in-Err.ensures memory)
+    (subst (λ (o : Outcome). IsPrinted o text text' kept kept' c.print_report.result) said.text c.print_report.ensures.printed)

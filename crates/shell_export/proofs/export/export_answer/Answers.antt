@@ -1,4 +1,4 @@
-use Rattle.std.proofs.Common.{◌≡◌, ◌≢◌, ◌∙◌, List, map, ap, sym, subst}
+use Rattle.std.proofs.Common.{◌≡◌, ◌∙◌, List, map, ap, sym, subst}
 use Rattle.std.specs.Prelude.{IfOk}
 use Rattle.nfit_reader.specs.declared.table.Mapping.{Mapping}
 use Rattle.namespace_areas.specs.declared.area.Area.{Area}
@@ -35,11 +35,11 @@ named_answer-requires-clause-usable g c =
 
 pub returns-in-Ok-clause-printed : goal.returns-in-Ok-clause-printed
 returns-in-Ok-clause-printed g c =
-    subst (λ (o : Outcome). IfOk c.named_answer.result (IsPrinted o (g.O.TextSink.written c.args.text.now) (g.O.TextSink.written c.named_answer.new.text)))
+    subst (λ (o : Outcome). IfOk c.named_answer.result (IsPrinted o (g.O.TextSink.written c.args.text.now) (g.O.TextSink.written c.named_answer.new.text) (g.O.TextSink.kept c.args.text.now) (g.O.TextSink.kept c.named_answer.new.text)))
     (on_open c.args.loaded c.args.uuid.now c.args.zeros c.in_ok-areas.areas (ap (map shown_in) c.in_ok-areas.ensures ∙ shown_all c.args.loaded.labels) (held_opened c.args.loaded.labels c.in_ok-areas.areas c.in_ok-areas.ensures c.requires.areas) c.in-Ok.registry (c.in-Ok.ensures (λ e. cc))) c.named_answer.ensures.printed
 
 pub returns-clause-printed : goal.returns-clause-printed
 returns-clause-printed g c =
-    subst (λ (o : Outcome). IsPrinted o (g.O.TextSink.written c.args.text.now) (g.O.TextSink.written c.print_report.new.text) c.print_report.result)
+    subst (λ (o : Outcome). IsPrinted o (g.O.TextSink.written c.args.text.now) (g.O.TextSink.written c.print_report.new.text) (g.O.TextSink.kept c.args.text.now) (g.O.TextSink.kept c.print_report.new.text) c.print_report.result)
     (c.in_ok-report-in-Err.ensures.text ∙ sym (on_fault c.args.loaded c.args.uuid.now c.args.zeros c.in_ok-areas.areas (ap (map shown_in) c.in_ok-areas.ensures ∙ shown_all c.args.loaded.labels) c.in-Err.fault
     (c.in-Err.ensures (λ e. c.in_ok-report-in-Err.ensures.finding (let same : c.in-Err.fault ≡ _ = cc in same))))) c.print_report.ensures.printed

@@ -14,4 +14,4 @@ returns-in-Ok-clause-printed g c =
     ≡ on_place c.args.uuid.now c.args.zeros c.args.registry.now.sets (map bytes_kept c.args.contents) _ =
     (λ i. words_outcome c.args.uuid.now c.args.zeros c.in-Ok.found.mode (view_words (c.set-set.ensures i) c.in-Ok.found (sym (rows_back c.args.contents c.requires.rows) i)))
     ∙ ap (on_place c.args.uuid.now c.args.zeros c.args.registry.now.sets (map bytes_kept c.args.contents)) (sym c.in-Ok.is ∙ c.in_ok-found.ensures.place) in
-    subst (λ (o : Outcome). IfOk c.found_answer.result (IsPrinted o (g.O.TextSink.written c.args.text.now) (g.O.TextSink.written c.found_answer.new.text))) same c.found_answer.ensures.printed
+    subst (λ (o : Outcome). IfOk c.found_answer.result (IsPrinted o (g.O.TextSink.written c.args.text.now) (g.O.TextSink.written c.found_answer.new.text) (g.O.TextSink.kept c.args.text.now) (g.O.TextSink.kept c.found_answer.new.text))) same c.found_answer.ensures.printed

@@ -35,5 +35,5 @@ unfolding view_words
 returns-clause-printed g c =
     let n_is : c.of-space.result ≡ over c.args.set.now c.args.found.now.offset c.args.found.now.raw c.args.contents =
     c.of-space.ensures.made ∙ (λ i. over c.args.set.now c.args.found.now.offset c.args.found.now.raw (c.into_vec.ensures i)) in
-    subst (λ (n : Namespace). IfOk c.words_answer.result (IsPrinted (printed (bytes_of (words_of n).kept)) (g.O.TextSink.written c.args.text.now) (g.O.TextSink.written c.words_answer.new.text)))
+    subst (λ (n : Namespace). IfOk c.words_answer.result (IsPrinted (printed (bytes_of (words_of n).kept)) (g.O.TextSink.written c.args.text.now) (g.O.TextSink.written c.words_answer.new.text) (g.O.TextSink.kept c.args.text.now) (g.O.TextSink.kept c.words_answer.new.text)))
     n_is c.words_answer.ensures.printed

@@ -6,7 +6,7 @@ use Rattle.shell_export.proofs.words.words_answer.Goals as goal
 
 pub returns-clause-printed : goal.returns-clause-printed
 returns-clause-printed g c =
-    told c.print_pages.result c.status_after.result (g.O.TextSink.written c.args.text.now) (g.O.TextSink.written c.print_pages.new.text) (bytes_of (g.W.WordSpace.words c.args.space.now).kept)
+    told c.print_pages.result c.status_after.result (g.O.TextSink.written c.args.text.now) (g.O.TextSink.written c.print_pages.new.text) (g.O.TextSink.kept c.args.text.now) (g.O.TextSink.kept c.print_pages.new.text) (bytes_of (g.W.WordSpace.words c.args.space.now).kept)
     c.print_pages.ensures.all c.print_pages.ensures.part c.status_after.ensures.all c.status_after.ensures.part
 
 pub returns-clause-failed : goal.returns-clause-failed

@@ -6,7 +6,7 @@ use Rattle.shell_changes.proofs.Remains.{copies_none}
 use Rattle.image_set.specs.Load.{image_set_in}
 use Rattle.shell_run.specs.declared.words.Command.TheVariants.{Change, Info, Read, Write}
 use Rattle.shell_changes.specs.Answers.{whole_outcome}
-use Rattle.shell_run.specs.Run.{LoadedComes, needs_contents, reads_script}
+use Rattle.shell_run.specs.Run.{LoadedComes, needs_contents, reads_script, streams}
 use Rattle.shell_run.specs.Words.{GivesGoodName}
 use Rattle.shell_run.proofs.Comes.{if_then, loaded_by}
 use Rattle.shell_run.proofs.top.loaded_answer.Goals as goal
@@ -63,5 +63,10 @@ change_answer-requires-clause-whole g c = sym (ap needs_contents c.in-Change.is)
 
 pub unreachable-requires-in-Replay : goal.unreachable-requires-in-Replay
 unreachable-requires-in-Replay g c =
-    let both = sym c.requires.plain ∙ ap reads_script c.in-Replay.is in
+    let both = sym c.requires.plain.0 ∙ ap reads_script c.in-Replay.is in
+    (let e = both in cc)
+
+pub unreachable-requires-in-Export : goal.unreachable-requires-in-Export
+unreachable-requires-in-Export g c =
+    let both = sym c.requires.plain.1 ∙ ap streams c.in-Export.is in
     (let e = both in cc)

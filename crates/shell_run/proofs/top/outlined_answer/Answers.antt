@@ -75,6 +75,11 @@ unreachable-requires-in-Write g c =
     let both = sym c.requires.outlined ∙ ap needs_contents c.in-Write.is in
     (let e = both in cc)
 
+pub unreachable-requires-in-Export : goal.unreachable-requires-in-Export
+unreachable-requires-in-Export g c =
+    let both = sym c.requires.outlined ∙ ap needs_contents c.in-Export.is in
+    (let e = both in cc)
+
 pub unreachable-requires-in-Replay : goal.unreachable-requires-in-Replay
 unreachable-requires-in-Replay g c =
     let both = sym c.requires.outlined ∙ ap needs_contents c.in-Replay.is in

@@ -17,6 +17,9 @@ returns-then-reads_script-clause-there g c =
     let held = g.S.ImageSource.held c.args.images.now in
     if_then _ (λ (answer : Answer). HasContentsOf held answer.saved) c.perform_scripted.result (λ answer whole. whole_there held answer.saved whole) c.perform_scripted.ensures.whole
 
+pub perform_plain-requires-clause-plain : goal.perform_plain-requires-clause-plain
+perform_plain-requires-clause-plain g c = (sym c.reads_script.ensures ∙ c.if-reads_script.false, c.requires.asked.1)
+
 pub returns-else-reads_script-clause-told : goal.returns-else-reads_script-clause-told
 returns-else-reads_script-clause-told g c =
     plain_due (LeavesBy g.C.Chooser.begins g.C.Chooser.picks c.args.choose.now) (g.S.ImageSource.held c.args.images.now) (g.T.TextSource.left c.args.script.now)

@@ -1,61 +1,50 @@
-use Rattle.std.proofs.Common.{◌⊎◌, Option, Err, inl, inr, sym, ap, ◌∙◌, subst, arith}
+use Rattle.std.proofs.Common.{◌⊎◌}
 use Rattle.std.specs.Prelude.{map, string_bytes}
-use Rattle.nvd_media.specs.Images.{Images}
 use Rattle.nvd_media.specs.Causes.{Rose}
-use Rattle.shell_reports.specs.declared.status.Stop.{Stop}
-use Rattle.shell_changes.specs.Answers.{ComesFrom}
 use Rattle.shell_changes.specs.Remains.{LeavesBy}
-use Rattle.shell_changes.specs.Saved.{HasContentsOf, copies_contents}
-use Rattle.shell_run.specs.Run.{Ends, Holds, IsDue, copies_by}
-use Rattle.shell_run.proofs.Ending.{ends_more, ends_stopped, holds_more, holds_stopped}
+use Rattle.shell_run.specs.Printed.{IsMisused}
+use Rattle.shell_run.specs.Run.{ComesTold, IsDue, copies, copies_by}
+use Rattle.shell_run.proofs.Comes.{command_copies, command_due, usage_due}
+use Rattle.shell_run.proofs.Ending.{ends_more, holds_more, printing_more, stored_more}
 use Rattle.shell_run.proofs.top.run.Goals as goal
-
-pub conclude-requires-clause-there : goal.conclude-requires-clause-there
-conclude-requires-clause-there g c = subst (λ (held : Option Images). HasContentsOf held c.in-Ok.answer.saved) (sym c.answer_to.ensures.same) c.in-Ok.ensures.there
 
 pub returns-in-Ok-clause-ends : goal.returns-in-Ok-clause-ends
 returns-in-Ok-clause-ends g c =
+    let leaves = LeavesBy g.C.Chooser.begins g.C.Chooser.picks c.args.choose.now in
     let words = map string_bytes c.args.words.now in
     let held = g.S.ImageSource.held c.args.images.now in
-    let answer = c.in-Ok.answer in
-    let due = IsDue (LeavesBy g.C.Chooser.begins g.C.Chooser.picks c.args.choose.now) words held (g.T.TextSource.left c.args.script.now) in
-    let made = g.K.ImageSink.made c.args.out.now in
-    let made' = g.K.ImageSink.made c.conclude.new.out in
-    let text = g.O.TextSink.written c.args.text.now in
-    let text' = g.O.TextSink.written c.conclude.new.text in
-    let before = g.S.ImageSource.faults c.args.images.now in
-    let between = g.S.ImageSource.faults c.answer_to.new.images in
-    let after = g.S.ImageSource.faults c.conclude.new.images in
-    let later = c.answer_to.ensures.later in
-    ends_more (Rose between after) (Rose before after ⊎ Rose (g.T.TextSource.faults c.args.script.now) (g.T.TextSource.faults c.answer_to.new.script)) (copies_contents answer.saved) (copies_by words) (ComesFrom held answer) due made made' text text' c.conclude.result (λ rose. inl (omega (arith, later, rose))) c.in-Ok.ensures.copying c.in-Ok.ensures.due
-    (subst (λ (h : Option Images). Ends (Rose between after) (copies_contents answer.saved) (ComesFrom h answer) made made' text text' c.conclude.result) c.answer_to.ensures.same c.conclude.ensures.ends)
-
-pub returns-in-Err-clause-ends : goal.returns-in-Err-clause-ends
-returns-in-Err-clause-ends g c =
-    let words = map string_bytes c.args.words.now in
-    ends_stopped (Rose (g.S.ImageSource.faults c.args.images.now) (g.S.ImageSource.faults c.answer_to.new.images) ⊎ Rose (g.T.TextSource.faults c.args.script.now) (g.T.TextSource.faults c.answer_to.new.script)) (copies_by words) (IsDue (LeavesBy g.C.Chooser.begins g.C.Chooser.picks c.args.choose.now) words (g.S.ImageSource.held c.args.images.now) (g.T.TextSource.left c.args.script.now))
-    (g.K.ImageSink.made c.args.out.now) (g.O.TextSink.written c.args.text.now) (g.O.TextSink.written c.stopped.new.text) c.stopped.result c.in-Err.stop (λ is. c.answer_to.ensures.failed (c.in-Err.is ∙ ap (λ (s : Stop). Err s) is)) c.stopped.ensures.memory c.stopped.ensures.read
+    let left = g.T.TextSource.left c.args.script.now in
+    let command = c.in-Ok.command in
+    let rose = Rose (g.S.ImageSource.faults c.args.images.now) (g.S.ImageSource.faults c.carry_out.new.images) ⊎ Rose (g.T.TextSource.faults c.args.script.now) (g.T.TextSource.faults c.carry_out.new.script) in
+    ends_more rose rose (copies command) (copies_by words) (ComesTold leaves command held left) (IsDue leaves words held left) (g.K.ImageSink.made c.args.out.now) (g.K.ImageSink.made c.carry_out.new.out)
+    (g.O.TextSink.written c.args.text.now) (g.O.TextSink.written c.carry_out.new.text) c.carry_out.result (λ it. it) (command_copies words command c.in-Ok.ensures.command)
+    (λ outcome told. command_due leaves words held left outcome command c.in-Ok.ensures.command told) c.carry_out.ensures.ends
 
 pub returns-in-Ok-clause-stored : goal.returns-in-Ok-clause-stored
 returns-in-Ok-clause-stored g c =
+    let leaves = LeavesBy g.C.Chooser.begins g.C.Chooser.picks c.args.choose.now in
+    let words = map string_bytes c.args.words.now in
     let held = g.S.ImageSource.held c.args.images.now in
-    let answer = c.in-Ok.answer in
-    let due = IsDue (LeavesBy g.C.Chooser.begins g.C.Chooser.picks c.args.choose.now) (map string_bytes c.args.words.now) held (g.T.TextSource.left c.args.script.now) in
-    let kept = g.K.ImageSink.kept c.args.out.now in
-    let kept' = g.K.ImageSink.kept c.conclude.new.out in
-    let text = g.O.TextSink.kept c.args.text.now in
-    let text' = g.O.TextSink.kept c.conclude.new.text in
-    holds_more (ComesFrom held answer) due kept kept' text text' c.conclude.result c.in-Ok.ensures.due
-    (subst (λ (h : Option Images). Holds (ComesFrom h answer) kept kept' text text' c.conclude.result) c.answer_to.ensures.same c.conclude.ensures.stored)
+    let left = g.T.TextSource.left c.args.script.now in
+    let command = c.in-Ok.command in
+    holds_more (ComesTold leaves command held left) (IsDue leaves words held left) (g.K.ImageSink.kept c.args.out.now) (g.K.ImageSink.kept c.carry_out.new.out)
+    (g.O.TextSink.kept c.args.text.now) (g.O.TextSink.kept c.carry_out.new.text) c.carry_out.result (λ outcome told. command_due leaves words held left outcome command c.in-Ok.ensures.command told) c.carry_out.ensures.stored
+
+pub returns-in-Err-clause-ends : goal.returns-in-Err-clause-ends
+returns-in-Err-clause-ends g c =
+    let leaves = LeavesBy g.C.Chooser.begins g.C.Chooser.picks c.args.choose.now in
+    let words = map string_bytes c.args.words.now in
+    let held = g.S.ImageSource.held c.args.images.now in
+    let left = g.T.TextSource.left c.args.script.now in
+    let rose = Rose (g.S.ImageSource.faults c.args.images.now) (g.S.ImageSource.faults c.args.images.now) ⊎ Rose (g.T.TextSource.faults c.args.script.now) (g.T.TextSource.faults c.args.script.now) in
+    printing_more ⊥ rose (copies_by words) (IsMisused c.in-Err.fault) (IsDue leaves words held left) (g.K.ImageSink.made c.args.out.now) (g.O.TextSink.written c.args.text.now) (g.O.TextSink.written c.misused.new.text) c.misused.result
+    (λ never. absurd never) (λ outcome is. usage_due leaves words held left outcome (c.command_from.ensures.usage (rw is.0 at c.in-Err.is)) is.1) c.misused.ensures.ends
 
 pub returns-in-Err-clause-stored : goal.returns-in-Err-clause-stored
 returns-in-Err-clause-stored g c =
-    holds_stopped (IsDue (LeavesBy g.C.Chooser.begins g.C.Chooser.picks c.args.choose.now) (map string_bytes c.args.words.now) (g.S.ImageSource.held c.args.images.now) (g.T.TextSource.left c.args.script.now))
-    (g.K.ImageSink.kept c.args.out.now) (g.K.ImageSink.kept c.args.out.now) (g.O.TextSink.kept c.args.text.now) (g.O.TextSink.kept c.stopped.new.text) c.stopped.result c.in-Err.stop
-    (λ is. (c.stopped.ensures.memory is).0) (λ is. elim (c.stopped.ensures.read is) [ inl w ↦ inl w.0 | inr r ↦ inr r.0 ])
-
-pub returns-in-Ok-clause-read_fault : goal.returns-in-Ok-clause-read_fault
-returns-in-Ok-clause-read_fault g c = λ is.
-    let later = c.answer_to.ensures.later in
-    let rose = c.conclude.ensures.read is in
-    inl (omega (arith, later, rose))
+    let leaves = LeavesBy g.C.Chooser.begins g.C.Chooser.picks c.args.choose.now in
+    let words = map string_bytes c.args.words.now in
+    let held = g.S.ImageSource.held c.args.images.now in
+    let left = g.T.TextSource.left c.args.script.now in
+    stored_more (IsMisused c.in-Err.fault) (IsDue leaves words held left) (g.K.ImageSink.kept c.args.out.now) (g.O.TextSink.kept c.args.text.now) (g.O.TextSink.kept c.misused.new.text) c.misused.result
+    (λ outcome is. usage_due leaves words held left outcome (c.command_from.ensures.usage (rw is.0 at c.in-Err.is)) is.1) c.misused.ensures.stored

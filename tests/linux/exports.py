@@ -1,0 +1,48 @@
+#!/usr/bin/env python3
+"""Compares `export` of each namespace of one image set with what Linux read of its block device.
+
+usage: exports.py NAME TRUTH SET PROGRAM   (the set is unpacked in the folder SET)
+
+truth/sectors.txt.xz has a line for each block device, with its namespace, its mode, its bytes and their MD5. The bytes of raw and of sector
+namespaces must be these, and those of another mode are refused. `sectors.py` says what else stands there.
+"""
+import hashlib
+import lzma
+import os
+import subprocess
+import sys
+
+
+def main():
+    name, truth, folder, program = sys.argv[1:]
+    path = os.path.join(truth, "sectors.txt.xz")
+    if not os.path.exists(path):
+        return
+
+    def report(what, got, want):
+        print(f"ok {name} {what}" if got == want else f"differs {name} {what}: {got!r}, and Linux: {want!r}")
+
+    def run(*words):
+        done = subprocess.run([program, folder, "-", *words], stdout=subprocess.PIPE, stderr=subprocess.DEVNULL, check=False)
+        return done.returncode, done.stdout
+
+    with lzma.open(path, "rt", encoding="utf-8") as lines:
+        for line in lines:
+            word, _, *rest = line.split()
+            if word != "device":
+                continue
+            fields = dict(zip(rest[::2], rest[1::2]))
+            who, mode = fields["namespace"], fields["mode"]
+            status, text = run("export", who)
+            if mode in ("raw", "sector"):
+                due = (0, int(fields["sector"]) * int(fields["sectors"]), fields["md5"])
+                report(f"export of {who}, {mode}", (status, len(text), hashlib.md5(text).hexdigest()), due)
+                # no sector of these is bad
+                again = run("export", who, "--bad-as-zeros")
+                report(f"export --bad-as-zeros of {who}", again == (status, text), True)
+            else:
+                report(f"export of {who}, {mode}", (status, text), (4, b"refused NotSector\n"))
+
+
+if __name__ == "__main__":
+    main()
