@@ -23,3 +23,4 @@ mod sectors;
 mod words;
 
 pub use export::export_answer;
+pub use place::{find_place, is_sector};

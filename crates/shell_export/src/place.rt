@@ -63,7 +63,7 @@ fn is_complete(status: &SetStatus) -> bool
 }
 
 /// Whether a namespace is one of sectors.
-pub(crate) fn is_sector(mode: &Mode) -> bool
+pub fn is_sector(mode: &Mode) -> bool
     ensures { result ≡ is_sector mode.now }
 {
     match mode {
@@ -141,7 +141,7 @@ fn find_raw(
 /// Power wasn't cut. Refusals, of which the first that holds is answered: `NoSuch`, no label has the UUID; `NotComplete`, its
 /// labels make no complete namespace; `NotSector`, it is neither raw nor of sectors. What is found lies in its region's set
 /// in whole units. Only a namespace that isn't one of sectors takes memory.
-pub(crate) fn find_place(
+pub fn find_place(
     alloc: Global,
     registry: &Registry,
     uuid: &Uuid,

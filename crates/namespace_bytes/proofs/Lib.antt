@@ -1,0 +1,6 @@
+pub mod One
+pub mod All
+pub mod Arena
+pub mod Chain
+pub mod Sizes
+pub mod Turns

@@ -1,0 +1,36 @@
+//! Plain bytes become the contents of a whole namespace, where it lies in the contents of the modules.
+//!
+//! ```text
+//! bytes ──┬──► raw: its words, de-interleaved (`put_raw`)
+//!         └──► sectors: `read_arenas` ──► the block and the map entry of each sector (`put_sectors`)
+//! ```
+//!
+//! Crate `shell_export` says what the bytes of a namespace are: those of a raw one by place, those of one of sectors sector by
+//! sector, in order.
+//!
+//! **Sectors.** A write goes through the log of its arena, so that a power loss leaves the old sector or the new one. Here a
+//! whole namespace of a loaded set is changed, and the set is saved after it; no power is cut in between. So no log is needed:
+//! the bytes of each sector go into the block that the map names, and the sector's map entry becomes a normal one of this
+//! block. It is the block of the map with all pending moves made. Hence the new map has these moves, and none is pending.
+//!
+//! ```text
+//!                 before                               after
+//! map entry       zero, bad, initial or normal: b      normal: b
+//! block b         old bytes                            the sector's bytes
+//! log             may have a pending move              as it was; no move is pending
+//! ```
+//!
+//! | what | definition |
+//! |---|---|
+//! | the words of a namespace of sectors afterwards | `HasContents` of `specs/Contents.antt` |
+//! | the steps | `put_links` of `specs/Putting.antt` |
+//!
+//! All are this project's rules over UEFI 2.10, section 6.2 (BTT data structures).
+#![tactic(auto)]
+
+mod arenas;
+mod putting;
+mod reading;
+
+pub use arenas::{put_raw, put_sectors};
+pub use reading::{ArenaAt, read_arenas, size_of_all};
