@@ -1,0 +1,33 @@
+-- What a lock's last value says of its first.
+use Rattle.std.proofs.Common.{◌≡◌, ℕ, true, false, List, Option, sym, ap, subst}
+use Rattle.namespace_areas.specs.Seen.{AreLeft as AreasLeft, areas_shown}
+use Rattle.namespace_ops.specs.Registered.{Registered, kept_of, opening_of, state_of}
+use Rattle.session_account.specs.Journal.{AreLeft, IsJournal}
+use Rattle.session_account.specs.Registering.{IsOn}
+use Rattle.registry_service.specs.declared.served.Began.{Began}
+use Rattle.registry_service.specs.declared.served.OrdersPart.{OrdersPart}
+use Rattle.registry_service.specs.Served.{Served, answered, began_of, part_at}
+use Rattle.registry_service.proofs.Journals.{opening_on}
+
+-- the registry r comes back from the last value; what the first one began with stands in every part
+module _ (first last : Served) (r : Registered) (left : Option ℕ) (back : (r ≡ last.registry) × (left ≡ last.left)) (n : ℕ) (same : part_at last n ≡ part_at first n) where
+  began : began_of last ≡ began_of first
+  began = ap (λ (m : OrdersPart). m.began) same
+
+  pub journal_of : IsJournal last.registry.sets (opening_of last.registry) last.first (answered last.registry.journal) → IsJournal first.registry.sets (opening_of first.registry) first.first (answered r.journal)
+  journal_of j =
+      subst (λ (x : Registered). IsJournal first.registry.sets (opening_of first.registry) first.first (answered x.journal)) (sym back.0)
+      (subst (λ (b : Began). IsJournal b.sets (opening_on b.areas) b.labelcut (answered last.registry.journal)) began j)
+
+  pub left_of : (last.registry.stopped ≡ true → (rows : List (Option (List ℕ))) → AreasLeft last.registry.areas rows → AreLeft last.registry.sets (opening_of last.registry) last.first (answered last.registry.journal) (areas_shown rows))
+      → r.stopped ≡ true → (rows : List (Option (List ℕ))) → AreasLeft r.areas rows → AreLeft first.registry.sets (opening_of first.registry) first.first (answered r.journal) (areas_shown rows)
+  left_of are =
+      subst (λ (x : Registered). x.stopped ≡ true → (rows : List (Option (List ℕ))) → AreasLeft x.areas rows → AreLeft first.registry.sets (opening_of first.registry) first.first (answered x.journal) (areas_shown rows)) (sym back.0)
+      (subst (λ (b : Began). last.registry.stopped ≡ true → (rows : List (Option (List ℕ))) → AreasLeft last.registry.areas rows → AreLeft b.sets (opening_on b.areas) b.labelcut (answered last.registry.journal) (areas_shown rows)) began are)
+
+  pub on_of : (last.registry.stopped ≡ false → IsOn last.registry.sets (opening_of last.registry) last.first (answered last.registry.journal) (kept_of (state_of last.registry)) last.left)
+      → r.stopped ≡ false → IsOn first.registry.sets (opening_of first.registry) first.first (answered r.journal) (kept_of (state_of r)) left
+  on_of on =
+      subst (λ (x : Registered). x.stopped ≡ false → IsOn first.registry.sets (opening_of first.registry) first.first (answered x.journal) (kept_of (state_of x)) left) (sym back.0)
+      (subst (λ (f : Option ℕ). last.registry.stopped ≡ false → IsOn first.registry.sets (opening_of first.registry) first.first (answered last.registry.journal) (kept_of (state_of last.registry)) f) (sym back.1)
+      (subst (λ (b : Began). last.registry.stopped ≡ false → IsOn b.sets (opening_on b.areas) b.labelcut (answered last.registry.journal) (kept_of (state_of last.registry)) last.left) began on))

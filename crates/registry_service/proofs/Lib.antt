@@ -1,0 +1,6 @@
+pub mod Journals
+pub mod Serving
+pub mod Asked
+pub mod Closing
+pub mod Laws
+pub mod Rows

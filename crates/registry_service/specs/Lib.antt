@@ -1,0 +1,5 @@
+pub mod Served
+pub mod Asking
+pub mod Parts
+pub mod Switch
+pub mod Laws

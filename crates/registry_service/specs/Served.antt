@@ -1,0 +1,70 @@
+-- A registry behind a lock, with its fuse and the namespace that each session has open, and a session's part of it.
+use Rattle.std.specs.Prelude.{◌≡◌, ℕ, ◌≤◌, true, false, not, List, ◌∷◌, ◌++◌, filter, length, replicate, slice_index_or, Option, None}
+use Rattle.std.specs.List.{AllByRecursion}
+use Rattle.nfit_reader.specs.declared.table.Mapping.{Mapping}
+use Rattle.namespace_areas.specs.declared.area.Area.{Area}
+use Rattle.namespace_ops.specs.Entries.{Entry}
+use Rattle.namespace_ops.specs.Registered.{Registered, kept_of, opening_of, state_of}
+use Rattle.namespace_ops.specs.Replay.{Kept, is_memory}
+use Rattle.namespace_ops.specs.Room.{room_of, with_room}
+use Rattle.session_account.specs.Claims.{AreOpen}
+use Rattle.session_account.specs.Journal.{IsOff}
+use Rattle.session_account.specs.Orders.{own_entries}
+use Rattle.session_account.specs.Registering.{IsOn, WentOff}
+use Rattle.registry_service.specs.declared.served.Began.{Began}
+use Rattle.registry_service.specs.declared.served.OrdersPart.{OrdersPart}
+
+-- ---- what stands behind the lock
+
+pub record Served : Type 0 where
+  pub registry : Registered
+  -- the steps on labels that power still lasts for, and those that it lasted for at first
+  pub left : Option ℕ
+  pub first : Option ℕ
+  -- the UUID of the namespace that each session has open, by session
+  pub opens : List (Option (List ℕ))
+
+-- the entries of calls that were answered: a call for which memory ran out changed nothing and has no answer
+abbrev pub answered : List Entry → List Entry
+answered journal = filter (λ e. not (is_memory e.reply)) journal
+
+-- Power was cut in the command of an entry. It lasted for all entries before, and all later ones reply that it was cut.
+pub record WasCut (sets : List (List Mapping)) (from : Kept) (first : Option ℕ) (journal : List Entry) (areas : List Area) : Type 0 where
+  pub before : List Entry
+  pub entry : Entry
+  pub later : List Entry
+  pub began : Kept
+  pub left : Option ℕ
+  pub split : journal ≡ before ++ entry ∷ later
+  pub on : IsOn sets from first before began left
+  pub off : WentOff sets began left entry areas
+  pub same : AllByRecursion IsOff later
+
+-- what the lock keeps
+pub record IsServing (s : Served) : Type 0 where
+  -- until power is cut, the answered calls replay on the opening, and the fuse is what their steps left of it
+  pub on : s.registry.stopped ≡ false → IsOn s.registry.sets (opening_of s.registry) s.first (answered s.registry.journal) (kept_of (state_of s.registry)) s.left
+  -- from then on, the areas are what the cut left
+  pub off : s.registry.stopped ≡ true → WasCut s.registry.sets (opening_of s.registry) s.first (answered s.registry.journal) s.registry.areas
+  -- each UUID is claimed as often as sessions have it open
+  pub claims : AreOpen s.registry.claims s.opens
+  -- each session with room has a place among them
+  pub places : length s.registry.room ≤ length s.opens
+
+-- ---- when the lock is made
+
+-- no session has made a call; session q has room for so many
+abbrev pub fresh : Registered → Option ℕ → List ℕ → Served
+fresh r fuse calls = record { registry = record r { room = with_room r.room calls }; left = fuse; first = fuse; opens = replicate (length calls) None }
+
+-- ---- a session's part
+
+-- what never changes
+abbrev pub began_of : Served → Began
+began_of s = record { sets = s.registry.sets; areas = s.registry.opening; labelcut = s.first }
+
+abbrev pub part_of_session : Began → List Entry → ℕ → Option (List ℕ) → OrdersPart
+part_of_session began entries room held = record { began = began; entries = entries; room = room; held = held }
+
+abbrev pub part_at : Served → ℕ → OrdersPart
+part_at s q = part_of_session (began_of s) (own_entries q (answered s.registry.journal)) (room_of s.registry.room q) (slice_index_or s.opens q None)
