@@ -1,0 +1,6 @@
+pub mod Scripts
+pub mod Replying
+pub mod Telling
+pub mod Seating
+pub mod Ending
+pub mod Accounting
