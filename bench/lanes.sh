@@ -53,8 +53,9 @@ def kinds(threads, apart):
     """The programs that are compared, by turns, and for each the median of its runs."""
     wanted = {
         "proved": [PROVED, threads, CALLS, apart],
-        "twin": [TWIN, threads, CALLS, apart, 1],
-        "spread": [TWIN, threads, CALLS, apart, 8],
+        "twin": [TWIN, threads, CALLS, apart, 1, 0],
+        "spread": [TWIN, threads, CALLS, apart, 8, 0],
+        "logged": [TWIN, threads, CALLS, apart, 1, 1],
     }
     runs = {name: [] for name in wanted}
     for _ in range(RUNS):
@@ -70,12 +71,12 @@ for apart in (64, 1):
             continue
         took = kinds(threads, apart)
         for call in ("write", "read"):
-            proved, twin, spread = (took[name][call] for name in ("proved", "twin", "spread"))
+            proved, twin, spread, logged = (took[name][call] for name in ("proved", "twin", "spread", "logged"))
             most = MOST.get(threads)
             row(
                 f"a {call} by a lane, {threads} thread{'s' if threads > 1 else ''}{lanes}",
                 f"at most {most} times a plain twin" if most else "none",
-                f"{proved / twin:.2f} times: {proved:.0f} ns and {twin:.0f} ns; the twin with reader words in lines of their own {spread:.0f} ns",
+                f"{proved / twin:.2f} times: {proved:.0f} ns and {twin:.0f} ns; the twin with reader words in lines of their own {spread:.0f} ns, with logs {logged:.0f} ns",
                 not most or proved <= most * twin,
             )
 PY

@@ -1,5 +1,6 @@
-//! What lanes cost without proofs: the steps of lane_table's writes and reads on plain atomic words, with neither fuses nor logs.
-//! usage: lanes_twin THREADS CALLS APART LINE, as bench/lanes.rt.txt; reader words stand LINE words apart (1: side by side)
+//! What lanes cost without proofs: the steps of lane_table's writes and reads on plain atomic words, without fuses.
+//! usage: lanes_twin THREADS CALLS APART LINE LOGS, as bench/lanes.rt.txt; reader words stand LINE words apart (1: side by side)
+//! LOGS 0: no logs; 1: each lane keeps its calls with their words, in room that was reserved before, as lane_table does
 use std::env;
 use std::hint::black_box;
 use std::sync::atomic::{AtomicU64, Ordering::SeqCst};
@@ -27,6 +28,42 @@ struct Lane {
     /// The side and the sequence number of its current log half.
     side: u32,
     seq: u32,
+    log: Option<Log>,
+}
+
+/// A lane's calls, and room for the words of those to come.
+struct Log {
+    calls: Vec<Call>,
+    rooms: Vec<Vec<u64>>,
+}
+
+/// A call in a log.
+struct Call {
+    _lane: u32,
+    _tag: u64,
+    _sector: u32,
+    _is_write: bool,
+    _words: Vec<u64>,
+}
+
+impl Log {
+    fn new(calls: usize) -> Log {
+        Log { calls: Vec::with_capacity(calls), rooms: (0..calls).map(|_| vec![0; WIDTH]).collect() }
+    }
+
+    fn add(&mut self, lane: u32, sector: u32, is_write: bool, words: &[u64; WIDTH]) {
+        let mut room = self.rooms.pop().unwrap();
+        room.copy_from_slice(words);
+        self.calls.push(Call { _lane: lane, _tag: 0, _sector: sector, _is_write: is_write, _words: room });
+    }
+}
+
+impl Lane {
+    fn keep(&mut self, sector: u32, is_write: bool, words: &[u64; WIDTH]) {
+        if let Some(log) = &mut self.log {
+            log.add(self.number, sector, is_write, words);
+        }
+    }
 }
 
 impl Arena {
@@ -38,7 +75,7 @@ impl Arena {
             let word = arena.load(MAP_AT + sector as usize / 2);
             arena.keep(MAP_AT + sector as usize / 2, with_entry(word, sector, sector | 0x8000_0000));
         }
-        let lanes = (0..LANES).map(|number| Lane { number, block: SECTORS + number, side: 0, seq: 1 });
+        let lanes = (0..LANES).map(|number| Lane { number, block: SECTORS + number, side: 0, seq: 1, log: None });
         (arena, lanes.collect())
     }
 
@@ -127,6 +164,7 @@ impl Arena {
     fn write(&self, lane: &mut Lane, sector: u32, words: &[u64; WIDTH]) {
         while !self.try_stage(lane, words) {}
         while !self.try_commit(lane, sector) {}
+        lane.keep(sector, true, words);
     }
 }
 
@@ -167,6 +205,7 @@ fn read_many(arena: &Arena, lane: &mut Lane, calls: u32) {
     for _ in 0..calls {
         seed = random(seed);
         while !arena.try_read(lane, sector_of(seed), &mut words) {}
+        lane.keep(sector_of(seed), false, &words);
         black_box(&words);
     }
 }
@@ -184,9 +223,14 @@ fn run(arena: &Arena, lanes: &mut [Lane], calls: u32, many: fn(&Arena, &mut Lane
 
 fn main() {
     let numbers: Vec<u32> = env::args().skip(1).map(|word| word.parse().unwrap()).collect();
-    let [threads, calls, apart, line] = numbers[..] else { panic!("lanes_twin THREADS CALLS APART LINE") };
+    let [threads, calls, apart, line, logs] = numbers[..] else { panic!("lanes_twin THREADS CALLS APART LINE LOGS") };
     let (arena, lanes) = Arena::new(line as usize);
     let mut lanes: Vec<Lane> = lanes.into_iter().step_by(apart as usize).take(threads as usize).collect();
+    if logs == 1 {
+        for lane in &mut lanes {
+            lane.log = Some(Log::new(SECTORS as usize + 4 * calls as usize));
+        }
+    }
     for sector in 0..SECTORS {
         arena.write(&mut lanes[0], sector, &[7; WIDTH]);
     }
