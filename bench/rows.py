@@ -11,22 +11,26 @@ def row(figure, asked, measured, met=True):
     print(f"| {figure} | {asked} | {measured}{'' if met else ' (NOT MET)'} |", flush=True)
 
 
-def timed(words, check=lambda text: True, status=0):
-    """The seconds, the peak memory in MiB and the text of a run, which has to end with a status and a text that passes a check."""
+def timed(words, check=lambda text: True, status=0, script=None):
+    """The seconds, the peak memory in MiB and the text of a run, which has to end with a status and a text that passes a check.
+    script is the path of its standard input, if it reads one."""
+    given = open(script, "rb") if script else subprocess.DEVNULL
     start = time.perf_counter()
-    child = subprocess.Popen(words, stdout=subprocess.PIPE)
+    child = subprocess.Popen(words, stdin=given, stdout=subprocess.PIPE)
     text = child.stdout.read()
     _, ended, usage = os.wait4(child.pid, 0)
     took = time.perf_counter() - start
+    if script:
+        given.close()
     assert ended == status << 8 and check(text), (words, ended, text[:200])
     return took, usage.ru_maxrss / 1024, text
 
 
-def median(words, runs, check=lambda text: True, status=0):
+def median(words, runs, check=lambda text: True, status=0, script=None):
     """The median time of so many runs, and the memory and text of the last."""
     times = []
     for _ in range(runs):
-        took, memory, text = timed(words, check, status)
+        took, memory, text = timed(words, check, status, script)
         times.append(took)
     return sorted(times)[runs // 2], memory, text
 
