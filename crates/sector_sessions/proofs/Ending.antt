@@ -1,16 +1,13 @@
 -- The locks are closed, the last one first.
-use Rattle.std.proofs.Common.{◌≡◌, ℕ, ◌+◌, ◌<◌, ◌≤◌, List, [], ◌∷◌, ◌++◌, length, length-append, get_or, map, Option, Some, None, refl, sym, ap, ◌∙◌, subst, arith}
+use Rattle.std.proofs.Common.{◌≡◌, ℕ, ◌+◌, ◌<◌, ◌≤◌, List, [], ◌∷◌, ◌++◌, length, length-append, get_or, Option, Some, None, sym, ap, ◌∙◌, subst, arith}
 use Rattle.std.specs.Prelude.{All, Any}
 use mathlib.Core.Logic.{dite}
-use mathlib.Core.List.{map-append}
 use native.Mathlib.Decide.{ℕ_discrete}
-use Rattle.std.proofs.lemmas.List.{length-map}
 use Rattle.std.proofs.Math.ListN.{get_or-append}
 use Rattle.std.proofs.Math.Seq.{get_or-append_seam}
 use Rattle.atomic_table.specs.Seated.{TableId}
 use Rattle.turn_lock.specs.declared.pass.TurnPass.{TurnPass}
-use Rattle.turn_lock.specs.declared.turn.Turn.{Turn}
-use Rattle.turn_lock.specs.Passes.{lock_id, lock_of, number_of, part_of, out_of}
+use Rattle.turn_lock.specs.Passes.{lock_of, number_of, part_of, out_of}
 use Rattle.turn_lock.specs.Rows.{IsPassOf}
 use Rattle.turn_lock.proofs.Places.{there}
 use Rattle.turn_lock.proofs.Rows.{row_pop}
@@ -24,11 +21,11 @@ use Rattle.session_parts.specs.Parts.{core_part, part}
 use Rattle.sector_service.specs.contracts.served.ServedCoreParted.TheImpl.{ghosts}
 use Rattle.sector_sessions.specs.declared.runner.Runner.{Runner}
 use Rattle.sector_service.specs.declared.served.ServedPart.{ServedPart}
-use Rattle.sector_sessions.specs.Closed.{AreShared, HadOneMore, IsShared, KnowAll, PartsAreKnown}
+use Rattle.sector_sessions.specs.Closed.{AreShared, HadOneMore, IsShared, KnowAll}
 use Rattle.sector_service.specs.Rows.{Know, Parts}
 use Rattle.sector_sessions.specs.Seated.{KeepRest}
 use Rattle.sector_service.specs.Served.{Served, fresh, part_at, served, served_part}
-use Rattle.sector_sessions.specs.Services.{arena_at, arena_of}
+use Rattle.sector_sessions.specs.Services.{arena_at}
 use Rattle.sector_sessions.proofs.Seating.{fresh_part}
 
 -- ---- the last lock, and those before it

@@ -1,5 +1,5 @@
 -- A session, one call more.
-use Rattle.std.proofs.Common.{◌≡◌, ◌≢◌, ◌⊎◌, inl, inr, ℕ, zero, suc, ◌+◌, ◌^◌, ◌<◌, ◌≤◌, List, [], ◌∷◌, ◌++◌, length, length-append, get_or, Bool, true, false, cond, Option, Some, None, refl, sym, ap, ◌∙◌, subst, arith, append-nil, eq-eqb, ne_eqb}
+use Rattle.std.proofs.Common.{◌≡◌, ◌≢◌, ◌⊎◌, inl, inr, ℕ, zero, suc, ◌+◌, ◌<◌, List, [], ◌∷◌, ◌++◌, length, length-append, get_or, Bool, true, false, cond, Option, Some, None, refl, sym, ap, ◌∙◌, subst, arith, append-nil, eq-eqb, ne_eqb}
 use Rattle.std.specs.Prelude.{eqb, not}
 use Rattle.std.specs.List.{AllByRecursion}
 use mathlib.Core.Logic.{dite}
@@ -27,8 +27,8 @@ use Rattle.sector_sessions.specs.declared.script.SessionCalls.{SessionCalls}
 use Rattle.sector_service.specs.declared.served.ServedPart.{ServedPart}
 use Rattle.sector_sessions.specs.declared.service.Service.{Service}
 use Rattle.sector_service.specs.declared.session.Session.{Session}
-use Rattle.sector_sessions.specs.Accounts.{InHistory, IsAccount, IsOfCut}
-use Rattle.sector_service.specs.Calls.{IsCall, IsRead, IsWrite, Paid, within}
+use Rattle.sector_sessions.specs.Accounts.{InHistory, IsOfCut}
+use Rattle.sector_service.specs.Calls.{IsRead, IsWrite, Paid}
 use Rattle.sector_service.specs.Rows.{Know, KnowsAt, Parts, with_part}
 use Rattle.sector_sessions.specs.Runners.{CallGoes, IsAt, IsDone, MayMake, Tells, parts_after}
 use Rattle.sector_sessions.specs.Scripts.{Entering, Fits, entries_from, entry_at, flew, flight_at, has_cut, is_cut, is_kind, least_steps, stands_at, steps_in, stood}

@@ -1,5 +1,5 @@
 -- Sessions get their passes.
-use Rattle.std.proofs.Common.{◌≡◌, ℕ, zero, suc, ◌+◌, ◌<◌, ◌≤◌, List, [], ◌∷◌, ◌++◌, length, length-append, get_or, map, Bool, true, false, Option, Some, None, refl, sym, ap, ◌∙◌, subst, arith}
+use Rattle.std.proofs.Common.{◌≡◌, ℕ, ◌+◌, ◌<◌, ◌≤◌, List, [], ◌∷◌, ◌++◌, length, get_or, map, Bool, true, false, Option, refl, sym, ap, ◌∙◌, subst, arith}
 use Rattle.std.specs.Prelude.{◌&&◌, All, nat_lt, replicate, vec_capacity}
 use mathlib.Core.List.{map-append}
 use Rattle.std.proofs.lemmas.List.{length-map, length-replicate}
@@ -34,8 +34,8 @@ use Rattle.sector_service.specs.declared.served.ServedPart.{ServedPart}
 use Rattle.sector_sessions.specs.declared.service.Service.{Service}
 use Rattle.sector_service.specs.Calls.{Paid}
 use Rattle.sector_service.specs.Rows.{Know, Parts}
-use Rattle.sector_sessions.specs.Runners.{AreReady, IsAt, IsReady, IsRunning, parts_after}
-use Rattle.sector_sessions.specs.Scripts.{AllFit, AreFit, IsShort}
+use Rattle.sector_sessions.specs.Runners.{AreReady, IsAt, IsReady, parts_after}
+use Rattle.sector_sessions.specs.Scripts.{AllFit, IsShort}
 use Rattle.sector_sessions.specs.Seated.{AreBare, HaveNone, HaveOneMore, IsNewSession, IsQuiet, IsSameRest, KeepRest, KnowCores, first_caller}
 use Rattle.sector_service.specs.Served.{Served, fresh, part_at, served_part}
 use Rattle.sector_sessions.specs.Services.{IsNew, arena_at, arena_of, arenas_of, locks_of, power_of, shape_at}

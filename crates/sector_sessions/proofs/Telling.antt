@@ -1,10 +1,9 @@
 -- What a session's read or write tells it, as a reply of a script.
-use Rattle.std.proofs.Common.{◌≡◌, ℕ, List, map, true, refl, subst}
+use Rattle.std.proofs.Common.{◌≡◌, ℕ, List, map, refl, subst}
 use Rattle.turn_lock.specs.declared.turn.Turn.{Turn}
 use Rattle.turn_lock.specs.Passes.{lock_id}
 use Rattle.arena_open.specs.declared.cell.Cell.{Cell}
 use Rattle.lane_core.specs.declared.history.Act.TheVariants as act
-use Rattle.lane_core.specs.declared.shape.Shape.{Shape}
 use Rattle.lane_core.specs.Sessions.{write_steps}
 use Rattle.session_parts.specs.Parts.{stand_at}
 use Rattle.sector_sessions.specs.declared.script.Reply.TheVariants as reply
@@ -14,9 +13,9 @@ use Rattle.sector_service.specs.declared.session.Session.{Session}
 use Rattle.sector_service.specs.Calls.{IsLeft, IsStopped, Paid, answered}
 use Rattle.sector_service.specs.Rows.{Know, OneBecomes, OneGoes, Parts}
 use Rattle.sector_sessions.specs.Runners.{ReadGoes, Tells, WriteGoes}
-use Rattle.sector_sessions.specs.Scripts.{is_cut, read_steps_of, write_steps_of}
+use Rattle.sector_sessions.specs.Scripts.{read_steps_of, write_steps_of}
 use Rattle.sector_service.specs.Served.{Served, shape_of}
-use Rattle.sector_sessions.specs.Services.{locks_of, power_of}
+use Rattle.sector_sessions.specs.Services.{power_of}
 use Rattle.sector_service.specs.Switch.{IsNextCaller, IsTold}
 
 module _ (service : Service) (turns : List (Turn Served ServedPart)) (same : turns ≡ service.turns.items) (place sector : ℕ) (old new : Session) (number : new.number ≡ old.number) (caller : IsNextCaller (power_of service) old.caller new.caller) where

@@ -1,5 +1,5 @@
 -- The cores when their locks are closed.
-use Rattle.std.specs.Prelude.{◌≡◌, ◌⊎◌, ℕ, ◌<◌, ◌≤◌, true, List, [], ◌∷◌, ◌++◌, length, Vec, IsSome, slice_index_or}
+use Rattle.std.specs.Prelude.{◌≡◌, ℕ, ◌<◌, ◌≤◌, true, List, [], ◌∷◌, ◌++◌, length, Vec, IsSome, slice_index_or}
 use Rattle.atomic_table.specs.Seated.{TableId}
 use Rattle.turn_lock.specs.declared.pass.TurnPass.{TurnPass}
 use Rattle.turn_lock.specs.Rows.{items_at}
@@ -18,7 +18,6 @@ use Rattle.sector_service.specs.declared.served.ServedPart.{ServedPart}
 use Rattle.sector_sessions.specs.Accounts.{IsAccount}
 use Rattle.sector_service.specs.Rows.{Know, Parts}
 use Rattle.sector_sessions.specs.Scripts.{has_cut}
-use Rattle.sector_sessions.specs.Seated.{KeepRest}
 use Rattle.sector_service.specs.Served.{Served, part_at, served}
 use Rattle.sector_sessions.specs.Services.{arena_at}
 

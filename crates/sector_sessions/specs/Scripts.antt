@@ -1,5 +1,5 @@
 -- The calls of a session on sectors of cores, their replies, and what stands of them.
-use Rattle.std.specs.Prelude.{◌≡◌, ℕ, ◌+◌, ◌^◌, ◌<◌, Bool, true, false, not, ◌||◌, ◌&&◌, List, [], ◌∷◌, ◌++◌, length, eqb, cond, All, slice_index_or}
+use Rattle.std.specs.Prelude.{ℕ, ◌+◌, ◌^◌, ◌<◌, Bool, true, false, not, ◌||◌, ◌&&◌, List, [], ◌∷◌, ◌++◌, length, eqb, cond, All}
 use Rattle.lane_core.specs.declared.call.Call.{Call}
 use Rattle.lane_core.specs.declared.call.Call.TheVariants as call
 use Rattle.lane_core.specs.declared.history.Act.TheVariants as act

@@ -1,10 +1,10 @@
-use Rattle.std.proofs.Common.{◌≡◌, ◌<◌, ℕ, ◌+◌, [], ◌∷◌, ◌++◌, length, length-append, map, get_or, sym, ap, ◌∙◌, subst, arith}
+use Rattle.std.proofs.Common.{◌≡◌, ◌<◌, ℕ, [], ◌∷◌, ◌++◌, length, length-append, map, get_or, sym, ap, ◌∙◌, subst, arith}
 use Rattle.std.specs.Prelude.{All}
 use mathlib.Core.List.{map-append}
 use Rattle.std.proofs.lemmas.List.{length-map}
 use Rattle.turn_lock.specs.Passes.{lock_id, first_of}
 use Rattle.turn_lock.proofs.Places.{all_pop}
-use Rattle.sector_sessions.specs.Closed.{AreShared, KnowAll, PartsAreKnown}
+use Rattle.sector_sessions.specs.Closed.{AreShared, KnowAll}
 use Rattle.sector_service.specs.Rows.{Know}
 use Rattle.sector_sessions.specs.Services.{IsNew, arena_of}
 use Rattle.sector_sessions.proofs.Ending as closing

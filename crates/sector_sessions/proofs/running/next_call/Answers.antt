@@ -1,7 +1,6 @@
-use Rattle.std.proofs.Common.{◌≡◌, ◌<◌, ℕ, [], ◌∷◌, ◌++◌, length, length-append, get_or, true, false, refl, sym, ap, ◌∙◌, subst, arith}
-use Rattle.sector_sessions.specs.declared.script.SectorCall.{SectorCall}
+use Rattle.std.proofs.Common.{◌≡◌, ℕ, [], ◌∷◌, length, length-append, get_or, refl, sym, ap, ◌∙◌, subst, arith}
 use Rattle.sector_sessions.specs.Runners.{IsAt, IsDone}
-use Rattle.sector_sessions.specs.Scripts.{Fits, is_cut}
+use Rattle.sector_sessions.specs.Scripts.{Fits}
 use Rattle.sector_sessions.specs.Services.{arenas_of, shape_at}
 use Rattle.sector_sessions.proofs.Replying.{a_cut, goes_on, knows_next, no_cut, stops_at}
 use Rattle.sector_sessions.proofs.running.next_call.Goals as goal

@@ -1,4 +1,4 @@
-use Rattle.std.proofs.Common.{ℕ, get_or, refl, sym, ◌∙◌, subst}
+use Rattle.std.proofs.Common.{ℕ, sym, ◌∙◌, subst}
 use Rattle.sector_sessions.specs.declared.script.SessionCalls.{SessionCalls}
 use Rattle.sector_sessions.specs.Runners.{IsEnded, IsReady}
 use Rattle.sector_sessions.proofs.Replying.{default_same}

@@ -1,4 +1,4 @@
-use Rattle.std.proofs.Common.{◌≡◌, ◌<◌, ℕ, length, refl, sym, ap, ◌∙◌, subst, arith}
+use Rattle.std.proofs.Common.{ℕ, length, refl, sym, ap, subst, arith}
 use Rattle.sector_sessions.specs.Runners.{IsEnded, IsRunning}
 use Rattle.sector_sessions.proofs.Replying.{ends_at}
 use Rattle.sector_sessions.proofs.running.run_session.Goals as goal

@@ -1,5 +1,5 @@
-use Rattle.std.proofs.Common.{◌≡◌, ◌<◌, ℕ, length, sym, ap, ◌∙◌, subst, arith}
-use Rattle.turn_lock.specs.Passes.{lock_id, first_of, AreFresh}
+use Rattle.std.proofs.Common.{◌≡◌, length, sym, ◌∙◌, subst, arith}
+use Rattle.turn_lock.specs.Passes.{lock_id, AreFresh}
 use Rattle.sector_sessions.specs.declared.service.Service.{Service}
 use Rattle.sector_sessions.proofs.Seating.{arenas_more, is_new, know_more, new_more}
 use Rattle.sector_sessions.proofs.service.add_core.Goals as goal

@@ -1,4 +1,4 @@
-use Rattle.std.proofs.Common.{◌≡◌, ℕ, false, length, map, sym, subst}
+use Rattle.std.proofs.Common.{◌≡◌, ℕ, false, sym, subst}
 use Rattle.std.specs.Prelude.{All}
 use Rattle.sector_sessions.specs.Closed.{AreAccounts, AreShared}
 use Rattle.sector_sessions.specs.Services.{IsNew, arenas_of}

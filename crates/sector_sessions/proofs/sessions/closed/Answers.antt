@@ -1,6 +1,4 @@
-use Rattle.std.proofs.Common.{◌≡◌, List, map, length, take, drop, ◌++◌, arith, sym, ap, ◌∙◌, subst}
-use Rattle.turn_lock.specs.Passes.{lock_id}
-use Rattle.sector_sessions.specs.declared.runner.Runner.{Runner}
+use Rattle.std.proofs.Common.{◌≡◌, length, arith, sym, ap, subst}
 use Rattle.sector_sessions.specs.Closed.{KnowAll, PartsAreKnown}
 use Rattle.sector_sessions.specs.Seated.{KeepRest}
 use Rattle.sector_sessions.specs.Services.{arenas_of, locks_of}
