@@ -10,6 +10,7 @@ LIST, NFIT, LABELS, INFO, READ = ["-", "list"], ["-", "nfit"], ["-", "labels", "
 WRITE = ["OUT", "write", str(FIRST), "0", "fill:5a"]
 REPLAY = ["OUT", "replay", str(FIRST)]
 EXPORT = ["-", "export", str(FIRST)]
+IMPORT = ["OUT", "import", str(FIRST)]
 RENAME, DELETE, INIT = ["OUT", "rename", str(FIRST), "b"], ["OUT", "delete", str(FIRST)], ["OUT", "init", "0"]
 
 
@@ -151,13 +152,13 @@ def refusals():
             ("BadSize 4096", whole(), create("--size", "4096")),
             ("BadSize 8192", whole(), create("--mode", "sector")), (f"NoSpace {SIZE}", whole(), create("--size", str(2 * SIZE))),
             ("NoSlot 0", full, CREATE), ("NoSlot 0", full, RENAME), ("NoSlot 0", full, DELETE),
-            ("NoSuch", pair(), DELETE), ("NoSuch", pair(), RENAME), ("NoSuch", pair(), INFO), ("NoSuch", pair(), READ), ("NoSuch", pair(), WRITE), ("NoSuch", pair(), REPLAY), ("NoSuch", pair(), EXPORT),
-            ("NotComplete", half, DELETE), ("NotComplete", half, RENAME), ("NotComplete", half, INFO), ("NotComplete", half, READ), ("NotComplete", half, WRITE), ("NotComplete", half, REPLAY), ("NotComplete", half, EXPORT),
+            ("NoSuch", pair(), DELETE), ("NoSuch", pair(), RENAME), ("NoSuch", pair(), INFO), ("NoSuch", pair(), READ), ("NoSuch", pair(), WRITE), ("NoSuch", pair(), REPLAY), ("NoSuch", pair(), EXPORT), ("NoSuch", pair(), IMPORT),
+            ("NotComplete", half, DELETE), ("NotComplete", half, RENAME), ("NotComplete", half, INFO), ("NotComplete", half, READ), ("NotComplete", half, WRITE), ("NotComplete", half, REPLAY), ("NotComplete", half, EXPORT), ("NotComplete", half, IMPORT),
             ("ReadOnlyLabel 1", locked, DELETE), ("ReadOnlyLabel 1", locked, RENAME),
             ("NotSector", whole(), INFO), ("NotSector", whole(), READ), ("NotSector", whole(), WRITE), ("NotSector", whole(), REPLAY),
             ("BadSector 1", sectors(entries={1: 1 << 30 | 1, 2: 1 << 30 | 2}), EXPORT),
             (f"Range {OUTER}", sectors(), [*READ[:-1], str(OUTER)]), (f"Range {OUTER}", sectors(), [*WRITE[:-2], str(OUTER), "hex:"]),
-            ("Length 0 4096", sectors(), [*WRITE[:-1], "hex:"]), ("Length 513 4096", sectors(), [*WRITE[:-1], "hex:" + 513 * "5a"]),
+            ("Length 0 4096", sectors(), [*WRITE[:-1], "hex:"]), (f"Length 0 {OUTER * 4096}", sectors(), IMPORT), ("Length 513 4096", sectors(), [*WRITE[:-1], "hex:" + 513 * "5a"]),
             ("Arenas 2", chain(), REPLAY)):
         yield refused(text, files, words)
 

@@ -1,3 +1,4 @@
 pub mod Loaded
 pub mod Saved
 pub mod Answered
+pub mod Causes

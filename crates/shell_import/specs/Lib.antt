@@ -1,3 +1,4 @@
 pub mod Import
 pub mod Placed
 pub mod Answering
+pub mod Causes

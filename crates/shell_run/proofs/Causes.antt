@@ -20,7 +20,7 @@ use Rattle.shell_reports.specs.declared.status.Ending.{Ending}
 use Rattle.shell_reports.specs.declared.status.Ending.TheVariants as ending
 use Rattle.shell_reports.specs.declared.status.Status.TheVariants as status
 use Rattle.shell_run.specs.declared.words.Command.{Command}
-use Rattle.shell_run.specs.declared.words.Command.TheVariants.{Labels, Nfit, Init, Change, Info, Read, Write, Replay, Export}
+use Rattle.shell_run.specs.declared.words.Command.TheVariants.{Labels, Nfit, Init, Change, Info, Read, Write, Replay, Export, Import}
 use Rattle.shell_run.specs.declared.words.Command.TheVariants as command
 use Rattle.shell_reports.specs.declared.power.Power.{Power}
 use Rattle.nfit_reader.specs.declared.table.Mapping.{Mapping}
@@ -55,12 +55,15 @@ use Rattle.shell_export.proofs.Causes.{export_ends, ending_for as ending_by_caus
 use Rattle.session_script.specs.declared.schedule.Replay.{Replay as Schedules}
 use Rattle.session_script.specs.Schedule.{replay_reading}
 use Rattle.shell_replay.specs.declared.schedule.Schedule.{Schedule}
+use Rattle.shell_import.specs.Import.{ImportComes}
+use Rattle.shell_import.proofs.Causes.{import_ends}
 use Rattle.shell_replay.specs.Causes.{has_others, others_found}
 use Rattle.shell_replay.specs.Replay.{ReplayComes, ReplaysArenas, arenas_refusal}
 use Rattle.shell_run.specs.declared.scripts.ScriptRefused.{ScriptRefused}
 use Rattle.shell_run.specs.Run.{Comes, LoadedComes, OnImages, OnLoaded, OnScript, ComesTold, reads_script}
-use Rattle.shell_run.specs.Scripts.{script_in, script_outcome}
-use Rattle.shell_run.specs.Statuses.{ending_by, ending_due, ending_on, ending_with, has_block, is_barred, is_cut, is_short, keeps_area, refuses_area, refuses_images}
+use Rattle.shell_run.specs.declared.scripts.ScriptRefused.TheVariants as refused
+use Rattle.shell_run.specs.Scripts.{bytes_in, most_contents, script_in, script_outcome}
+use Rattle.shell_run.specs.Statuses.{ending_by, ending_due, ending_on, ending_scripted, ending_with, has_block, is_barred, is_cut, is_short, keeps_area, refuses_area, refuses_images}
 use Rattle.shell_run.specs.Laws.{StatusIsDue}
 
 -- the ways in which a command on images is answered
@@ -269,6 +272,16 @@ export_case : (uuid : List ℕ) (zeros : Bool) (loaded : ImageSet) (outcome : Ou
 export_case uuid zeros loaded outcome comes =
     export_by uuid zeros loaded outcome.ending (breaks_export loaded uuid) (refuses_export loaded uuid zeros) refl refl (ending_of outcome (export_outcome uuid zeros loaded) comes ∙ (export_ends loaded uuid zeros).0)
 
+-- ---- `import`
+
+same_by : (long : Bool) (script bytes : List ℕ) (why : ScriptRefused) → (if long then Err why else Ok script) ≡ Ok bytes → bytes ≡ script
+same_by true script bytes why e = absurd (let never = e in cc)
+same_by false script bytes why e = let same : script ≡ bytes = cc in sym same
+
+-- the bytes are the script
+bytes_same : (script bytes : List ℕ) → bytes_in script ≡ Ok bytes → bytes ≡ script
+bytes_same script bytes e = same_by (nat_lt most_contents (length script)) script bytes (refused.TooLong most_contents) e
+
 -- ---- any command
 
 module _ (leaves : ℕ → List (Option Words) → List (Option (List ℕ)) → Type 0) where
@@ -287,6 +300,7 @@ module _ (leaves : ℕ → List (Option Words) → List (Option (List ℕ)) → 
       write_case uuid sector value loaded outcome (set_case (WritesArenas uuid sector value loaded outcome) loaded uuid outcome comes)
   command_case (Replay uuid seed) (Ok loaded) outcome comes = absurd comes
   command_case (Export uuid zeros) (Ok loaded) outcome comes = export_case uuid zeros loaded outcome comes
+  command_case (Import uuid) (Ok loaded) outcome comes = absurd comes
 
   -- ---- the ending that is due
 
@@ -318,6 +332,20 @@ module _ (leaves : ℕ → List (Option Words) → List (Option (List ℕ)) → 
       case_ending (Replay uuid seed) (loading set) outcome.ending (replay_loaded uuid seed (record { lines = q.lines; seed = seed }) (loading set) outcome (on set refl))
   replay_ending uuid seed set outcome (Err why) said = ending_of outcome (script_outcome why) said
 
+  -- `import`, by its bytes
+  import_found : (uuid bytes : List ℕ) (found : Result ImageSet LoadFault) (outcome : Outcome) → OnLoaded (ImportComes uuid bytes) found outcome → outcome.ending ≡ ending_scripted (Import uuid) bytes found
+  import_found uuid bytes (Ok loaded) outcome comes = import_ends uuid bytes loaded outcome comes
+  import_found uuid bytes (Err fault) outcome comes = ending_of outcome _ comes
+
+  abbrev import_for : List ℕ → List ℕ → Images → Result (List ℕ) ScriptRefused → Ending
+  import_for uuid script set r = if is_err r then ending.Usage else ending_scripted (Import uuid) script (loading set)
+
+  import_ending : (uuid script : List ℕ) (set : Images) (outcome : Outcome) (r : Result (List ℕ) ScriptRefused) → ((bytes : List ℕ) → r ≡ Ok bytes → bytes ≡ script)
+      → OnScript (λ (bytes : List ℕ). OnImages (ImportComes uuid bytes) (Some set)) r outcome → outcome.ending ≡ import_for uuid script set r
+  import_ending uuid script set outcome (Ok bytes) same on =
+      import_found uuid bytes (loading set) outcome (on set refl) ∙ ap (λ (bs : List ℕ). ending_scripted (Import uuid) bs (loading set)) (same bytes refl)
+  import_ending uuid script set outcome (Err why) same said = ending_of outcome (script_outcome why) said
+
   script_ending : (command : Command) (script : List ℕ) (set : Images) (outcome : Outcome) → Comes leaves command (Some set) script outcome → outcome.ending ≡ ending_with (Some command) script (loading set)
   script_ending (Labels m) script set outcome comes = plain_ending (Labels m) set outcome comes
   script_ending Nfit script set outcome comes = plain_ending Nfit set outcome comes
@@ -328,6 +356,7 @@ module _ (leaves : ℕ → List (Option Words) → List (Option (List ℕ)) → 
   script_ending (Read uuid sector) script set outcome comes = plain_ending (Read uuid sector) set outcome comes
   script_ending (Write uuid sector value) script set outcome comes = plain_ending (Write uuid sector value) set outcome comes
   script_ending (Export uuid zeros) script set outcome comes = plain_ending (Export uuid zeros) set outcome comes
+  script_ending (Import uuid) script set outcome comes = import_ending uuid script set outcome (bytes_in script) (bytes_same script) comes
   script_ending (Replay uuid seed) script set outcome comes = replay_ending uuid seed set outcome (script_in replay_reading script) comes
 
   due_by : (words : List (List ℕ)) (set : Images) (script : List ℕ) (left : Option (List ℕ)) (outcome : Outcome) (found : Option Command) → command_of words ≡ found

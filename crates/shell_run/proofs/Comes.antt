@@ -21,15 +21,16 @@ use Rattle.shell_changes.specs.Answers.{ComesFrom, HasSizes, outcome_with, whole
 use Rattle.shell_changes.specs.Saved.{AreObjects, AreSaved, HasContentsOf, HasItsContents, HasSize, Stores, copies_contents, objects_saved}
 use Rattle.session_script.specs.declared.schedule.Replay.{Replay}
 use Rattle.session_script.specs.Schedule.{replay_reading}
+use Rattle.shell_import.specs.Import.{ImportComes}
 use Rattle.shell_replay.specs.declared.schedule.Schedule.{Schedule}
 use Rattle.shell_replay.specs.Replay.{ReplayComes}
 use Rattle.shell_run.specs.declared.scripts.ScriptRefused.{ScriptRefused}
 use Rattle.shell_run.specs.declared.words.Command.{Command}
-use Rattle.shell_run.specs.declared.words.Command.TheVariants.{Labels, Nfit, Init, Change, Info, Read, Write, Replay as AskReplay, Export}
+use Rattle.shell_run.specs.declared.words.Command.TheVariants.{Labels, Nfit, Init, Change, Info, Read, Write, Replay as AskReplay, Export, Import}
 use Rattle.shell_run.specs.declared.words.Command.TheVariants as command
 use Rattle.shell_run.specs.Printed.{Exports, IsReported, IsUnloaded}
 use Rattle.shell_run.specs.Run.{Comes, ComesTold, IsDue, LoadedComes, OnImages, OnLoaded, OnScript, copies, copies_by, copies_found, needs_contents, reads_script}
-use Rattle.shell_run.specs.Scripts.{script_in, script_outcome}
+use Rattle.shell_run.specs.Scripts.{bytes_in, script_in, script_outcome}
 use Rattle.shell_run.specs.Words.{command_of}
 
 -- ---- the outcome of an answer
@@ -234,19 +235,7 @@ module _ (leaves : ℕ → List (Option Words) → List (Option (List ℕ)) → 
   plain_comes (Write uuid sector value) plain on = on
   plain_comes (AskReplay uuid seed) plain on = absurd (let e = plain in cc)
   plain_comes (Export uuid zeros) plain on = on
-
--- only `replay` has a script
-pub is_replay : (command : Command) → reads_script command ≡ true → (uuid : List ℕ) × (seed : ℕ) × (command ≡ AskReplay uuid seed)
-is_replay (Labels m) reads = absurd (let e = reads in cc)
-is_replay Nfit reads = absurd (let e = reads in cc)
-is_replay command.List reads = absurd (let e = reads in cc)
-is_replay (Init m power) reads = absurd (let e = reads in cc)
-is_replay (Change c power) reads = absurd (let e = reads in cc)
-is_replay (Info uuid) reads = absurd (let e = reads in cc)
-is_replay (Read uuid sector) reads = absurd (let e = reads in cc)
-is_replay (Write uuid sector value) reads = absurd (let e = reads in cc)
-is_replay (AskReplay uuid seed) reads = (uuid, seed, refl)
-is_replay (Export uuid zeros) reads = absurd (let e = reads in cc)
+  plain_comes (Import uuid) plain on = absurd (let e = plain in cc)
 
 module _ (leaves : ℕ → List (Option Words) → List (Option (List ℕ)) → Type 0) (held : Option Images) (left : Option (List ℕ)) where
   abbrev pub IsDueFor : Command → Answer → Type 0
@@ -273,6 +262,20 @@ module _ (leaves : ℕ → List (Option Words) → List (Option (List ℕ)) → 
       subst (λ (s : Result Replay ScriptRefused). OnScript (λ (q : Replay). OnImages (ReplayComes leaves uuid (record { lines = q.lines; seed = seed })) held) s outcome)
       (sym (refused script (reads refl))) (from_none held answer outcome (script_outcome why) nothing says from)
   misread_due uuid seed why (Err e) refused says nothing = tt
+
+  -- bytes were read
+  pub bytes_due : {E : Type 0} (uuid bytes : List ℕ) (r : Result Answer E) → ForSome left (λ text. bytes_in text ≡ Ok bytes) → IfOk r (IsTold (ImportComes uuid bytes) held) → IfOk r (IsDueFor (Import uuid))
+  bytes_due uuid bytes (Ok answer) read told = λ outcome from script reads.
+      subst (λ (s : Result (List ℕ) ScriptRefused). OnScript (λ (bs : List ℕ). OnImages (ImportComes uuid bs) held) s outcome) (sym (read script (reads refl))) (told outcome from)
+  bytes_due uuid bytes (Err e) read told = tt
+
+  -- none were
+  pub misread_bytes_due : {E : Type 0} (uuid : List ℕ) (why : ScriptRefused) (r : Result Answer E) → ForSome left (λ text. bytes_in text ≡ Err why)
+      → IfOk r (λ answer. (contents : List (List ℕ)) → outcome_with answer contents ≡ script_outcome why) → IfOk r (λ answer. answer.saved ≡ None) → IfOk r (IsDueFor (Import uuid))
+  misread_bytes_due uuid why (Ok answer) refused says nothing = λ outcome from script reads.
+      subst (λ (s : Result (List ℕ) ScriptRefused). OnScript (λ (bs : List ℕ). OnImages (ImportComes uuid bs) held) s outcome)
+      (sym (refused script (reads refl))) (from_none held answer outcome (script_outcome why) nothing says from)
+  misread_bytes_due uuid why (Err e) refused says nothing = tt
 
 -- ---- the words
 

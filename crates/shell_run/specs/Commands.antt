@@ -21,6 +21,7 @@ kind_of name =
     else if bytes_eq name (codes "write") then Some kind.Write
     else if bytes_eq name (codes "replay") then Some kind.Replay
     else if bytes_eq name (codes "export") then Some kind.Export
+    else if bytes_eq name (codes "import") then Some kind.Import
     else None
 
 -- the options on power cuts
@@ -43,3 +44,4 @@ arguments_of kind.Read = (codes "uuid", Place) ∷ (codes "sector", Place) ∷ [
 arguments_of kind.Write = (codes "uuid", Place) ∷ (codes "sector", Place) ∷ (codes "value", Place) ∷ []
 arguments_of kind.Replay = (codes "uuid", Place) ∷ (codes "evict", Optional) ∷ []
 arguments_of kind.Export = (codes "uuid", Place) ∷ (codes "bad-as-zeros", Flag) ∷ []
+arguments_of kind.Import = (codes "uuid", Place) ∷ []

@@ -10,7 +10,7 @@ use Rattle.image_set.specs.Load.{ImageSet, loading}
 use Rattle.shell_reports.specs.declared.status.Status.{Status}
 use Rattle.shell_reports.specs.declared.status.Status.TheVariants as status
 use Rattle.shell_run.specs.declared.words.Command.{Command}
-use Rattle.shell_run.specs.declared.words.Command.TheVariants.{Labels, Nfit, Init, Change, Info, Read, Write, Replay, Export}
+use Rattle.shell_run.specs.declared.words.Command.TheVariants.{Labels, Nfit, Init, Change, Info, Read, Write, Replay, Export, Import}
 use Rattle.shell_run.specs.declared.words.Command.TheVariants as command
 use Rattle.shell_run.specs.Words.{GivesGoodName, command_of}
 use Rattle.shell_reports.specs.Outcome.{Outcome, usage, lf, status_of}
@@ -26,10 +26,11 @@ use Rattle.shell_reports.specs.Sectors.{info_outcome, read_outcome}
 use Rattle.namespace_ops.specs.Counted.{makes_sectors}
 use Rattle.shell_sectors.specs.Write.{WriteComes}
 use Rattle.shell_export.specs.Export.{export_outcome}
+use Rattle.shell_import.specs.Import.{ImportComes}
 use Rattle.shell_replay.specs.Replay.{ReplayComes}
 use Rattle.session_script.specs.Schedule.{replay_reading}
 use Rattle.shell_run.specs.declared.scripts.ScriptRefused.{ScriptRefused}
-use Rattle.shell_run.specs.Scripts.{script_in, script_outcome}
+use Rattle.shell_run.specs.Scripts.{bytes_in, script_in, script_outcome}
 
 -- ---- a case for each command
 
@@ -46,6 +47,7 @@ LoadedComes leaves (Read uuid sector) loaded outcome = outcome ≡ read_outcome 
 LoadedComes leaves (Write uuid sector value) loaded outcome = WriteComes uuid sector value loaded outcome
 LoadedComes leaves (Replay uuid seed) loaded outcome = ⊥
 LoadedComes leaves (Export uuid zeros) loaded outcome = outcome ≡ export_outcome uuid zeros loaded
+LoadedComes leaves (Import uuid) loaded outcome = ⊥
 
 -- by the set that is loaded, or by why none is
 abbrev pub OnLoaded : (ImageSet → Outcome → Type 0) → Result ImageSet LoadFault → Outcome → Type 0
@@ -65,6 +67,7 @@ OnScript comes (Err why) outcome = outcome ≡ script_outcome why
 abbrev pub Comes : (ℕ → List (Option Words) → List (Option (List ℕ)) → Type 0) → Command → Option Images → List ℕ → Outcome → Type 0
 Comes leaves (Replay uuid seed) held script outcome =
     OnScript (λ schedule. OnImages (ReplayComes leaves uuid (record { lines = schedule.lines; seed = seed })) held) (script_in replay_reading script) outcome
+Comes leaves (Import uuid) held script outcome = OnScript (λ bytes. OnImages (ImportComes uuid bytes) held) (bytes_in script) outcome
 Comes leaves command held script outcome = OnImages (LoadedComes leaves command) held outcome
 
 -- whether a command reads the script
@@ -79,6 +82,7 @@ reads_script (Read uuid sector) = false
 reads_script (Write uuid sector value) = false
 reads_script (Replay uuid seed) = true
 reads_script (Export uuid zeros) = false
+reads_script (Import uuid) = true
 
 -- whether a command prints its text piece by piece, as the text may be as long as the contents; it writes no set
 abbrev pub streams : Command → Bool
@@ -92,6 +96,7 @@ streams (Read uuid sector) = false
 streams (Write uuid sector value) = false
 streams (Replay uuid seed) = false
 streams (Export uuid zeros) = true
+streams (Import uuid) = false
 
 -- a command that makes an answer, of the loaded set alone
 abbrev pub IsPlain : Command → Type 0
@@ -113,6 +118,7 @@ copies (Read uuid sector) = false
 copies (Write uuid sector value) = false
 copies (Replay uuid seed) = false
 copies (Export uuid zeros) = false
+copies (Import uuid) = false
 
 -- whether a command works on the contents of modules, so that they are loaded
 abbrev pub needs_contents : Command → Bool
@@ -126,6 +132,7 @@ needs_contents (Read uuid sector) = true
 needs_contents (Write uuid sector value) = true
 needs_contents (Replay uuid seed) = true
 needs_contents (Export uuid zeros) = true
+needs_contents (Import uuid) = true
 
 -- whether the words are those of a command that copies contents
 abbrev pub copies_found : Option Command → Bool

@@ -14,9 +14,13 @@ use Rattle.shell_run.specs.declared.scripts.ScriptRefused.TheVariants as refused
 
 -- ---- reading
 
--- the greatest number of bytes of a script
+-- the greatest number of bytes of a script of lines
 abbrev pub most_bytes : ℕ
 most_bytes = 16777216
+
+-- the greatest number of bytes of a namespace, since all contents together have no more
+abbrev pub most_contents : ℕ
+most_contents = 536870912
 
 abbrev pub or_refused : {A : Type 0} → Result A ScriptFault → Result A ScriptRefused
 or_refused (Ok script) = Ok script
@@ -24,7 +28,11 @@ or_refused (Err fault) = Err (refused.Fault fault)
 
 -- the script in a text, by the grammar of its kind, or why it isn't taken
 abbrev pub script_in : {A : Type 0} → (List ℕ → Result A ScriptFault) → List ℕ → Result A ScriptRefused
-script_in reading text = if nat_lt most_bytes (length text) then Err refused.TooLong else or_refused (reading text)
+script_in reading text = if nat_lt most_bytes (length text) then Err (refused.TooLong most_bytes) else or_refused (reading text)
+
+-- the bytes for a namespace, which may be any
+abbrev pub bytes_in : List ℕ → Result (List ℕ) ScriptRefused
+bytes_in text = if nat_lt most_contents (length text) then Err (refused.TooLong most_contents) else Ok text
 
 -- ---- the texts of refusals
 
@@ -44,7 +52,7 @@ limit_text limit.Bytes = codes "Bytes"
 
 -- out of memory isn't a finding and has no text
 abbrev pub refused_text : ScriptRefused → List ℕ
-refused_text refused.TooLong = joined (codes "script TooLong " ∷ decimal most_bytes ∷ lf ∷ [])
+refused_text (refused.TooLong most) = joined (codes "script TooLong " ∷ decimal most ∷ lf ∷ [])
 refused_text (refused.Fault (fault.Line number kind)) = joined (codes "script Line " ∷ decimal number ∷ codes " " ∷ kind_text kind ∷ lf ∷ [])
 refused_text (refused.Fault (fault.TooMany what)) = joined (codes "script TooMany " ∷ limit_text what ∷ lf ∷ [])
 refused_text (refused.Fault fault.OutOfMemory) = []

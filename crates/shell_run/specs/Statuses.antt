@@ -20,11 +20,12 @@ use Rattle.shell_changes.specs.Namespaces as changes
 use Rattle.shell_changes.specs.Namespaces.{sets_in, refuses}
 use Rattle.shell_sectors.specs.Causes.{refuses_write}
 use Rattle.shell_export.specs.Causes.{breaks_export, refuses_export}
+use Rattle.shell_import.specs.Causes.{refuses_import}
 use Rattle.shell_replay.specs.Causes.{refuses_replay}
 use Rattle.session_script.specs.Schedule.{replay_reading}
-use Rattle.shell_run.specs.Scripts.{script_in}
+use Rattle.shell_run.specs.Scripts.{bytes_in, script_in}
 use Rattle.shell_run.specs.declared.words.Command.{Command}
-use Rattle.shell_run.specs.declared.words.Command.TheVariants.{Labels, Nfit, Init, Change, Info, Read, Write, Replay, Export}
+use Rattle.shell_run.specs.declared.words.Command.TheVariants.{Labels, Nfit, Init, Change, Info, Read, Write, Replay, Export, Import}
 use Rattle.shell_run.specs.declared.words.Command.TheVariants as command
 use Rattle.shell_run.specs.Words.{command_of}
 
@@ -32,6 +33,7 @@ use Rattle.shell_run.specs.Words.{command_of}
 
 abbrev pub refuses_script : Command → List ℕ → Bool
 refuses_script (Replay uuid seed) script = is_err (script_in replay_reading script)
+refuses_script (Import uuid) script = is_err (bytes_in script)
 refuses_script command script = false
 
 -- ---- images that are refused for a command
@@ -63,6 +65,7 @@ refuses_images (Read uuid sector) (Ok loaded) = is_broken loaded uuid
 refuses_images (Write uuid sector value) (Ok loaded) = is_broken loaded uuid
 refuses_images (Replay uuid seed) (Ok loaded) = is_broken loaded uuid
 refuses_images (Export uuid zeros) (Ok loaded) = breaks_export loaded uuid
+refuses_images (Import uuid) (Ok loaded) = breaks_export loaded uuid
 
 -- ---- steps and refusals
 
@@ -96,9 +99,19 @@ ending_by refused cut barred = if refused then ending.Image else if cut then end
 abbrev pub ending_on : Command → Result ImageSet LoadFault → Ending
 ending_on command found = ending_by (refuses_images command found) (is_cut command found) (is_barred command found)
 
+-- whether the bytes of `import` aren't taken; the images were loaded
+abbrev pub bars_bytes : List ℕ → List ℕ → Result ImageSet LoadFault → Bool
+bars_bytes uuid bytes (Ok loaded) = refuses_import loaded uuid (length bytes)
+bars_bytes uuid bytes (Err fault) = false
+
+-- a refusal of `import` is by its script, too
+abbrev pub ending_scripted : Command → List ℕ → Result ImageSet LoadFault → Ending
+ending_scripted (Import uuid) script found = ending_by (refuses_images (Import uuid) found) false (bars_bytes uuid script found)
+ending_scripted command script found = ending_on command found
+
 abbrev pub ending_with : Option Command → List ℕ → Result ImageSet LoadFault → Ending
 ending_with None script found = ending.Usage
-ending_with (Some command) script found = if refuses_script command script then ending.Usage else ending_on command found
+ending_with (Some command) script found = if refuses_script command script then ending.Usage else ending_scripted command script found
 
 -- the ending that is due: words that are no command line come first, then a script that isn't taken
 abbrev pub ending_due : List (List ℕ) → List ℕ → Images → Ending

@@ -6,7 +6,7 @@ use Rattle.command_words.specs.Parsed.{parsed, number_in, optional_number_in, uu
 use Rattle.shell_run.specs.declared.commands.Kind.{Kind}
 use Rattle.shell_run.specs.declared.commands.Kind.TheVariants as kind
 use Rattle.shell_run.specs.declared.words.Command.{Command}
-use Rattle.shell_run.specs.declared.words.Command.TheVariants.{Labels, Nfit, Init, Change, Info, Read, Write, Replay, Export}
+use Rattle.shell_run.specs.declared.words.Command.TheVariants.{Labels, Nfit, Init, Change, Info, Read, Write, Replay, Export, Import}
 use Rattle.shell_run.specs.declared.words.Command.TheVariants as command
 use Rattle.shell_reports.specs.declared.power.Power.{Power}
 use Rattle.namespace_ops.specs.Carried.{HasGoodName}
@@ -48,6 +48,7 @@ command_in kind.Info values = option_map (λ uuid. Info uuid) (uuid_in (codes "u
 command_in kind.Read values = option_and_then (λ uuid. option_map (λ sector. Read uuid sector) (number_in 0 most (codes "sector") values)) (uuid_in (codes "uuid") values)
 command_in kind.Write values = write_in values
 command_in kind.Replay values = replay_in values
+command_in kind.Import values = option_map (λ uuid. Import uuid) (uuid_in (codes "uuid") values)
 command_in kind.Export values = option_map (λ uuid. Export uuid (flag_in (codes "bad-as-zeros") values)) (uuid_in (codes "uuid") values)
 command_in kind.Init values = option_and_then (λ m. option_map (λ power. Init m power) (power_in values)) (number_in 0 63 (codes "module") values)
 
@@ -72,3 +73,4 @@ GivesGoodName (Read uuid sector) = ⊤
 GivesGoodName (Write uuid sector value) = ⊤
 GivesGoodName (Replay uuid seed) = ⊤
 GivesGoodName (Export uuid zeros) = ⊤
+GivesGoodName (Import uuid) = ⊤

@@ -28,6 +28,8 @@ pub enum Kind {
     Replay,
     /// Prints all bytes of a namespace.
     Export,
+    /// Fills a namespace with the bytes of the script.
+    Import,
 }
 
 /// The number of a module.
@@ -166,6 +168,9 @@ impl Kind {
         if name == "export" {
             return Some(Kind::Export);
         }
+        if name == "import" {
+            return Some(Kind::Import);
+        }
         None
     }
 
@@ -196,6 +201,7 @@ impl Kind {
             Kind::Write => &[UUID, SECTOR, VALUE],
             Kind::Replay => &[UUID, EVICT],
             Kind::Export => &[UUID, BAD_AS_ZEROS],
+            Kind::Import => &[UUID],
         }
     }
 }

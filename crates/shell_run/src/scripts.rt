@@ -4,21 +4,24 @@ ghost use Rattle.std.specs.Option.{ForSome};
 ghost use Rattle.nvd_media.specs.Causes.{Rose};
 ghost use Rattle.session_script.specs.Schedule.{replay_reading};
 ghost use Rattle.shell_reports.specs.Saved.{outcome_of};
-ghost use Rattle.shell_run.specs.Scripts.{kind_text, limit_text, most_bytes, refused_text, script_in, script_outcome};
+ghost use Rattle.shell_run.specs.Scripts.{bytes_in, kind_text, limit_text, most_bytes, refused_text, script_in, script_outcome};
 
 use nvd_media::{TextFault, TextSource, read_all};
 use session_script::{LineKind, Replay, ScriptFault, ScriptLimit, read_replay};
 use shell_reports::{Ending, Report, Stop};
 use std::alloc::{AllocError, Global};
 
-/// The greatest number of bytes of a script.
+/// The greatest number of bytes of a script of lines.
 const MOST_BYTES: usize = 16777216;
+
+/// The greatest number of bytes of a namespace: all contents together have no more.
+const MOST_CONTENTS: usize = 536870912;
 
 /// Why a script isn't taken.
 #[derive(Clone, Copy, Debug, PartialEq, Eq)]
 pub enum ScriptRefused {
-    /// It has more than 16,777,216 bytes.
-    TooLong,
+    /// It has more bytes than the command takes at most.
+    TooLong { most: usize },
     /// A line isn't in the grammar, or passes a limit.
     Fault(ScriptFault),
 }
@@ -32,17 +35,18 @@ pub(crate) enum ScriptStop {
     Stop(Stop),
 }
 
-/// Reads a script to its end.
-fn text_in<T: TextSource>(alloc: Global, script: &mut T) -> Result<Vec<u8>, ScriptStop>
+/// Reads a script of at most `most` bytes to its end.
+fn text_in<T: TextSource>(alloc: Global, script: &mut T, most: usize) -> Result<Vec<u8>, ScriptStop>
+    requires few { most < 2 ^ 40 }
     ensures all { IfOk result (λ bytes. ForSome (T.left script.old) (λ text. bytes.items ≡ text)) }
-    ensures within { IfOk result (λ bytes. length bytes.items ≤ most_bytes) }
-    ensures too_long { (why : ScriptRefused) → result ≡ Err (ScriptStop.Refused why) → (why ≡ ScriptRefused.TooLong) × ForSome (T.left script.old) (λ text. most_bytes < length text) }
+    ensures within { IfOk result (λ bytes. length bytes.items ≤ most) }
+    ensures too_long { (why : ScriptRefused) → result ≡ Err (ScriptStop.Refused why) → (why ≡ ScriptRefused.TooLong most) × ForSome (T.left script.old) (λ text. most < length text) }
     ensures failed { result ≡ Err (ScriptStop.Stop Stop.ReadFault) → Rose (T.faults script.old) (T.faults script.new) }
 {
-    match read_all(alloc, script, MOST_BYTES) {
+    match read_all(alloc, script, most) {
         Ok(bytes) => Ok(bytes),
         Err(TextFault::ReadFault) => Err(ScriptStop::Stop(Stop::ReadFault)),
-        Err(TextFault::TooLong { .. }) => Err(ScriptStop::Refused(ScriptRefused::TooLong)),
+        Err(TextFault::TooLong { .. }) => Err(ScriptStop::Refused(ScriptRefused::TooLong { most })),
         Err(TextFault::OutOfMemory) => Err(ScriptStop::Stop(Stop::OutOfMemory)),
     }
 }
@@ -85,10 +89,25 @@ pub(crate) fn read_schedule<T: TextSource>(
     ensures refused { (why : ScriptRefused) → result ≡ Err (ScriptStop.Refused why) → ForSome (T.left script.old) (λ text. script_in replay_reading text ≡ Err why) }
     ensures failed { result ≡ Err (ScriptStop.Stop Stop.ReadFault) → Rose (T.faults script.old) (T.faults script.new) }
 {
-    match text_in(alloc, script) {
+    match text_in(alloc, script, MOST_BYTES) {
         Ok(text) => schedule_in(alloc, &text),
         Err(stop) => Err(stop),
     }
+}
+
+/// Reads the bytes for a namespace, which are all that is left of the script.
+///
+/// They are refused with `TooLong`, if they are more than all contents of a set can have. It stops with `ReadFault` only if the
+/// script's count of faults rose in this call.
+pub(crate) fn read_bytes<T: TextSource>(
+    alloc: Global,
+    script: &mut T,
+) -> Result<Vec<u8>, ScriptStop>
+    ensures read { IfOk result (λ bytes. ForSome (T.left script.old) (λ text. bytes_in text ≡ Ok bytes.items)) }
+    ensures refused { (why : ScriptRefused) → result ≡ Err (ScriptStop.Refused why) → ForSome (T.left script.old) (λ text. bytes_in text ≡ Err why) }
+    ensures failed { result ≡ Err (ScriptStop.Stop Stop.ReadFault) → Rose (T.faults script.old) (T.faults script.new) }
+{
+    text_in(alloc, script, MOST_CONTENTS)
 }
 
 fn kind_text(kind: LineKind) -> &'static str
@@ -120,7 +139,7 @@ fn refused_text(alloc: Global, why: ScriptRefused) -> Result<String, AllocError>
     ensures { IfOk result (λ text. string_bytes text ≡ refused_text why) }
 {
     match why {
-        ScriptRefused::TooLong => format!(in alloc; "script TooLong {}\n", MOST_BYTES),
+        ScriptRefused::TooLong { most } => format!(in alloc; "script TooLong {}\n", most),
         ScriptRefused::Fault(ScriptFault::Line { number, kind }) => {
             format!(in alloc; "script Line {} {}\n", number, kind_text(kind))
         }

@@ -16,13 +16,14 @@ ghost use Rattle.shell_reports.specs.Sectors.{info_outcome, read_outcome};
 ghost use Rattle.shell_changes.specs.Answers.{ComesFrom, HasSizes, outcome_with, whole_outcome};
 ghost use Rattle.shell_changes.specs.Remains.{LeavesBy};
 ghost use Rattle.shell_changes.specs.Saved.{AreSaved, HasContentsOf, Stores, copies_contents};
+ghost use Rattle.shell_import.specs.Import.{ImportComes};
 ghost use Rattle.shell_replay.specs.Replay.{ReplayComes};
 ghost use Rattle.shell_run.specs.Scripts.{script_outcome};
 ghost use Rattle.shell_run.specs.Run.{AppendsPart, ComesTold, Ends, Holds, IsAnswered, IsDue, IsPlain, LeavesScript, LoadedComes, OnImages, copies, copies_by, needs_contents, reads_script};
 ghost use Rattle.shell_run.specs.Printed.{EndsPrinting, Exports, HoldsPrinted, IsMisused, IsReported, IsUnloaded};
 ghost use Rattle.shell_run.specs.Words.{GivesGoodName};
 
-use crate::scripts::{ScriptRefused, ScriptStop, read_schedule, script_answer};
+use crate::scripts::{ScriptRefused, ScriptStop, read_bytes, read_schedule, script_answer};
 use crate::words::{Command, command_from};
 use command_words::WordsFault;
 use image_set::{CopyFault, LoadFault, Loaded, Outline, load, load_outline};
@@ -31,6 +32,7 @@ use shell_changes::{
     Answer, SavedSet, SetRead, change_answer, init_answer, makes_sectors, without_set,
 };
 use shell_export::export_answer;
+use shell_import::import_answer;
 use shell_replay::{Schedule, replay_answer};
 use shell_reports::{
     Ending, Report, Status, Stop, info_answer, labels_answer, list_answer, load_answer,
@@ -134,6 +136,7 @@ fn needs_contents(command: &Command) -> bool
         Command::Write(_, _, _) => true,
         Command::Replay(_, _) => true,
         Command::Export(_, _) => true,
+        Command::Import(_) => true,
     }
 }
 
@@ -152,6 +155,7 @@ fn reads_script(command: &Command) -> bool
         Command::Write(_, _, _) => false,
         Command::Replay(_, _) => true,
         Command::Export(_, _) => false,
+        Command::Import(_) => true,
     }
 }
 
@@ -182,6 +186,7 @@ fn outlined_answer<C: Chooser>(
         Command::Write(_, _, _) => unreachable!(),
         Command::Replay(_, _) => unreachable!(),
         Command::Export(_, _) => unreachable!(),
+        Command::Import(_) => unreachable!(),
     }
 }
 
@@ -212,6 +217,7 @@ fn loaded_answer<C: Chooser>(
         Command::Write(uuid, sector, value) => write_answer(alloc, &uuid, sector, value, loaded),
         Command::Replay(_, _) => unreachable!(),
         Command::Export(_, _) => unreachable!(),
+        Command::Import(_) => unreachable!(),
     }
 }
 
@@ -332,6 +338,46 @@ fn perform_replay<S: ImageSource, T: TextSource, C: Chooser>(
     }
 }
 
+/// What `import` comes to once its bytes are read: the whole set is loaded.
+fn import_loaded<S: ImageSource>(
+    alloc: Global,
+    uuid: &Uuid,
+    bytes: &[u8],
+    images: &mut S,
+) -> Result<Answer, Stop>
+    ensures told { IfOk result (λ answer. (outcome : Outcome) → ComesFrom (S.held images.old) answer outcome → OnImages (ImportComes uuid.now bytes.now) (S.held images.old) outcome) }
+    ensures whole { IfOk result (λ answer. copies_contents answer.saved ≡ false) }
+    ensures same { S.held images.new ≡ S.held images.old }
+    ensures failed { result ≡ Err Stop.ReadFault → Rose (S.faults images.old) (S.faults images.new) }
+    ensures later { S.faults images.old ≤ S.faults images.new }
+{
+    match load(alloc, images) {
+        Ok(loaded) => found_memory(import_answer(alloc, uuid, loaded, bytes)),
+        Err(why) => unloaded(alloc, why),
+    }
+}
+
+/// What `import` comes to: its bytes are read first.
+fn perform_import<S: ImageSource, T: TextSource, C: Chooser>(
+    alloc: Global,
+    uuid: Uuid,
+    images: &mut S,
+    script: &mut T,
+    choose: &mut C,
+) -> Result<Answer, Stop>
+    ensures told { IfOk result (λ answer. (outcome : Outcome) → ComesFrom (S.held images.old) answer outcome → ComesTold (LeavesBy C.begins C.picks choose.old) (Command.Import uuid) (S.held images.old) (T.left script.old) outcome) }
+    ensures whole { IfOk result (λ answer. copies_contents answer.saved ≡ false) }
+    ensures same { S.held images.new ≡ S.held images.old }
+    ensures failed { result ≡ Err Stop.ReadFault → Rose (S.faults images.old) (S.faults images.new) ⊎ Rose (T.faults script.old) (T.faults script.new) }
+    ensures later { S.faults images.old ≤ S.faults images.new }
+{
+    match read_bytes(alloc, script) {
+        Ok(bytes) => import_loaded(alloc, &uuid, &bytes, images),
+        Err(ScriptStop::Refused(why)) => misread(alloc, why),
+        Err(ScriptStop::Stop(stop)) => Err(stop),
+    }
+}
+
 /// What a command with a script comes to.
 fn perform_scripted<S: ImageSource, T: TextSource, C: Chooser>(
     alloc: Global,
@@ -349,6 +395,7 @@ fn perform_scripted<S: ImageSource, T: TextSource, C: Chooser>(
 {
     match command {
         Command::Replay(uuid, seed) => perform_replay(alloc, uuid, seed, images, script, choose),
+        Command::Import(uuid) => perform_import(alloc, uuid, images, script, choose),
         _ => unreachable!(),
     }
 }

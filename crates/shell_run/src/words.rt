@@ -35,6 +35,8 @@ pub enum Command {
     Replay(Uuid, u64),
     /// Print all bytes of a namespace; whether bad sectors count as zeros.
     Export(Uuid, bool),
+    /// Fill a namespace with the bytes of the script.
+    Import(Uuid),
 }
 
 /// The greatest number of a module.
@@ -122,6 +124,7 @@ fn command_in(kind: Kind, values: &Parsed<'_>) -> Option<Command>
             let seed = values.optional_number("evict", 0, u64::MAX)?;
             Some(Command::Replay(uuid, seed.unwrap_or(0)))
         }
+        Kind::Import => Some(Command::Import(values.uuid("uuid")?)),
         Kind::Export => {
             let uuid = values.uuid("uuid")?;
             Some(Command::Export(uuid, values.flag("bad-as-zeros")))
