@@ -4,3 +4,4 @@ pub mod Telling
 pub mod Seating
 pub mod Ending
 pub mod Accounting
+mod Sending

@@ -12,7 +12,8 @@
 //! entries are its calls that were answered, each once, in their order, with their replies; and if its last call was cut and is a
 //! write, this write stands there or doesn't.
 //!
-//! The locks are made ([`of_cores`]), each session makes its calls ([`run_at`]), in any thread, and the locks are closed ([`close`]).
+//! The locks are made ([`of_cores`]), the sessions make their calls in threads ([`run_sessions`]; [`run_at`] runs one, in any thread), and
+//! the locks are closed ([`close`]).
 //!
 //! No command calls this crate yet.
 #![tactic(auto)]
@@ -26,7 +27,7 @@ mod service;
 mod sessions;
 
 pub use runner::Runner;
-pub use running::run_at;
+pub use running::{run_at, run_sessions};
 pub use script::{Reply, SectorCall, SessionCalls};
 pub use service::{Service, Switch, of_cores};
 pub use sessions::{Ran, close};

@@ -1,10 +1,10 @@
-//! A session makes its calls.
+//! A session makes its calls, and all sessions do at once.
 ghost use Rattle.std.specs.Prelude.{◌≡◌, ℕ, ◌+◌, ◌^◌, ◌<◌, length, true, false, IfOk, IsTrue};
 ghost use Rattle.lane_core.specs.declared.call.Call.TheVariants as call;
 ghost use Rattle.lane_core.specs.Sessions.{write_steps};
 ghost use Rattle.sector_service.specs.Calls.{MayRead, MayWrite};
 ghost use Rattle.sector_service.specs.Rows.{KnowsAt};
-ghost use Rattle.sector_sessions.specs.Runners.{CallGoes, HasRun, IsEnded, IsReady, IsRunning, MayMake, MayRun, ReadGoes, Tells, WriteGoes};
+ghost use Rattle.sector_sessions.specs.Runners.{AreEnded, AreReady, CallGoes, HasRun, IsEnded, IsReady, IsRunning, MayMake, MayRun, ReadGoes, Tells, WriteGoes};
 ghost use Rattle.sector_sessions.specs.Scripts.{least_steps, read_steps_of, write_steps_of};
 ghost use Rattle.sector_sessions.specs.Scripts as spec;
 ghost use Rattle.sector_sessions.specs.Services.{locks_of, power_of};
@@ -17,6 +17,8 @@ use lane_core::Call;
 use sector_service::{Heard, Session, Wrote, read, write};
 use std::alloc::AllocError;
 use std::sync::Wait;
+use std::thread;
+use std::thread::Threads;
 
 // Reads a sector of the core at a place.
 fn make_read<R: Wait>(
@@ -153,4 +155,28 @@ pub fn run_at<R: Wait>(
     ensures { HasRun service.now scripts.now i runner.new }
 {
     run_session(rt, service, &scripts[i], runner);
+}
+
+/// Runs all sessions, in at most `workers` threads, and returns when each has made its calls.
+///
+/// Condition: each session is ready, as `of_cores` made it. When all have ended, what [`run_at`] says of one holds of each
+/// (`AreEnded`), whatever the threads did. `close` asks for that.
+pub fn run_sessions<R: Threads + Wait + Sync>(
+    rt: &R,
+    service: &Service,
+    scripts: &[SessionCalls],
+    workers: usize,
+    runners: &mut [Runner],
+)
+    requires workers { 0 < workers }
+    requires ready { AreReady service.now scripts.now runners.old }
+    ensures count { length runners.new ≡ length runners.old }
+    ensures ended { AreEnded service.now scripts.now runners.new }
+{
+    thread::for_each_mut(
+        rt,
+        runners,
+        workers,
+        &|i, runner| run_at(rt, service, scripts, i, runner),
+    );
 }
