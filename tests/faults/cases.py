@@ -40,8 +40,8 @@ def image(text, files, words, hint=None):
     return files, words, 3, f"image {text}", hint or f"nvd: image {text}: "
 
 
-def refused(text, files, words):
-    return files, words, 4, f"refused {text}", f"nvd: refused {text}: "
+def refused(text, files, words, hint=None):
+    return files, words, 4, f"refused {text}", hint or f"nvd: refused {text}: "
 
 
 def usage():
@@ -158,9 +158,10 @@ def refusals():
             ("NotSector", whole(), INFO), ("NotSector", whole(), READ), ("NotSector", whole(), WRITE), ("NotSector", whole(), REPLAY),
             ("BadSector 1", sectors(entries={1: 1 << 30 | 1, 2: 1 << 30 | 2}), EXPORT),
             (f"Range {OUTER}", sectors(), [*READ[:-1], str(OUTER)]), (f"Range {OUTER}", sectors(), [*WRITE[:-2], str(OUTER), "hex:"]),
-            ("Length 0 4096", sectors(), [*WRITE[:-1], "hex:"]), (f"Length 0 {OUTER * 4096}", sectors(), IMPORT), ("Length 513 4096", sectors(), [*WRITE[:-1], "hex:" + 513 * "5a"]),
+            ("Length 0 4096", sectors(), [*WRITE[:-1], "hex:"]), ("Length 513 4096", sectors(), [*WRITE[:-1], "hex:" + 513 * "5a"]),
             ("Arenas 2", chain(), REPLAY)):
         yield refused(text, files, words)
+    yield refused(f"Length 0 {OUTER * 4096}", sectors(), IMPORT, f"the namespace, which has {OUTER * 4096};")
 
 
 def group(old, new, seq, padding=bytes(32)):
