@@ -205,7 +205,7 @@ pub arena_count : (size : ℕ) (m : Make) → has_sectors m ≡ true → format_
 arena_count size make.Raw e = absurd (false≢true e)
 arena_count size (make.Sector sector lanes) e = refl
 
--- what becomes of areas that want of memory leaves
+-- areas after out of memory
 memory_held : (h : Held) (new : Held) (r : Reply) → h.stopped ≡ false → r ≡ Err OutOfMemory → new.sets ≡ h.sets → new.areas ≡ h.areas → new.stopped ≡ is_cut r → new ≡ h
 memory_held h new r running e sets areas stopped = λ i. record { sets = sets i; areas = areas i; stopped = (stopped ∙ ap is_cut e ∙ sym running) i }
 

@@ -86,7 +86,7 @@ pub busy : IsJournal sets (opening_of made) None (entry 0 0 (command.Claim u) (O
 unfolding IsJournal steps_of_all all_changed put_all put status_of first_fault checked by_position by_position_with taken_from given_to unfinished_gone
 busy = (refl, (refl, (refl, (refl, (refl, tt)))))
 
--- a delete isn't answered `Busy` where nobody has the namespace open
+-- a delete isn't answered `Busy` if nobody has the namespace open
 pub not_busy : IsJournal sets (opening_of made) None (entry 1 0 (command.Delete u) (Err (Busy 0)) ∷ []) → ⊥
 unfolding IsJournal steps_of_all all_changed put_all put status_of first_fault checked by_position by_position_with taken_from given_to unfinished_gone
 not_busy h = let e : false ≡ true = ap is_ok h.0 in absurd (cc)

@@ -64,7 +64,7 @@ no_cause cause = by (cause 0 refl)
 pub cut_before : is_cut_last (reply.Cut ∷ reply.Done ∷ []) ≡ false
 cut_before = refl
 
--- a call without a reply, where nothing was cut
+-- a call without a reply, though nothing was cut
 pub unanswered : IsCutLast (open_u ∷ close ∷ []) (reply.Done ∷ []) → ⊥
 unanswered h = let e : 1 ≡ 2 = h.all refl in absurd (omega (arith, e))
 

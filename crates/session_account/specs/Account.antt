@@ -22,7 +22,7 @@ Histories = ℕ → ℕ → List HistoryEntry
 
 -- ---- one session
 
--- only the last reply may be a cut; where none is, each call has a reply
+-- only the last reply may be a cut; if none is, each call has a reply
 pub record IsCutLast (lines : List Line) (replies : List Reply) : Type 0 where
   pub few : length replies ≤ length lines
   pub last : is_cut_last replies ≡ true
@@ -63,7 +63,7 @@ has_cut_entry journal = list_any (λ e. answer.is_cut e.reply) journal
 abbrev pub CutInCommand : Script → List Entry → Type 0
 CutInCommand script journal = IsSome script.labelcut × IsTrue (has_cut_entry journal)
 
--- a reply is a cut only where a session that cuts power was cut itself, or power was cut in a command
+-- a reply is a cut only if a session that cuts power was cut itself, or power was cut in a command
 abbrev pub CutHasCause : Script → List (List Reply) → List Entry → Type 0
 CutHasCause script replies journal =
     (q : ℕ) → IsTrue (has_cut (replies_at replies q)) → ((r : ℕ) × CutItself script replies r) ⊎ CutInCommand script journal

@@ -21,7 +21,7 @@ refusal_at sets k e = refusal_of (namespaces_with sets k) e.command
 abbrev pub changes_at : List (List Mapping) → Kept → Entry → List Change
 changes_at sets k e = changes_of (namespaces_with sets k) k.areas e.command
 
--- its steps: none where it is refused
+-- its steps: none if it is refused
 abbrev pub steps_by : List (List Mapping) → Kept → Entry → Option OpRefused → ℕ
 steps_by sets k e (Some refused) = 0
 steps_by sets k e None = steps_of_all k.areas (changes_at sets k e)
@@ -37,7 +37,7 @@ abbrev pub IsOff : Entry → Type 0
 IsOff e = e.reply ≡ Err PowerCut
 
 -- Each entry replies what its command does at its point, until the steps of one pass those that power lasts for: that one and all
--- later ones reply that power was cut. None replies want of memory.
+-- later ones reply that power was cut. None replies out of memory.
 unfoldable pub IsJournal : List (List Mapping) → Kept → Option ℕ → List Entry → Type 0
 IsJournal sets k fuse [] = ⊤
 IsJournal sets k fuse (e ∷ es) =

@@ -18,7 +18,7 @@ use Rattle.session_account.specs.Made.{Made, made_by, on_end, has_cut, uncut, cu
 
 -- ---- commands
 
--- what an order asks where a namespace is open or none is; an open with one, and a close without one, ask nothing
+-- what an order asks if a namespace is open or none is; an open with one, and a close without one, ask nothing
 abbrev pub command_of : Option (List ℕ) → Order → Option Command
 command_of None (order.Open uuid) = Some (command.Claim uuid)
 command_of (Some held) (order.Open uuid) = None
@@ -51,7 +51,7 @@ tag_of session call = record { session = session; call = call }
 abbrev pub entry : ℕ → ℕ → Command → Answer → Entry
 entry session call c answer = record { tag = tag_of session call; command = c; reply = answer }
 
--- the entry of a call, where it asks something
+-- the entry of a call, if it asks something
 abbrev pub entry_for : ℕ → Made → Option Entry
 entry_for q m = option_and_then (λ c. option_map (entry q m.call c) (answer_of m.reply)) (asked m.on m.line)
 
@@ -62,7 +62,7 @@ entries_for q calls = filter_map (entry_for q) calls
 abbrev pub own_entries : ℕ → List Entry → List Entry
 own_entries q journal = filter (λ e. e.tag.session == q) journal
 
--- a claim that a session has at its end is given back; where power is off, it isn't
+-- a claim that a session has at its end is given back; if power is off, it isn't
 abbrev pub IsGivenBack : ℕ → ℕ → Option (List ℕ) → List Entry → Type 0
 IsGivenBack q calls None last = last ≡ []
 IsGivenBack q calls (Some uuid) last = (last ≡ entry q calls (command.Unclaim uuid) (Ok tt) ∷ []) ⊎ (last ≡ entry q calls (command.Unclaim uuid) (Err PowerCut) ∷ [])

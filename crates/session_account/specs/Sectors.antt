@@ -181,6 +181,6 @@ flight s = record { sector = s.sector; act = s.act }
 abbrev pub stands_in : ℕ → List HistoryEntry → Stand → Bool
 stands_in q history s = list_any (λ e. (e.tag.session == q) && (e.tag.call == s.call)) history
 
--- the call of a session that was cut on an arena, where it doesn't stand
+-- the call of a session that was cut on an arena, if it doesn't stand
 abbrev pub flights_of : List Serving → ℕ → ℕ → List HistoryEntry → ℕ → List Made → List Flight
 flights_of all place k history q calls = map flight (filter (λ s. not (stands_in q history s)) (stands_of all place k (cut_of calls)))

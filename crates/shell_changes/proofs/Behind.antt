@@ -23,7 +23,7 @@ append_nil (x ∷ xs) = ap (λ ys. x ∷ ys) (append_nil xs)
 
 -- ---- fuses
 
--- a fuse lasts for two counts where it lasts for one, and what is left for the other
+-- a fuse lasts for two counts if it lasts for one, and what is left lasts for the other
 pub lasts_both : (fuse : Option ℕ) (a b : ℕ) → lasts fuse a ≡ true → lasts fuse (a + b) ≡ lasts (burnt fuse a) b
 lasts_both None a b long = refl
 lasts_both (Some n) a b long = by a b n long

@@ -142,7 +142,7 @@ module _ (set : ImageSet) (words : List (Option Words)) (nfit : Nfit) (labels : 
       let was = was_opened nfit (map opened_as words) registry is in
       sets_are whole ∙ read_ok nfit (overlap_fault (labels_of (map opened_as words))) was.sound was.clear ∙ ap (λ (s : List (List Mapping)). Ok s) was.sets
 
-  -- and there are none where it isn't opened
+  -- and there are none if it isn't opened
   pub sets_err : (f : OpenFault) → AreWhole words → Err f ≡ opening nfit (map opened_as words) → sets_in set ≡ Err f
   sets_err f whole is = sets_are whole ∙ read_err nfit (map opened_as words) f is
 

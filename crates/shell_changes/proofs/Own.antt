@@ -61,7 +61,7 @@ none_full : (gone : Namespaces) (modules : List ℕ) → AllByRecursion (λ m. n
 none_full gone [] all = refl
 none_full gone (m ∷ modules) (some, rest) = rw (has_slot (area_of gone m).free some) (none_full gone modules rest)
 
--- so where each module has a free slot it isn't pending
+-- so if each module has a free slot, it isn't pending
 settled_whole : (gone : Namespaces) (x : Entry) → AllByRecursion (λ m. nat_lt (area_of gone m).free 1 ≡ false) x.updating → (name : List ℕ) (pending : Bool) → (settled_entry gone x).status ≡ Complete name pending → pending ≡ false
 settled_whole gone x all name pending is = by x.status is
   where

@@ -15,7 +15,7 @@ abbrev pub area_by : List ℕ → Result IndexBlock AreaFault → Option Area
 area_by bytes (Ok block) = Some (record { block = block.size; slots = slots_by bytes block })
 area_by bytes (Err fault) = None
 
--- none where the module has no label area, or one without a valid index block
+-- none if the module has no label area, or one without a valid index block
 abbrev pub area_in : Option (List ℕ) → Option Area
 area_in None = None
 area_in (Some bytes) = area_by bytes (block_in bytes)
@@ -23,7 +23,7 @@ area_in (Some bytes) = area_by bytes (block_in bytes)
 abbrev pub areas_in : List (Option (List ℕ)) → List (Option Area)
 areas_in labels = map area_in labels
 
--- the words of all label areas, none where a module has none
+-- the words of all label areas, none for a module that has none
 abbrev pub rows_in : ImageSet → List (Option (List ℕ))
 rows_in set = map (option_map words_in) set.labels
 

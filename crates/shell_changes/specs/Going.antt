@@ -58,7 +58,7 @@ FormatsIn (Some arena) contents contents' fuse =
 -- an arena is formatted, if there is one, and then label changes are made, as far as the fuse lasts
 pub record Works (arena : Option Arena) (old new : List Area) (contents contents' : List Words) (fuse left : Option ℕ) (changes : List Change) (whole : Bool) : Type 0 where
   pub formats : FormatsIn arena contents contents' fuse
-  -- where power was cut within the format no label area was touched
+  -- if power was cut within the format, no label area was touched
   pub within : lasts fuse (count_of arena) ≡ false → (whole ≡ false) × (new ≡ old)
   pub labels : lasts fuse (count_of arena) ≡ true → Went old new (burnt fuse (count_of arena)) left changes whole
 

@@ -24,7 +24,7 @@ not_initialised m fault = fault_outcome m fault
 
 -- ---- what the command comes to
 
--- where the area is refused, with the words that it then has: they are saved where power was cut, as the cut leaves them
+-- if the area is refused, with the words that it then has: they are saved if power was cut, as the chooser leaves them
 abbrev pub RefusedArea : (ℕ → List (Option Words) → List (Option (List ℕ)) → Type 0) → ℕ → Power → ImageSet → Words → AreaFault → Outcome → Type 0
 RefusedArea leaves m power loaded words PowerCut outcome =
     (left : List ℕ) × leaves power.seed (Some words ∷ []) (Some left ∷ []) × IsSaving ending.PowerCut (cut_text power.steps) (objects_of (with_area loaded m (bytes_of left))) outcome
@@ -34,7 +34,7 @@ abbrev pub InitArea : (ℕ → List (Option Words) → List (Option (List ℕ)) 
 InitArea leaves m power loaded (Ok area) outcome = IsSaving ending.Done done_text (objects_of (with_area loaded m (bytes_of area.words.kept))) outcome
 InitArea leaves m power loaded (Err refused) outcome = RefusedArea leaves m power loaded refused.words refused.fault outcome
 
--- by the module's label area; there is none where the table doesn't name the module, or it has no area
+-- by the module's label area; there is none if the table doesn't name the module, or it has no area
 abbrev pub InitModule : (ℕ → List (Option Words) → List (Option (List ℕ)) → Type 0) → ℕ → Power → ImageSet → Option (List ℕ) → Outcome → Type 0
 InitModule leaves m power loaded None outcome = outcome ≡ module_outcome m None
 InitModule leaves m power loaded (Some area) outcome =

@@ -109,7 +109,7 @@ recovery_steps sets loaded = steps_of_all (areas_in loaded.labels) (recovery_cha
 abbrev pub format_steps_of : List (List Mapping) → ImageSet → Command → ℕ
 format_steps_of sets loaded c = count_of (arena_of (namespaces_of sets (recovered_areas sets (areas_in loaded.labels))) c)
 
--- where a crash comes after n steps: in recovery; or, with recovery made, in the format of an arena; or in the command's label changes
+-- what a crash after n steps falls into: in recovery; or, with recovery made, in the format of an arena; or in the command's label changes
 -- behind both
 abbrev pub IsCutIn : List (List Mapping) → ImageSet → Command → ℕ → Outcome → Type 0
 IsCutIn sets loaded c n outcome =

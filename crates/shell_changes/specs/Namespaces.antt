@@ -50,7 +50,7 @@ pub record IsDone (loaded : ImageSet) (areas : List (Option Area)) (work : Work)
 pub record IsCut (leaves : ℕ → List (Option Words) → List (Option (List ℕ)) → Type 0) (loaded : ImageSet) (areas : List (Option Area)) (work : Work) (power : Power) (outcome : Outcome) : Type 0 where
   pub steps : ℕ
   pub given : power.steps ≡ Some steps
-  -- whatever the cut leaves of the label areas shows what it leaves of the changes
+  -- whatever label areas are there after the crash, they show the changes that a crash may leave
   pub leave : (rows : List (Option (List ℕ))) → Each IsLeftOf (words_after (rows_in loaded) (label_changes work) (label_steps areas work steps)) rows
       → IsLeftBy areas (label_changes work) (label_steps areas work steps) (areas_shown rows)
   pub contents : List Words

@@ -20,7 +20,7 @@ use Rattle.shell_changes.specs.declared.saving.Rest.{Rest}
 
 -- ---- chosen
 
--- What a cut leaves of rows of words, by a chooser that is begun from a seed and asked for each pending word, row by row.
+-- Rows of words after a crash, by a chooser that is begun from a seed and asked for each pending word, row by row.
 abbrev pub LeavesBy : {C : Type 0} → (C → ℕ → C → Type 0) → (C → ℕ → Bool → C → Type 0) → C → ℕ → List (Option Words) → List (Option (List ℕ)) → Type 0
 LeavesBy {C} begins picks choose seed areas rows = (begun after : C) × begins choose seed begun × InTurn (LeavesOption picks) areas rows begun after
 

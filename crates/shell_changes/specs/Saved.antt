@@ -12,7 +12,7 @@ abbrev pub CanBeSaved : Left → Type 0
 CanBeSaved (Whole left) = IsSavable left
 CanBeSaved (Copied left) = IsCopyable left
 
--- its objects, where contents that are copied are these
+-- its objects, if contents that are copied are these
 abbrev pub objects_saved : List (List ℕ) → Left → Images
 objects_saved contents (Whole left) = objects_in left
 objects_saved contents (Copied left) = objects_with left contents

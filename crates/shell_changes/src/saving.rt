@@ -54,7 +54,7 @@ pub(crate) fn remaining(beside: Beside, labels: Items<Option<CutWords>>) -> Rema
     }
 }
 
-/// What a cut leaves of an outline with this label area of a module.
+/// An outline after the crash, with this label area of a module.
 fn area_left<C: Chooser>(
     alloc: Global,
     rest: Outline,
@@ -70,7 +70,7 @@ fn area_left<C: Chooser>(
     Ok(SavedSet::new(Left::Copied(left)))
 }
 
-/// What a cut leaves of an outline with these label areas.
+/// An outline after the crash, with these label areas.
 fn areas_left<C: Chooser>(
     alloc: Global,
     rest: OutlineRest,
@@ -85,7 +85,7 @@ fn areas_left<C: Chooser>(
     Ok(SavedSet::new(Left::Copied(left)))
 }
 
-/// What a cut leaves of a loaded set with these label areas.
+/// A loaded set after the crash, with these label areas.
 fn whole_left<C: Chooser>(
     alloc: Global,
     rest: Rest,
@@ -109,7 +109,7 @@ fn whole_left<C: Chooser>(
     Ok(SavedSet::new(Left::Whole(left)))
 }
 
-/// What a cut leaves. Where no word is pending, all is left.
+/// The set after the crash. A word that isn't pending stays.
 fn set_left<C: Chooser>(
     alloc: Global,
     remains: Remains,

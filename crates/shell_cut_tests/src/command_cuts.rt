@@ -205,7 +205,7 @@ fn recovery_comes_before_the_command(rt: HostRuntime) -> Result<(), AllocError> 
     Ok(())
 }
 
-/// The label comes with the last of 39,042 steps; where that alone is missing the chooser says whether it stands.
+/// The label comes with the last of 39,042 steps. If that alone is missing, the chooser says whether it stands.
 #[test]
 fn a_label_comes_when_the_arena_is_whole(rt: HostRuntime) -> Result<(), AllocError> {
     let alloc = rt.alloc();

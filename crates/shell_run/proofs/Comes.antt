@@ -52,7 +52,7 @@ pub from_with : (held : Option Images) (source : Images) (sizes : List ℕ) (ans
 from_with held source sizes answer outcome told sized comes =
     outcome_is answer outcome (contents_in source (length sizes)) comes.ends comes.says (saved_by held source sizes answer.saved outcome.saved told sized comes.saves)
 
--- where no contents are copied it is one, whatever is told
+-- if no contents are copied it is one, whatever is told
 whole_by : (held : Option Images) (contents : List (List ℕ)) (saved : Option Left) (set : Option Images) → copies_contents saved ≡ false → AreSaved held saved set → set ≡ option_map (objects_saved contents) saved
 whole_by held contents None set whole are = are
 whole_by held contents (Some (Whole left)) set whole (objects, is, saves) = saves ∙ ap (λ (o : Images). Some o) is
@@ -313,7 +313,7 @@ export_due leaves command uuid zeros held left outcome is due = λ script reads.
 
 -- ---- a set that isn't finished
 
--- where a set was to be saved, an outcome with a set was due
+-- if a set was to be saved, an outcome with a set was due
 saved_due : (held : Option Images) (saved : Option Left) → IsSome saved → (set : Images) × AreSaved held saved (Some set)
 saved_due held None some = absurd (let e = some in cc)
 saved_due held (Some (Whole left)) some = (objects_saved [] (Whole left), (objects_saved [] (Whole left), refl, refl))

@@ -57,7 +57,7 @@ module _ (values : List ℕ) (fuse : Option ℕ) (ok : IsInit values (size_for (
   pub short_blocks : (left : List ℕ) → IsLeft reached left → blocks left
   short_blocks left cut = blocks_under values size slots ok fuse left cut
 
-  -- the words of both blocks are what is left where all steps were made
+  -- the words of both blocks are what is left if all steps were made
   done_left : lasts fuse (init_count (length values)) ≡ true → IsLeft reached (full_words values size slots)
   done_left long =
       let all : lasts fuse (length steps) ≡ true = sym (both_last values size slots ok (settled values) reached fuse (burnt fuse (length steps)) (lasts fuse (length steps)) makes) ∙ long in

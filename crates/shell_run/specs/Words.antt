@@ -56,7 +56,7 @@ command_in kind.Init values = option_and_then (λ m. option_map (λ power. Init 
 abbrev pub command_with : Kind → List (List ℕ) → Option Command
 command_with kind words = option_and_then (command_in kind) (parsed (arguments_of kind) words)
 
--- the command that the words say, None where they aren't a command line
+-- the command that the words say, None if they aren't a command line
 abbrev pub command_of : List (List ℕ) → Option Command
 command_of [] = None
 command_of (name ∷ words) = option_and_then (λ kind. command_with kind words) (kind_of name)

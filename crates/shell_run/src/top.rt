@@ -498,7 +498,7 @@ fn stopped<O: TextSink>(stop: Stop, text: &mut O) -> Status
     }
 }
 
-/// Saves the image set of an answer, if it has one, and then prints its text. Where the source fails as contents are
+/// Saves the image set of an answer, if it has one, and then prints its text. If the source fails as contents are
 /// copied the set isn't finished, and the text is `read fault`.
 #[tactic(auto, using(crate::proofs::Ending::endings))]
 fn conclude<S: ImageSource, K: ImageSink, O: TextSink>(
