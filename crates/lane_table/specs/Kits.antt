@@ -1,5 +1,5 @@
 -- What contracts say of lanes and of their arena.
-use Rattle.std.specs.Prelude.{◌≡◌, ℕ, List, length}
+use Rattle.std.specs.Prelude.{◌≡◌, ℕ, List}
 use Rattle.atomic_table.specs.Seated.{TableId}
 use Rattle.lane_core.specs.declared.history.Entry.{Entry}
 use Rattle.lane_core.specs.declared.shape.Shape.{Shape}
@@ -37,9 +37,10 @@ IsSame k k' = (k'.seat.table_id ≡ k.seat.table_id) × (k'.number ≡ k.number)
 abbrev pub owned_in : Kit → Owned
 owned_in k = record { number = k.number; lane = k.seat.me.0.lane; shape = k.seat.me.0.shape }
 
+-- its entries in the history, oldest first; the log has them without the words of reads
 abbrev pub log_in : Kit → List Entry
-log_in k = k.log.items
+log_in k = k.seat.me.0.lane.log
 
 -- how many more calls the lane has room for
 abbrev pub spare_in : Kit → ℕ
-spare_in k = length k.rooms.items
+spare_in k = k.log.spare

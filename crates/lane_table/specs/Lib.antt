@@ -5,6 +5,7 @@ pub mod Conditions
 pub mod Committed
 pub mod Begun
 pub mod Kits
+pub mod Logs
 pub mod Closed
 pub mod Stages
 pub mod Reads

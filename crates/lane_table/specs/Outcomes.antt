@@ -28,14 +28,14 @@ use Rattle.lane_table.specs.Told.{missed, IsAfter}
 abbrev pub Stages : List ℕ → Lane → StageOutcome → Type 0
 Stages ws l (stage.Staged s) = IsAfter (stage_steps l.kit.seat.me.0.shape) l.kit.seat.me (record (l.kit.seat.me.0.lane) { phase = InStaged; words = ws }) s.kit.seat.me × (s.words.items ≡ ws) × (spare_in l.kit ≡ suc (spare_in s.kit)) × IsSame l.kit s.kit × Fell (stage_steps l.kit.seat.me.0.shape) l.kit.fuse s.kit.fuse
 Stages ws l (stage.Tracked k r b) = (j : ℕ) × (j + 1 < l.kit.seat.me.0.shape.lanes) × (r ≡ other_lane l.kit.number j) × (b ≡ l.mine.block) × IsAfter (j + 1) l.kit.seat.me (record (l.kit.seat.me.0.lane) { phase = Idle; words = [] }) k.kit.seat.me
-    × (k.kit.seat.me.0.count.last ≡ suc b) × (k.kit.rooms ≡ l.kit.rooms) × IsSame l.kit k.kit × Fell (j + 1) l.kit.fuse k.kit.fuse
+    × (k.kit.seat.me.0.count.last ≡ suc b) × (k.kit.log ≡ l.kit.log) × IsSame l.kit k.kit × Fell (j + 1) l.kit.fuse k.kit.fuse
 Stages ws l (stage.Cut k) = (n : ℕ) × (p : Lane_now) × (n < stage_steps l.kit.seat.me.0.shape) × IsAfter n l.kit.seat.me p k.kit.seat.me × (p.log ≡ l.kit.seat.me.0.lane.log) × IsSame l.kit k.kit × Burnt n l.kit.fuse k.kit.fuse
 
 -- Done: nine steps. MapBusy: one, which found one more than the holder; the words are as they were.
 -- Cut: as many steps as the fuse had
 abbrev pub Commits : Call → Staged → CommitOutcome → Type 0
-Commits t s (Done k) = (w : ℕ) × (k.kit.seat.me ≡ way t w 9 s.kit.seat.me) × (k.kit.rooms ≡ s.kit.rooms) × IsSame s.kit k.kit × Fell 9 s.kit.fuse k.kit.fuse
-Commits t s (MapBusy z holder) = (z.kit.seat.me ≡ missed (suc holder) s.kit.seat.me) × (holder < s.kit.seat.me.0.shape.lanes) × (z.words ≡ s.words) × (z.kit.rooms ≡ s.kit.rooms) × IsSame s.kit z.kit × Fell 1 s.kit.fuse z.kit.fuse
+Commits t s (Done k) = (w : ℕ) × (k.kit.seat.me ≡ way t w 9 s.kit.seat.me) × (k.kit.log.rooms ≡ s.kit.log.rooms) × (spare_in k.kit ≡ spare_in s.kit) × IsSame s.kit k.kit × Fell 9 s.kit.fuse k.kit.fuse
+Commits t s (MapBusy z holder) = (z.kit.seat.me ≡ missed (suc holder) s.kit.seat.me) × (holder < s.kit.seat.me.0.shape.lanes) × (z.words ≡ s.words) × (z.kit.log ≡ s.kit.log) × IsSame s.kit z.kit × Fell 1 s.kit.fuse z.kit.fuse
 Commits t s (Cut k) = (w : ℕ) × (n : ℕ) × (n < 9) × (k.kit.seat.me ≡ way t w n s.kit.seat.me) × IsSame s.kit k.kit × Burnt n s.kit.fuse k.kit.fuse
 
 -- Got: one step if the entry says zeros or bad, else four and one for each word. Moved: four steps;
@@ -47,10 +47,10 @@ Reads t old new l (reads.Got k kind) =
 Reads t old new l (reads.Moved k e f) =
     (e ≡ entry_in k.kit.seat.me.0.count.before t.sector) × (f ≡ entry_in k.kit.seat.me.0.count.last t.sector) × (e ≢ f)
     × IsAfter 4 l.kit.seat.me (record (calling t l.kit.seat.me.0.lane) { phase = Idle; loaded = k.kit.seat.me.0.count.before }) k.kit.seat.me
-    × (new ≡ old) × (k.kit.rooms ≡ l.kit.rooms) × IsSame l.kit k.kit × Fell 4 l.kit.fuse k.kit.fuse
+    × (new ≡ old) × (k.kit.log ≡ l.kit.log) × IsSame l.kit k.kit × Fell 4 l.kit.fuse k.kit.fuse
 Reads t old new l (reads.Cut k) = Stops l.kit.seat.me k.kit.seat.me l.kit.fuse k.kit.fuse old new (l.kit.seat.me.0.shape.width + 4) × IsSame l.kit k.kit
 
--- a read that got a cell stands in the lane's log with it
+-- a read that got a cell stands in the lane's part of the history with it
 abbrev pub Stands : Call → List ℕ → Lane → ReadOutcome → Type 0
 Stands t new l (reads.Got k kind) = log_in k.kit ≡ log_in l.kit ++ record { lane = l.kit.number; tag = t.tag; sector = t.sector; act = act.Read (cell_of_kind kind new) } ∷ []
 Stands t new l (reads.Moved k e f) = log_in k.kit ≡ log_in l.kit

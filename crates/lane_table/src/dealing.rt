@@ -6,6 +6,7 @@ ghost use Rattle.lane_table.specs.Law.{first};
 use crate::fuse::Fuse;
 use crate::kinds::SplitSeat;
 use crate::lanes::{Kit, Lane};
+use crate::log::LaneLog;
 use crate::pieces::Mine;
 use crate::table::{LaneSeat, Words};
 use arena_open::LaneState;
@@ -23,8 +24,7 @@ pub(crate) fn seated(alloc: Global, seat: LaneSeat, number: u32, state: LaneStat
             seat,
             number,
             fuse: Fuse::of(None),
-            log: Vec::new(alloc),
-            rooms: Vec::new(alloc),
+            log: LaneLog::new(alloc),
         },
         mine: Mine {
             number,

@@ -1,14 +1,15 @@
 //! A lane with its seat, in each of its states. A call takes the lane in one state and returns it
 //! in another, so a state has no method for a call that it doesn't allow.
-ghost use Rattle.std.specs.Prelude.{◌≡◌, ◌+◌, ◌<◌, ◌≤◌, true, [], All, vec_len, vec_capacity};
+ghost use Rattle.std.specs.Prelude.{◌≡◌, ◌+◌, ◌<◌, true, [], All, map, vec_len, vec_capacity};
 ghost use Rattle.lane_core.specs.declared.phase.Phase.TheVariants.{Idle as IsIdle, Staged as IsStaged};
 ghost use Rattle.lane_table.specs.Conditions.{IsMine, IsRoom};
+ghost use Rattle.lane_table.specs.Logs.{call_logged};
 ghost use Rattle.lane_table.specs.Told.{blocks};
 
 use crate::fuse::Fuse;
+use crate::log::LaneLog;
 use crate::pieces::Mine;
 use crate::table::LaneSeat;
-use lane_core::Entry;
 
 /// What a lane has in every state.
 #[derive(Drop)]
@@ -16,45 +17,30 @@ pub struct Kit {
     pub(crate) seat: LaneSeat,
     pub(crate) number: u32,
     pub(crate) fuse: Fuse,
-    /// Its calls that stand in the history, oldest first.
-    pub(crate) log: Vec<Entry>,
-    /// Room for the words of calls to come, each of a sector.
-    pub(crate) rooms: Vec<Vec<u64>>,
+    pub(crate) log: LaneLog,
     ghost live: { seat.me.0.live ≡ true },
     ghost numbered: { (seat.me.0.number ≡ number) × (number < seat.me.0.shape.lanes) },
     ghost alone: { (seat.me.0.rest ≡ []) × (seat.me.1 ≡ []) },
-    ghost logged: { seat.me.0.lane.log ≡ log.items },
-    ghost room: { vec_len log + vec_len rooms ≤ vec_capacity log },
-    ghost rooms_are: { All (IsRoom seat.me.0.shape.width) rooms.items },
+    ghost logged: { log.calls.items ≡ map call_logged seat.me.0.lane.log },
+    ghost rooms_are: { All (IsRoom seat.me.0.shape.width) log.rooms.items },
 }
 
 /// Puts together again what a lane has.
-pub(crate) fn kit_of(
-    seat: LaneSeat,
-    number: u32,
-    fuse: Fuse,
-    log: Vec<Entry>,
-    rooms: Vec<Vec<u64>>,
-) -> Kit
+pub(crate) fn kit_of(seat: LaneSeat, number: u32, fuse: Fuse, log: LaneLog) -> Kit
     requires live { seat.me.0.live ≡ true }
     requires numbered { (seat.me.0.number ≡ number) × (number < seat.me.0.shape.lanes) }
     requires alone { (seat.me.0.rest ≡ []) × (seat.me.1 ≡ []) }
-    requires logged { seat.me.0.lane.log ≡ log.items }
-    requires room { vec_len log + vec_len rooms ≤ vec_capacity log }
-    requires rooms_are { All (IsRoom seat.me.0.shape.width) rooms.items }
-    ensures seat { result.seat ≡ seat }
+    requires logged { log.calls.items ≡ map call_logged seat.me.0.lane.log }
+    requires rooms_are { All (IsRoom seat.me.0.shape.width) log.rooms.items }
     ensures me { result.seat.me ≡ seat.me }
-    ensures number { result.number ≡ number }
-    ensures fuse { result.fuse ≡ fuse }
+    ensures parts { (result.seat ≡ seat) × (result.number ≡ number) × (result.fuse ≡ fuse) }
     ensures log { result.log ≡ log }
-    ensures rooms { result.rooms ≡ rooms }
 {
     Kit {
         seat,
         number,
         fuse,
         log,
-        rooms,
     }
 }
 
@@ -78,7 +64,7 @@ pub struct Staged {
     ghost mine_is: { IsMine mine kit.seat.me.0 },
     ghost in_range: { mine.block < blocks kit.seat.me.0.shape },
     ghost words_are: { kit.seat.me.0.lane.words ≡ words.items },
-    ghost spare: { vec_len kit.log + vec_len kit.rooms < vec_capacity kit.log },
+    ghost taken: { vec_len kit.log.calls + kit.log.spare < vec_capacity kit.log.calls },
 }
 
 /// A lane whose fuse was spent when a step was due. It stays in that step.

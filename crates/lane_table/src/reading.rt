@@ -1,17 +1,15 @@
 //! Reads: a lane without a call reads a sector.
 ghost use Rattle.std.specs.Prelude.{◌≡◌};
-ghost use Rattle.lane_core.specs.declared.history.Act.TheVariants as act;
-ghost use Rattle.lane_table.specs.Reads.{cell_of_kind};
+ghost use Rattle.lane_table.specs.declared.log.LoggedAct.TheVariants as logged;
 
 use crate::arena::Arena;
 use crate::lanes::{Kit, Lane, Stopped, kit_of};
 use crate::loading::{Pause, ReadFate, read};
+use crate::log::{LoggedAct, LoggedCall};
 use crate::outcome::ReadOutcome;
-use crate::staged::filled;
 use crate::table::Call;
-use arena_open::{Cell, CellKind};
-use lane_core::{Act, Entry};
-use nvd_words::{Items, Tag};
+use arena_open::CellKind;
+use nvd_words::Tag;
 
 /// A read that goes on at once.
 #[derive(Drop)]
@@ -21,19 +19,15 @@ impl Pause for Straight {
     fn pause(&mut self) {}
 }
 
-/// The entry of a read that found a cell of this kind with these words.
-fn found(lane: u32, call: Call, kind: CellKind, words: Vec<u64>) -> Entry
-    ensures { result ≡ record { lane = lane; tag = call.tag; sector = call.sector; act = act.Read (cell_of_kind kind words.items) } }
+/// A read that found a cell of this kind, as it stands in its lane's log.
+fn found(lane: u32, call: Call, kind: CellKind) -> LoggedCall
+    ensures { result ≡ record { lane = lane; tag = call.tag; sector = call.sector; act = logged.Read kind } }
 {
-    let cell = match kind {
-        CellKind::Bytes => Cell::Bytes(Items::from_vec(words)),
-        CellKind::Bad => Cell::Bad,
-    };
-    Entry {
+    LoggedCall {
         lane,
         tag: call.tag,
         sector: call.sector,
-        act: Act::Read(cell),
+        act: LoggedAct::Read(kind),
     }
 }
 
@@ -46,7 +40,7 @@ impl Lane {
     /// word which block it reads, looks at the entry again, and loads the words only if the entry
     /// is the same. Takes no memory, and never waits.
     ///
-    /// - Got: the read stands in the lane's log with the cell that is returned; `into` has its
+    /// - Got: the read stands in the history with the cell that is returned; `into` has its
     ///   words, zeros too, and is as it was if the sector is bad. It takes one step if the entry
     ///   says zeros or bad, else four and one for each word, and one of `spare`.
     /// - Moved: the two looks found entries that differ, since a write moved the sector meanwhile.
@@ -91,24 +85,22 @@ impl Lane {
             number,
             mut fuse,
             mut log,
-            mut rooms,
         } = kit;
         let call = Call { tag, sector };
         match read(arena, &mut seat, &mut fuse, number, call, into, between) {
             ReadFate::Got(kind) => {
-                let words = filled(&mut rooms, into);
-                log.push_reserved(found(number, call, kind, words));
-                let kit = kit_of(seat, number, fuse, log, rooms);
+                log.add_read(found(number, call, kind));
+                let kit = kit_of(seat, number, fuse, log);
                 let lane = Lane { kit, mine };
                 ReadOutcome::Got { lane, kind }
             }
             ReadFate::Moved(first, then) => {
-                let kit = kit_of(seat, number, fuse, log, rooms);
+                let kit = kit_of(seat, number, fuse, log);
                 let lane = Lane { kit, mine };
                 ReadOutcome::Moved { lane, first, then }
             }
             ReadFate::Cut => ReadOutcome::Cut(Stopped {
-                kit: kit_of(seat, number, fuse, log, rooms),
+                kit: kit_of(seat, number, fuse, log),
             }),
         }
     }

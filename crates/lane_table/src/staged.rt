@@ -1,7 +1,4 @@
 //! An idle lane: what it can be asked, and how it stages a write.
-ghost use Rattle.std.specs.Prelude.{◌≡◌, ◌<◌, ◌≤◌, ◌⊎◌, suc, length, vec_len, All, OnOk};
-ghost use Rattle.lane_table.specs.Conditions.{IsRoom};
-
 use crate::arena::Arena;
 use crate::fuse::Fuse;
 use crate::lanes::{Kit, Lane, Staged, Stopped, kit_of};
@@ -9,58 +6,8 @@ use crate::outcome::StageOutcome;
 use crate::staging::{StageFate, stage};
 use std::alloc::{AllocError, Global};
 
-/// Fills room that was reserved for a call's words.
-fn fill(room: &mut Vec<u64>, words: &[u64])
-    requires { IsRoom (length words.now) room.old }
-    ensures { room.new.items ≡ words.now }
-{
-    for word in words {
-        room.push_reserved(*word);
-    }
-}
-
-/// A call's words, in one of the rooms that were reserved for them.
-pub(crate) fn filled(rooms: &mut Vec<Vec<u64>>, words: &[u64]) -> Vec<u64>
-    requires rooms { All (IsRoom (length words.now)) rooms.old.items }
-    requires some { 0 < vec_len rooms.old }
-    ensures words { result.items ≡ words.now }
-    ensures rooms { All (IsRoom (length words.now)) rooms.new.items }
-    ensures less { suc (vec_len rooms.new) ≡ vec_len rooms.old }
-{
-    match rooms.pop() {
-        Some(mut room) => {
-            fill(&mut room, words);
-            room
-        }
-        None => unreachable!(),
-    }
-}
-
-/// Rooms for the words of this many calls.
-fn more_rooms(
-    alloc: Global,
-    rooms: &mut Vec<Vec<u64>>,
-    width: usize,
-    calls: usize,
-) -> Result<(), AllocError>
-    requires rooms { All (IsRoom width) rooms.old.items }
-    ensures rooms { All (IsRoom width) rooms.new.items }
-    ensures enough { OnOk result (calls ≤ vec_len rooms.new) }
-    ensures more { vec_len rooms.old ≤ vec_len rooms.new }
-    ensures few { (vec_len rooms.new ≤ vec_len rooms.old) ⊎ (vec_len rooms.new ≤ calls) }
-{
-    if calls <= rooms.len() {
-        return Ok(());
-    }
-    for _ in rooms.len()..calls {
-        let room = Vec::with_capacity(alloc, width)?;
-        rooms.push(room)?;
-    }
-    Ok(())
-}
-
 impl Lane {
-    ghost use Rattle.std.specs.Prelude.{◌≡◌, ◌<◌, ◌≤◌, length, vec_len, OnOk};
+    ghost use Rattle.std.specs.Prelude.{◌≡◌, ◌<◌, ◌≤◌, length, OnOk};
     ghost use Rattle.lane_table.specs.Fuse.{of_left};
     ghost use Rattle.lane_table.specs.Kits.{IsOf, IsSame, spare_in};
     ghost use Rattle.lane_table.specs.Outcomes.{Stages};
@@ -76,7 +23,7 @@ impl Lane {
     pub fn spare(&self) -> usize
         ensures { result ≡ spare_in self.now.kit }
     {
-        self.kit.rooms.len()
+        self.kit.log.spare
     }
 
     /// The steps that are left, if a fuse is set.
@@ -91,7 +38,7 @@ impl Lane {
         ensures fuse { of_left self.new.kit.fuse ≡ steps }
         ensures same { IsSame self.old.kit self.new.kit }
         ensures seat { self.new.kit.seat ≡ self.old.kit.seat }
-        ensures rooms { self.new.kit.rooms ≡ self.old.kit.rooms }
+        ensures log { self.new.kit.log ≡ self.old.kit.log }
         ensures mine { self.new.mine ≡ self.old.mine }
     {
         self.kit.fuse = Fuse::of(steps);
@@ -108,13 +55,9 @@ impl Lane {
         ensures fuse { self.new.kit.fuse ≡ self.old.kit.fuse }
         ensures mine { self.new.mine ≡ self.old.mine }
     {
-        self.kit.log.reserve(calls)?;
-        more_rooms(
-            alloc,
-            &mut self.kit.rooms,
-            arena.shape.width as usize,
-            calls,
-        )
+        self.kit
+            .log
+            .reserve(alloc, arena.shape.width as usize, calls)
     }
 
     /// Stages a write of these words: looks once at each other lane's reader word, stores the words
@@ -131,19 +74,18 @@ impl Lane {
             mut seat,
             number,
             mut fuse,
-            log,
-            mut rooms,
+            mut log,
         } = kit;
         let table = &arena.table.shared;
         let fate = stage(table, &mut seat, &mut fuse, &arena.shape, mine, words);
         match fate {
             StageFate::Staged => {
-                let words = filled(&mut rooms, words);
-                let kit = kit_of(seat, number, fuse, log, rooms);
+                let words = log.take_room(words);
+                let kit = kit_of(seat, number, fuse, log);
                 StageOutcome::Staged(Staged { kit, mine, words })
             }
             StageFate::Tracked(reader) => {
-                let kit = kit_of(seat, number, fuse, log, rooms);
+                let kit = kit_of(seat, number, fuse, log);
                 StageOutcome::Tracked {
                     lane: Lane { kit, mine },
                     reader,
@@ -151,7 +93,7 @@ impl Lane {
                 }
             }
             StageFate::Cut => StageOutcome::Cut(Stopped {
-                kit: kit_of(seat, number, fuse, log, rooms),
+                kit: kit_of(seat, number, fuse, log),
             }),
         }
     }

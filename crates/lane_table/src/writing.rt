@@ -1,29 +1,29 @@
 //! Writes: a lane is staged, and then commits.
 ghost use Rattle.std.specs.Prelude.{◌≡◌, ◌<◌, ◌≤◌};
-ghost use Rattle.lane_core.specs.declared.history.Act.TheVariants as act;
 ghost use Rattle.lane_core.specs.Areas.{next_seq};
 ghost use Rattle.lane_core.specs.Machine.{other};
+ghost use Rattle.lane_table.specs.declared.log.LoggedAct.TheVariants as logged;
 
 use crate::arena::Arena;
 use crate::committing::{Fate, commit};
 use crate::fuse::Fuse;
 use crate::lanes::{Kit, Lane, Staged, Stopped, kit_of};
+use crate::log::{LoggedAct, LoggedCall};
 use crate::outcome::CommitOutcome;
 use crate::pieces::{Mine, seq_after};
 use crate::spots::commit_words;
 use crate::table::Call;
-use lane_core::{Act, Entry};
 use nvd_words::{Items, Tag};
 
-/// The entry of a write.
-fn written(lane: u32, call: Call, words: Vec<u64>) -> Entry
-    ensures { result ≡ record { lane = lane; tag = call.tag; sector = call.sector; act = act.Write words.items } }
+/// A write, as it stands in its lane's log.
+fn written(lane: u32, call: Call, words: Vec<u64>) -> LoggedCall
+    ensures { result ≡ record { lane = lane; tag = call.tag; sector = call.sector; act = logged.Write words.items } }
 {
-    Entry {
+    LoggedCall {
         lane,
         tag: call.tag,
         sector: call.sector,
-        act: Act::Write(Items::from_vec(words)),
+        act: LoggedAct::Write(Items::from_vec(words)),
     }
 }
 
@@ -53,7 +53,7 @@ impl Staged {
         ensures fuse { of_left self.new.kit.fuse ≡ steps }
         ensures same { IsSame self.old.kit self.new.kit }
         ensures seat { self.new.kit.seat ≡ self.old.kit.seat }
-        ensures rooms { self.new.kit.rooms ≡ self.old.kit.rooms }
+        ensures log { self.new.kit.log ≡ self.old.kit.log }
         ensures words { self.new.words ≡ self.old.words }
         ensures mine { self.new.mine ≡ self.old.mine }
     {
@@ -74,29 +74,28 @@ impl Staged {
             number,
             mut fuse,
             mut log,
-            rooms,
         } = kit;
         let at = commit_words(&arena.shape, mine, sector);
         let call = Call { tag, sector };
         match commit(&arena.table.shared, &mut seat, &mut fuse, at, mine, call) {
             Fate::Done(block) => {
-                log.push_reserved(written(number, call, words));
+                log.add_write(written(number, call, words));
                 CommitOutcome::Done(Lane {
-                    kit: kit_of(seat, number, fuse, log, rooms),
+                    kit: kit_of(seat, number, fuse, log),
                     mine: mine_after(mine, block),
                 })
             }
             Fate::Busy(holder) => {
-                let kit = kit_of(seat, number, fuse, log, rooms);
+                let kit = kit_of(seat, number, fuse, log);
                 let staged = Staged { kit, mine, words };
                 CommitOutcome::MapBusy { staged, holder }
             }
             Fate::Cut(made) => {
                 if made >= 7 {
-                    log.push_reserved(written(number, call, words));
+                    log.add_write(written(number, call, words));
                 }
                 CommitOutcome::Cut(Stopped {
-                    kit: kit_of(seat, number, fuse, log, rooms),
+                    kit: kit_of(seat, number, fuse, log),
                 })
             }
         }
