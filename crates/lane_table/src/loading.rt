@@ -89,12 +89,16 @@ fn load_words(
     ensures table { seat.new.table_id ≡ seat.old.table_id }
     ensures loaded { Loaded seat.old.me seat.new.me fuse.old fuse.new into.old into.new result }
 {
+    // A fuse of its own stays in registers between the loads.
+    let mut own = *fuse;
     for k in 0..into.len() {
-        let Some(word) = data_load(table, seat, fuse, at + k, k) else {
+        let Some(word) = data_load(table, seat, &mut own, at + k, k) else {
+            *fuse = own;
             return k;
         };
         into[k] = word;
     }
+    *fuse = own;
     into.len()
 }
 

@@ -10,5 +10,5 @@ invariant-loop-k l = record {
   after : IsAfter l.k l.initial.seat.me (after_loads l.into l.k l.initial.seat.me.0.lane) l.seat.me;
   rest : drop l.k l.into ≡ drop l.k l.initial.into;
   size : length l.into ≡ length l.initial.into;
-  fell : Fell l.k l.initial.fuse l.fuse;
+  fell : Fell l.k l.initial.own l.own;
 }
