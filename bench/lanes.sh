@@ -28,7 +28,7 @@ invariant commit loop 'IsOf l.arena l.staged.kit'
 invariant read loop 'IsOf l.arena l.lane.kit × (length l.into ≡ length l.initial.into)'
 invariant fill loop-sector 'IsOf l.arena l.lane.kit'
 invariant write_many loop 'IsOf l.arena l.lane.kit'
-invariant read_many loop 'IsOf l.arena l.lane.kit'
+invariant read_many loop 'IsOf l.arena l.lane.kit × (length l.words ≡ 64)'
 invariant workers loop 'All (λ k. IsOf l.arena k.kit) l.lanes.items'
 build
 rustc -O --edition 2021 -o "$work/twin" "$top/bench/lanes_twin.rs"

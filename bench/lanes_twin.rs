@@ -202,12 +202,14 @@ fn write_many(arena: &Arena, lane: &mut Lane, calls: u32) {
 fn read_many(arena: &Arena, lane: &mut Lane, calls: u32) {
     let mut seed = u64::from(lane.number);
     let mut words = [7; WIDTH];
+    let mut sum = 0;
     for _ in 0..calls {
         seed = random(seed);
         while !arena.try_read(lane, sector_of(seed), &mut words) {}
         lane.keep(sector_of(seed), false, &words);
-        black_box(&words);
+        sum ^= words[(seed % 64) as usize];
     }
+    black_box(sum);
 }
 
 /// All lanes make their calls, each in a thread. Returns how many nanoseconds that took.
