@@ -1,5 +1,5 @@
 -- Parts of a schedule, one after another, and the text that they print.
-use Rattle.std.proofs.Common.{◌≡◌, ℕ, ◌+◌, false, List, [], ◌∷◌, ◌++◌, append_assoc, append-nil, add-one, refl, sym, ap, ◌∙◌}
+use Rattle.std.proofs.Common.{◌≡◌, ℕ, ◌+◌, false, List, [], ◌∷◌, ◌++◌, Option, Some, None, option_to_list, append_assoc, append-nil, add-one, refl, sym, ap, ◌∙◌}
 use Rattle.lane_core.specs.declared.machine.Core.{Core}
 use Rattle.lane_core.specs.Machines.{IsSomeCore}
 use Rattle.session_script.specs.declared.schedule.ReplayLine.{ReplayLine}
@@ -36,6 +36,13 @@ pub nothing_more : (held new : Held) (before after : List ℕ) → new ≡ held 
 nothing_more held new before after is same = record { held = is; text = same ∙ sym (append-nil before) }
 
 -- ---- lines
+
+-- a line was there, and it was the next
+pub next_is : (left new : List ReplayLine) (found : Option ReplayLine) (line : ReplayLine) → left ≡ option_to_list found ++ new → found ≡ Some line → left ≡ line ∷ new
+next_is left new found line e is = e ∙ ap (λ (o : Option ReplayLine). option_to_list o ++ new) is
+
+pub none_left : (left new : List ReplayLine) (found : Option ReplayLine) → left ≡ option_to_list found ++ new → found ≡ None → new ≡ [] → left ≡ []
+none_left left new found e is end = e ∙ ap (λ (o : Option ReplayLine). option_to_list o ++ new) is ∙ end
 
 line_on : (number : ℕ) (held : Held) (line : ReplayLine) (lines : List ReplayLine)
     → played_all number held (line ∷ lines) ≡ and_text (played held number line).text (played_all (number + 1) (played held number line).held lines)

@@ -49,3 +49,4 @@ mod values;
 
 pub use law::replays_stand;
 pub use playing::play;
+pub use values::{length_of, value_words};

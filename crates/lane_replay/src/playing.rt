@@ -14,7 +14,7 @@ use crate::lines::{say, say_if_refused, say_refused};
 use crate::refused::Refused;
 use crate::steps::make_steps;
 use lane_core::{Core, Phase};
-use session_script::{Payload, ReplayLine};
+use session_script::{Payload, ReplayLine, ReplayLines};
 use std::alloc::{AllocError, Global};
 
 fn read_line(
@@ -99,7 +99,7 @@ fn play_line(
 fn play_lines(
     alloc: Global,
     core: &mut Core,
-    lines: &[ReplayLine],
+    lines: &ReplayLines,
     text: &mut Vec<u8>,
 ) -> Result<(), AllocError>
     requires core { IsSomeCore core.old }
@@ -107,8 +107,11 @@ fn play_lines(
     ensures keeps { Keeps core.old core.new }
     ensures plays { OnOk result (Plays (replayed (held_by core.old) lines.now) (held_by core.new) text.old.items text.new.items) }
 {
-    for (i, line) in lines.iter().enumerate() {
-        play_line(alloc, core, i as u32 + 1, line, text)?;
+    let mut left = lines.from_first();
+    let mut number = 0;
+    while let Some(line) = left.next(alloc)? {
+        number += 1;
+        play_line(alloc, core, number, &line, text)?;
     }
     Ok(())
 }
@@ -153,7 +156,7 @@ fn add_cuts(alloc: Global, core: &Core, text: &mut Vec<u8>) -> Result<(), AllocE
 ///
 /// The only refusal is out of memory. Then the core is still a core of the same arena, and some of
 /// the lines were carried out.
-pub fn play(alloc: Global, core: &mut Core, lines: &[ReplayLine]) -> Result<Vec<u8>, AllocError>
+pub fn play(alloc: Global, core: &mut Core, lines: &ReplayLines) -> Result<Vec<u8>, AllocError>
     requires core { IsSomeCore core.old }
     requires few { length lines.now < 2 ^ 32 }
     ensures sound { IsSomeCore core.new }

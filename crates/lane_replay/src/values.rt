@@ -10,7 +10,7 @@ use std::alloc::{AllocError, Global};
 const WORD: usize = 8;
 
 /// How many bytes a value has if a sector has this many.
-pub(crate) fn length_of(value: &Payload, had: u64) -> u64
+pub fn length_of(value: &Payload, had: u64) -> u64
     ensures { result ≡ length (bytes_said had value.now) }
 {
     match value {
@@ -35,11 +35,7 @@ fn words_of(alloc: Global, bytes: &[u8]) -> Result<Vec<u64>, AllocError>
 }
 
 /// The words of a value that has as many bytes as a sector.
-pub(crate) fn value_words(
-    alloc: Global,
-    value: &Payload,
-    had: usize,
-) -> Result<Vec<u64>, AllocError>
+pub fn value_words(alloc: Global, value: &Payload, had: usize) -> Result<Vec<u64>, AllocError>
     requires whole { had % 8 ≡ 0 }
     requires fits { length (bytes_said had value.now) ≡ had }
     ensures words { IfOk result (λ words. words.items ≡ words_in (bytes_said had value.now)) }

@@ -21,14 +21,14 @@ fn text_of(alloc: Global, lines: &[&str]) -> Result<Vec<u8>, AllocError> {
 /// What a schedule prints.
 fn printed(alloc: Global, lines: &[&str]) -> Result<Vec<u8>, Fail> {
     let mut core = new_core(alloc)?;
-    let Ok(replay) = read_replay(alloc, &text_of(alloc, lines)?) else {
-        return Err(AllocError)?;
-    };
-    let lines = replay.lines.as_slice();
-    if lines.len() > 100 {
+    let text = text_of(alloc, lines)?;
+    if text.len() > 1000 {
         return Err(AllocError)?;
     }
-    Ok(play(alloc, &mut core, lines)?)
+    let Ok(replay) = read_replay(alloc, text) else {
+        return Err(AllocError)?;
+    };
+    Ok(play(alloc, &mut core, &replay.lines)?)
 }
 
 #[test]

@@ -1,18 +1,26 @@
 -- What a lock's last value says of its first.
-use Rattle.std.proofs.Common.{◌≡◌, ℕ, true, false, List, Option, sym, ap, subst}
+use Rattle.std.proofs.Common.{◌≡◌, ℕ, true, false, List, Option, sym, ap, ◌∙◌, subst}
+use Rattle.namespace_areas.specs.declared.area.Area.{Area}
 use Rattle.namespace_areas.specs.Seen.{AreLeft as AreasLeft, areas_shown}
 use Rattle.namespace_ops.specs.Registered.{Registered, kept_of, opening_of, state_of}
 use Rattle.session_account.specs.Journal.{AreLeft, IsJournal}
 use Rattle.session_account.specs.Registering.{IsOn}
 use Rattle.registry_service.specs.declared.served.Began.{Began}
 use Rattle.registry_service.specs.declared.served.OrdersPart.{OrdersPart}
-use Rattle.registry_service.specs.Served.{Served, answered, began_of, part_at}
+use Rattle.registry_service.specs.Served.{AreKept, Served, answered, began_of, part_at}
 use Rattle.registry_service.proofs.Journals.{opening_on}
 
 -- the registry r comes back from the last value; what the first one began with stands in every part
 module _ (first last : Served) (r : Registered) (left : Option ℕ) (back : (r ≡ last.registry) × (left ≡ last.left)) (n : ℕ) (same : part_at last n ≡ part_at first n) where
   began : began_of last ≡ began_of first
   began = ap (λ (m : OrdersPart). m.began) same
+
+  pub areas_of : AreKept last.registry.opening last.registry.areas last.registry.stopped → (r.sets ≡ first.registry.sets) × AreKept first.registry.opening r.areas r.stopped
+  areas_of kept = (
+    ap (λ (x : Registered). x.sets) back.0 ∙ ap (λ (b : Began). b.sets) began,
+    subst (λ (x : Registered). AreKept first.registry.opening x.areas x.stopped) (sym back.0)
+        (subst (λ (o : List Area). AreKept o last.registry.areas last.registry.stopped) (ap (λ (b : Began). b.areas) began) kept),
+  )
 
   pub journal_of : IsJournal last.registry.sets (opening_of last.registry) last.first (answered last.registry.journal) → IsJournal first.registry.sets (opening_of first.registry) first.first (answered r.journal)
   journal_of j =

@@ -45,7 +45,7 @@ one_answered e h = ap (λ (b : Bool). cond (not b) (e ∷ []) []) h
 pub one_forgotten : (e : Entry) → is_memory e.reply ≡ true → answered (e ∷ []) ≡ []
 one_forgotten e h = ap (λ (b : Bool). cond (not b) (e ∷ []) []) h
 
-not_memory : (a : Answer) → is_memory a ≡ false → a ≢ Err OutOfMemory
+pub not_memory : (a : Answer) → is_memory a ≡ false → a ≢ Err OutOfMemory
 not_memory a h is = let e : false ≡ true = sym h ∙ ap is_memory is in absurd (cc)
 
 apart : (b : Bool) → b ≡ true → b ≡ false → ⊥

@@ -1,3 +1,4 @@
+pub mod Areas
 pub mod Journals
 pub mod Serving
 pub mod Asked

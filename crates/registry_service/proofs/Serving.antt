@@ -27,7 +27,8 @@ use Rattle.session_account.proofs.Claims.{claim_opens, open_is_claimed, unclaim_
 use Rattle.session_account.proofs.Registering.{off_is_journal, on_is_journal}
 use Rattle.registry_service.specs.Asking.{Suits}
 use Rattle.registry_service.specs.Parts.{HasRoom, call_entry, carried}
-use Rattle.registry_service.specs.Served.{IsServing, Served, answered, began_of, part_at, part_of_session}
+use Rattle.registry_service.proofs.Areas.{first_kept, still_kept}
+use Rattle.registry_service.specs.Served.{AreKept, IsServing, Served, answered, began_of, part_at, part_of_session}
 use Rattle.registry_service.proofs.Journals.{Keeps, answered_more, cut_has_fuse, keeps_more}
 
 -- a session with room has a place
@@ -109,6 +110,7 @@ module _ (old : Served) (r : Registered) (left : Option ℕ) (tag : Tag) (c : Co
               let taken_length : length r.room ≡ length old.registry.room = ap length entered.room ∙ length-set old.registry.room tag.session (room_of old.registry.room tag.session - 1) in
               let opens_length : length after.opens ≡ length old.opens = length-set old.opens tag.session (open_with (get_or old.opens tag.session None) c a) in
               omega (arith, taken_length, opens_length, h.places);
+          areas = subst (λ (o : List Area). AreKept o r.areas r.stopped) (sym entered.opening) (still_kept old.registry.opening (state_of old.registry) (state_of r) old.left left c a is h.areas);
         }
 
     pub own_goes : part_at after tag.session ≡ carried tag c a (part_at old tag.session)
@@ -169,7 +171,7 @@ none_open : (uuid : List ℕ) (n : ℕ) → count_by (has_open uuid) (replicate 
 none_open uuid zero = refl
 none_open uuid (suc n) = none_open uuid n
 
-module _ (r : Registered) (fuse : Option ℕ) (calls : List ℕ) (on : r.stopped ≡ false) (empty : r.journal ≡ []) (none : r.room ≡ with_room [] calls) (says : IsJournaled r) where
+module _ (r : Registered) (fuse : Option ℕ) (calls : List ℕ) (on : r.stopped ≡ false) (empty : r.journal ≡ []) (none : r.room ≡ with_room [] calls) (says : IsJournaled r) (opened : r.opening ≡ r.areas) where
   began_so : opening_of r ≡ kept_of (state_of r)
   unfolding remade
   began_so = subst (λ (es : List Entry). remade r.sets (opening_of r) es ≡ kept_of (state_of r)) empty (says.on on).changes
@@ -188,6 +190,7 @@ module _ (r : Registered) (fuse : Option ℕ) (calls : List ℕ) (on : r.stopped
         let there : length r.room ≡ length (with_room [] calls) = ap (λ (ns : List ℕ). length ns) none in
         let places : length (replicate (length calls) the_none) ≡ length calls = length-replicate (length calls) the_none in
         omega (arith, rooms, there, places);
+    areas = first_kept r.opening r.areas r.stopped opened;
   }
 
   pub new_serving : (first : Option ℕ) (opens : List (Option (List ℕ))) → first ≡ fuse → opens ≡ replicate (length calls) None → IsServing (record { registry = r; left = fuse; first = first; opens = opens })

@@ -1,6 +1,5 @@
 -- What an order of a session asks of the registry, and what the registry's answer is to the session.
-use Rattle.std.specs.Prelude.{◌≡◌, ⊤, ℕ, true, false, List, [], Option, Some, None, Ok, Err}
-use Rattle.std.specs.Str.{is_utf8}
+use Rattle.std.specs.Prelude.{◌≡◌, ⊤, ℕ, false, List, [], Option, Some, None, Ok, Err}
 use Rattle.namespace_map.specs.declared.commands.Command.{Command}
 use Rattle.namespace_map.specs.declared.commands.Command.TheVariants as command
 use Rattle.namespace_map.specs.declared.refused.OpRefused.TheVariants.{PowerCut, OutOfMemory}
@@ -13,15 +12,7 @@ use Rattle.session_account.specs.Orders.{command_of}
 use Rattle.session_account.specs.Sectors.{check_of}
 use Rattle.session_script.specs.declared.script.Line.TheVariants as line
 use Rattle.session_script.specs.declared.script.Order.{Order}
-use Rattle.session_script.specs.declared.script.Order.TheVariants as order
-
--- the name that an order gives, if it gives one, is UTF-8
-abbrev pub HasText : Order → Type 0
-HasText (order.Open uuid) = ⊤
-HasText order.Close = ⊤
-HasText (order.Create uuid region size name) = is_utf8 name ≡ true
-HasText (order.Delete uuid) = ⊤
-HasText (order.Rename uuid name) = is_utf8 name ≡ true
+pub use Rattle.session_script.specs.Names.{HasText}
 
 -- why an order isn't made: its checks look at no sectors, so they are the same whatever is served
 abbrev pub check_by : Option (List ℕ) → Order → Option Reply

@@ -1,8 +1,10 @@
 -- A registry behind a lock, with its fuse and the namespace that each session has open, and a session's part of it.
-use Rattle.std.specs.Prelude.{◌≡◌, ℕ, ◌≤◌, true, false, not, List, ◌∷◌, ◌++◌, filter, length, replicate, slice_index_or, Option, None}
+use Rattle.std.specs.Prelude.{◌≡◌, ℕ, ◌≤◌, Bool, true, false, not, List, ◌∷◌, ◌++◌, filter, length, map, replicate, slice_index_or, Option, None}
 use Rattle.std.specs.List.{AllByRecursion}
 use Rattle.nfit_reader.specs.declared.table.Mapping.{Mapping}
 use Rattle.namespace_areas.specs.declared.area.Area.{Area}
+use Rattle.namespace_areas.specs.Seen.{AreHeld}
+use Rattle.namespace_areas.specs.Went.{size_of, unready}
 use Rattle.namespace_ops.specs.Entries.{Entry}
 use Rattle.namespace_ops.specs.Registered.{Registered, kept_of, opening_of, state_of}
 use Rattle.namespace_ops.specs.Replay.{Kept, is_memory}
@@ -40,6 +42,13 @@ pub record WasCut (sets : List (List Mapping)) (from : Kept) (first : Option ℕ
   pub off : WentOff sets began left entry areas
   pub same : AllByRecursion IsOff later
 
+-- What commands leave of the label areas that a registry began with: one that isn't ready is as it was, each has its size, and unless
+-- power was cut none stands in the middle of a change.
+pub record AreKept (opening areas : List Area) (stopped : Bool) : Type 0 where
+  pub beside : map unready areas ≡ map unready opening
+  pub sizes : map size_of areas ≡ map size_of opening
+  pub held : AreHeld opening → stopped ≡ false → AreHeld areas
+
 -- what the lock keeps
 pub record IsServing (s : Served) : Type 0 where
   -- until power is cut, the answered calls replay on the opening, and the fuse is what their steps left of it
@@ -50,6 +59,7 @@ pub record IsServing (s : Served) : Type 0 where
   pub claims : AreOpen s.registry.claims s.opens
   -- each session with room has a place among them
   pub places : length s.registry.room ≤ length s.opens
+  pub areas : AreKept s.registry.opening s.registry.areas s.registry.stopped
 
 -- ---- when the lock is made
 

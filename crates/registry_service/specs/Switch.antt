@@ -1,33 +1,16 @@
--- What a session's pass of the power switch knows, and what an order does to it.
-use Rattle.std.specs.Prelude.{◌≡◌, ◌⊎◌, ℕ, true, Some}
-use Rattle.atomic_table.specs.Seated.{TableId}
+-- What an order that was cut does to what its session knows of the registry and of power.
+use Rattle.std.specs.Prelude.{◌≡◌, ◌⊎◌, ℕ, Some}
 use Rattle.turn_lock.specs.declared.parted.Parted.{Ghosts}
 use Rattle.turn_lock.specs.declared.pass.TurnPass.{TurnPass}
-use Rattle.turn_lock.specs.Passes.{part_of, IsOutside}
+use Rattle.turn_lock.specs.Passes.{part_of}
 use Rattle.turn_callers.specs.declared.desk.Mine.{Mine}
 use Rattle.turn_callers.specs.declared.desk.Desk.{Desk}
+use Rattle.turn_callers.specs.Switch.{HasStopped, KeepsStopped}
 use Rattle.session_account.specs.declared.reply.Reply.TheVariants as reply
 use Rattle.session_script.specs.declared.script.Order.{Order}
 use Rattle.registry_service.specs.declared.served.OrdersPart.{OrdersPart}
 use Rattle.registry_service.specs.Served.{Served}
 use Rattle.registry_service.specs.Parts.{IsOrdered}
-
-module _ {g : Ghosts Desk Mine} where
-  -- it may ask
-  abbrev pub CanAsk : TableId → TurnPass Desk Mine g → Type 0
-  CanAsk lock p = IsOutside lock p × ((w : Mine) × (part_of p ≡ Some w) × (w.placed ≡ true))
-
-  -- it was told that power is off
-  abbrev pub IsTold : TurnPass Desk Mine g → Type 0
-  IsTold p = (w : Mine) × (part_of p ≡ Some w) × (w.told ≡ true)
-
-  -- its session switched power off, or not, as before
-  abbrev pub KeepsStopped : TurnPass Desk Mine g → TurnPass Desk Mine g → Type 0
-  KeepsStopped p p' = (w : Mine) → part_of p ≡ Some w → (w' : Mine) × (part_of p' ≡ Some w') × (w'.stopped ≡ w.stopped)
-
-  -- its session switched power off
-  abbrev pub HasStopped : TurnPass Desk Mine g → Type 0
-  HasStopped p = (w : Mine) × (part_of p ≡ Some w) × (w.stopped ≡ true)
 
 module _ {g : Ghosts Served OrdersPart} {d : Ghosts Desk Mine} where
   -- An order was cut. Power was off before it was made; or it was cut in its command, whose entry stands, and the session switched

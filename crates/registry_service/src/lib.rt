@@ -26,14 +26,13 @@
 //! | [`close_registry`] | all orders are one journal from what the registry began with, cut by its fuse alone; its areas are what that leaves | `IsJournal`, `AreLeft` of `session_account` |
 //!
 //! The laws [`orders_answer`], [`orders_stop`], [`cuts_have_cause`] and [`open_goes_on`] make these
-//! promises steps of a session's account. No command calls this crate yet.
+//! promises steps of a session's account.
 #![tactic(auto)]
 
 mod asking;
 mod law;
 mod locking;
 mod orders;
-mod power;
 mod served;
 mod turns;
 

@@ -7,7 +7,7 @@ ghost use Rattle.session_account.specs.Journal.{AreLeft, IsJournal};
 ghost use Rattle.session_account.specs.Orders.{own_entries};
 ghost use Rattle.session_account.specs.Registering.{IsOn};
 ghost use Rattle.registry_service.specs.Parts.{KnowsOwn};
-ghost use Rattle.registry_service.specs.Served.{answered, fresh};
+ghost use Rattle.registry_service.specs.Served.{AreKept, answered, fresh};
 
 use crate::served::ServedRegistry;
 use cut_words::Fuse;
@@ -19,8 +19,8 @@ use turn_lock::{Turn, TurnPass};
 /// session. Session q has room for `calls[q]` calls; the last of them gives back what it has open
 /// at its end.
 ///
-/// The one refusal is out of memory. Power is on, the journal is empty, and no session has room
-/// yet.
+/// The one refusal is out of memory. Power is on, the journal is empty and replays from the label
+/// areas as they are, and no session has room yet.
 pub fn lock_registry(
     alloc: Global,
     registry: Registry,
@@ -30,6 +30,7 @@ pub fn lock_registry(
     requires running { registry.stopped ≡ false }
     requires first { registry.journal ≡ [] }
     requires roomless { registry.room ≡ [] }
+    requires opening { registry.opening ≡ registry.areas }
     requires few { length calls.now < 2 ^ 32 }
     ensures lock { IfOk result (λ r. (callers_of r.0 ≡ length calls.now) × (first_of r.0 ≡ fresh registry fuse calls.now)) }
     ensures count { IfOk result (λ r. vec_len r.1 ≡ length calls.now) }
@@ -42,7 +43,8 @@ pub fn lock_registry(
 
 /// Closes the lock, and gives the registry and what is left of its fuse.
 ///
-/// The answered calls are a journal from what the registry began with, under the fuse that it had
+/// The sets are those that it began with, and each label area is of its size; one that isn't ready is
+/// as it was (`areas`). The answered calls are a journal from what the registry began with, under the fuse that it had
 /// (`journal`). If power is on, its label areas are what they make, and the fuse is what their
 /// steps left of it (`on`; `on_is_journal` of `session_account`). If not, a crash leaves what the
 /// cut in one of them leaves (`left`). Each session's entries there are those that its pass knows
@@ -59,6 +61,7 @@ pub fn close_registry(
     requires first { (first_of turn).registry.journal ≡ [] }
     ensures callers { All (λ p. KnowsOwn result.0 p) passes.items }
     ensures strangers { (q : ℕ) → callers_of turn ≤ q → own_entries q (answered result.0.journal) ≡ [] }
+    ensures areas { (result.0.sets ≡ (first_of turn).registry.sets) × AreKept (first_of turn).registry.opening result.0.areas result.0.stopped }
     ensures journal { IsJournal (first_of turn).registry.sets (opening_of (first_of turn).registry) (first_of turn).first (answered result.0.journal) }
     ensures left { result.0.stopped ≡ true → (rows : List (Option (List ℕ))) → AreasLeft result.0.areas rows → AreLeft (first_of turn).registry.sets (opening_of (first_of turn).registry) (first_of turn).first (answered result.0.journal) (areas_shown rows) }
     ensures on { result.0.stopped ≡ false → IsOn (first_of turn).registry.sets (opening_of (first_of turn).registry) (first_of turn).first (answered result.0.journal) (kept_of (state_of result.0)) result.1 }

@@ -7,16 +7,16 @@ ghost use Rattle.session_account.specs.declared.reply.Reply.TheVariants as reply
 ghost use Rattle.session_account.specs.Made.{is_cut};
 ghost use Rattle.registry_service.specs.Asking.{HasText};
 ghost use Rattle.registry_service.specs.Parts.{IsOrdered, MayOrder, PartGoes, forgotten};
-ghost use Rattle.registry_service.specs.Switch.{CanAsk, IsCutShort, IsTold, KeepsStopped};
+ghost use Rattle.turn_callers.specs.Switch.{CanAsk, IsTold, KeepsStopped};
+ghost use Rattle.registry_service.specs.Switch.{IsCutShort};
 
-use crate::power::{go_off, is_off};
 use crate::served::ServedRegistry;
 use crate::turns::order_in_turn;
 use session_account::Reply;
 use session_script::Order;
 use std::alloc::AllocError;
 use std::sync::Wait;
-use turn_callers::Desk as Power;
+use turn_callers::{Desk as Power, go_off, is_off};
 use turn_lock::{Turn, TurnPass};
 
 /// Whether a reply is that power was cut.

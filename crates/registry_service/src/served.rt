@@ -132,7 +132,7 @@ impl ServedRegistry {
     ghost use Rattle.session_account.specs.Registering.{IsOn};
     ghost use Rattle.registry_service.specs.Asking.{HasText, Suits};
     ghost use Rattle.registry_service.specs.Parts.{GivesBack, HasRoom, IsOrdered, carried, forgotten};
-    ghost use Rattle.registry_service.specs.Served.{answered, fresh, part_at};
+    ghost use Rattle.registry_service.specs.Served.{AreKept, answered, fresh, part_at};
 
     /// A registry in which no session has made a call, with room for `calls[q]` calls of session q,
     /// and the fuse of its commands' steps. The one refusal is out of memory, also if the journal
@@ -148,6 +148,7 @@ impl ServedRegistry {
         requires running { registry.stopped ≡ false }
         requires first { registry.journal ≡ [] }
         requires roomless { registry.room ≡ [] }
+        requires opening { registry.opening ≡ registry.areas }
         ensures { IfOk result (λ s. s ≡ fresh registry fuse calls.now) }
     {
         let opens = none_open(alloc, calls.len())?;
@@ -220,6 +221,7 @@ impl ServedRegistry {
     /// The registry, and what is left of its fuse.
     pub(crate) fn into_parts(self) -> (Registry, Fuse)
         ensures registry { (result.0 ≡ self.registry) × (result.1 ≡ self.left) }
+        ensures areas { AreKept self.registry.opening self.registry.areas self.registry.stopped }
         ensures journal { IsJournal self.registry.sets (opening_of self.registry) self.first (answered self.registry.journal) }
         ensures left { self.registry.stopped ≡ true → (rows : List (Option (List ℕ))) → AreasLeft self.registry.areas rows → AreLeft self.registry.sets (opening_of self.registry) self.first (answered self.registry.journal) (areas_shown rows) }
         ensures on { self.registry.stopped ≡ false → IsOn self.registry.sets (opening_of self.registry) self.first (answered self.registry.journal) (kept_of (state_of self.registry)) self.left }

@@ -1,26 +1,22 @@
--- What a session's pass of the power switch knows.
-use Rattle.std.specs.Prelude.{◌≡◌, ◌+◌, true, Some}
+-- What a call does to a session beside its passes of cores.
+use Rattle.std.specs.Prelude.{◌≡◌, ◌≢◌, ◌⊎◌, ◌+◌, ℕ, Option, Some, None}
 use Rattle.atomic_table.specs.Seated.{TableId}
-use Rattle.turn_lock.specs.declared.parted.Parted.{Ghosts}
-use Rattle.turn_lock.specs.declared.pass.TurnPass.{TurnPass}
-use Rattle.turn_lock.specs.Passes.{part_of, IsOutside, IsSamePass}
-use Rattle.turn_callers.specs.declared.desk.Mine.{Mine}
-use Rattle.turn_callers.specs.declared.desk.Desk.{Desk}
+use Rattle.turn_lock.specs.Passes.{IsSamePass}
+use Rattle.turn_callers.specs.Switch.{CanAsk, HasStopped, KeepsStopped}
 use Rattle.sector_service.specs.declared.power.Caller.{Caller}
 
-module _ {g : Ghosts Desk Mine} where
-  -- it may ask
-  abbrev pub CanAsk : TableId → TurnPass Desk Mine g → Type 0
-  CanAsk lock p = IsOutside lock p × ((w : Mine) × (part_of p ≡ Some w) × (w.placed ≡ true))
-
-  -- it was told that power is off
-  abbrev pub IsTold : TurnPass Desk Mine g → Type 0
-  IsTold p = (w : Mine) × (part_of p ≡ Some w) × (w.told ≡ true)
+-- a session that never cuts power doesn't begin to
+abbrev pub StaysWhole : Option ℕ → Option ℕ → Type 0
+StaysWhole left left' = left ≡ None → left' ≡ None
 
 -- its pass of the switch may still ask, and the number of its next call is the same
 abbrev pub IsSameCaller : TableId → Caller → Caller → Type 0
-IsSameCaller lock c c' = IsSamePass c.switch c'.switch × CanAsk lock c'.switch × (c'.call ≡ c.call)
+IsSameCaller lock c c' = IsSamePass c.switch c'.switch × CanAsk lock c'.switch × (c'.call ≡ c.call) × StaysWhole c.left c'.left
 
 -- the same, and its next call has the next number
 abbrev pub IsNextCaller : TableId → Caller → Caller → Type 0
-IsNextCaller lock c c' = IsSamePass c.switch c'.switch × CanAsk lock c'.switch × (c'.call ≡ c.call + 1)
+IsNextCaller lock c c' = IsSamePass c.switch c'.switch × CanAsk lock c'.switch × (c'.call ≡ c.call + 1) × StaysWhole c.left c'.left
+
+-- The session switched power off, which it does only if it cuts power and no step is left of those that it may make; or not, as before.
+abbrev pub StopsWhenSpent : Caller → Caller → Type 0
+StopsWhenSpent c c' = KeepsStopped c.switch c'.switch ⊎ (HasStopped c'.switch × (c.left ≢ None) × (c'.left ≡ Some 0))

@@ -1,5 +1,5 @@
 //! A session's calls on the sectors of one core: a turn a step.
-ghost use Rattle.std.specs.Prelude.{◌≡◌, Ok, None, IfOk, IfSome, OnErr};
+ghost use Rattle.std.specs.Prelude.{◌≡◌, ◌≢◌, Ok, None, IfOk, IfSome, OnErr};
 ghost use Rattle.turn_lock.specs.Passes.{lock_id, number_of, part_of, out_of};
 ghost use Rattle.turn_lock.specs.Passes.{IsSamePass, IsOutside, PartBecomes};
 ghost use Rattle.arena_open.specs.declared.cell.Cell.{Cell};
@@ -11,16 +11,17 @@ ghost use Rattle.sector_service.specs.declared.calls.Heard.TheVariants as heard;
 ghost use Rattle.sector_service.specs.declared.calls.Wrote.TheVariants as wrote;
 ghost use Rattle.sector_service.specs.Served.{begun};
 ghost use Rattle.sector_service.specs.Calls.{HasPart, IsLeft, IsStopped, MayRead, MayWrite, Paid, PartGoes, PaidFor, answered, tag_by};
-ghost use Rattle.sector_service.specs.Switch.{CanAsk, IsSameCaller, IsTold};
+ghost use Rattle.turn_callers.specs.Switch.{CanAsk, IsTold, KeepsStopped};
+ghost use Rattle.sector_service.specs.Switch.{IsSameCaller, StopsWhenSpent};
 
-use crate::power::{Caller, is_off, may_step};
+use crate::power::{Caller, may_step};
 use crate::served::{OneStep, ServedCore};
 use crate::turns::{begin_read_in_turn, begin_write_in_turn, step_in_turn};
 use arena_open::Cell;
 use std::alloc::AllocError;
 use std::sync::Wait;
 use std::thread;
-use turn_callers::Desk as Power;
+use turn_callers::{Desk as Power, is_off};
 use turn_lock::{Turn, TurnPass};
 
 /// What a write of a session is answered.
@@ -62,7 +63,7 @@ fn begin_write<R: Wait>(
     ensures begun { IfOk result (λ o. IfSome o (λ l. PartBecomes (begun (write_call l (tag_by (number_of pass.old) caller.old.call) sector words.now)) pass.old pass.new)) }
     ensures none { result ≡ Ok None → part_of pass.new ≡ part_of pass.old }
     ensures refused { OnErr result (part_of pass.new ≡ part_of pass.old) }
-    ensures caller { IsSameCaller (lock_id power.now) caller.old caller.new × (caller.new.left ≡ caller.old.left) }
+    ensures caller { IsSameCaller (lock_id power.now) caller.old caller.new × (caller.new.left ≡ caller.old.left) × KeepsStopped caller.old.switch caller.new.switch }
     ensures told { result ≡ Ok None → IsTold caller.new.switch }
 {
     for _ in rt.forever() {
@@ -93,7 +94,7 @@ fn begin_read<R: Wait>(
     ensures begun { IfOk result (λ o. IfSome o (λ l. PartBecomes (begun (read_call l (tag_by (number_of pass.old) caller.old.call) sector)) pass.old pass.new)) }
     ensures none { result ≡ Ok None → part_of pass.new ≡ part_of pass.old }
     ensures refused { OnErr result (part_of pass.new ≡ part_of pass.old) }
-    ensures caller { IsSameCaller (lock_id power.now) caller.old caller.new × (caller.new.left ≡ caller.old.left) }
+    ensures caller { IsSameCaller (lock_id power.now) caller.old caller.new × (caller.new.left ≡ caller.old.left) × KeepsStopped caller.old.switch caller.new.switch }
     ensures told { result ≡ Ok None → IsTold caller.new.switch }
 {
     for _ in rt.forever() {
@@ -129,7 +130,8 @@ pub fn write_at<R: Wait>(
     ensures done { result ≡ wrote.Done → PartBecomes (answered (stand_at caller.old.call sector (act.Write words.now))) pass.old pass.new }
     ensures paid { result ≡ wrote.Done → PaidFor write_steps pass.old caller.old.left caller.new.left }
     ensures cut { result ≡ wrote.Cut → PartGoes (IsStopped (number_of pass.old) caller.old.call sector words.now) pass.old pass.new }
-    ensures told { result ≡ wrote.Cut → IsTold caller.new.switch }
+    ensures told { result ≡ wrote.Cut → IsTold caller.new.switch × StopsWhenSpent caller.old caller.new }
+    ensures goes_on { result ≢ wrote.Cut → KeepsStopped caller.old.switch caller.new.switch }
     ensures refused { result ≡ wrote.OutOfMemory → part_of pass.new ≡ part_of pass.old }
 {
     let lane = match begin_write(rt, turn, pass, power, caller, sector, words) {
@@ -167,7 +169,8 @@ pub fn read_at<R: Wait>(
     ensures done { (found : Cell) → result ≡ heard.Got found → PartBecomes (answered (stand_at caller.old.call sector (act.Read found))) pass.old pass.new }
     ensures paid { (found : Cell) → result ≡ heard.Got found → Paid 1 caller.old.left caller.new.left }
     ensures cut { result ≡ heard.Cut → PartGoes (IsLeft (number_of pass.old) caller.old.call sector) pass.old pass.new }
-    ensures told { result ≡ heard.Cut → IsTold caller.new.switch }
+    ensures told { result ≡ heard.Cut → IsTold caller.new.switch × StopsWhenSpent caller.old caller.new }
+    ensures goes_on { result ≢ heard.Cut → KeepsStopped caller.old.switch caller.new.switch }
     ensures refused { result ≡ heard.OutOfMemory → part_of pass.new ≡ part_of pass.old }
 {
     let lane = match begin_read(rt, turn, pass, power, caller, sector) {

@@ -22,8 +22,6 @@
 //! | the same | a call that is cut stands or not, and somebody switched power off | `cut`, `told` |
 //! | the same | an answer paid for its least steps | `paid` |
 //! | [`write`], [`read`] | the same for a session with a pass of each core: the other cores' parts are as they were, and the next call has the next number | `done`, `cut`, `caller` |
-//!
-//! No command calls this crate yet.
 #![tactic(auto)]
 
 mod calls;

@@ -1,12 +1,13 @@
 //! Whether power is off, and the steps that a session may still make.
 ghost use Rattle.std.specs.Prelude.{◌≡◌, IsTrue, false};
 ghost use Rattle.turn_lock.specs.Passes.{lock_id, number_of, IsSamePass};
+ghost use Rattle.turn_callers.specs.Switch.{CanAsk, IsTold, KeepsStopped};
 ghost use Rattle.sector_service.specs.Calls.{Paid};
-ghost use Rattle.sector_service.specs.Switch.{CanAsk, IsTold};
+ghost use Rattle.sector_service.specs.Switch.{StaysWhole, StopsWhenSpent};
 
 use crate::fuse::pay;
 use std::sync::Wait;
-use turn_callers::{Desk as Power, ask_in_turn, stop_in_turn};
+use turn_callers::{Desk as Power, go_off, is_off};
 use turn_lock::{Turn, TurnPass};
 
 /// What a session has beside its passes of cores.
@@ -20,33 +21,6 @@ pub struct Caller {
     pub call: u32,
 }
 
-/// Whether power is off; then the pass knows that it was told.
-pub(crate) fn is_off<R: Wait>(rt: &R, power: &Turn<Power>, switch: &mut TurnPass<Power>) -> bool
-    requires { CanAsk (lock_id power.now) switch.old }
-    ensures same { IsSamePass switch.old switch.new }
-    ensures can_ask { CanAsk (lock_id power.now) switch.new }
-    ensures told { IsTrue result → IsTold switch.new }
-{
-    match ask_in_turn(rt, power, switch) {
-        Some(off) => off,
-        None => unreachable!(),
-    }
-}
-
-/// Switches power off, and is told so.
-fn go_off<R: Wait>(rt: &R, power: &Turn<Power>, switch: &mut TurnPass<Power>)
-    requires { CanAsk (lock_id power.now) switch.old }
-    ensures same { IsSamePass switch.old switch.new }
-    ensures can_ask { CanAsk (lock_id power.now) switch.new }
-    ensures told { IsTold switch.new }
-{
-    stop_in_turn(rt, power, switch);
-    match ask_in_turn(rt, power, switch) {
-        Some(true) => {}
-        Some(false) | None => unreachable!(),
-    }
-}
-
 /// Whether a session may make one step more, and pays for it. If not, power is off: it was, or no step is left and the session
 /// switched it off.
 pub(crate) fn may_step<R: Wait>(rt: &R, power: &Turn<Power>, caller: &mut Caller) -> bool
@@ -54,9 +28,10 @@ pub(crate) fn may_step<R: Wait>(rt: &R, power: &Turn<Power>, caller: &mut Caller
     ensures same { IsSamePass caller.old.switch caller.new.switch }
     ensures can_ask { CanAsk (lock_id power.now) caller.new.switch }
     ensures call { caller.new.call ≡ caller.old.call }
-    ensures yes { IsTrue result → Paid 1 caller.old.left caller.new.left }
-    ensures no { result ≡ false → caller.new.left ≡ caller.old.left }
+    ensures whole { StaysWhole caller.old.left caller.new.left }
+    ensures yes { IsTrue result → Paid 1 caller.old.left caller.new.left × KeepsStopped caller.old.switch caller.new.switch }
     ensures told { result ≡ false → IsTold caller.new.switch }
+    ensures stopped { result ≡ false → StopsWhenSpent caller.old caller.new }
 {
     if is_off(rt, power, &mut caller.switch) {
         return false;

@@ -78,7 +78,7 @@ impl ServedCore {
     ghost use Rattle.lane_core.specs.declared.in_call.InCall.{InCall};
     ghost use Rattle.lane_core.specs.Arenas.{shape_in};
     ghost use Rattle.lane_core.specs.Held.{held_by};
-    ghost use Rattle.lane_core.specs.History.{IsLegal};
+    ghost use Rattle.lane_core.specs.History.{IsLegal, end_of};
     ghost use Rattle.lane_core.specs.Reopening.{IsCoreOf, first_cells};
     ghost use Rattle.lane_core.specs.Sessions.{answered_in};
     ghost use Rattle.session_parts.specs.Laws.{IsOwn, MayBegin};
@@ -155,11 +155,13 @@ impl ServedCore {
         let stepped = self.core.step(lane);
         one_step(stepped)
     }
-    /// The core. Its history without open reads is legal from the arena's cells.
+
+    /// The core. Its history without open reads is legal from the arena's cells, and ends in the same cells as its whole history.
     pub fn into_core(self) -> Core
         ensures held { held_by result ≡ self.held }
         ensures arena { IsCoreOf self.first result }
         ensures legal { IsLegal (first_cells self.first) (answered_in self.held.lanes self.held.entries) }
+        ensures end { end_of (first_cells self.first) (answered_in self.held.lanes self.held.entries) ≡ end_of (first_cells self.first) self.held.entries }
     {
         let ServedCore {
             alloc: _,

@@ -1,5 +1,5 @@
 //! A session, which has a pass of each core.
-ghost use Rattle.std.specs.Prelude.{◌≡◌, ◌+◌, ◌^◌, ◌<◌, length, map};
+ghost use Rattle.std.specs.Prelude.{◌≡◌, ◌≢◌, ◌+◌, ◌^◌, ◌<◌, length, map};
 ghost use Rattle.turn_lock.specs.Passes.{lock_id};
 ghost use Rattle.arena_open.specs.declared.cell.Cell.{Cell};
 ghost use Rattle.lane_core.specs.declared.history.Act.TheVariants as act;
@@ -10,7 +10,8 @@ ghost use Rattle.sector_service.specs.declared.calls.Wrote.TheVariants as wrote;
 ghost use Rattle.sector_service.specs.Calls.{IsLeft, IsStopped, MayRead, MayWrite, Paid, answered};
 ghost use Rattle.sector_service.specs.Rows.{Know, KnowsAt, OneBecomes, OneGoes, Parts};
 ghost use Rattle.sector_service.specs.Served.{shape_of};
-ghost use Rattle.sector_service.specs.Switch.{CanAsk, IsNextCaller, IsTold};
+ghost use Rattle.turn_callers.specs.Switch.{CanAsk, IsTold, KeepsStopped};
+ghost use Rattle.sector_service.specs.Switch.{IsNextCaller, StopsWhenSpent};
 
 use crate::calls::{Heard, Wrote, read_at, write_at};
 use crate::power::Caller;
@@ -50,7 +51,8 @@ pub fn write<R: Wait>(
     ensures done { result ≡ wrote.Done → OneBecomes (map lock_id turns.now) session.old.number place (answered (stand_at session.old.caller.call sector (act.Write words.now))) session.old.passes.items session.new.passes.items }
     ensures paid { result ≡ wrote.Done → (parts : Parts) → Know (map lock_id turns.now) session.old.number parts session.old.passes.items → Paid (write_steps (shape_of (parts place))) session.old.caller.left session.new.caller.left }
     ensures cut { result ≡ wrote.Cut → OneGoes (map lock_id turns.now) session.old.number place (IsStopped session.old.number session.old.caller.call sector words.now) session.old.passes.items session.new.passes.items }
-    ensures told { result ≡ wrote.Cut → IsTold session.new.caller.switch }
+    ensures told { result ≡ wrote.Cut → IsTold session.new.caller.switch × StopsWhenSpent session.old.caller session.new.caller }
+    ensures goes_on { result ≢ wrote.Cut → KeepsStopped session.old.caller.switch session.new.caller.switch }
     ensures refused { result ≡ wrote.OutOfMemory → OneBecomes (map lock_id turns.now) session.old.number place (λ m. m) session.old.passes.items session.new.passes.items }
 {
     let Session { passes, caller, .. } = session;
@@ -79,7 +81,8 @@ pub fn read<R: Wait>(
     ensures done { (found : Cell) → result ≡ heard.Got found → OneBecomes (map lock_id turns.now) session.old.number place (answered (stand_at session.old.caller.call sector (act.Read found))) session.old.passes.items session.new.passes.items }
     ensures paid { (found : Cell) → result ≡ heard.Got found → Paid 1 session.old.caller.left session.new.caller.left }
     ensures cut { result ≡ heard.Cut → OneGoes (map lock_id turns.now) session.old.number place (IsLeft session.old.number session.old.caller.call sector) session.old.passes.items session.new.passes.items }
-    ensures told { result ≡ heard.Cut → IsTold session.new.caller.switch }
+    ensures told { result ≡ heard.Cut → IsTold session.new.caller.switch × StopsWhenSpent session.old.caller session.new.caller }
+    ensures goes_on { result ≢ heard.Cut → KeepsStopped session.old.caller.switch session.new.caller.switch }
     ensures refused { result ≡ heard.OutOfMemory → OneBecomes (map lock_id turns.now) session.old.number place (λ m. m) session.old.passes.items session.new.passes.items }
 {
     let Session { passes, caller, .. } = session;

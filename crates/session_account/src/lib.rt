@@ -28,7 +28,7 @@
 //! | what the registry promises of a call makes an entry of the journal, until power is cut and after | [`answers_make_entries`], [`on_grows`], [`on_is_journal`], [`off_is_journal`] |
 //! | claims are the namespaces that sessions have open | [`claim_opens`], [`unclaim_closes`], [`open_is_claimed`], [`open_follows`] |
 //!
-//! No command calls this crate yet. These rules are this project's own.
+//! These rules are this project's own.
 #![tactic(auto)]
 
 mod law;

@@ -2,7 +2,9 @@ pub mod Following
 pub mod Generated
 pub mod LoadRows
 pub mod Loops
+pub mod Names
 pub mod Parts
 pub mod Rows
 pub mod ScriptRows
+pub mod Stated
 pub mod Utf8

@@ -9,7 +9,8 @@ use Rattle.session_script.specs.declared.fault.ScriptFault.{ScriptFault}
 use Rattle.session_script.specs.declared.fault.ScriptFault.TheVariants as fault
 use Rattle.session_script.specs.declared.payload.Payload.TheVariants.{Fill, Hex}
 use Rattle.session_script.specs.declared.schedule.ReplayLine.TheVariants.{Read, Write, Step}
-use Rattle.session_script.specs.Schedule.{begun, called, replay_reading}
+use Rattle.session_script.specs.ScheduleLines.{begun, called}
+use Rattle.session_script.specs.Schedule.{replay_reading}
 
 -- two lanes race on a sector
 pub race : replay_reading (codes "call 1 write 9 fill:11\nstep 1 138\ncall 0 read 9\nstep 0 1\n")

@@ -1,6 +1,7 @@
 //! Scripts that are made from a number.
 ghost use Rattle.std.specs.Prelude.{◌≡◌, ◌<◌, ◌≤◌, ◌+◌, ◌*◌, ◌^◌, ◌++◌, OnOk, IfOk, Some, None};
 ghost use Rattle.nvd_media.specs.Choosers.{next_of};
+ghost use Rattle.session_script.specs.Names.{ScriptHasText};
 ghost use Rattle.session_script.specs.Load.{load_line, load_lines, load_script, load_session, load_sessions, number_after};
 
 use crate::payload::Payload;
@@ -125,7 +126,7 @@ fn load_sessions(
 /// read, and the bits from 33 on which of the session's sectors it is for. A write's bytes are all
 /// the number's highest byte. There must be at least one session, and at least as many sectors as
 /// sessions. It fails only if memory runs out.
-#[tactic(auto, using(crate::proofs::Generated::generated))]
+#[tactic(auto, using(crate::proofs::Generated::generated, crate::proofs::Names::load_has))]
 pub fn make_load(
     alloc: Global,
     number: u64,
@@ -136,7 +137,8 @@ pub fn make_load(
 ) -> Result<Script, AllocError>
     requires some { 0 < sessions }
     requires room { sessions ≤ sectors }
-    ensures { IfOk result (λ script. script ≡ load_script number uuid.now sectors sessions calls) }
+    ensures script { IfOk result (λ script. script ≡ load_script number uuid.now sectors sessions calls) }
+    ensures text { IfOk result ScriptHasText }
 {
     let share = sectors / u64::from(sessions);
     let spread = Spread { share, sessions };

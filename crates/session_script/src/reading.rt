@@ -1,16 +1,17 @@
 //! A schedule, line by line.
-ghost use Rattle.std.specs.Prelude.{◌≡◌, ◌≢◌, ◌≤◌, ◌<◌, ◌+◌, OnOk, IfOk, IfErr, Ok, Err, [], length};
+ghost use Rattle.std.specs.Prelude.{◌≡◌, ◌≢◌, ◌≤◌, ◌<◌, ◌+◌, OnOk, IfOk, IfErr, Ok, Err, length};
 ghost use Rattle.session_script.specs.Lines.{lines_in, lines_read};
 ghost use Rattle.nvd_words.specs.Checks.{Answers};
 ghost use Rattle.session_script.specs.Fields.{rest_of};
-ghost use Rattle.session_script.specs.Schedule.{begun, call_line, called, calls_in, line_reading, nothing_read, numbered, read_line, replay_reading, step_line, with_line, with_reading, write_line};
+ghost use Rattle.session_script.specs.ScheduleLines.{begun, call_line, called, line_reading, read_line, step_line, write_line};
+ghost use Rattle.session_script.specs.Schedule.{calls_in, none_counted, numbered, replay_reading, with_line, with_reading};
 
 use crate::fault::{LineFault, LineKind, ScriptFault, ScriptLimit};
 use crate::fields::Fields;
 use crate::lines::{after_line, first_line};
 use crate::schedule::{Replay, ReplayLine};
+use crate::schedule_lines::ReplayLines;
 use crate::words::is_printable;
-use nvd_words::Items;
 use std::alloc::Global;
 
 /// The greatest number of calls.
@@ -19,10 +20,9 @@ pub(crate) const MOST_CALLS: u64 = 65_536;
 /// The greatest length of a line in bytes, without its LF.
 pub(crate) const MOST_BYTES: usize = 32_768;
 
-/// The lines read so far, and how many of them are calls.
-#[derive(Drop)]
-pub(crate) struct ReadLines {
-    lines: Items<ReplayLine>,
+/// How many of the lines read so far are calls.
+#[derive(Clone, Copy)]
+pub(crate) struct Counted {
     calls: u64,
 }
 
@@ -56,7 +56,7 @@ fn step_line(mut fields: Fields<'_>) -> Result<ReplayLine, LineFault>
     fields.end(ReplayLine::Step { lane, count })
 }
 
-#[tactic(auto, using(nvd_words::proofs::Checks::choices), unfolding(crate::specs::Schedule::called))]
+#[tactic(auto, using(nvd_words::proofs::Checks::choices), unfolding(crate::specs::ScheduleLines::called))]
 fn called(
     alloc: Global,
     lane: u32,
@@ -83,7 +83,7 @@ fn call_line(alloc: Global, mut fields: Fields<'_>) -> Result<ReplayLine, LineFa
     called(alloc, lane, word, fields)
 }
 
-#[tactic(auto, using(nvd_words::proofs::Checks::choices), unfolding(crate::specs::Schedule::begun))]
+#[tactic(auto, using(nvd_words::proofs::Checks::choices), unfolding(crate::specs::ScheduleLines::begun))]
 fn begun(alloc: Global, word: &[u8], fields: Fields<'_>) -> Result<ReplayLine, LineFault>
     ensures { Answers LineFault.OutOfMemory result (begun word.now (rest_of fields.entry)) }
 {
@@ -97,7 +97,7 @@ fn begun(alloc: Global, word: &[u8], fields: Fields<'_>) -> Result<ReplayLine, L
 }
 
 /// Reads a line.
-fn line_of(alloc: Global, text: &[u8]) -> Result<ReplayLine, LineFault>
+pub(crate) fn line_of(alloc: Global, text: &[u8]) -> Result<ReplayLine, LineFault>
     ensures { Answers LineFault.OutOfMemory result (line_reading text.now) }
 {
     if !is_printable(text) {
@@ -130,44 +130,36 @@ fn calls_in(line: &ReplayLine) -> u64
     }
 }
 
-impl ReadLines {
-    fn new(alloc: Global) -> ReadLines
-        ensures { result ≡ nothing_read }
+impl Counted {
+    fn new() -> Counted
+        ensures { result ≡ none_counted }
     {
-        ReadLines {
-            lines: Items::new(alloc),
-            calls: 0,
-        }
+        Counted { calls: 0 }
     }
 
-    /// Adds a line that was read.
-    fn add(&mut self, line: ReplayLine) -> Result<(), ScriptFault>
+    /// Counts a line that was read.
+    fn add(&mut self, line: &ReplayLine) -> Result<(), ScriptFault>
         requires { self.old.calls ≤ 65536 }
-        ensures ok { OnOk result (with_reading self.old 0 (Ok line) ≡ Ok self.new) }
-        ensures err { IfErr result (λ fault. fault ≢ ScriptFault.OutOfMemory → with_reading self.old 0 (Ok line) ≡ Err fault) }
+        ensures ok { OnOk result (with_reading self.old 0 (Ok line.now) ≡ Ok self.new) }
+        ensures err { IfErr result (λ fault. with_reading self.old 0 (Ok line.now) ≡ Err fault) }
         ensures within { OnOk result (self.new.calls ≤ 65536) }
-        ensures more { OnOk result (length self.new.lines ≡ length self.old.lines + 1) }
     {
-        let calls = self.calls + calls_in(&line);
+        let calls = self.calls + calls_in(line);
         if calls > MOST_CALLS {
             return Err(ScriptFault::TooMany {
                 what: ScriptLimit::Calls,
             });
         }
         self.calls = calls;
-        match self.lines.push(line) {
-            Ok(()) => Ok(()),
-            Err(_) => Err(ScriptFault::OutOfMemory),
-        }
+        Ok(())
     }
 
-    /// Reads a line and adds it.
+    /// Reads a line and counts it.
     fn read(&mut self, alloc: Global, number: u64, text: &[u8]) -> Result<(), ScriptFault>
         requires { self.old.calls ≤ 65536 }
         ensures ok { OnOk result (with_line self.old number text.now ≡ Ok self.new) }
         ensures err { IfErr result (λ fault. fault ≢ ScriptFault.OutOfMemory → with_line self.old number text.now ≡ Err fault) }
         ensures within { OnOk result (self.new.calls ≤ 65536) }
-        ensures more { OnOk result (length self.new.lines ≡ length self.old.lines + 1) }
     {
         if text.len() > MOST_BYTES {
             return Err(ScriptFault::TooMany {
@@ -175,13 +167,11 @@ impl ReadLines {
             });
         }
         match line_of(alloc, text) {
-            Ok(line) => self.add(line),
+            Ok(line) => self.add(&line),
             Err(fault) => Err(numbered(number, fault)),
         }
     }
-}
 
-impl ReadLines {
     /// Reads the first line of a text that isn't empty, and returns what stands after it.
     #[tactic(auto, using(crate::proofs::Loops::rest_less))]
     fn read_first<'a>(
@@ -196,7 +186,6 @@ impl ReadLines {
         ensures err { IfErr result (λ fault. fault ≢ ScriptFault.OutOfMemory → lines_read with_line number (lines_in text.now) (Ok self.old) ≡ Err fault) }
         ensures less { IfOk result (λ rest. length rest.now < length text.now) }
         ensures within { IfOk result (λ rest. self.new.calls ≤ 65536) }
-        ensures more { IfOk result (λ rest. length self.new.lines ≡ length self.old.lines + 1) }
     {
         match self.read(alloc, number, first_line(text)) {
             Ok(()) => Ok(after_line(text)),
@@ -205,22 +194,38 @@ impl ReadLines {
     }
 }
 
+/// Reads all lines of a text, and returns how many are calls.
+fn count_lines(alloc: Global, text: &[u8]) -> Result<Counted, ScriptFault>
+    ensures { Answers ScriptFault.OutOfMemory result (lines_read with_line 1 (lines_in text.now) (Ok none_counted)) }
+{
+    let mut counted = Counted::new();
+    let mut number = 1;
+    let mut rest = text;
+    while !rest.is_empty() {
+        rest = counted.read_first(alloc, number, rest)?;
+        number += 1;
+    }
+    Ok(counted)
+}
+
 /// Reads a schedule of lanes. The text must be at most 16 MiB long, by the caller's rule.
 ///
 /// It returns `Line` or `TooMany` for the first line that isn't in the grammar or passes a limit:
 /// a line of more than 32,768 bytes without its LF, or the 65,537th call. On one line its length
 /// comes first, then the grammar, then the number of calls. Else it returns `Ok`, unless memory
 /// runs out. A line has a byte at least.
-pub fn read_replay(alloc: Global, text: &[u8]) -> Result<Replay, ScriptFault>
-    ensures replay { Answers ScriptFault.OutOfMemory result (replay_reading text.now) }
-    ensures count { IfOk result (λ replay. length replay.lines ≤ length text.now) }
+///
+/// The schedule keeps the text and no line of it. So it takes no more memory than its text, and
+/// each line is read again when it is asked for.
+#[tactic(auto, using(crate::proofs::Stated::stated))]
+pub fn read_replay(alloc: Global, text: Vec<u8>) -> Result<Replay, ScriptFault>
+    ensures replay { Answers ScriptFault.OutOfMemory result (replay_reading text.items) }
+    ensures count { IfOk result (λ replay. length replay.lines ≤ length text.items) }
 {
-    let mut read = ReadLines::new(alloc);
-    let mut number = 1;
-    let mut rest = text;
-    while !rest.is_empty() {
-        rest = read.read_first(alloc, number, rest)?;
-        number += 1;
+    match count_lines(alloc, &text) {
+        Ok(_) => Ok(Replay {
+            lines: ReplayLines::of(text),
+        }),
+        Err(fault) => Err(fault),
     }
-    Ok(Replay { lines: read.lines })
 }

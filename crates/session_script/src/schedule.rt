@@ -1,5 +1,5 @@
 use crate::payload::Payload;
-use nvd_words::Items;
+use crate::schedule_lines::ReplayLines;
 
 /// A line of a schedule.
 #[derive(Debug, Drop)]
@@ -26,5 +26,5 @@ pub enum ReplayLine {
 #[derive(Debug, Drop)]
 pub struct Replay {
     /// Its lines, in order.
-    pub lines: Items<ReplayLine>,
+    pub lines: ReplayLines,
 }

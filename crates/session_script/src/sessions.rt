@@ -3,6 +3,7 @@ ghost use Rattle.std.specs.Prelude.{◌≡◌, ◌≢◌, ◌≤◌, ◌<◌, �
 ghost use Rattle.nvd_words.specs.Checks.{Answers};
 ghost use Rattle.session_script.specs.Fields.{rest_of};
 ghost use Rattle.session_script.specs.Lines.{lines_in, lines_read};
+ghost use Rattle.session_script.specs.Names.{ScriptHasText};
 ghost use Rattle.session_script.specs.Script.{and_said, may_stand, nothing_said, on_verb, said_reading, script_of, script_reading, sessions_of, with_call, with_cut, with_line, with_said, within_limits};
 
 use crate::fault::{LineFault, LineKind, ScriptFault, ScriptLimit};
@@ -286,9 +287,10 @@ impl ReadScript {
 /// It returns `Line` or `TooMany` for the first line that isn't in the grammar or passes a limit:
 /// a line of more than 32,768 bytes without its LF, the 1,025th session, or the 65,537th call. On
 /// one line its length comes first, then the grammar, then the numbers of sessions and of calls.
-/// Else it returns `Ok`, unless memory runs out.
+/// Else it returns `Ok`, unless memory runs out. All names in the script are UTF-8.
 pub fn read_script(alloc: Global, text: &[u8]) -> Result<Script, ScriptFault>
-    ensures { Answers ScriptFault.OutOfMemory result (script_reading text.now) }
+    ensures script { Answers ScriptFault.OutOfMemory result (script_reading text.now) }
+    ensures text { IfOk result ScriptHasText }
 {
     let mut read = ReadScript::new(alloc);
     let mut number = 1;

@@ -131,7 +131,7 @@ label_stands : (labels : List (Option (List ℕ))) (m s : ℕ) (l : Label) → s
 label_stands labels m s l e = let (bytes, read) = label_bytes labels m s l e in (bytes, reads_grammar bytes s l read)
 
 -- labels are those that a reader finds valid
-areas_read : (labels : List (Option (List ℕ))) → AreRead (areas_in labels)
+pub areas_read : (labels : List (Option (List ℕ))) → AreRead (areas_in labels)
 areas_read labels = record {
   number = λ m s l e. let (bytes, stands) = label_stands labels m s l e in stands.slot ∙ stands.numbered;
   bytes = λ m s l e. let (bytes, stands) = label_stands labels m s l e in stands.raw_some;
@@ -165,7 +165,7 @@ module _ (sets : List (List Mapping)) (areas : List (Option Area)) (regions : Ar
   bytes : AllByRecursion PutsBytes (recovery_changes sets areas)
   bytes = append_all PutsBytes first second went.bytes settles.bytes
 
-  recovered_read : AreRead (recovered_areas sets areas)
+  pub recovered_read : AreRead (recovered_areas sets areas)
   recovered_read = read_all (recovery_changes sets areas) areas read bytes
 
   cut_read : (n : ℕ) (stays : Bool) → AreRead (after_steps areas (recovery_changes sets areas) n stays)
@@ -214,12 +214,12 @@ keeps sets areas (Claim uuid) changes regions read none = absurd changes
 keeps sets areas (Unclaim uuid) changes regions read none = absurd changes
 
 -- the areas after all steps
-after_whole : (xs : List Change) (areas : List (Option Area)) → after_steps areas xs (steps_of_all areas xs) true ≡ all_changed areas xs
+pub after_whole : (xs : List Change) (areas : List (Option Area)) → after_steps areas xs (steps_of_all areas xs) true ≡ all_changed areas xs
 unfolding after_steps
 after_whole xs areas =
     ap (λ (cs : List Change). after_steps areas cs (steps_of_all areas xs) true) (sym (append_nil xs)) ∙ after_both xs [] areas (steps_of_all areas xs) true (omega arith)
 
-regions_of : (loaded : ImageSet) (sets : List (List Mapping)) → HasTable loaded → sets_in loaded ≡ Ok sets → AreRegions sets
+pub regions_of : (loaded : ImageSet) (sets : List (List Mapping)) → HasTable loaded → sets_in loaded ≡ Ok sets → AreRegions sets
 regions_of loaded sets table are =
     let it = accepted loaded sets are in
     subst AreRegions it.same (gives_regions loaded.nfit_bytes loaded.nfit (sets_of loaded.nfit) table.read table.counted (sets_are loaded.nfit.regions 0 it.sound))

@@ -61,7 +61,7 @@ all_flat P f (x ∷ xs) each = append_all P (f x) (flat_map f xs) (each x) (all_
 -- ---- labels and their slots
 
 -- a label is in a slot of a module's area
-abbrev HasLabel : List (Option Area) → ℕ → Label → Type 0
+abbrev pub HasLabel : List (Option Area) → ℕ → Label → Type 0
 HasLabel areas m l = (s : ℕ) × (slice_get (slots_on areas m) s ≡ Some (Some (Some l)))
 
 in_slots : (k j : ℕ) (slots : List SlotState) (p : Placed) → In p (filter_map (placed_in k) (enumerate_from j (map label_in slots))) → (p.«module» ≡ k) × ((s : ℕ) × (slice_get slots s ≡ Some (Some (Some p.label))))
@@ -108,14 +108,14 @@ areas_in k (a ∷ areas) (suc m) s l at =
 
 -- a module's area has a label of this UUID with this extent
 pub record IsKnown (olds : List (Option Area)) (m : ℕ) (l : Label) : Type 0 where
-  old : Label
-  has : HasLabel olds m old
-  uuid : old.uuid ≡ l.uuid
-  start : old.dpa ≡ l.dpa
-  bytes : old.raw ≡ l.raw
+  pub old : Label
+  pub has : HasLabel olds m old
+  pub uuid : old.uuid ≡ l.uuid
+  pub start : old.dpa ≡ l.dpa
+  pub bytes : old.raw ≡ l.raw
 
 -- so has each label
-abbrev AllKnown : List (Option Area) → List (Option Area) → Type 0
+abbrev pub AllKnown : List (Option Area) → List (Option Area) → Type 0
 AllKnown news olds = (m s : ℕ) (l : Label) → slice_get (slots_on news m) s ≡ Some (Some (Some l)) → IsKnown olds m l
 
 abbrev PutsKnown : List (Option Area) → Change → Type 0
@@ -169,7 +169,7 @@ unfolding all_changed
 known_all olds [] areas known all = known
 known_all olds (c ∷ cs) areas known (one, rest) = known_all olds cs (changed areas c) (known_one olds areas c known one) rest
 
-known_self : (areas : List (Option Area)) → AllKnown areas areas
+pub known_self : (areas : List (Option Area)) → AllKnown areas areas
 known_self areas m s l is = record { old = l; has = (s, is); uuid = refl; start = refl; bytes = refl }
 
 -- ---- the label changes of recovery
@@ -185,7 +185,7 @@ gone_known olds areas e = by (is_unfinished e.status)
     by true = removes (own_labels areas e.uuid)
     by false = tt
 
-own_known : (olds areas : List (Option Area)) (uuid : List ℕ) → AllKnown areas olds → AllByRecursion (λ p. IsKnown olds p.0 p.1) (own_labels areas uuid)
+pub own_known : (olds areas : List (Option Area)) (uuid : List ℕ) → AllKnown areas olds → AllByRecursion (λ p. IsKnown olds p.0 p.1) (own_labels areas uuid)
 own_known olds areas uuid known =
     all_map (λ (p : ℕ × Label). IsKnown olds p.0 p.1) pair_of (by_position (labels_with uuid (placed_in_all areas)))
     (by_position_all (λ (q : Placed). IsKnown olds q.«module» q.label) (labels_with uuid (placed_in_all areas))

@@ -53,4 +53,5 @@ pub use laws::{
     accepted_is_apart, changes_keep_apart, crash_is_in_either, crash_leaves_others, crash_recovers,
     done_is_the_command, reports_show_the_map,
 };
+pub use refusals::refusal_text;
 pub use words::{create_in, delete_in, makes_sectors, rename_in};

@@ -11,8 +11,8 @@ use namespace_ops::OpenFault;
 use shell_reports::{Ending, Report, open_fault_answer};
 use std::alloc::{AllocError, Global};
 
-/// The refusal's name and its numbers. A power cut and out of memory have none.
-fn refusal_text(alloc: Global, refused: OpRefused) -> Result<String, AllocError>
+/// The text of a refusal: its name and its numbers. A power cut has none, and out of memory is no finding.
+pub fn refusal_text(alloc: Global, refused: OpRefused) -> Result<String, AllocError>
     ensures text { IfOk result (λ text. string_bytes text ≡ refusal_text refused) }
     ensures memory { IfOk result (λ _. refused ≢ OpRefused.OutOfMemory) }
 {

@@ -1,5 +1,6 @@
 -- A text that is printed piece by piece.
-use Rattle.std.proofs.Common.{◌≡◌, ℕ, zero, suc, ◌+◌, ◌<◌, ◌≤◌, List, [], ◌++◌, length, take, drop, get_or, ◌-◌, Option, sym, ap, ◌∙◌, subst, arith, append_assoc, append-nil, take-append-drop}
+use Rattle.std.proofs.Common.{◌≡◌, ℕ, zero, suc, ◌+◌, ◌<◌, ◌≤◌, List, [], ◌++◌, length, take, drop, get_or, ◌-◌, Option, Result, Ok, Err, refl, sym, ap, ◌∙◌, subst, subst₂, arith, append_assoc, append-nil, take-append-drop, length-append}
+use Rattle.std.specs.Prelude.{OnOk, OnErr}
 use Rattle.std.specs.Io.KnownBytes.{Appends}
 use Rattle.std.specs.List.{flat_map, range_with_len}
 use Rattle.std.proofs.KnownBytes.{Appends-trans}
@@ -8,7 +9,7 @@ use Rattle.std.proofs.lemmas.List.{take-append-le, take_all, ext_get_or, get_or-
 use Rattle.nvd_media.specs.Images.{Keeps}
 use Rattle.cut_words.specs.WordBytes.{bytes_of}
 use Rattle.cut_words.proofs.Put.{bytes_of-append}
-use Rattle.shell_export.specs.Printing.{AppendsAll, AppendsFront}
+use Rattle.shell_export.specs.Printing.{AppendsAll, AppendsBut, AppendsFront}
 
 -- ---- whole pieces
 
@@ -37,6 +38,59 @@ front_of a b c done piece rest whole is before (n, part) =
     let same : take (length front) whole ≡ front =
     ap (take (length front)) split ∙ take-append-le (length front) front (drop n piece ++ rest) (omega arith) ∙ take_all (length front) front (omega arith) in
     (length front, subst (Appends a c) (sym same) (Appends-trans a b c done (take n piece) before part))
+
+-- ---- bytes that wait
+
+pub but_none : (a a' : Option (List ℕ)) (bytes : List ℕ) → AppendsAll a a a' a' [] → AppendsBut a a a' a' bytes bytes
+but_none a a' bytes none = ([], none, refl)
+
+pub but_all : (a b a' b' : Option (List ℕ)) (bytes : List ℕ) → AppendsAll a b a' b' bytes → AppendsBut a b a' b' bytes []
+but_all a b a' b' bytes all = (bytes, all, sym (append-nil bytes))
+
+-- more bytes wait behind those that do
+but_behind : (a b a' b' : Option (List ℕ)) (bytes waiting more : List ℕ) → AppendsBut a b a' b' bytes waiting → AppendsBut a b a' b' (bytes ++ more) (waiting ++ more)
+but_behind a b a' b' bytes waiting more (done, all, is) = (done, all, ap (λ (xs : List ℕ). xs ++ more) is ∙ append_assoc done waiting more)
+
+-- of those that wait, all but the last are printed
+but_more : (a b c a' b' c' : Option (List ℕ)) (bytes waiting left : List ℕ) → AppendsBut a b a' b' bytes waiting → AppendsBut b c b' c' waiting left → AppendsBut a c a' c' bytes left
+but_more a b c a' b' c' bytes waiting left (done, all, is) (more, later, split) =
+    (done ++ more, piece_more a b c a' b' c' done more (done ++ more) refl all later, is ∙ ap (λ (xs : List ℕ). done ++ xs) split ∙ sym (append_assoc done more left))
+
+-- one piece more waits, behind those that are left
+pub but_added : (a b c a' b' c' : Option (List ℕ)) (bytes waiting left piece bytes' waiting' : List ℕ) → bytes' ≡ bytes ++ piece → waiting' ≡ left ++ piece
+    → AppendsBut a b a' b' bytes waiting → AppendsBut b c b' c' waiting left → AppendsBut a c a' c' bytes' waiting'
+but_added a b c a' b' c' bytes waiting left piece bytes' waiting' more behind before after =
+    subst₂ (AppendsBut a c a' c') (sym more) (sym behind) (but_behind a c a' c' bytes left piece (but_more a b c a' b' c' bytes waiting left before after))
+
+-- those that wait are printed
+but_end : (a b c a' b' c' : Option (List ℕ)) (bytes waiting : List ℕ) → AppendsBut a b a' b' bytes waiting → AppendsAll b c b' c' waiting → AppendsAll a c a' c' bytes
+but_end a b c a' b' c' bytes waiting (done, all, is) later = piece_more a b c a' b' c' done waiting bytes is all later
+
+-- a front of those that wait is printed
+pub but_front : (a b c a' b' : Option (List ℕ)) (bytes waiting rest whole : List ℕ) → whole ≡ bytes ++ rest → AppendsBut a b a' b' bytes waiting → AppendsFront b c waiting → AppendsFront a c whole
+but_front a b c a' b' bytes waiting rest whole split (done, all, is) part =
+    front_of a b c done waiting rest whole (split ∙ ap (λ (xs : List ℕ). xs ++ rest) is ∙ append_assoc done waiting rest) all.0 part
+
+-- at the end of a call that prints those that wait
+pub end_all : {T E : Type 0} (r : Result T E) (a b c a' b' c' : Option (List ℕ)) (bytes waiting : List ℕ) → AppendsBut a b a' b' bytes waiting → OnOk r (AppendsAll b c b' c' waiting)
+    → OnOk r (AppendsAll a c a' c' bytes)
+end_all (Ok x) a b c a' b' c' bytes waiting before later = but_end a b c a' b' c' bytes waiting before later
+end_all (Err e) a b c a' b' c' bytes waiting before later = tt
+
+pub end_front : {T E : Type 0} (r : Result T E) (a b c a' b' : Option (List ℕ)) (bytes waiting : List ℕ) → AppendsBut a b a' b' bytes waiting → OnErr r (AppendsFront b c waiting)
+    → OnErr r (AppendsFront a c bytes)
+end_front (Ok x) a b c a' b' bytes waiting before part = tt
+end_front (Err e) a b c a' b' bytes waiting before part = but_front a b c a' b' bytes waiting [] bytes (sym (append-nil bytes)) before part
+
+-- words that were read behind others
+pub read_behind : (old read rest : List ℕ) (filled end : ℕ) → filled ≤ length old → end ≡ filled + length read
+    → bytes_of (take end (take filled old ++ (read ++ rest))) ≡ bytes_of (take filled old) ++ bytes_of read
+read_behind old read rest filled end inside is =
+    ap bytes_of
+    (ap (take end) (sym (append_assoc (take filled old) read rest))
+    ∙ take-append-le end (take filled old ++ read) rest (omega (arith, is, inside, length-append (take filled old) read, length-take filled old))
+    ∙ take_all end (take filled old ++ read) (omega (arith, is, inside, length-append (take filled old) read, length-take filled old)))
+    ∙ bytes_of-append (take filled old) read
 
 -- ---- pieces by number
 

@@ -17,6 +17,10 @@ AppendsFront text text' bytes = (n : ℕ) × Appends text text' (take n bytes)
 abbrev pub AppendsAll : Option (List ℕ) → Option (List ℕ) → Option (List ℕ) → Option (List ℕ) → List ℕ → Type 0
 AppendsAll text text' kept kept' bytes = Appends text text' bytes × Keeps kept kept' (λ was now. now ≡ was ++ bytes)
 
+-- The text has all of these bytes more but for the last ones, which wait.
+abbrev pub AppendsBut : Option (List ℕ) → Option (List ℕ) → Option (List ℕ) → Option (List ℕ) → List ℕ → List ℕ → Type 0
+AppendsBut text text' kept kept' bytes waiting = (done : List ℕ) × AppendsAll text text' kept kept' done × (bytes ≡ done ++ waiting)
+
 -- All of an outcome's text was printed, and the status is that of its ending; or writing failed, and a front of it was.
 abbrev pub IsPrinted : Outcome → Option (List ℕ) → Option (List ℕ) → Option (List ℕ) → Option (List ℕ) → Status → Type 0
 IsPrinted outcome text text' kept kept' ended =

@@ -8,8 +8,8 @@
 //! ```
 //!
 //! The other commands make a report, and its text is printed at the end. The text of this one is as long as the namespace,
-//! up to 512 MiB, so it is printed piece by piece from the contents as loaded: a sector at a time, or 4 KiB of a raw
-//! namespace. One piece is held in memory beside the contents.
+//! up to 512 MiB, so it is printed piece by piece from the contents as loaded, 64 KiB or as many sectors as fit there at a
+//! time. One piece is held in memory beside the contents.
 //!
 //! `export_outcome` of `specs/Export.antt` says which text is due. A refusal is found before the first byte is printed, and
 //! so is out of memory: all buffers are allocated first. `IsPrinted` of `specs/Printing.antt` says how much of the text was

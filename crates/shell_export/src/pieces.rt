@@ -12,6 +12,9 @@ use shell_reports::{Report, Status};
 /// The size of a word, in bytes.
 pub(crate) const WORD: usize = 8;
 
+/// How many words are printed at a time: 64 KiB.
+pub(crate) const PIECE: usize = 8192;
+
 /// Converts words to bytes, the low byte first, in a buffer for as many words.
 fn spell<'a>(room: &'a mut [[u8; WORD]], words: &[u64]) -> &'a [u8]
     requires { length room.old ≡ length words.now }

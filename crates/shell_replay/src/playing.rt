@@ -42,7 +42,7 @@ pub(crate) fn play_and_cut<C: Chooser>(
     ensures size { IfOk result (λ ended. length ended.left.items ≡ length state.words) }
 {
     let mut core = Core::of(alloc, state)?;
-    let text = play(alloc, &mut core, schedule.lines.as_slice())?;
+    let text = play(alloc, &mut core, &schedule.lines)?;
     choose.begin(schedule.seed);
     let left = core.cut(choose);
     Ok(Ended { text, left })

@@ -15,7 +15,7 @@ ghost use Rattle.shell_sectors.specs.Found.{IsFoundIn};
 ghost use Rattle.shell_replay.specs.Answering.{AreKept, ReplaysInto, ReplaysOn};
 ghost use Rattle.shell_replay.specs.Replay.{ReplayComes, arenas_refusal};
 
-use crate::opening::{only_arena, open_kept};
+use crate::opening::only_arena;
 use crate::playing::play_and_cut;
 use crate::schedule::Schedule;
 use arena_open::{ArenaState, Chain};
@@ -28,6 +28,7 @@ use namespace_areas::Found;
 use nvd_media::Chooser;
 use power_cut::SetWords;
 use sector_namespaces::{OpenArenas, one_arena_changes};
+use served_namespaces::open_kept;
 use shell_changes::{Answer, without_set};
 use shell_reports::{Ending, Report, arena_answer, refused_answer};
 use shell_sectors::{FoundSet, SetFound, find_in_set, put_arena, saved_answer};

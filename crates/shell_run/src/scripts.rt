@@ -63,11 +63,11 @@ fn fault_stop(fault: ScriptFault) -> ScriptStop
 }
 
 /// Reads a schedule from its text.
-fn schedule_in(alloc: Global, text: &[u8]) -> Result<Replay, ScriptStop>
-    requires within { length text.now ≤ most_bytes }
-    ensures read { IfOk result (λ replay. script_in replay_reading text.now ≡ Ok replay) }
+fn schedule_in(alloc: Global, text: Vec<u8>) -> Result<Replay, ScriptStop>
+    requires within { length text.items ≤ most_bytes }
+    ensures read { IfOk result (λ replay. script_in replay_reading text.items ≡ Ok replay) }
     ensures few { IfOk result (λ replay. length replay.lines < 2 ^ 32) }
-    ensures refused { (why : ScriptRefused) → result ≡ Err (ScriptStop.Refused why) → script_in replay_reading text.now ≡ Err why }
+    ensures refused { (why : ScriptRefused) → result ≡ Err (ScriptStop.Refused why) → script_in replay_reading text.items ≡ Err why }
     ensures unread { result ≢ Err (ScriptStop.Stop Stop.ReadFault) }
 {
     match read_replay(alloc, text) {
@@ -90,7 +90,7 @@ pub(crate) fn read_schedule<T: TextSource>(
     ensures failed { result ≡ Err (ScriptStop.Stop Stop.ReadFault) → Rose (T.faults script.old) (T.faults script.new) }
 {
     match text_in(alloc, script, MOST_BYTES) {
-        Ok(text) => schedule_in(alloc, &text),
+        Ok(text) => schedule_in(alloc, text),
         Err(stop) => Err(stop),
     }
 }

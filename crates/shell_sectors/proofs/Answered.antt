@@ -21,6 +21,7 @@ use Rattle.namespace_areas.specs.Finding.{set_at}
 use Rattle.sector_namespaces.specs.Changing.{AreServed, IsWithin}
 use Rattle.sector_namespaces.specs.Creation.{AreSettled}
 use Rattle.sector_namespaces.specs.View.{IsUsable, opened_view, rows_of}
+use Rattle.served_namespaces.specs.Places.{KeepsBehind}
 use Rattle.session_script.specs.declared.payload.Payload.{Payload}
 use Rattle.shell_reports.specs.declared.outcome.Report.{Report}
 use Rattle.shell_reports.specs.declared.status.Ending.{Ending}
@@ -36,7 +37,7 @@ use Rattle.shell_sectors.specs.Changed.{IsChanged, IsReady, moved_to}
 use Rattle.shell_sectors.specs.Found.{IsFoundIn, OnArenas, SavesNamespace, place_of}
 use Rattle.shell_sectors.specs.Saving.{SavesWith}
 use Rattle.shell_sectors.specs.Value.{bytes_for}
-use Rattle.shell_sectors.specs.Write.{HasSector, WriteComes, Writes, WritesArenas, length_refusal, length_text, range_text, write_refusal}
+use Rattle.shell_sectors.specs.Write.{HasSector, WriteComes, Writes, WritesArenas, length_refusal, length_text, loaded_words, range_text, write_refusal}
 use Rattle.shell_sectors.proofs.Coming.{found_comes, on_words, rows_settled, saves_namespace}
 
 count_beside : (n : Namespace) → length (beside_of n) ≡ length n.modules
@@ -51,21 +52,38 @@ ready n now uuid states s = record { settled = s.settled; few = s.few; are_open 
 pub moved_same : (n now : Namespace) (modules : List Words) → IsBesideSame n now → moved_to now modules ≡ moved_to n modules
 moved_same n now modules same = λ i. record { set = same.set i; offset = same.offset i; raw = same.raw i; modules = modules }
 
+-- the words that were before
+since : (uuid : List ℕ) (sector : ℕ) (words : List ℕ) (states : List ArenaState) (first was now : List ℕ) → KeepsBehind first was states → HasSector uuid sector words states was now → HasSector uuid sector words states first now
+since uuid sector words states first was now kept h = record {
+  which = h.which;
+  own = h.own;
+  lies = h.lies;
+  news = h.news;
+  opens = h.opens;
+  infos = h.infos;
+  none = h.none;
+  others = h.others;
+  fixed = h.fixed;
+  behind = h.behind ∙ kept;
+  cells = h.cells;
+}
+
 -- what is written into the words that are served is written on the namespace
-pub served_on : (n now : Namespace) (uuid : List ℕ) (states : List ArenaState) (sector : ℕ) (value : Payload) (done : Written) → AreServed n now uuid states → WritesInto now states sector value done
-    → WritesOn n uuid sector value done
-served_on n now uuid states sector value (written.Done modules) s (accepted, (which, own, lies, changed)) =
+pub served_on : (n now : Namespace) (uuid : List ℕ) (states : List ArenaState) (sector : ℕ) (value : Payload) (done : Written) → AreServed n now uuid states
+    → KeepsBehind (words_of n).kept (words_of now).kept states → WritesInto now states sector value done → WritesOn n uuid sector value done
+served_on n now uuid states sector value (written.Done modules) s kept (accepted, (which, own, lies, changed)) =
     let same : moved_to now modules.items ≡ moved_to n modules.items = moved_same n now modules.items s.beside in (
       states,
       s.read,
       record {
         accepted = accepted;
-        has = subst (λ (m : Namespace). HasSector uuid sector (words_at states sector value) states (words_of m).kept) same (changed.has uuid sector s.found lies);
+        has = subst (λ (m : Namespace). HasSector uuid sector (words_at states sector value) states (words_of n).kept (words_of m).kept) same
+            (since uuid sector (words_at states sector value) states (words_of n).kept (words_of now).kept (words_of (moved_to now modules.items)).kept kept (changed.has uuid sector s.found lies));
         settled = subst (λ (m : Namespace). IsSettled (words_of m)) same changed.settled;
         beside = ap beside_of (sym same) ∙ changed.beside ∙ s.beside.beside;
       },
     )
-served_on n now uuid states sector value (written.Not report) s (refusal, some, said) = inl (states, s.read, (refusal, some, said))
+served_on n now uuid states sector value (written.Not report) s kept (refusal, some, said) = inl (states, s.read, (refusal, some, said))
 
 -- ---- a sector that is there
 
@@ -152,12 +170,13 @@ module _ (loaded : ImageSet) (uuid : List ℕ) (set : FoundSet) (f : IsFoundIn l
         → report.ending ≡ ending.Done → report.text.items ≡ done_text → SavesWith report set.rest modules outcome → WriteComes uuid sector value loaded outcome
     comes_done states modules report read w ends says saves =
         let moved : moved_to n modules ≡ place_of loaded set.found modules = ap (λ (m : Namespace). moved_to m modules) is in
-        let saved : SavesNamespace set.found loaded (HasSector uuid sector (words_at states sector value) states) report.ending report.text.items outcome =
-        saves_namespace loaded uuid set f report modules outcome (HasSector uuid sector (words_at states sector value) states) saves
+        let saved : SavesNamespace set.found loaded (HasSector uuid sector (words_at states sector value) states (loaded_words loaded set.found)) report.ending report.text.items outcome =
+        saves_namespace loaded uuid set f report modules outcome (HasSector uuid sector (words_at states sector value) states (loaded_words loaded set.found)) saves
         (subst (λ (m : Namespace). IsSettled (words_of m)) moved w.settled)
         (ap beside_of (sym moved) ∙ w.beside ∙ ap beside_of is)
-        (subst (λ (m : Namespace). HasSector uuid sector (words_at states sector value) states (words_of m).kept) moved w.has) in
+        (subst (λ (m : Namespace). HasSector uuid sector (words_at states sector value) states (words_of m).kept (words_of (place_of loaded set.found modules)).kept) is
+        (subst (λ (m : Namespace). HasSector uuid sector (words_at states sector value) states (words_of n).kept (words_of m).kept) moved w.has)) in
         on_read (Ok states) read
         (on_refusal states None w.accepted
-        (subst (λ (t : List ℕ). SavesNamespace set.found loaded (HasSector uuid sector (words_at states sector value) states) ending.Done t outcome) says
-        (subst (λ (x : Ending). SavesNamespace set.found loaded (HasSector uuid sector (words_at states sector value) states) x report.text.items outcome) ends saved)))
+        (subst (λ (t : List ℕ). SavesNamespace set.found loaded (HasSector uuid sector (words_at states sector value) states (loaded_words loaded set.found)) ending.Done t outcome) says
+        (subst (λ (x : Ending). SavesNamespace set.found loaded (HasSector uuid sector (words_at states sector value) states (loaded_words loaded set.found)) x report.text.items outcome) ends saved)))

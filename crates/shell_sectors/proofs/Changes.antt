@@ -28,6 +28,9 @@ use Rattle.lane_core.proofs.Put.{put_at as put_here, put_other, same_or_not}
 use Rattle.sector_namespaces.specs.Changing.{DifferIn, IsFoundAs, OneArenaChanges, start_of}
 use Rattle.sector_namespaces.specs.View.{opened_view}
 use Rattle.sector_namespaces.proofs.Chains.{AtArena, at_arena, start_take, view_walk}
+use Rattle.served_namespaces.specs.Places.{arena_words}
+use Rattle.served_namespaces.proofs.Arenas.{again_words, ends_inside, own_words as size_words}
+use Rattle.served_namespaces.proofs.Parts.{put_behind}
 use Rattle.lane_alone.specs.Alone.{IsWritten, IsWrittenIn}
 use Rattle.shell_sectors.specs.Write.{HasSector}
 
@@ -227,7 +230,25 @@ module _ (W : List ℕ) (states : List ArenaState) (which own : ℕ) (words : Li
             | inr ne ↦ put_other (first_cells state) own (cell.Bytes words) i ne ∙ sym (was i lt) ∙ sym (get_or-set_other (cells_of state) own i (cell.Bytes words) cell.Bad ne)
           ]
 
-  pub has_sector : OneArenaChanges → (sector : ℕ) → LiesIn states sector which own → HasSector uuid sector words states (put_at W (start_of (take which states)) left)
+  -- the arena ends within those of all
+  ends : start_of (take which states) + state.info.layout.size / 8 ≤ arena_words states
+  ends =
+      let lt : which < length (map found_again states) = count W states which state at_which there is_open left w.size uuid e in
+      let at : get_or (map found_again states) which (found_again state) ≡ found_again state = again_is W states which state at_which there is_open left w.size uuid e in
+      let end = ends_inside W uuid 0 (map found_again states) which (found_again state) (view_walk W uuid (map found_again states) e) lt in
+      omega (arith, end, start_take which states, again_words states, ap size_words at)
+
+  behind_all : drop (arena_words states) (put_at W (start_of (take which states)) left) ≡ drop (arena_words states) W
+  behind_all =
+      let room : start_of (take which states) + length left ≤ length W = fits W states which state at_which there is_open left w.size uuid e in
+      let long : length left ≡ state.info.layout.size / 8 = left_long W states which state at_which there is_open left w.size uuid e in
+      let first : start_of (take which states) + length left + (arena_words states - (start_of (take which states) + length left)) ≡ arena_words states = omega (arith, ends, long) in
+      subst (λ (k : ℕ). drop k (put_at W (start_of (take which states)) left) ≡ drop k W) first
+      (sym (drop-drop (arena_words states - (start_of (take which states) + length left)) (start_of (take which states) + length left) (put_at W (start_of (take which states)) left))
+      ∙ ap (drop (arena_words states - (start_of (take which states) + length left))) (put_behind (start_of (take which states)) W left room)
+      ∙ drop-drop (arena_words states - (start_of (take which states) + length left)) (start_of (take which states) + length left) W)
+
+  pub has_sector : OneArenaChanges → (sector : ℕ) → LiesIn states sector which own → HasSector uuid sector words states W (put_at W (start_of (take which states)) left)
   unfolding contents_of
   has_sector law sector l =
       let inside : own < state.info.layout.external = subst (λ (s : ArenaState). own < s.info.layout.external) (sym (at_which state)) (l.inside state) in
@@ -249,6 +270,7 @@ module _ (W : List ℕ) (states : List ArenaState) (which own : ℕ) (words : Li
             same_some (found_again new) new' (sym (slice_get-map found_again (set states which new) which ∙ ap (option_map found_again) (get_set_here states which new there)) ∙ is) in
             subst (λ (s : ArenaState). SameFixed (shape_in s) s.words new'.words) old_is
             (subst (λ (ws : List ℕ). SameFixed (shape_in state) state.words ws) (sym new_words ∙ ap (λ (s : ArenaState). s.words) new_is) w.fixed);
+        behind = behind_all;
         cells = parts_again (set states which new)
             ∙ parts_set states which own (cell.Bytes words) new state there (subst (λ (s : ArenaState). own < s.info.layout.external) (at_which state) inside)
             (cells_new inside ∙ ap (λ (s : ArenaState). set (cells_of s) own (cell.Bytes words)) (at_which state))

@@ -38,7 +38,7 @@ module _ (n : Namespace) (states : List ArenaState) (which own : ℕ) (words : L
 
   pub changed : OneArenaChanges → (modules : List Words) → words_of (moved_to n modules) ≡ settled put → beside_of (moved_to n modules) ≡ beside_of n → IsChanged n states which own words modules
   changed law modules put_is same = record {
-    has = λ uuid sector e lies. subst (λ (ws : List ℕ). HasSector uuid sector words states ws) (sym (ap (λ (ws : Words). ws.kept) put_is))
+    has = λ uuid sector e lies. subst (λ (ws : List ℕ). HasSector uuid sector words states (words_of n).kept ws) (sym (ap (λ (ws : Words). ws.kept) put_is))
         (has_sector (words_of n).kept states which own words state is there (open_at states which state ready.are_open there is) left w uuid e law sector lies);
     settled = settled_at (words_of (moved_to n modules)) put put_is;
     beside = same;

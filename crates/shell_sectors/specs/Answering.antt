@@ -36,7 +36,7 @@ WritesInto n states sector value (written.Not report) = (refusal : List ℕ) × 
 -- the sector has the value, no word is pending, and nothing beside the namespace has changed
 pub record IsWrittenTo (n : Namespace) (uuid : List ℕ) (states : List ArenaState) (sector : ℕ) (value : Payload) (modules : List Words) : Type 0 where
   pub accepted : write_refusal sector value states ≡ None
-  pub has : HasSector uuid sector (words_at states sector value) states (words_of (moved_to n modules)).kept
+  pub has : HasSector uuid sector (words_at states sector value) states (words_of n).kept (words_of (moved_to n modules)).kept
   pub settled : IsSettled (words_of (moved_to n modules))
   pub beside : beside_of (moved_to n modules) ≡ beside_of n
 

@@ -16,7 +16,7 @@ moved_to n modules = over n.set n.offset n.raw modules
 -- Sector `own` of arena `which` of a namespace has other words, and nothing beside the namespace has changed.
 pub record IsChanged (n : Namespace) (states : List ArenaState) (which own : ℕ) (words : List ℕ) (modules : List Words) : Type 0 where
   pub has : (uuid : List ℕ) (sector : ℕ) → opened_view (words_of n).kept uuid ≡ Ok (map found_again states) → LiesIn states sector which own
-      → HasSector uuid sector words states (words_of (moved_to n modules)).kept
+      → HasSector uuid sector words states (words_of n).kept (words_of (moved_to n modules)).kept
   pub settled : IsSettled (words_of (moved_to n modules))
   pub beside : beside_of (moved_to n modules) ≡ beside_of n
 

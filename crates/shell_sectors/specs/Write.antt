@@ -11,15 +11,17 @@ use Rattle.arena_open.specs.ChainCells.{LiesIn, contents_of, sectors_of, sizes_o
 use Rattle.arena_open.specs.Moves.{moves_made}
 use Rattle.lane_core.specs.Arenas.{shape_in}
 use Rattle.lane_core.specs.Fixed.{SameFixed}
+use Rattle.power_cut.specs.Namespace.{words_of as namespace_words}
 use Rattle.image_set.specs.Load.{ImageSet}
 use Rattle.namespace_areas.specs.declared.found.Found.{Found}
-use Rattle.sector_namespaces.specs.View.{opened_view}
+use Rattle.sector_namespaces.specs.View.{opened_view, rows_of}
+use Rattle.served_namespaces.specs.Places.{KeepsBehind}
 use Rattle.session_script.specs.declared.payload.Payload.{Payload}
 use Rattle.shell_reports.specs.declared.status.Ending.TheVariants as ending
 use Rattle.shell_reports.specs.Cut.{done_text}
 use Rattle.shell_reports.specs.Faults.{refused_outcome}
 use Rattle.shell_reports.specs.Outcome.{Outcome}
-use Rattle.shell_sectors.specs.Found.{OnSet, SavesNamespace}
+use Rattle.shell_sectors.specs.Found.{OnSet, SavesNamespace, place_of}
 use Rattle.shell_sectors.specs.Value.{bytes_for}
 
 -- ---- refusals
@@ -44,8 +46,8 @@ write_refusal sector value states =
 
 -- ---- the change
 
--- The words of a namespace after a write of `words` to a sector, of which these were the arenas.
-pub record HasSector (uuid : List ℕ) (sector : ℕ) (words : List ℕ) (states : List ArenaState) (now : List ℕ) : Type 0 where
+-- The words of a namespace after a write of `words` to a sector, of which these were the arenas, and of the words that it had.
+pub record HasSector (uuid : List ℕ) (sector : ℕ) (words : List ℕ) (states : List ArenaState) (was now : List ℕ) : Type 0 where
   -- the sector's arena, and its number there
   pub which : ℕ
   pub own : ℕ
@@ -60,15 +62,21 @@ pub record HasSector (uuid : List ℕ) (sector : ℕ) (words : List ℕ) (states
   pub others : (j : ℕ) → j ≢ which → slice_get news j ≡ option_map found_again (slice_get states j)
   -- in the sector's arena no word has changed that is no word of a block, the map or the log
   pub fixed : (old new : ArenaState) → slice_get states which ≡ Some old → slice_get news which ≡ Some new → SameFixed (shape_in old) old.words new.words
+  -- the words behind all arenas are as they were
+  pub behind : KeepsBehind was now states
   -- of all sectors that one alone has another cell
   pub cells : contents_of news ≡ slice_set (contents_of states) sector (cell.Bytes words)
 
 -- ---- the command
 
+-- the words of a namespace as they were loaded
+abbrev pub loaded_words : ImageSet → Found → List ℕ
+loaded_words loaded found = (namespace_words (place_of loaded found (rows_of loaded.contents))).kept
+
 -- the loaded set is saved, with the sector's value in the namespace
 abbrev pub Writes : Found → List ℕ → ℕ → Payload → ImageSet → List ArenaState → Outcome → Type 0
 Writes found uuid sector value loaded states outcome =
-    SavesNamespace found loaded (HasSector uuid sector (words_in (bytes_for (slice_index (sizes_of states) sector) value)) states) ending.Done done_text outcome
+    SavesNamespace found loaded (HasSector uuid sector (words_in (bytes_for (slice_index (sizes_of states) sector) value)) states (loaded_words loaded found)) ending.Done done_text outcome
 
 -- on the arenas of a namespace
 abbrev pub WritesArenas : List ℕ → ℕ → Payload → ImageSet → Outcome → Found → List ArenaState → Type 0

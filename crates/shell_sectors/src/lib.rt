@@ -1,7 +1,7 @@
 //! Commands on the sectors of a namespace that save an image set: `write`.
 //!
 //! ```text
-//! loaded set ── find_in_set ──► namespace ── open_arenas ──► its words, pending moves completed; all of its arenas
+//! loaded set ── find_in_set ──► namespace ── open_kept ──► its words, pending moves completed; all of its arenas
 //!                                                               │
 //!                            Range, Length ◄────────────────────┤ the sector's arena ── write_alone ──► its new words
 //!                                                               ▼

@@ -31,7 +31,8 @@ use interleave::InterleaveSet;
 use label_codec::Mode;
 use namespace_areas::Found;
 use power_cut::SetWords;
-use sector_namespaces::{OpenArenas, open_arenas};
+use sector_namespaces::OpenArenas;
+use served_namespaces::open_kept;
 use session_script::Payload;
 use shell_changes::{Answer, without_set};
 use shell_reports::{Ending, Report, arena_answer, refused_answer};
@@ -148,7 +149,7 @@ fn write_found(
     requires usable { IsUsable set.now modules.items }
     ensures { IfOk result (WritesOn (over set.now found.now.offset found.now.raw modules.items) uuid.now sector value) }
 {
-    match open_arenas(alloc, set, found, modules, uuid) {
+    match open_kept(alloc, set, found, modules, uuid) {
         Ok(opened) => write_opened(alloc, opened, sector, value),
         Err(refused) => {
             let report = arena_answer(alloc, uuid, refused)?;
@@ -205,9 +206,9 @@ fn found_answer(
 /// lengths of the value and of the sector in bytes, if they differ.
 ///
 /// The write goes through the log of the sector's arena, as a driver makes it. The pending moves of
-/// all arenas of the namespace are completed first. Label areas and contents outside the
-/// namespace's extents are saved as they were loaded. After a refusal nothing is saved. The call
-/// fails only if memory runs out.
+/// all arenas of the namespace are completed first. Label areas, contents outside the namespace's
+/// extents, and its words behind its arenas are saved as they were loaded. After a refusal nothing
+/// is saved. The call fails only if memory runs out.
 pub fn write_answer(
     alloc: Global,
     uuid: &Uuid,

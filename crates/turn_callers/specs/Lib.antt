@@ -8,3 +8,4 @@ pub mod Seats
 pub mod Sessions
 pub mod Shares
 pub mod Stops
+pub mod Switch

@@ -18,7 +18,7 @@
 //!   order, with its replies (`AreOwnEntries`).
 //! - `order`, `orders`, `session`, `seats`, `shelf` share many such registers, with a lock around
 //!   each. The same holds for each of them (`AreOwnEntriesAt`).
-//! - `desk`, `switch` share a switch that any caller may turn off. If a caller was told that it is
+//! - `desk`, `switch`, `power` share a switch that any caller may turn off. If a caller was told that it is
 //!   off, some caller turned it off (`OneTold`, `OneStopped`).
 //!
 //! No caller allocates while it has the turn: room for all calls is reserved at the start, and a
@@ -29,6 +29,7 @@ mod counting;
 mod desk;
 mod order;
 mod orders;
+mod power;
 mod register;
 mod script;
 mod seats;
@@ -41,6 +42,7 @@ mod turns;
 pub use counting::{count_turns, take_turns};
 pub use desk::{Desk, Mine};
 pub use order::Order;
+pub use power::{go_off, is_off};
 pub use register::{Call, Entry, Register};
 pub use script::{Ran, run_scripts};
 pub use shelf::{ShelfRan, run_shelf};

@@ -1,6 +1,6 @@
 use Rattle.std.proofs.Common.{◌≡◌, None}
 use Rattle.turn_lock.specs.Passes.{lock_of, number_of, part_of, out_of, lock_id}
-use Rattle.sector_service.specs.Switch.{CanAsk}
+use Rattle.turn_callers.specs.Switch.{CanAsk, KeepsStopped}
 use Rattle.sector_service.proofs.calls.begin_read.Given as goal
 
 abbrev pub invariant-loop : goal.invariant-loop
@@ -14,4 +14,5 @@ invariant-loop g l = record {
   can_ask : CanAsk (lock_id l.power) l.caller.switch;
   call : l.caller.call ≡ l.initial.caller.call;
   left : l.caller.left ≡ l.initial.caller.left;
+  stopped : KeepsStopped l.initial.caller.switch l.caller.switch;
 }

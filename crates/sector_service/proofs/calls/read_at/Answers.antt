@@ -5,6 +5,7 @@ use Rattle.lane_core.specs.declared.history.Act.TheVariants as act
 use Rattle.session_parts.specs.Parts.{stand_at}
 use Rattle.sector_service.specs.Calls.{answered}
 use Rattle.sector_service.proofs.Calling as calling
+use Rattle.sector_service.proofs.Stopping.{keeps_again, stops_again}
 use Rattle.sector_service.proofs.calls.read_at.Goals as goal
 
 pub loop-preserved : goal.loop-preserved
@@ -20,7 +21,9 @@ loop-preserved g c =
       switch_number = o.same.1 ∙ i.switch_number;
       can_ask = o.can_ask;
       call = o.call ∙ i.call;
-      calling = λ m e. calling.read_went (number_of c.args.pass.now) c.args.caller.now.call c.in-Ok-Some.lane c.args.sector m c.args.caller.now.left c.loop.caller.left c.may_step.new.caller.left c.loop.pass c.step_in_turn.new.pass (i.calling m e) (c.if-not-may_step.ensures.yes refl) c.in-Went.ensures.step;
+      stopped = keeps_again c.args.caller.now.switch c.loop.caller.switch c.may_step.new.caller.switch i.stopped (c.if-not-may_step.ensures.yes refl).1;
+      whole = λ e. o.whole (i.whole e);
+      calling = λ m e. calling.read_went (number_of c.args.pass.now) c.args.caller.now.call c.in-Ok-Some.lane c.args.sector m c.args.caller.now.left c.loop.caller.left c.may_step.new.caller.left c.loop.pass c.step_in_turn.new.pass (i.calling m e) (c.if-not-may_step.ensures.yes refl).0 c.in-Went.ensures.step;
     }
 
 pub returns-in-Got-clause-done : goal.returns-in-Got-clause-done

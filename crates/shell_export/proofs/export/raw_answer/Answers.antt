@@ -1,28 +1,17 @@
-use Rattle.std.proofs.Common.{◌≡◌, ℕ, ◌∙◌, ◌%◌, List, length, ap, sym, subst}
+use Rattle.std.proofs.Common.{◌≡◌, ◌∙◌, List, ap, sym, subst}
 use Rattle.std.specs.Prelude.{IfOk}
 use Rattle.std.specs.List.{All}
-use Rattle.interleave.specs.Places.{unit_of}
 use Rattle.cut_words.specs.Words.{Words, settled}
 use Rattle.cut_words.specs.WordBytes.{bytes_of}
 use Rattle.power_cut.specs.Namespace.{Namespace, ReachEnds, over, words_of}
 use Rattle.sector_namespaces.specs.View.{view_words}
-use Rattle.sector_namespaces.proofs.Views.{length_view, page_words, pages_of, view_settled}
+use Rattle.sector_namespaces.proofs.Views.{view_settled}
 use Rattle.shell_reports.specs.Outcome.{printed}
 use Rattle.shell_export.specs.Printing.{IsPrinted}
 use Rattle.shell_export.proofs.export.raw_answer.Goals as goal
 
 pub of-space-requires-clause-reach : goal.of-space-requires-clause-reach
 of-space-requires-clause-reach g c = subst (ReachEnds c.args.set.now) (sym c.into_vec.ensures) c.requires.usable.reach
-
-pub words_answer-requires-clause-pages : goal.words_answer-requires-clause-pages
-words_answer-requires-clause-pages g c =
-    let n_is : c.of-space.result ≡ over c.args.set.now c.args.found.now.offset c.args.found.now.raw c.args.contents =
-    c.of-space.ensures.made ∙ (λ i. over c.args.set.now c.args.found.now.offset c.args.found.now.raw (c.into_vec.ensures i)) in
-    let pages = c.requires.usable.pages in
-    ap (λ (n : ℕ). n % 512) (ap (λ (n : Namespace). length (words_of n).kept) n_is
-    ∙ length_view (over c.args.set.now c.args.found.now.offset c.args.found.now.raw c.args.contents))
-    ∙ page_words (length c.args.set.now) c.args.found.now.raw
-    (pages_of c.args.found.now.raw (unit_of c.args.set.now) pages.0 pages.1 c.requires.lies.to)
 
 pub words_answer-requires-clause-settled : goal.words_answer-requires-clause-settled
 words_answer-requires-clause-settled g c =

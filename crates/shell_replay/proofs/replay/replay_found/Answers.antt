@@ -4,13 +4,14 @@ use Rattle.shell_changes.specs.Remains.{LeavesBy}
 use Rattle.shell_sectors.proofs.Coming.{ok_then}
 use Rattle.shell_replay.specs.Answering.{ReplaysOn}
 use Rattle.shell_replay.proofs.Coming.{are_kept, on_namespace}
+use Rattle.shell_replay.proofs.Kept.{one_kept}
 use Rattle.shell_replay.proofs.replay.replay_found.Goals as goal
 
 pub replay_arenas-requires-clause-ready : goal.replay_arenas-requires-clause-ready
 replay_arenas-requires-clause-ready g c = (
   c.args.uuid.now,
   (words_of (over c.args.set.now c.args.found.now.offset c.args.found.now.raw c.args.modules.items)).kept,
-  are_kept (over c.args.set.now c.args.found.now.offset c.args.found.now.raw c.args.modules.items) c.in-Ok.opened.words c.args.uuid.now c.in-Ok.opened.chain c.in-Ok.ensures.served c.in-Ok.ensures.kept,
+  are_kept (over c.args.set.now c.args.found.now.offset c.args.found.now.raw c.args.modules.items) c.in-Ok.opened.words c.args.uuid.now c.in-Ok.opened.chain c.in-Ok.ensures.served (one_kept (words_of (over c.args.set.now c.args.found.now.offset c.args.found.now.raw c.args.modules.items)).kept (words_of c.in-Ok.opened.words).kept c.in-Ok.opened.chain c.in-Ok.ensures.behind),
 )
 
 pub returns-in-Ok : goal.returns-in-Ok
@@ -19,7 +20,7 @@ returns-in-Ok g c =
     ok_then _ (ReplaysOn leaves (over c.args.set.now c.args.found.now.offset c.args.found.now.raw c.args.modules.items) c.args.uuid.now c.args.schedule.now) c.replay_arenas.result
     (λ done into. on_namespace leaves (over c.args.set.now c.args.found.now.offset c.args.found.now.raw c.args.modules.items) c.in-Ok.opened.words c.args.uuid.now c.args.schedule.now c.in-Ok.opened.chain c.in-Ok.ensures.served done
     (into c.args.uuid.now (words_of (over c.args.set.now c.args.found.now.offset c.args.found.now.raw c.args.modules.items)).kept
-    (are_kept (over c.args.set.now c.args.found.now.offset c.args.found.now.raw c.args.modules.items) c.in-Ok.opened.words c.args.uuid.now c.in-Ok.opened.chain c.in-Ok.ensures.served c.in-Ok.ensures.kept)))
+    (are_kept (over c.args.set.now c.args.found.now.offset c.args.found.now.raw c.args.modules.items) c.in-Ok.opened.words c.args.uuid.now c.in-Ok.opened.chain c.in-Ok.ensures.served (one_kept (words_of (over c.args.set.now c.args.found.now.offset c.args.found.now.raw c.args.modules.items)).kept (words_of c.in-Ok.opened.words).kept c.in-Ok.opened.chain c.in-Ok.ensures.behind))))
     c.replay_arenas.ensures
 
 pub returns-in_ok-report-in-Err : goal.returns-in_ok-report-in-Err

@@ -12,7 +12,7 @@ write_opened-requires c =
 pub returns-in-Ok : goal.returns-in-Ok
 returns-in-Ok c =
     ok_then _ (WritesOn (over c.args.set.now c.args.found.now.offset c.args.found.now.raw c.args.modules.items) c.args.uuid.now c.args.sector c.args.value) c.write_opened.result
-    (λ written writes. served_on (over c.args.set.now c.args.found.now.offset c.args.found.now.raw c.args.modules.items) c.in-Ok.opened.words c.args.uuid.now c.in-Ok.opened.chain c.args.sector c.args.value written c.in-Ok.ensures.served writes)
+    (λ written writes. served_on (over c.args.set.now c.args.found.now.offset c.args.found.now.raw c.args.modules.items) c.in-Ok.opened.words c.args.uuid.now c.in-Ok.opened.chain c.args.sector c.args.value written c.in-Ok.ensures.served c.in-Ok.ensures.behind writes)
     c.write_opened.ensures
 
 pub returns-in_ok-report-in-Err : goal.returns-in_ok-report-in-Err

@@ -2,7 +2,7 @@ use Rattle.std.proofs.Common.{ℕ, true, List, Option, ◌≡◌, subst}
 use Rattle.namespace_areas.specs.Seen.{AreLeft as AreasLeft, areas_shown}
 use Rattle.namespace_ops.specs.Registered.{opening_of}
 use Rattle.session_account.specs.Journal.{AreLeft, IsJournal}
-use Rattle.registry_service.specs.Served.{Served, answered}
+use Rattle.registry_service.specs.Served.{AreKept, Served, answered}
 use Rattle.registry_service.proofs.Serving.{served_journal, served_left}
 use Rattle.registry_service.proofs.served.ServedRegistry.into_parts.Goals as goal
 
@@ -15,3 +15,6 @@ pub returns-clause-left : goal.returns-clause-left
 returns-clause-left c =
     subst (λ (s : Served). s.registry.stopped ≡ true → (rows : List (Option (List ℕ))) → AreasLeft s.registry.areas rows → AreLeft s.registry.sets (opening_of s.registry) s.first (answered s.registry.journal) (areas_shown rows)) c.self.view_is
     (served_left (record { registry = c.self.inside.registry; left = c.self.inside.fuse; first = c.self.inside.first.value; opens = c.self.inside.opens.items }) c.self.invariant)
+
+pub returns-clause-areas : goal.returns-clause-areas
+returns-clause-areas c = subst (λ (s : Served). AreKept s.registry.opening s.registry.areas s.registry.stopped) c.self.view_is c.self.invariant.areas

@@ -1,0 +1,6 @@
+pub mod Places
+pub mod Opening
+pub mod Serving
+pub mod Putting
+pub mod Steps
+pub mod Laws

@@ -1,0 +1,83 @@
+//! The arenas of namespaces are put back into the words of the modules.
+ghost use Rattle.std.specs.Prelude.{◌≡◌, ◌^◌, ◌+◌, ◌<◌, ◌≤◌, List, length, map};
+ghost use Rattle.cut_words.specs.Words.{Words, settled};
+ghost use Rattle.arena_open.specs.Writes.{IsSettled};
+ghost use Rattle.power_cut.specs.Namespace.{beside_of, over, words_of};
+ghost use Rattle.sector_namespaces.specs.Creation.{AreSettled};
+ghost use Rattle.sector_namespaces.specs.View.{IsUsable, LiesOn};
+ghost use Rattle.served_namespaces.specs.declared.places.OpenedNamespace.{OpenedNamespace as Opened};
+ghost use Rattle.served_namespaces.specs.Putting.{put_parts, total_of};
+ghost use Rattle.served_namespaces.specs.Steps.{IsReady};
+ghost use Rattle.served_namespaces.specs.Serving.{AreLeft};
+
+use crate::places::FoundNamespace;
+use crate::sets::{know_sets, set_at};
+use cut_words::{CutWords, WordSpace};
+use interleave::InterleaveSet;
+use nvd_words::Items;
+use power_cut::{SetWords, beside_tells_the_place};
+use sector_namespaces::put_words;
+
+/// Puts parts one behind another, from the first word of the space on.
+fn put_parts<W: WordSpace>(space: &mut W, parts: &[Items<u64>])
+    requires room { total_of parts.now ≤ length (W.words space.old).kept }
+    requires small { length (W.words space.old).kept < 2 ^ 60 }
+    requires settled { IsSettled (W.words space.old) }
+    ensures put { W.words space.new ≡ settled (put_parts 0 parts.now (W.words space.old).kept) }
+    ensures beside { W.beside space.new ≡ W.beside space.old }
+{
+    let mut at = 0;
+    for part in parts {
+        put_words(space, at, part.as_slice());
+        at += part.len() as u64;
+    }
+}
+
+/// Puts the words of all arenas of a namespace of a set, and returns the words of all modules.
+fn put_arenas(
+    set: &InterleaveSet,
+    place: &FoundNamespace,
+    parts: &[Items<u64>],
+    modules: Vec<CutWords>,
+) -> Vec<CutWords>
+    requires lies { LiesOn set.now place.now.found }
+    requires settled { AreSettled modules.items }
+    requires usable { IsUsable set.now modules.items }
+    requires room { total_of parts.now ≤ length (words_of (over set.now place.now.found.offset place.now.found.raw modules.items)).kept }
+    ensures put { words_of (over set.now place.now.found.offset place.now.found.raw result.items) ≡ settled (put_parts 0 parts.now (words_of (over set.now place.now.found.offset place.now.found.raw modules.items)).kept) }
+    ensures beside { beside_of (over set.now place.now.found.offset place.now.found.raw result.items) ≡ beside_of (over set.now place.now.found.offset place.now.found.raw modules.items) }
+{
+    beside_tells_the_place();
+    let _few = set.ways();
+    let mut space = SetWords::of(set, place.found.offset, place.found.raw, modules);
+    put_parts(&mut space, parts);
+    space.into_modules()
+}
+
+/// Puts the words of all arenas of namespaces that are open back into the words of the modules.
+/// It takes no memory.
+///
+/// `places` are those with which `open_each` opened them, and `modules` the words that it returned. `words` has for each namespace, in
+/// order, the words of each of its arenas, in order: what a power cut of the arena's core may
+/// leave (`IsCut`).
+///
+/// Each namespace opens in its place as arenas with the same info and with these words. No word
+/// is pending, and no word that isn't an arena's has changed since the words were loaded
+/// (`AreLeft`).
+pub fn put_each(
+    sets: &[InterleaveSet],
+    places: &[FoundNamespace],
+    words: &[Items<Items<u64>>],
+    modules: Vec<CutWords>,
+) -> Vec<CutWords>
+    requires ready { (loaded : List Words) × ((opened : List Opened) × IsReady sets.now loaded places.now opened words.now modules.items) }
+    ensures { (loaded : List Words) (opened : List Opened) → IsReady sets.now loaded places.now opened words.now modules.items → AreLeft sets.now loaded opened words.now result.items }
+{
+    know_sets(sets);
+    let mut modules = modules;
+    for i in 0..places.len() {
+        let set = set_at(sets, places[i].found.region);
+        modules = put_arenas(set, &places[i], words[i].as_slice(), modules);
+    }
+    modules
+}

@@ -1,0 +1,65 @@
+use Rattle.std.proofs.Common.{◌≡◌, ◌≤◌, ℕ, false, true, List, length, map, sym, ap, ◌∙◌, subst, arith}
+use Rattle.std.specs.Prelude.{All}
+use Rattle.turn_lock.specs.Passes.{callers_of, first_of, lock_id, IsOutside, HasEach, Knows as PassKnows}
+use Rattle.namespace_areas.specs.Seen.{areas_shown}
+use Rattle.namespace_ops.specs.Registered.{kept_of, opening_of, state_of}
+use Rattle.session_account.specs.Journal.{AreLeft, IsJournal}
+use Rattle.session_account.specs.Registering.{IsOn}
+use Rattle.session_account.proofs.Registering.{on_is_journal}
+use Rattle.registry_service.specs.Parts.{KnowsOwn}
+use Rattle.registry_service.specs.Served.{AreKept, Served, answered}
+use Rattle.session_service.specs.declared.ending.Ran.{Ran}
+use Rattle.session_service.specs.Closed.{AreShared}
+use Rattle.session_service.specs.Namespaces.{arenas_in, servings_at}
+use Rattle.session_service.specs.Seated.{KeepRest}
+use Rattle.session_service.specs.Services.{IsNew, arenas_of, orders_of, power_of}
+use Rattle.session_service.proofs.Accounting as all
+use Rattle.session_service.proofs.ending.close.Goals as goal
+
+pub closed-requires-clause-new : goal.closed-requires-clause-new
+closed-requires-clause-new c = subst (λ (n : ℕ). All (IsNew n) c.args.service.turns.items) (sym c.requires.count) c.requires.made.2.cores
+
+pub closed-requires-clause-known : goal.closed-requires-clause-known
+closed-requires-clause-known c =
+    let lasted = subst (λ rs. All (λ r. r.refused ≡ false) rs) c.as_slice.ensures.value (c.lasted.ensures c.if-not-lasted.false) in
+    all.know_all c.args.script.now c.args.service c.args.runners.items c.requires.ended lasted
+
+pub split-requires : goal.split-requires
+split-requires c = subst (λ ps. length (arenas_in (servings_at ps)) ≡ length c.in_ok-row.row.items) (sym c.as_slice-places.ensures.value) (all.many_cores c.requires.made.0 c.requires.made.1 c.args.script.now c.args.service c.requires.made.2 ∙ sym c.in_ok-row.ensures.count)
+
+pub close_registry-registry-requires-clause-passes : goal.close_registry-registry-requires-clause-passes
+close_registry-registry-requires-clause-passes c = subst (λ ps. All (λ p. IsOutside (orders_of c.args.service) p) ps) (sym c.in_ok-handed.ensures.orders) (all.all_outside (λ r. r.orders) (orders_of c.args.service) c.in_ok-row.runners.items (all.order_facts c.args.script.now c.args.service c.args.runners.items c.in_ok-row.runners.items c.requires.ended (subst (λ rs. All (λ r. r.refused ≡ false) rs) c.as_slice.ensures.value (c.lasted.ensures c.if-not-lasted.false)) c.in_ok-row.ensures.kept c.in_ok-row.ensures.rest))
+
+pub close_registry-registry-requires-clause-every : goal.close_registry-registry-requires-clause-every
+close_registry-registry-requires-clause-every c = subst (λ ps. HasEach (callers_of c.args.service.registry.turn) ps) (sym c.in_ok-handed.ensures.orders) (all.has_all (λ r. r.orders) (orders_of c.args.service) c.in_ok-row.runners.items (all.order_facts c.args.script.now c.args.service c.args.runners.items c.in_ok-row.runners.items c.requires.ended (subst (λ rs. All (λ r. r.refused ≡ false) rs) c.as_slice.ensures.value (c.lasted.ensures c.if-not-lasted.false)) c.in_ok-row.ensures.kept c.in_ok-row.ensures.rest) (callers_of c.args.service.registry.turn) (c.requires.made.2.orders ∙ sym c.requires.count ∙ sym c.in_ok-row.ensures.kept))
+
+pub close-power-requires-clause-passes : goal.close-power-requires-clause-passes
+close-power-requires-clause-passes c = subst (λ ps. All (λ p. IsOutside (power_of c.args.service) p) ps) (sym c.in_ok-handed.ensures.switches) (all.all_outside (λ r. r.session.caller.switch) (power_of c.args.service) c.in_ok-row.runners.items (all.switch_facts c.args.script.now c.args.service c.args.runners.items c.in_ok-row.runners.items c.requires.ended (subst (λ rs. All (λ r. r.refused ≡ false) rs) c.as_slice.ensures.value (c.lasted.ensures c.if-not-lasted.false)) c.in_ok-row.ensures.kept c.in_ok-row.ensures.rest))
+
+pub close-power-requires-clause-every : goal.close-power-requires-clause-every
+close-power-requires-clause-every c = subst (λ ps. HasEach (callers_of c.args.service.switch.turn) ps) (sym c.in_ok-handed.ensures.switches) (all.has_all (λ r. r.session.caller.switch) (power_of c.args.service) c.in_ok-row.runners.items (all.switch_facts c.args.script.now c.args.service c.args.runners.items c.in_ok-row.runners.items c.requires.ended (subst (λ rs. All (λ r. r.refused ≡ false) rs) c.as_slice.ensures.value (c.lasted.ensures c.if-not-lasted.false)) c.in_ok-row.ensures.kept c.in_ok-row.ensures.rest) (callers_of c.args.service.switch.turn) (c.requires.made.2.power ∙ sym c.requires.count ∙ sym c.in_ok-row.ensures.kept))
+
+pub returns : goal.returns
+returns c = λ registry served made.
+    let service = c.args.service in
+    let script = c.args.script.now in
+    let lasted = subst (λ rs. All (λ r. r.refused ≡ false) rs) c.as_slice.ensures.value (c.lasted.ensures c.if-not-lasted.false) in
+    let o = c.in_ok-row.ensures in
+    let h = c.in_ok-handed.ensures in
+    let cl = c.close_registry-registry.ensures in
+    let journal = answered c.close_registry-registry.result.0.journal in
+    let ran : Ran = record { registry = c.close_registry-registry.result.0; cores = c.in_ok-cores.cores; replies = c.in_ok-handed.handed.replies } in
+    let split = c.in_ok-cores.ensures in
+    all.has_served registry served script service made c.args.runners.items c.in_ok-row.runners.items c.requires.count c.requires.ended lasted o.kept o.rest c.in_ok-row.row.items
+    (subst (λ (n : ℕ). AreShared n (arenas_of service) c.in_ok-row.row.items) c.requires.count o.shared) o.count o.parts ran split.cores
+    (subst (λ ps. map (λ c. length c.items) c.in_ok-cores.cores.items ≡ map (λ s. length s.arenas) (servings_at ps)) c.as_slice-places.ensures.value split.counts) h.replies
+    (subst (λ ps. All (λ p. KnowsOwn c.close_registry-registry.result.0 p) ps) h.orders cl.callers)
+    (λ q over. cl.strangers q (subst (λ (n : ℕ). n ≤ q) (sym made.orders) over))
+    c.close-power.result
+    (subst (λ ps. All (λ p. PassKnows c.close-power.result p) ps) h.switches c.close-power.ensures.callers)
+    (λ q over. c.close-power.ensures.strangers q (subst (λ (n : ℕ). n ≤ q) (sym made.power) over))
+    (subst (λ (x : Served). (c.close_registry-registry.result.0.sets ≡ x.registry.sets) × AreKept x.registry.opening c.close_registry-registry.result.0.areas c.close_registry-registry.result.0.stopped) made.orders_first cl.areas)
+    (subst (λ (x : Served). IsJournal x.registry.sets (opening_of x.registry) x.first journal) made.orders_first cl.journal)
+    (λ run. (on_is_journal registry.sets (opening_of registry) (kept_of (state_of c.close_registry-registry.result.0)) script.labelcut c.close_registry-registry.result.1 journal
+    (subst (λ (x : Served). IsOn x.registry.sets (opening_of x.registry) x.first journal (kept_of (state_of c.close_registry-registry.result.0)) c.close_registry-registry.result.1) made.orders_first (cl.on run))).1)
+    (λ off rows left. subst (λ (x : Served). AreLeft x.registry.sets (opening_of x.registry) x.first journal (areas_shown rows)) made.orders_first (cl.left off rows left))

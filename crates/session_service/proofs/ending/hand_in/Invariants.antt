@@ -1,0 +1,9 @@
+use Rattle.std.proofs.Common.{◌≡◌, map}
+use Rattle.session_service.proofs.ending.hand_in.Given as goal
+
+abbrev pub invariant-loop-runner : goal.invariant-loop-runner
+invariant-loop-runner l = record {
+  orders : l.orders.items ≡ map (λ r. r.orders) l.yielded;
+  switches : l.switches.items ≡ map (λ r. r.session.caller.switch) l.yielded;
+  replies : l.replies.items ≡ map (λ r. r.replies) l.yielded;
+}

@@ -1,0 +1,7 @@
+pub mod Namespaces
+pub mod Services
+pub mod Seated
+pub mod Made
+pub mod Runners
+pub mod Closed
+pub mod Ran

@@ -1,0 +1,36 @@
+-- What the locks were made around.
+use Rattle.std.specs.Prelude.{◌≡◌, ℕ, ◌+◌, ◌^◌, ◌<◌, List, [], ◌∷◌, ◌++◌, All, length, map}
+use Rattle.turn_lock.specs.Passes.{callers_of, first_of}
+use Rattle.arena_open.specs.declared.state.ArenaState.{ArenaState}
+use Rattle.namespace_ops.specs.Registered.{Registered}
+use Rattle.session_script.specs.declared.script.Script.{Script}
+use Rattle.session_script.specs.declared.script.SessionLines.{SessionLines}
+use Rattle.registry_service.specs.Served.{fresh}
+use Rattle.session_service.specs.declared.namespaces.ServedNamespace.{ServedNamespace}
+use Rattle.session_service.specs.declared.service.Service.{Service}
+use Rattle.session_service.specs.Namespaces.{servings_of}
+use Rattle.session_service.specs.Seated.{IsQuiet}
+use Rattle.session_service.specs.Services.{IsLaid, IsNew, all_of, arenas_of}
+
+-- the arenas of all namespaces, one after another
+abbrev pub states_in : List ServedNamespace → List ArenaState
+states_in [] = []
+states_in (n ∷ served) = n.arenas.items ++ states_in served
+
+-- the entries that sessions may need room for: one for each call, and one for the end
+abbrev pub rooms_of : List SessionLines → List ℕ
+rooms_of sessions = map (λ s. length s.calls + 1) sessions
+
+-- the locks are those of a registry, of namespaces that were opened, and of the sessions of a script, and nobody has entered one
+pub record IsMade (registry : Registered) (served : List ServedNamespace) (script : Script) (service : Service) : Type 0 where
+  pub few : length script.sessions < 2 ^ 32
+  pub all : all_of service ≡ servings_of served
+  pub arenas : arenas_of service ≡ states_in served
+  pub laid : IsLaid service
+  pub cores : All (IsNew (length script.sessions)) service.turns.items
+  pub orders : callers_of service.registry.turn ≡ length script.sessions
+  pub orders_first : first_of service.registry.turn ≡ fresh registry script.labelcut (rooms_of script.sessions)
+  pub journal : registry.journal ≡ []
+  pub areas : registry.opening ≡ registry.areas
+  pub power : callers_of service.switch.turn ≡ length script.sessions
+  pub power_first : IsQuiet (length script.sessions) (first_of service.switch.turn)

@@ -1,0 +1,144 @@
+-- A session between two of its calls, and at its end: what its passes know, held against the account.
+use Rattle.std.specs.Prelude.{◌≡◌, ◌⊎◌, ℕ, ◌+◌, ◌^◌, ◌<◌, ◌≤◌, Bool, true, false, List, [], All, length, vec_capacity, slice_index_or, Option, Some, None}
+use Rattle.atomic_table.specs.Seated.{TableId}
+use Rattle.turn_lock.specs.Passes.{number_of, part_of, IsOutside}
+use Rattle.turn_callers.specs.declared.desk.Mine.{Mine}
+use Rattle.turn_callers.specs.Switch.{CanAsk}
+use Rattle.namespace_ops.specs.Entries.{Entry}
+use Rattle.lane_core.specs.declared.in_call.InCall.{InCall}
+use Rattle.session_script.specs.declared.script.Line.{Line}
+use Rattle.session_script.specs.declared.script.Script.{Script}
+use Rattle.session_account.specs.declared.reply.Reply.{Reply}
+use Rattle.session_account.specs.Account.{has_cut_entry, session_at}
+use Rattle.session_account.specs.Going as account
+use Rattle.session_account.specs.Going.{NextIs, Stands, known_cores, known_registry}
+use Rattle.session_account.specs.Made.{is_cut, on_end}
+use Rattle.session_account.specs.Parts as parts
+use Rattle.session_account.specs.Parts.{Calls, PowerPart, Who, itself, labels, more}
+use Rattle.session_account.specs.Serving.{Serving}
+use Rattle.registry_service.specs.declared.served.OrdersPart.{OrdersPart}
+use Rattle.sector_service.specs.Rows.{Know, Parts}
+use Rattle.sector_service.specs.Switch.{StaysWhole}
+use Rattle.session_service.specs.declared.runner.Runner.{Runner}
+use Rattle.session_service.specs.declared.service.Service.{Service}
+use Rattle.session_script.specs.Names.{LineHasText}
+use Rattle.session_service.specs.Namespaces.{core_at}
+use Rattle.session_service.specs.Services.{IsLaid, all_of, arena_at, arenas_of, locks_of, orders_of, power_of}
+
+-- ---- what a session knows
+
+-- its entries in each arena, and the lanes in its calls there
+abbrev pub stands_by : List Serving → Parts → Stands
+stands_by all parts place k = (parts (core_at all place k)).mine.stands
+
+abbrev pub calls_by : List Serving → Parts → Calls
+calls_by all parts place k = (parts (core_at all place k)).mine.calls
+
+-- why it switched power off: power was cut in a command of its own, or else its own steps ended
+abbrev pub who_if : Bool → Option Who
+who_if true = Some labels
+who_if false = Some itself
+
+abbrev pub who_by : Bool → List Entry → Option Who
+who_by false entries = None
+who_by true entries = who_if (has_cut_entry entries)
+
+abbrev pub power_by : Mine → List Entry → PowerPart
+power_by w entries = record { stopped = who_by w.stopped entries; told = w.told }
+
+-- the passes of session q, and what they know
+pub record Knows (service : Service) (q : ℕ) (orders : OrdersPart) (known : Parts) (power : Mine) (r : Runner) : Type 0 where
+  pub number : r.session.number ≡ q
+  pub cores : Know (locks_of service) q known r.session.passes.items
+  pub first : (j : ℕ) → (known j).first ≡ arena_at (arenas_of service) j
+  pub outside : IsOutside (orders_of service) r.orders
+  pub orders_number : number_of r.orders ≡ q
+  pub orders_is : part_of r.orders ≡ Some orders
+  pub can_ask : CanAsk (power_of service) r.session.caller.switch
+  pub switch_number : number_of r.session.caller.switch ≡ q
+  pub power_is : part_of r.session.caller.switch ≡ Some power
+
+-- ---- between two calls
+
+-- session q after some of its calls, none of which was cut, by what its passes know
+pub record Standing (all : List Serving) (script : Script) (q : ℕ) (replies : List Reply) (orders : OrdersPart) (known : Parts) (power : Mine) (left : Option ℕ) : Type 0 where
+  -- it is in no call
+  pub free : (j : ℕ) → (known j).mine.calls ≡ []
+  pub held : orders.held ≡ on_end (session_at script q).calls replies
+  pub labelcut : orders.began.labelcut ≡ script.labelcut
+  -- it has room for its orders, and to give back what it has open at its end
+  pub room : length (session_at script q).calls + 1 ≤ orders.room + length replies
+  pub unstopped : power.stopped ≡ false
+  pub uncut : has_cut_entry orders.entries ≡ false
+  pub whole : StaysWhole (session_at script q).cut left
+  pub at : account.IsAt all q (session_at script q) replies orders.entries (stands_by all known) left
+
+pub record IsAt (service : Service) (script : Script) (q : ℕ) (replies : List Reply) (r : Runner) : Type 0 where
+  pub orders : OrdersPart
+  pub known : Parts
+  pub power : Mine
+  pub knows : Knows service q orders known power r
+  pub call : r.session.caller.call ≡ length replies
+  pub held : r.held ≡ on_end (session_at script q).calls replies
+  pub stands : Standing (all_of service) script q replies orders known power r.session.caller.left
+
+-- ---- at the end
+
+-- session q has made its last call and given back what it had open, or a call was cut
+pub record IsDone (service : Service) (script : Script) (q : ℕ) (replies : List Reply) (r : Runner) : Type 0 where
+  pub orders : OrdersPart
+  pub known : Parts
+  pub power : Mine
+  pub knows : Knows service q orders known power r
+  pub done : parts.IsDone (all_of service) script q replies (known_registry orders.entries orders.room) (known_cores (stands_by (all_of service) known) (calls_by (all_of service) known)) (power_by power orders.entries)
+
+-- ---- one call
+
+-- its next call is this line, and can be made
+pub record IsNext (service : Service) (script : Script) (q : ℕ) (line : Line) (r : Runner) : Type 0 where
+  pub laid : IsLaid service
+  pub at : IsAt service script q r.replies.items r
+  pub next : NextIs (session_at script q) r.replies.items line
+  pub short : length (session_at script q).calls + 1 < 2 ^ 32
+  pub text : LineHasText line
+
+-- after a reply it goes on, unless the call was cut
+pub record Goes (service : Service) (script : Script) (q : ℕ) (replies : List Reply) (answer : Reply) (r : Runner) : Type 0 where
+  pub on : is_cut answer ≡ false → IsAt service script q (more replies answer) r
+  pub ended : is_cut answer ≡ true → IsDone service script q (more replies answer) r
+
+-- its next call has the next number
+abbrev pub counted : Runner → Runner
+counted r = record r { session = record r.session { caller = record r.session.caller { call = r.session.caller.call + 1 } } }
+
+-- the replies that were given before are kept
+abbrev pub KeepsReplies : Runner → Runner → Type 0
+KeepsReplies r r' = (r'.session.number ≡ r.session.number) × (r'.replies ≡ r.replies) × (r'.refused ≡ r.refused)
+
+-- ---- a session's loop
+
+-- its calls can be made, and there is room for their replies
+pub record IsRunning (service : Service) (script : Script) (q : ℕ) (r : Runner) : Type 0 where
+  pub laid : IsLaid service
+  pub at : IsAt service script q r.replies.items r
+  pub short : length (session_at script q).calls + 1 < 2 ^ 32
+  pub text : All LineHasText (session_at script q).calls
+  pub room : length (session_at script q).calls ≤ vec_capacity r.replies
+  pub memory : r.refused ≡ false
+
+-- and it has made none
+abbrev pub IsReady : Service → Script → ℕ → Runner → Type 0
+IsReady service script q r = IsRunning service script q r × (r.replies.items ≡ [])
+
+-- it has come to its end, so far as memory lasted
+pub record IsEnded (service : Service) (script : Script) (q : ℕ) (r : Runner) : Type 0 where
+  pub number : r.session.number ≡ q
+  pub done : r.refused ≡ false → IsDone service script q r.replies.items r
+
+-- ---- all sessions
+
+abbrev pub AreReady : Service → Script → List Runner → Type 0
+AreReady service script runners = (q : ℕ) (d : Runner) → q < length runners → (q < length script.sessions) × IsReady service script q (slice_index_or runners q d)
+
+abbrev pub AreEnded : Service → Script → List Runner → Type 0
+AreEnded service script runners = (q : ℕ) (d : Runner) → q < length runners → IsEnded service script q (slice_index_or runners q d)

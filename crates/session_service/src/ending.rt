@@ -1,0 +1,163 @@
+//! The locks are closed, and the accounts hold.
+ghost use Rattle.std.specs.Prelude.{◌≡◌, ℕ, ◌<◌, List, length, map, true, false, IfOk, All};
+ghost use Rattle.turn_lock.specs.Passes.{lock_id};
+ghost use Rattle.namespace_ops.specs.Registered.{Registered};
+ghost use Rattle.session_service.specs.declared.namespaces.ServedNamespace.{ServedNamespace as Given};
+ghost use Rattle.session_service.specs.Closed.{AreShared, KnowAll, PartsAreKnown};
+ghost use Rattle.session_service.specs.Made.{IsMade};
+ghost use Rattle.session_service.specs.Namespaces.{arenas_in, servings_at};
+ghost use Rattle.session_service.specs.Ran.{HasServed, in_row};
+ghost use Rattle.session_service.specs.Runners.{AreEnded};
+ghost use Rattle.session_service.specs.Seated.{KeepRest};
+ghost use Rattle.session_service.specs.Services.{IsNew, arena_of};
+
+use crate::closing::close_cores;
+use crate::namespaces::Place;
+use crate::runner::Runner;
+use crate::service::Service;
+use lane_core::Core;
+use namespace_ops::Registry;
+use registry_service::{ServedRegistry, close_registry};
+use sector_service::{Caller, ServedCore, Session};
+use session_account::Reply;
+use session_script::Script;
+use std::alloc::{AllocError, Global};
+use turn_callers::Desk as Power;
+use turn_lock::{Turn, TurnPass};
+
+/// What all sessions came to.
+#[derive(Drop)]
+pub struct Ran {
+    pub registry: Registry,
+    /// By namespace, in the order in which they were given, and then by arena.
+    pub cores: Vec<Vec<Core>>,
+    /// By session, in the order of its calls.
+    pub replies: Vec<Vec<Reply>>,
+}
+
+// What sessions hand in: their passes of the registry and of the power switch, and their replies.
+#[derive(Drop)]
+pub(crate) struct HandedIn {
+    pub(crate) orders: Vec<TurnPass<ServedRegistry>>,
+    pub(crate) switches: Vec<TurnPass<Power>>,
+    pub(crate) replies: Vec<Vec<Reply>>,
+}
+
+// Whether memory lasted for all sessions.
+fn lasted(runners: &[Runner]) -> bool
+    ensures { result ≡ true → All (λ r. r.refused ≡ false) runners.now }
+{
+    runners.iter().all(|runner| !runner.refused)
+}
+
+// The passes and the replies of all sessions.
+fn hand_in(alloc: Global, runners: Vec<Runner>) -> Result<HandedIn, AllocError>
+    ensures orders { IfOk result (λ h. h.orders.items ≡ map (λ r. r.orders) runners.items) }
+    ensures switches { IfOk result (λ h. h.switches.items ≡ map (λ r. r.session.caller.switch) runners.items) }
+    ensures replies { IfOk result (λ h. h.replies.items ≡ map (λ r. r.replies) runners.items) }
+{
+    let mut orders = Vec::new(alloc);
+    let mut switches = Vec::new(alloc);
+    let mut replies = Vec::new(alloc);
+    for runner in runners {
+        let Runner {
+            session,
+            orders: pass,
+            replies: own,
+            ..
+        } = runner;
+        let Session { caller, .. } = session;
+        let Caller { switch, .. } = caller;
+        orders.push(pass)?;
+        switches.push(switch)?;
+        replies.push(own)?;
+    }
+    Ok(HandedIn {
+        orders,
+        switches,
+        replies,
+    })
+}
+
+// The cores of each namespace, out of those of all.
+fn split(alloc: Global, places: &[Place], row: Vec<Core>) -> Result<Vec<Vec<Core>>, AllocError>
+    requires { length (arenas_in (servings_at places.now)) ≡ length row.items }
+    ensures cores { IfOk result (λ v. in_row v.items ≡ row.items) }
+    ensures counts { IfOk result (λ v. map (λ c. length c.items) v.items ≡ map (λ s. length s.arenas) (servings_at places.now)) }
+{
+    let mut cores = Vec::new(alloc);
+    let mut rest = row;
+    for place in places {
+        let behind = rest.split_off(place.arenas.len())?;
+        cores.push(rest)?;
+        rest = behind;
+    }
+    Ok(cores)
+}
+
+// The cores, and the sessions without their passes of them.
+fn closed(
+    alloc: Global,
+    turns: Vec<Turn<ServedCore>>,
+    mut runners: Vec<Runner>,
+) -> Result<(Vec<Core>, Vec<Runner>), AllocError>
+    requires new { All (IsNew (length runners.items)) turns.items }
+    requires known { KnowAll (map lock_id turns.items) runners.items }
+    ensures count { IfOk result (λ r. length r.0.items ≡ length turns.items) }
+    ensures shared { IfOk result (λ r. AreShared (length runners.items) (map arena_of turns.items) r.0.items) }
+    ensures parts { IfOk result (λ r. PartsAreKnown (map lock_id turns.items) (map arena_of turns.items) runners.items r.0.items) }
+    ensures kept { IfOk result (λ r. length r.1.items ≡ length runners.items) }
+    ensures rest { IfOk result (λ r. KeepRest runners.items r.1.items) }
+{
+    let cores = close_cores(alloc, turns, runners.as_mut_slice())?;
+    Ok((cores, runners))
+}
+
+/// Closes all locks, and hands back the registry and the cores. The one refusal is out of memory,
+/// also if it ran out in a session or in an order.
+///
+/// Each session's replies belong to its own entries in the registry's journal and in the arenas'
+/// histories, in order, and power was cut only if a session's own steps or those on labels ended
+/// (`accounts`). The journal is one run of its commands on the registry as it was handed over,
+/// and gives its label areas (`commands`, `on`, `off`). Each history is legal, and what a power cut
+/// may leave of a core is its end, or what a write in flight would leave (`cores`).
+///
+/// Conditions: `of_namespaces` made the locks, and each session has run (`run_sessions`).
+pub fn close(
+    alloc: Global,
+    service: Service,
+    script: &Script,
+    runners: Vec<Runner>,
+) -> Result<Ran, AllocError>
+    requires count { length runners.items ≡ length script.now.sessions }
+    requires made { (registry : Registered) × (served : List Given) × IsMade registry served script.now service }
+    requires ended { AreEnded service script.now runners.items }
+    ensures { (registry : Registered) (served : List Given) → IsMade registry served script.now service → IfOk result (HasServed registry served script.now) }
+{
+    if !lasted(runners.as_slice()) {
+        return Err(AllocError);
+    }
+    let Service {
+        places,
+        turns,
+        registry,
+        switch,
+        ..
+    } = service;
+    let (row, runners) = closed(alloc, turns, runners)?;
+    let handed = hand_in(alloc, runners)?;
+    let places = places.as_slice();
+    let cores = split(alloc, places, row)?;
+    let HandedIn {
+        orders,
+        switches,
+        replies,
+    } = handed;
+    let (registry, _fuse) = close_registry(registry.turn, orders);
+    let _power = switch.turn.close(switches);
+    Ok(Ran {
+        registry,
+        cores,
+        replies,
+    })
+}

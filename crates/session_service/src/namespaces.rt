@@ -1,0 +1,20 @@
+//! The namespaces that sessions may open.
+use arena_layout::Layout;
+use arena_open::ArenaState;
+use uuid::Uuid;
+
+/// A namespace that sessions may open: the arenas that it was opened as, in order.
+#[derive(Drop)]
+pub struct ServedNamespace {
+    pub uuid: Uuid,
+    pub arenas: Vec<ArenaState>,
+}
+
+/// Where the cores of a namespace stand among all cores, and the layouts of its arenas.
+#[derive(Drop)]
+pub struct Place {
+    pub(crate) uuid: Uuid,
+    /// The number of its first core.
+    pub(crate) first: usize,
+    pub(crate) arenas: Vec<Layout>,
+}

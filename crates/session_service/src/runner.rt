@@ -1,0 +1,18 @@
+//! A session that makes its calls.
+use registry_service::ServedRegistry;
+use sector_service::Session;
+use session_account::Reply;
+use turn_lock::TurnPass;
+use uuid::Uuid;
+
+/// A session with its passes of all locks, and its replies.
+#[derive(Drop)]
+pub struct Runner {
+    pub(crate) session: Session,
+    pub(crate) orders: TurnPass<ServedRegistry>,
+    /// The namespace that it has open.
+    pub(crate) held: Option<Uuid>,
+    pub(crate) replies: Vec<Reply>,
+    /// Memory ran out in a call. It makes no call more.
+    pub(crate) refused: bool,
+}
