@@ -1,6 +1,6 @@
 -- The words of arenas after their pending moves were made.
 use Rattle.std.specs.Prelude.{⊤}
-use Rattle.std.proofs.Common.{◌≡◌, ℕ, ◌+◌, ◌*◌, ◌/◌, List, [], ◌∷◌, ◌++◌, length, map, take, drop, None, Ok, refl, sym, ap, ◌∙◌, arith}
+use Rattle.std.proofs.Common.{◌≡◌, ℕ, ◌+◌, ◌/◌, List, [], ◌∷◌, ◌++◌, length, map, take, drop, None, Ok, refl, ap, ◌∙◌, arith}
 use Rattle.arena_open.specs.Moves.{lane_of, recovered}
 use Rattle.arena_open.specs.Chain.{Link, link_made, state_at, states_from, with_state, found_again}
 use Rattle.arena_open.proofs.Own.{Lies, lies}

@@ -1,6 +1,6 @@
 -- The arenas of a namespace: UEFI 2.10, section 6.2 (NextOff of the BTT Info Block) and section 6.3 (BTT theory of operation). It
 -- is this project's rule to open all arenas in order, and to complete each one's pending moves before the next is read.
-use Rattle.std.specs.Prelude.{◌≡◌, ◌≢◌, ℕ, zero, suc, ◌+◌, ◌*◌, ◌/◌, ◌==◌, true, if◌then◌else◌, List, [], ◌∷◌, length, take, drop, map, Option, Some, None, Result, Ok, Err}
+use Rattle.std.specs.Prelude.{◌≡◌, ◌≢◌, ℕ, zero, suc, ◌+◌, ◌*◌, ◌/◌, ◌%◌, ◌^◌, ◌<◌, ◌≤◌, ◌==◌, true, if◌then◌else◌, List, [], ◌∷◌, length, take, drop, map, Option, Some, None, Result, Ok, Err}
 use Rattle.std.specs.List.{flat_map}
 use Rattle.cut_words.specs.Words.{Words, Step}
 use Rattle.cut_words.specs.Fuses.{Makes, burnt, lasts}
@@ -8,9 +8,20 @@ use Rattle.arena_open.specs.declared.opened.Opened.{Opened}
 use Rattle.arena_open.specs.declared.state.ArenaState.{ArenaState}
 use Rattle.arena_open.specs.declared.refused.OpenRefused.{OpenRefused}
 use Rattle.arena_open.specs.declared.refused.OpenRefused.TheVariants as open_refused
+use Rattle.arena_open.specs.Writes.{IsSettled}
 use Rattle.arena_open.specs.Reading.{opening}
 use Rattle.arena_open.specs.Moves.{opened_steps, state_of, with_all_made}
 use Rattle.arena_open.specs.declared.chain_refused.ChainRefused.{ChainRefused}
+
+-- The arenas of a namespace can be opened, if the first one begins at word `first` of its words.
+pub record CanOpenChain (first : ℕ) (space : Words) : Type 0 where
+  -- each arena's info block lies in the namespace
+  pub from : first % 512 ≡ 0
+  pub to : length space.kept % 512 ≡ 0
+  pub inside : first < length space.kept
+  pub small : length space.kept ≤ 2 ^ 52
+  -- none of the namespace's words is pending
+  pub settled : IsSettled space
 
 -- ---- the chain in the words of a namespace
 

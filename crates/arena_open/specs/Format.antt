@@ -4,13 +4,22 @@ use Rattle.std.specs.List.{range_with_len}
 use Rattle.cut_words.specs.Words.{Words, Step}
 use Rattle.cut_words.specs.WordBytes.{words_in}
 use Rattle.arena_layout.specs.declared.layout.Layout.{Layout}
+use Rattle.arena_layout.specs.Layout.{IsLayout}
 use Rattle.arena_layout.specs.Spelling.{spelling_of}
-use Rattle.arena_open.specs.Writes.{Write, write_steps, run_at}
+use Rattle.arena_open.specs.Writes.{Write, write_steps, run_at, IsSettled}
 use Rattle.map_table.specs.Entry.{zero_of}
 use Rattle.arena_open.specs.declared.opened.Opened.{Opened}
 use Rattle.arena_open.specs.declared.cell.Cell.TheVariants as cell
 use Rattle.arena_open.specs.Areas.{new_map, new_log, new_group, new_info}
 use Rattle.arena_open.specs.Reading.{opening, cell_at}
+
+-- An arena of this layout can be formatted from word `at` of a space on.
+pub record CanFormat (at : ℕ) (l : Layout) (space : Words) : Type 0 where
+  pub layout : IsLayout l
+  -- the arena lies in the space
+  pub inside : at + l.size / 8 ≤ length space.kept
+  -- none of the space's words is pending
+  pub settled : IsSettled space
 
 -- the number of words of the map area and of the log area
 abbrev pub map_count : Layout → ℕ

@@ -1,5 +1,5 @@
 -- Words that are written in sequence, each stored and flushed before the next: this project's rule.
-use Rattle.std.specs.Prelude.{◌≡◌, ◌⊎◌, ℕ, ◌+◌, ◌/◌, List, [], ◌∷◌, take, slice_set}
+use Rattle.std.specs.Prelude.{◌≡◌, ◌⊎◌, ℕ, ◌+◌, ◌/◌, ◌^◌, ◌<◌, ◌≤◌, List, [], ◌∷◌, length, take, slice_set}
 use Rattle.cut_words.specs.Words.{Words, Step, store, keep, after, settled, IsLeftAfter}
 
 -- a word and its new value
@@ -25,6 +25,14 @@ run_at base (v ∷ values) = record { place = base; value = v } ∷ run_at (base
 -- none of the words is pending
 abbrev pub IsSettled : Words → Type 0
 IsSettled words = words ≡ settled words.kept
+
+-- These words of a space can be read and written: `count` words from word `at` on.
+pub record LiesInSpace (at count : ℕ) (space : Words) : Type 0 where
+  -- they lie in the space
+  pub inside : at + count ≤ length space.kept
+  pub small : length space.kept < 2 ^ 60
+  -- none of the space's words is pending
+  pub settled : IsSettled space
 
 -- a law: after all steps no word is pending, and each has the value that was last written, or its old one
 abbrev pub WritesSettle : Type 0

@@ -1,6 +1,6 @@
-ghost use Rattle.std.specs.Prelude.{◌≡◌, ◌≢◌, ℕ, ◌+◌, ◌*◌, ◌%◌, ◌^◌, ◌<◌, ◌≤◌, None, Ok, length, map, IfOk, OnOk};
+ghost use Rattle.std.specs.Prelude.{◌≡◌, ◌≢◌, ℕ, ◌+◌, ◌*◌, None, Ok, map, IfOk, OnOk};
 ghost use Rattle.arena_open.specs.Writes.{IsSettled};
-ghost use Rattle.arena_open.specs.Chain.{HasMemory, OpensAgain, Recovers, RecoversFirst, chain_answer, found_again, wants_memory};
+ghost use Rattle.arena_open.specs.Chain.{CanOpenChain, HasMemory, OpensAgain, Recovers, RecoversFirst, chain_answer, found_again, wants_memory};
 
 use crate::chain::Chain;
 use crate::chain_refused::ChainRefused;
@@ -31,11 +31,7 @@ pub fn open_chain<W: WordSpace>(
     first: u64,
     parent: &Uuid,
 ) -> Result<Chain, ChainRefused>
-    requires from { first % 512 ≡ 0 }
-    requires to { length (W.words space.old).kept % 512 ≡ 0 }
-    requires inside { first < length (W.words space.old).kept }
-    requires small { length (W.words space.old).kept ≤ 2 ^ 52 }
-    requires settled { IsSettled (W.words space.old) }
+    requires chain { CanOpenChain first (W.words space.old) }
     ensures answer { HasMemory result → result ≡ chain_answer fuse.old (W.words space.old).kept parent.now first }
     ensures made { HasMemory result → Recovers (W.words space.old) (W.words space.new) fuse.old fuse.new parent.now first }
     ensures memory { (k : ℕ) → result ≡ Err (wants_memory k) → RecoversFirst k (W.words space.old) (W.words space.new) fuse.old fuse.new parent.now first }

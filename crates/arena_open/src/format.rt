@@ -7,7 +7,7 @@ ghost use Rattle.nvd_words.specs.Bytes.{AreBytes};
 ghost use Rattle.arena_layout.specs.Info.{IsInfo, ReadsBack};
 ghost use Rattle.arena_layout.specs.Spelling.{spelling_of};
 ghost use Rattle.arena_open.specs.Areas.{new_info};
-ghost use Rattle.arena_open.specs.Format.{area_writes, format_steps, format_writes, IsNewArena, KeepsOutside};
+ghost use Rattle.arena_open.specs.Format.{area_writes, format_steps, format_writes, CanFormat, IsNewArena, KeepsOutside};
 ghost use Rattle.arena_open.specs.Writes.{IsSettled, write_steps, written_over};
 
 use crate::area::{InfoBlock, NewLog, NewMap, write_area};
@@ -101,9 +101,7 @@ pub fn format_arena<W: WordSpace>(
     uuid: &Uuid,
     parent: &Uuid,
 ) -> Result<(), PowerCut>
-    requires layout { IsLayout layout.now }
-    requires inside { at + layout.now.size / 8 ≤ length (W.words space.old).kept }
-    requires settled { IsSettled (W.words space.old) }
+    requires format { CanFormat at layout.now (W.words space.old) }
     ensures made { Makes (W.words space.old) (W.words space.new) fuse.old fuse.new (format_steps at layout.now uuid.now parent.now) (is_ok result) }
     ensures beside { W.beside space.new ≡ W.beside space.old }
     ensures count { length (W.words space.new).kept ≡ length (W.words space.old).kept }

@@ -3,7 +3,7 @@ ghost use Rattle.nvd_words.specs.Checks.{Answers};
 ghost use Rattle.cut_words.specs.Fuses.{Makes, lasts};
 ghost use Rattle.arena_layout.specs.Layout.{IsLayout};
 ghost use Rattle.arena_open.specs.Halves.{AreMoves};
-ghost use Rattle.arena_open.specs.Writes.{IsSettled, write_steps, written_over};
+ghost use Rattle.arena_open.specs.Writes.{IsSettled, LiesInSpace, write_steps, written_over};
 ghost use Rattle.arena_open.specs.Reading.{opening};
 ghost use Rattle.arena_open.specs.Moves.{lane_of, move_writes, open_answer, opened_steps, shifted, state_if, IsOpenState, IsUntouched, OpensAgain, Recovers};
 
@@ -61,9 +61,7 @@ fn make_good<W: WordSpace>(
     requires layout { IsLayout layout.now }
     requires moves { AreMoves layout.now.external moves.now }
     requires copied { layout.now.size / 8 ≤ length words.old }
-    requires inside { at + length words.old ≤ length (W.words space.old).kept }
-    requires small { length (W.words space.old).kept < 2 ^ 60 }
-    requires settled { IsSettled (W.words space.old) }
+    requires space { LiesInSpace at (length words.old) (W.words space.old) }
     ensures made { Makes (W.words space.old) (W.words space.new) fuse.old fuse.new (write_steps (shifted at (move_writes layout.now words.old moves.now))) (is_ok result) }
     ensures beside { W.beside space.new ≡ W.beside space.old }
     ensures copy { OnOk result (words.new ≡ written_over words.old (move_writes layout.now words.old moves.now)) }
@@ -101,9 +99,7 @@ fn recover<W: WordSpace>(
     requires layout { IsLayout opened.info.layout }
     requires moves { AreMoves opened.info.layout.external opened.moves }
     requires few { length opened.moves ≤ 256 }
-    requires inside { at + opened.info.layout.size / 8 ≤ length (W.words space.old).kept }
-    requires small { length (W.words space.old).kept < 2 ^ 60 }
-    requires settled { IsSettled (W.words space.old) }
+    requires space { LiesInSpace at (opened.info.layout.size / 8) (W.words space.old) }
     ensures answer { Answers OpenRefused.OutOfMemory result (state_if (lasts fuse.old (2 * length opened.moves)) (drop at (W.words space.old).kept) opened) }
     ensures made { result ≢ Err OpenRefused.OutOfMemory → Makes (W.words space.old) (W.words space.new) fuse.old fuse.new (opened_steps at (drop at (W.words space.old).kept) opened) (is_ok result) }
     ensures memory { result ≡ Err OpenRefused.OutOfMemory → IsUntouched (W.words space.old) (W.words space.new) fuse.old fuse.new }
@@ -147,9 +143,7 @@ pub fn open_arena<W: WordSpace>(
     at: u64,
     parent: &Uuid,
 ) -> Result<ArenaState, OpenRefused>
-    requires inside { at + 512 ≤ length (W.words space.old).kept }
-    requires small { length (W.words space.old).kept < 2 ^ 60 }
-    requires settled { IsSettled (W.words space.old) }
+    requires space { LiesInSpace at 512 (W.words space.old) }
     ensures answer { Answers OpenRefused.OutOfMemory result (open_answer fuse.old (drop at (W.words space.old).kept) parent.now) }
     ensures made { result ≢ Err OpenRefused.OutOfMemory → Recovers (W.words space.old) (W.words space.new) fuse.old fuse.new at parent.now }
     ensures memory { result ≡ Err OpenRefused.OutOfMemory → IsUntouched (W.words space.old) (W.words space.new) fuse.old fuse.new }

@@ -7,9 +7,11 @@ use Rattle.std.proofs.lemmas.List.{map-append, take_more}
 use Rattle.std.proofs.lemmas.List.FromFn.{map-range_with_len_more, get_or-map-range_with_len}
 use Rattle.nvd_media.specs.Images.{Images}
 use Rattle.cut_words.specs.Words.{Words, settled}
+use Rattle.nfit_reader.specs.declared.table.Nfit.{Nfit}
 use Rattle.label_index.specs.Area.{IsAreaSize}
 use Rattle.image_set.specs.declared.sizes.Sizes.{Sizes}
 use Rattle.image_set.specs.Sizes.{sizes_of, contents_of, AreSizesOf, IsSized}
+use Rattle.image_set.specs.Known.{AreKnown, IsChecked}
 use Rattle.image_set.specs.Sound.{size_of, IsArea, AreWords, IsContents}
 
 -- an existing object was read
@@ -25,6 +27,14 @@ area_sound words n count sized kept fit = record {
   sized = λ w is. let same : words ≡ w = cc in subst (λ (v : Words). IsAreaSize (size_of v)) same (subst IsAreaSize (sym count) sized);
   kept = λ w is. let same : words ≡ w = cc in subst (λ (v : Words). v ≡ settled v.kept) same kept;
   fit = λ w is. let same : words ≡ w = cc in subst (λ (v : Words). AreWords v.kept) same fit;
+}
+
+-- the sizes that were checked are known, and still are after the source was read
+pub known_still : (held held' : Option Images) (nfit : Nfit) (bytes : List ℕ) (sizes : List Sizes) → IsChecked held nfit bytes sizes → held' ≡ held → AreKnown held' sizes
+known_still held held' nfit bytes sizes checked same = record {
+  few = let f = checked.modules.few in let n = checked.count in omega arith;
+  sized = checked.sized.each;
+  there = λ set told. checked.there set (sym same ∙ told);
 }
 
 -- ---- a list by modules

@@ -2,6 +2,7 @@ pub mod Limits
 pub mod Load
 pub mod Sound
 pub mod Sizes
+pub mod Known
 pub mod Save
 pub mod Changed
 pub mod Outline

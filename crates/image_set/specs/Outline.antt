@@ -97,6 +97,12 @@ pub record IsOutlineRest (rest : OutlineRest) : Type 0 where
 
 -- ---- copying
 
+-- the first `at` of an object's bytes were copied: the sink has as many, and the source has `bytes` in all
+pub record IsPart (held made : Option Images) (o : Object) (at bytes : ℕ) : Type 0 where
+  pub within : at ≤ bytes
+  pub there : ForSome held (λ set. length (bytes_in set o) ≡ bytes)
+  pub end : ForSome made (λ set. at ≡ length (bytes_in set o))
+
 -- The effect of copying bytes to a sink: if nothing failed, it has its old set with the change made, and the set isn't finished
 -- by it.
 pub record Copies {T E : Type 0} (made made' kept kept' : Option Images) (result : Result T E) (change : Images → Images) : Type 0 where

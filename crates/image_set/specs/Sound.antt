@@ -17,6 +17,11 @@ size_of words = 8 * length words.kept
 pub record AreWords (values : List ℕ) : Type 0 where
   pub each : (i : ℕ) → slice_index values i < 2 ^ 64
 
+-- no word is pending, and each is one of 64 bits
+pub record IsSettled (words : Words) : Type 0 where
+  pub kept : words ≡ settled words.kept
+  pub fit : AreWords words.kept
+
 -- a label area, if there is one, has a label area's size, and no word of it is pending
 pub record IsArea (area : Option Words) : Type 0 where
   pub sized : (words : Words) → area ≡ Some words → IsAreaSize (size_of words)

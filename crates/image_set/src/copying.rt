@@ -2,10 +2,10 @@
 ghost use Rattle.std.specs.Prelude.{◌≡◌, ◌≢◌, ◌+◌, ◌-◌, ◌<◌, ◌≤◌, min, length, vec_len, Some, None, IfOk, OnOk, Err};
 ghost use Rattle.std.specs.Option.{ForSome, option_map};
 ghost use Rattle.std.specs.Vec.{vec_capacity};
-ghost use Rattle.nvd_media.specs.Causes.{Rose};
+ghost use Rattle.nvd_media.specs.Causes.{LeavesOutside};
 ghost use Rattle.nvd_media.specs.Images.{IsEmptySet, bytes_of as bytes_in};
 ghost use Rattle.cut_words.specs.WordBytes.{bytes_of};
-ghost use Rattle.image_set.specs.Outline.{CopiesFront, CopiesModule, CopiesRow, CopiesSet, HasContents, IsCopyable};
+ghost use Rattle.image_set.specs.Outline.{CopiesFront, CopiesModule, CopiesRow, CopiesSet, HasContents, IsCopyable, IsPart};
 ghost use Rattle.image_set.specs.Save.{HasNone};
 
 use crate::changing::OutlineLeft;
@@ -30,18 +30,13 @@ fn copy_piece<S: ImageSource, K: ImageSink>(
     room: &mut Vec<u8>,
 ) -> Result<u64, CopyStop>
     requires not_mark { object ≢ Object.Mark }
-    requires within { at ≤ bytes }
     requires room { vec_len room.old ≡ 262144 }
-    requires there { ForSome (S.held images.old) (λ set. length (bytes_in set object) ≡ bytes) }
-    requires end { ForSome (K.made out.old) (λ set. at ≡ length (bytes_in set object)) }
+    requires part { IsPart (S.held images.old) (K.made out.old) object at bytes }
     ensures copied { CopiesRow (S.held images.old) object at (min 262144 (bytes - at)) (K.made out.old) (K.made out.new) (K.kept out.old) (K.kept out.new) result }
     ensures next { IfOk result (λ next. next ≡ at + min 262144 (bytes - at)) }
     ensures room { vec_len room.new ≡ 262144 }
-    ensures same { S.held images.new ≡ S.held images.old }
-    ensures later_read { S.faults images.old ≤ S.faults images.new }
-    ensures later_written { K.faults out.old ≤ K.faults out.new }
-    ensures read { result ≡ Err CopyStop.ReadFault → Rose (S.faults images.old) (S.faults images.new) }
-    ensures written { result ≡ Err CopyStop.WriteFault → Rose (K.faults out.old) (K.faults out.new) }
+    ensures outside { LeavesOutside (S.held images.old) (S.held images.new) (S.faults images.old) (S.faults images.new)
+        (K.faults out.old) (K.faults out.new) result CopyStop.ReadFault CopyStop.WriteFault }
 {
     let count = (bytes - at).min(PIECE);
     let piece = &mut room[..count as usize];
@@ -66,11 +61,8 @@ fn copy_object<S: ImageSource, K: ImageSink>(
     requires absent { ForSome (K.made out.old) (λ set. set object ≡ None) }
     ensures copied { CopiesRow (S.held images.old) object 0 bytes (K.made out.old) (K.made out.new) (K.kept out.old) (K.kept out.new) result }
     ensures room { vec_len room.new ≡ 262144 }
-    ensures same { S.held images.new ≡ S.held images.old }
-    ensures later_read { S.faults images.old ≤ S.faults images.new }
-    ensures later_written { K.faults out.old ≤ K.faults out.new }
-    ensures read { result ≡ Err CopyStop.ReadFault → Rose (S.faults images.old) (S.faults images.new) }
-    ensures written { result ≡ Err CopyStop.WriteFault → Rose (K.faults out.old) (K.faults out.new) }
+    ensures outside { LeavesOutside (S.held images.old) (S.held images.new) (S.faults images.old) (S.faults images.new)
+        (K.faults out.old) (K.faults out.new) result CopyStop.ReadFault CopyStop.WriteFault }
 {
     let mut at = copy_piece(images, out, object, 0, bytes, room)?;
     while at < bytes {
@@ -98,11 +90,8 @@ fn copy_module<S: ImageSource, K: ImageSink>(
     ensures copied { CopiesModule (S.held images.old) «module» (option_map bytes_of area.now) bytes ranges.now (K.made out.old) (K.made out.new) (K.kept out.old) (K.kept out.new) result }
     ensures spelling { 32768 ≤ vec_capacity spelling.new }
     ensures room { vec_len room.new ≡ 262144 }
-    ensures same { S.held images.new ≡ S.held images.old }
-    ensures later_read { S.faults images.old ≤ S.faults images.new }
-    ensures later_written { K.faults out.old ≤ K.faults out.new }
-    ensures read { result ≡ Err CopyStop.ReadFault → Rose (S.faults images.old) (S.faults images.new) }
-    ensures written { result ≡ Err CopyStop.WriteFault → Rose (K.faults out.old) (K.faults out.new) }
+    ensures outside { LeavesOutside (S.held images.old) (S.held images.new) (S.faults images.old) (S.faults images.new)
+        (K.faults out.old) (K.faults out.new) result CopyStop.ReadFault CopyStop.WriteFault }
 {
     write_area(out, module, area, spelling)?;
     copy_object(images, out, Object::Contents(module), bytes, room)?;
@@ -124,11 +113,8 @@ fn copy_objects<S: ImageSource, K: ImageSink>(
     requires copyable { IsCopyable left.now }
     requires there { ForSome (S.held images.old) (HasContents left.now.sizes) }
     ensures copied { CopiesFront (S.held images.old) left.now (length left.now.sizes) (K.made out.old) (K.made out.new) (K.kept out.old) (K.kept out.new) result }
-    ensures same { S.held images.new ≡ S.held images.old }
-    ensures later_read { S.faults images.old ≤ S.faults images.new }
-    ensures later_written { K.faults out.old ≤ K.faults out.new }
-    ensures read { result ≡ Err CopyStop.ReadFault → Rose (S.faults images.old) (S.faults images.new) }
-    ensures written { result ≡ Err CopyStop.WriteFault → Rose (K.faults out.old) (K.faults out.new) }
+    ensures outside { LeavesOutside (S.held images.old) (S.held images.new) (S.faults images.old) (S.faults images.new)
+        (K.faults out.old) (K.faults out.new) result CopyStop.ReadFault CopyStop.WriteFault }
 {
     out.write(Object::Nfit, 0, left.nfit.as_slice())?;
     let labels = left.labels.as_slice();
@@ -161,10 +147,8 @@ impl OutlineLeft {
     /// - `copied`: after `Ok` the sink has exactly these objects and the mark. The contents have
     ///   the given sizes; if the source reveals its contents, they are the same. After a fault the
     ///   set isn't finished.
-    /// - `read`, `written`: `ReadFault` means that the source's count of failures rose in this
-    ///   call, `WriteFault` that the sink's did; no count ever falls (`later_read`,
-    ///   `later_written`).
-    /// - `same`: the source holds what it held.
+    /// - `outside`: the source holds what it held. `ReadFault` means that the source's count of
+    ///   failures rose in this call, `WriteFault` that the sink's did; no count ever falls.
     /// - `untouched`: `OutOfMemory` comes before the first call on source and sink. The call
     ///   allocates two pieces of 256 KiB.
     pub fn save<S: ImageSource, K: ImageSink>(
@@ -177,11 +161,8 @@ impl OutlineLeft {
         requires copyable { IsCopyable self.now }
         requires there { ForSome (S.held images.old) (HasContents self.now.sizes) }
         ensures copied { CopiesSet (S.held images.old) self.now (K.made out.old) (K.made out.new) (K.kept out.old) (K.kept out.new) result }
-        ensures same { S.held images.new ≡ S.held images.old }
-        ensures later_read { S.faults images.old ≤ S.faults images.new }
-        ensures later_written { K.faults out.old ≤ K.faults out.new }
-        ensures read { result ≡ Err CopyFault.ReadFault → Rose (S.faults images.old) (S.faults images.new) }
-        ensures written { result ≡ Err CopyFault.WriteFault → Rose (K.faults out.old) (K.faults out.new) }
+        ensures outside { LeavesOutside (S.held images.old) (S.held images.new) (S.faults images.old) (S.faults images.new)
+            (K.faults out.old) (K.faults out.new) result CopyFault.ReadFault CopyFault.WriteFault }
         ensures untouched { result ≡ Err CopyFault.OutOfMemory → out.new ≡ out.old }
     {
         let mut spelling = spelling_room(alloc)?;

@@ -1,15 +1,15 @@
 //! Loading an image set: first all sizes, then the bytes.
-ghost use Rattle.std.specs.Prelude.{◌≡◌, ◌≢◌, ◌≤◌, ◌<◌, ◌^◌, [], ◌∷◌, length, map, IfOk, Ok, Err};
+ghost use Rattle.std.specs.Prelude.{◌≡◌, ◌≢◌, ◌≤◌, ◌<◌, ◌^◌, [], ◌∷◌, length, map, IfOk, Err};
 ghost use Rattle.std.specs.Option.{ForSome};
 ghost use Rattle.std.specs.Result.{result_map_both};
 ghost use Rattle.std.specs.List.{All, range_with_len};
 ghost use Rattle.nvd_words.specs.Checks.{Answers, first_fault, value_unless};
-ghost use Rattle.nvd_media.specs.Causes.{Rose};
-ghost use Rattle.nvd_media.specs.Images.{bytes_of};
+ghost use Rattle.nvd_media.specs.Causes.{LeavesSource, Rose};
 ghost use Rattle.nfit_reader.specs.Table.{nfit_reading};
 ghost use Rattle.nfit_reader.specs.Counted.{AreCounted, NamesItsModules};
+ghost use Rattle.image_set.specs.Known.{IsChecked};
 ghost use Rattle.image_set.specs.Load.{AnswersRead, Loads, image_set_in, image_set_of, modules_fault, mappings_fault};
-ghost use Rattle.image_set.specs.Sizes.{sizes_of, contents_of, AreSizesOf, AreSized};
+ghost use Rattle.image_set.specs.Sizes.{sizes_of, contents_of, AreSized};
 ghost use Rattle.image_set.specs.Sound.{AreMapped, IsSound};
 
 use crate::fault::{LoadFault, Stop};
@@ -71,10 +71,8 @@ pub(crate) fn checked_sizes<S: ImageSource>(
     ensures count { IfOk result (λ sizes. length sizes ≡ length nfit.now.modules) }
     ensures mapped { IfOk result (λ sizes. All (AreMapped (contents_of sizes)) nfit.now.regions) }
     ensures apart { result ≢ Err (LoadFault.Nfit NfitFault.OutOfMemory) }
-    ensures same { S.held images.new ≡ S.held images.old }
-    ensures later { S.faults images.old ≤ S.faults images.new }
-    ensures failed { result ≡ Err LoadFault.ReadFault
-        → Rose (S.faults images.old) (S.faults images.new) }
+    ensures source { LeavesSource (S.held images.old) (S.held images.new)
+        (S.faults images.old) (S.faults images.new) result LoadFault.ReadFault }
 {
     let sizes = modules_sizes(alloc, images, nfit.modules.len() as u32)?;
     match mappings_fault(nfit.regions.as_slice(), sizes.as_slice()) {
@@ -91,23 +89,13 @@ fn read_set<S: ImageSource>(
     nfit_bytes: Vec<u8>,
     sizes: &[Sizes],
 ) -> Result<Loaded, Stop>
-    requires table { nfit_reading nfit_bytes.items ≡ Ok nfit }
-    requires counted { AreCounted nfit }
-    requires few { length nfit.regions < 2 ^ 32 }
-    requires modules { NamesItsModules nfit }
-    requires count { length sizes.now ≡ length nfit.modules }
-    requires sized { AreSized sizes.now }
+    requires checked { IsChecked (S.held images.old) nfit nfit_bytes.items sizes.now }
     requires mapped { All (AreMapped (contents_of sizes.now)) nfit.regions }
-    requires there { ForSome (S.held images.old) (λ set. AreSizesOf set sizes.now) }
-    requires read { ForSome (S.held images.old)
-        (λ set. nfit_bytes.items ≡ bytes_of set Object.Nfit) }
     ensures told { ForSome (S.held images.old)
         (λ set. IfOk result (λ loaded. image_set_in loaded ≡ image_set_of set nfit)) }
     ensures sound { IfOk result IsSound }
-    ensures same { S.held images.new ≡ S.held images.old }
-    ensures later { S.faults images.old ≤ S.faults images.new }
-    ensures failed { result ≡ Err Stop.ReadFault
-        → Rose (S.faults images.old) (S.faults images.new) }
+    ensures source { LeavesSource (S.held images.old) (S.held images.new)
+        (S.faults images.old) (S.faults images.new) result Stop.ReadFault }
 {
     let mut room = piece_room(alloc)?;
     let labels = read_areas(alloc, images, sizes, &mut room)?;

@@ -1,14 +1,11 @@
 //! An image set loaded without its contents, which stay in the source until they are copied.
-ghost use Rattle.std.specs.Prelude.{◌≡◌, ◌≢◌, ◌^◌, ◌<◌, ◌≤◌, length, map, IfOk, Ok, Err};
+ghost use Rattle.std.specs.Prelude.{◌≡◌, ◌≢◌, ◌≤◌, length, IfOk, Err};
 ghost use Rattle.std.specs.Option.{ForSome};
-ghost use Rattle.std.specs.List.{All};
-ghost use Rattle.nvd_media.specs.Causes.{Rose};
-ghost use Rattle.nvd_media.specs.Images.{bytes_of};
-ghost use Rattle.nfit_reader.specs.Table.{nfit_reading};
-ghost use Rattle.nfit_reader.specs.Counted.{AreCounted, NamesItsModules};
+ghost use Rattle.nvd_media.specs.Causes.{LeavesSource, Rose};
+ghost use Rattle.image_set.specs.Known.{IsChecked};
 ghost use Rattle.image_set.specs.Load.{image_set_of};
 ghost use Rattle.image_set.specs.Outline.{HasContents, IsOutlined, Outlines, contents_in, image_set_with};
-ghost use Rattle.image_set.specs.Sizes.{contents_of, AreSizesOf, AreSized};
+ghost use Rattle.image_set.specs.Sizes.{contents_of};
 
 use crate::fault::{LoadFault, Stop};
 use crate::loading::{checked_sizes, table_of};
@@ -56,23 +53,13 @@ fn read_outline<S: ImageSource>(
     nfit_bytes: Vec<u8>,
     sizes: &[Sizes],
 ) -> Result<Outline, Stop>
-    requires table { nfit_reading nfit_bytes.items ≡ Ok nfit }
-    requires counted { AreCounted nfit }
-    requires regions { length nfit.regions < 2 ^ 32 }
-    requires modules { NamesItsModules nfit }
-    requires count { length sizes.now ≡ length nfit.modules }
-    requires sized { AreSized sizes.now }
-    requires there { ForSome (S.held images.old) (λ set. AreSizesOf set sizes.now) }
-    requires read { ForSome (S.held images.old)
-        (λ set. nfit_bytes.items ≡ bytes_of set Object.Nfit) }
+    requires checked { IsChecked (S.held images.old) nfit nfit_bytes.items sizes.now }
     ensures told { ForSome (S.held images.old)
         (λ set. IfOk result (λ outline. image_set_with outline (contents_in set (length outline.sizes)) ≡ image_set_of set nfit)) }
     ensures sizes { ForSome (S.held images.old) (λ set. IfOk result (λ outline. HasContents outline.sizes set)) }
     ensures sound { IfOk result IsOutlined }
-    ensures same { S.held images.new ≡ S.held images.old }
-    ensures later { S.faults images.old ≤ S.faults images.new }
-    ensures failed { result ≡ Err Stop.ReadFault
-        → Rose (S.faults images.old) (S.faults images.new) }
+    ensures source { LeavesSource (S.held images.old) (S.held images.new)
+        (S.faults images.old) (S.faults images.new) result Stop.ReadFault }
 {
     let mut room = piece_room(alloc)?;
     let of_contents = contents_sizes(alloc, sizes)?;

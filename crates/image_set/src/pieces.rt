@@ -1,7 +1,7 @@
 //! Reading the bytes of objects in large pieces.
-ghost use Rattle.std.specs.Prelude.{◌≡◌, ◌++◌, ◌+◌, ◌*◌, ◌%◌, ◌<◌, ◌≤◌, length, vec_len, IfOk, OnOk, Err};
+ghost use Rattle.std.specs.Prelude.{◌≡◌, ◌++◌, ◌+◌, ◌*◌, ◌%◌, ◌<◌, ◌≤◌, length, vec_len, IfOk, OnOk};
 ghost use Rattle.std.specs.Option.{ForSome};
-ghost use Rattle.nvd_media.specs.Causes.{Rose};
+ghost use Rattle.nvd_media.specs.Causes.{LeavesSource};
 ghost use Rattle.nvd_media.specs.Images.{bytes_of as bytes_in};
 ghost use Rattle.cut_words.specs.WordBytes.{bytes_of};
 
@@ -51,10 +51,8 @@ pub(crate) fn read_words<S: ImageSource>(
         (λ set. IfOk result (λ words. bytes_of words.items ≡ bytes_in set object)) }
     ensures count { IfOk result (λ words. 8 * vec_len words ≡ bytes) }
     ensures room { vec_len room.new ≡ 262144 }
-    ensures same { S.held images.new ≡ S.held images.old }
-    ensures later { S.faults images.old ≤ S.faults images.new }
-    ensures failed { result ≡ Err Stop.ReadFault
-        → Rose (S.faults images.old) (S.faults images.new) }
+    ensures source { LeavesSource (S.held images.old) (S.held images.new)
+        (S.faults images.old) (S.faults images.new) result Stop.ReadFault }
 {
     let mut words = Vec::with_capacity(alloc, (bytes / WORD as u64) as usize)?;
     let mut at = 0;
@@ -79,10 +77,8 @@ pub(crate) fn read_bytes<S: ImageSource>(
     ensures told { ForSome (S.held images.old)
         (λ set. IfOk result (λ read. read.items ≡ bytes_in set object)) }
     ensures count { IfOk result (λ read. vec_len read ≡ bytes) }
-    ensures same { S.held images.new ≡ S.held images.old }
-    ensures later { S.faults images.old ≤ S.faults images.new }
-    ensures failed { result ≡ Err Stop.ReadFault
-        → Rose (S.faults images.old) (S.faults images.new) }
+    ensures source { LeavesSource (S.held images.old) (S.held images.new)
+        (S.faults images.old) (S.faults images.new) result Stop.ReadFault }
 {
     let mut read = vec![in alloc; 0; bytes as usize]?;
     images.read(object, 0, &mut read)?;

@@ -1,13 +1,13 @@
 //! Reading the bytes of a set whose sizes are known.
-ghost use Rattle.std.specs.Prelude.{◌≡◌, ◌*◌, ◌≤◌, ◌<◌, ◌%◌, ℕ, length, map, vec_len, IfOk, Err, Option, Some};
+ghost use Rattle.std.specs.Prelude.{◌≡◌, ◌*◌, ◌≤◌, ◌<◌, ◌%◌, ℕ, length, map, vec_len, IfOk, Option, Some};
 ghost use Rattle.std.specs.Option.{ForSome, option_map};
 ghost use Rattle.std.specs.List.{All, range_with_len};
-ghost use Rattle.nvd_media.specs.Causes.{Rose};
+ghost use Rattle.nvd_media.specs.Causes.{LeavesSource};
 ghost use Rattle.nvd_media.specs.Images.{bytes_of};
-ghost use Rattle.cut_words.specs.Words.{settled};
+ghost use Rattle.image_set.specs.Known.{AreKnown};
 ghost use Rattle.image_set.specs.Load.{bytes_kept};
-ghost use Rattle.image_set.specs.Sound.{size_of, AreWords, IsArea, IsContents, IsBadRanges};
-ghost use Rattle.image_set.specs.Sizes.{contents_of, AreSizesOf, IsSized};
+ghost use Rattle.image_set.specs.Sound.{size_of, AreWords, IsArea, IsContents, IsBadRanges, IsSettled};
+ghost use Rattle.image_set.specs.Sizes.{contents_of};
 ghost use Rattle.label_index.specs.Area.{IsAreaSize};
 
 use crate::fault::Stop;
@@ -41,13 +41,10 @@ fn read_object<S: ImageSource>(
     ensures told { ForSome (S.held images.old)
         (λ set. IfOk result (λ words. bytes_kept words ≡ bytes_of set object)) }
     ensures count { IfOk result (λ words. size_of words ≡ bytes) }
-    ensures kept { IfOk result (λ words. words ≡ settled words.kept) }
-    ensures fit { IfOk result (λ words. AreWords words.kept) }
+    ensures settled { IfOk result IsSettled }
     ensures room { vec_len room.new ≡ 262144 }
-    ensures same { S.held images.new ≡ S.held images.old }
-    ensures later { S.faults images.old ≤ S.faults images.new }
-    ensures failed { result ≡ Err Stop.ReadFault
-        → Rose (S.faults images.old) (S.faults images.new) }
+    ensures source { LeavesSource (S.held images.old) (S.held images.new)
+        (S.faults images.old) (S.faults images.new) result Stop.ReadFault }
 {
     let words = read_words(alloc, images, object, bytes, room)?;
     know_words(&words);
@@ -70,10 +67,8 @@ fn read_area<S: ImageSource>(
         (λ set. IfOk result (λ area. option_map bytes_kept area ≡ set (Object.Labels «module»))) }
     ensures sound { IfOk result IsArea }
     ensures room { vec_len room.new ≡ 262144 }
-    ensures same { S.held images.new ≡ S.held images.old }
-    ensures later { S.faults images.old ≤ S.faults images.new }
-    ensures failed { result ≡ Err Stop.ReadFault
-        → Rose (S.faults images.old) (S.faults images.new) }
+    ensures source { LeavesSource (S.held images.old) (S.held images.new)
+        (S.faults images.old) (S.faults images.new) result Stop.ReadFault }
 {
     match bytes {
         None => Ok(None),
@@ -95,10 +90,8 @@ fn read_ranges<S: ImageSource>(
     ensures told { ForSome (S.held images.old)
         (λ set. IfOk result (λ ranges. ranges ≡ set (Object.BadRanges «module»))) }
     ensures sound { IfOk result IsBadRanges }
-    ensures same { S.held images.new ≡ S.held images.old }
-    ensures later { S.faults images.old ≤ S.faults images.new }
-    ensures failed { result ≡ Err Stop.ReadFault
-        → Rose (S.faults images.old) (S.faults images.new) }
+    ensures source { LeavesSource (S.held images.old) (S.held images.new)
+        (S.faults images.old) (S.faults images.new) result Stop.ReadFault }
 {
     match bytes {
         None => Ok(None),
@@ -119,19 +112,15 @@ pub(crate) fn read_areas<S: ImageSource>(
     room: &mut Vec<u8>,
 ) -> Result<Items<Option<CutWords>>, Stop>
     requires room { vec_len room.old ≡ 262144 }
-    requires few { length sizes.now ≤ 64 }
-    requires sized { All IsSized sizes.now }
-    requires there { ForSome (S.held images.old) (λ set. AreSizesOf set sizes.now) }
+    requires known { AreKnown (S.held images.old) sizes.now }
     ensures told { ForSome (S.held images.old) (λ set. IfOk result
         (λ areas. map (option_map bytes_kept) areas
         ≡ map (λ m. set (Object.Labels m)) (range_with_len 0 (length sizes.now)))) }
     ensures sound { IfOk result (All IsArea) }
     ensures count { IfOk result (λ areas. length areas ≡ length sizes.now) }
     ensures room { vec_len room.new ≡ 262144 }
-    ensures same { S.held images.new ≡ S.held images.old }
-    ensures later { S.faults images.old ≤ S.faults images.new }
-    ensures failed { result ≡ Err Stop.ReadFault
-        → Rose (S.faults images.old) (S.faults images.new) }
+    ensures source { LeavesSource (S.held images.old) (S.held images.new)
+        (S.faults images.old) (S.faults images.new) result Stop.ReadFault }
 {
     let mut areas = Items::new(alloc);
     for module in 0..sizes.len() as u32 {
@@ -150,19 +139,15 @@ pub(crate) fn read_contents<S: ImageSource>(
     room: &mut Vec<u8>,
 ) -> Result<Items<CutWords>, Stop>
     requires room { vec_len room.old ≡ 262144 }
-    requires few { length sizes.now ≤ 64 }
-    requires sized { All IsSized sizes.now }
-    requires there { ForSome (S.held images.old) (λ set. AreSizesOf set sizes.now) }
+    requires known { AreKnown (S.held images.old) sizes.now }
     ensures told { ForSome (S.held images.old) (λ set. IfOk result
         (λ contents. map bytes_kept contents
         ≡ map (λ m. bytes_of set (Object.Contents m)) (range_with_len 0 (length sizes.now)))) }
     ensures sound { IfOk result (All IsContents) }
     ensures sizes { IfOk result (λ contents. map size_of contents ≡ contents_of sizes.now) }
     ensures room { vec_len room.new ≡ 262144 }
-    ensures same { S.held images.new ≡ S.held images.old }
-    ensures later { S.faults images.old ≤ S.faults images.new }
-    ensures failed { result ≡ Err Stop.ReadFault
-        → Rose (S.faults images.old) (S.faults images.new) }
+    ensures source { LeavesSource (S.held images.old) (S.held images.new)
+        (S.faults images.old) (S.faults images.new) result Stop.ReadFault }
 {
     let mut contents = Items::new(alloc);
     for module in 0..sizes.len() as u32 {
@@ -179,17 +164,13 @@ pub(crate) fn read_bad<S: ImageSource>(
     images: &mut S,
     sizes: &[Sizes],
 ) -> Result<Items<Option<Items<u8>>>, Stop>
-    requires few { length sizes.now ≤ 64 }
-    requires sized { All IsSized sizes.now }
-    requires there { ForSome (S.held images.old) (λ set. AreSizesOf set sizes.now) }
+    requires known { AreKnown (S.held images.old) sizes.now }
     ensures told { ForSome (S.held images.old) (λ set. IfOk result (λ bad. bad
         ≡ map (λ m. set (Object.BadRanges m)) (range_with_len 0 (length sizes.now)))) }
     ensures sound { IfOk result (All IsBadRanges) }
     ensures count { IfOk result (λ bad. length bad ≡ length sizes.now) }
-    ensures same { S.held images.new ≡ S.held images.old }
-    ensures later { S.faults images.old ≤ S.faults images.new }
-    ensures failed { result ≡ Err Stop.ReadFault
-        → Rose (S.faults images.old) (S.faults images.new) }
+    ensures source { LeavesSource (S.held images.old) (S.held images.new)
+        (S.faults images.old) (S.faults images.new) result Stop.ReadFault }
 {
     let mut bad = Items::new(alloc);
     for module in 0..sizes.len() as u32 {

@@ -3,7 +3,7 @@ ghost use Rattle.std.specs.Prelude.{◌≡◌, ◌≢◌, ◌+◌, ◌≤◌, �
 ghost use Rattle.std.specs.Option.{ForSome, option_map};
 ghost use Rattle.std.specs.List.{All, range_with_len};
 ghost use Rattle.nvd_words.specs.Checks.{first_fault, value_unless};
-ghost use Rattle.nvd_media.specs.Causes.{Rose};
+ghost use Rattle.nvd_media.specs.Causes.{LeavesSource};
 ghost use Rattle.nvd_media.specs.Images.{bytes_of};
 ghost use Rattle.label_index.specs.Area.{is_area_size, IsAreaSize};
 ghost use Rattle.image_set.specs.Limits.{is_nfit_size, is_contents_size, is_bad_size};
@@ -31,10 +31,8 @@ fn find_mark<S: ImageSource>(images: &mut S) -> Result<(), LoadFault>
     ensures told { ForSome (S.held images.old) (λ set. AnswersRead result
         (value_unless tt (needed_fault (λ _. true) Object.Mark (set Object.Mark)))) }
     ensures apart { result ≢ Err (LoadFault.Nfit NfitFault.OutOfMemory) }
-    ensures same { S.held images.new ≡ S.held images.old }
-    ensures later { S.faults images.old ≤ S.faults images.new }
-    ensures failed { result ≡ Err LoadFault.ReadFault
-        → Rose (S.faults images.old) (S.faults images.new) }
+    ensures source { LeavesSource (S.held images.old) (S.held images.new)
+        (S.faults images.old) (S.faults images.new) result LoadFault.ReadFault }
 {
     let object = Object::Mark;
     match images.length(object)? {
@@ -50,10 +48,8 @@ fn find_table<S: ImageSource>(images: &mut S) -> Result<u64, LoadFault>
         (needed_fault is_nfit_size Object.Nfit (set Object.Nfit)))) }
     ensures sized { IfOk result (λ bytes. is_nfit_size bytes ≡ true) }
     ensures apart { result ≢ Err (LoadFault.Nfit NfitFault.OutOfMemory) }
-    ensures same { S.held images.new ≡ S.held images.old }
-    ensures later { S.faults images.old ≤ S.faults images.new }
-    ensures failed { result ≡ Err LoadFault.ReadFault
-        → Rose (S.faults images.old) (S.faults images.new) }
+    ensures source { LeavesSource (S.held images.old) (S.held images.new)
+        (S.faults images.old) (S.faults images.new) result LoadFault.ReadFault }
 {
     let object = Object::Nfit;
     match images.length(object)? {
@@ -69,10 +65,8 @@ pub(crate) fn table_size<S: ImageSource>(images: &mut S) -> Result<u64, LoadFaul
         (value_unless (length (bytes_of set Object.Nfit)) (table_fault set))) }
     ensures sized { IfOk result (λ bytes. is_nfit_size bytes ≡ true) }
     ensures apart { result ≢ Err (LoadFault.Nfit NfitFault.OutOfMemory) }
-    ensures same { S.held images.new ≡ S.held images.old }
-    ensures later { S.faults images.old ≤ S.faults images.new }
-    ensures failed { result ≡ Err LoadFault.ReadFault
-        → Rose (S.faults images.old) (S.faults images.new) }
+    ensures source { LeavesSource (S.held images.old) (S.held images.new)
+        (S.faults images.old) (S.faults images.new) result LoadFault.ReadFault }
 {
     find_mark(images)?;
     find_table(images)
@@ -85,10 +79,8 @@ fn labels_size<S: ImageSource>(images: &mut S, module: u32) -> Result<Option<u64
         (optional_fault is_area_size (Object.Labels «module») (set (Object.Labels «module»))))) }
     ensures sized { IfOk result (λ found. (bytes : ℕ) → found ≡ Some bytes → IsAreaSize bytes) }
     ensures apart { result ≢ Err (LoadFault.Nfit NfitFault.OutOfMemory) }
-    ensures same { S.held images.new ≡ S.held images.old }
-    ensures later { S.faults images.old ≤ S.faults images.new }
-    ensures failed { result ≡ Err LoadFault.ReadFault
-        → Rose (S.faults images.old) (S.faults images.new) }
+    ensures source { LeavesSource (S.held images.old) (S.held images.new)
+        (S.faults images.old) (S.faults images.new) result LoadFault.ReadFault }
 {
     let object = Object::Labels(module);
     match images.length(object)? {
@@ -107,10 +99,8 @@ fn contents_size<S: ImageSource>(images: &mut S, module: u32, before: u64) -> Re
         (set (Object.Contents «module»))))) }
     ensures sized { IfOk result (λ bytes. is_contents_size before bytes ≡ true) }
     ensures apart { result ≢ Err (LoadFault.Nfit NfitFault.OutOfMemory) }
-    ensures same { S.held images.new ≡ S.held images.old }
-    ensures later { S.faults images.old ≤ S.faults images.new }
-    ensures failed { result ≡ Err LoadFault.ReadFault
-        → Rose (S.faults images.old) (S.faults images.new) }
+    ensures source { LeavesSource (S.held images.old) (S.held images.new)
+        (S.faults images.old) (S.faults images.new) result LoadFault.ReadFault }
 {
     let object = Object::Contents(module);
     match images.length(object)? {
@@ -129,10 +119,8 @@ fn bad_size<S: ImageSource>(images: &mut S, module: u32) -> Result<Option<u64>, 
     ensures sized { IfOk result (λ found. (bytes : ℕ) → found ≡ Some bytes
         → is_bad_size bytes ≡ true) }
     ensures apart { result ≢ Err (LoadFault.Nfit NfitFault.OutOfMemory) }
-    ensures same { S.held images.new ≡ S.held images.old }
-    ensures later { S.faults images.old ≤ S.faults images.new }
-    ensures failed { result ≡ Err LoadFault.ReadFault
-        → Rose (S.faults images.old) (S.faults images.new) }
+    ensures source { LeavesSource (S.held images.old) (S.held images.new)
+        (S.faults images.old) (S.faults images.new) result LoadFault.ReadFault }
 {
     let object = Object::BadRanges(module);
     match images.length(object)? {
@@ -154,10 +142,8 @@ fn module_sizes<S: ImageSource>(
     ensures sized { IfOk result IsSized }
     ensures few { IfOk result (λ sizes. before + sizes.contents ≤ 536870912) }
     ensures apart { result ≢ Err (LoadFault.Nfit NfitFault.OutOfMemory) }
-    ensures same { S.held images.new ≡ S.held images.old }
-    ensures later { S.faults images.old ≤ S.faults images.new }
-    ensures failed { result ≡ Err LoadFault.ReadFault
-        → Rose (S.faults images.old) (S.faults images.new) }
+    ensures source { LeavesSource (S.held images.old) (S.held images.new)
+        (S.faults images.old) (S.faults images.new) result LoadFault.ReadFault }
 {
     let labels = labels_size(images, module)?;
     let contents = contents_size(images, module, before)?;
@@ -180,10 +166,8 @@ pub(crate) fn modules_sizes<S: ImageSource>(
     ensures sized { IfOk result AreSized }
     ensures count { IfOk result (λ sizes. length sizes ≡ count) }
     ensures apart { result ≢ Err (LoadFault.Nfit NfitFault.OutOfMemory) }
-    ensures same { S.held images.new ≡ S.held images.old }
-    ensures later { S.faults images.old ≤ S.faults images.new }
-    ensures failed { result ≡ Err LoadFault.ReadFault
-        → Rose (S.faults images.old) (S.faults images.new) }
+    ensures source { LeavesSource (S.held images.old) (S.held images.new)
+        (S.faults images.old) (S.faults images.new) result LoadFault.ReadFault }
 {
     let mut all = Items::new(alloc);
     let mut before = 0;

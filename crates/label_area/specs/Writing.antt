@@ -1,5 +1,5 @@
 -- The stores and flushes of a change as the code makes them, and the words after a crash.
-use Rattle.std.specs.Prelude.{◌≡◌, ◌⊎◌, ℕ, ◌+◌, ◌-◌, ◌*◌, ◌/◌, ◌%◌, ◌^◌, ◌≤◌, Bool, true, List, [], ◌++◌, length, take, drop, slice_index, Option, Some, None}
+use Rattle.std.specs.Prelude.{◌≡◌, ◌⊎◌, ℕ, ◌+◌, ◌-◌, ◌*◌, ◌/◌, ◌%◌, ◌^◌, ◌<◌, ◌≤◌, Bool, true, List, [], ◌++◌, length, take, drop, slice_index, Option, Some, None}
 use Rattle.label_codec.specs.declared.label.Label.{Label}
 use Rattle.label_codec.specs.Label.{spelling_of as label_spelling}
 use Rattle.label_index.specs.declared.index.IndexBlock.{IndexBlock}
@@ -7,7 +7,7 @@ use Rattle.label_index.specs.Index.{place_of}
 use Rattle.label_index.specs.Spelling.{spelling_of as block_spelling}
 use Rattle.cut_words.specs.Words.{Words, Step, settled, IsLeft}
 use Rattle.cut_words.specs.Groups.{written}
-use Rattle.cut_words.specs.Runs.{stores_from, keeps_from}
+use Rattle.cut_words.specs.Runs.{NonePending, stores_from, keeps_from}
 use Rattle.cut_words.specs.WordBytes.{words_in}
 use Rattle.label_codec.specs.Writable.{IsSound}
 use Rattle.label_index.specs.Valid.{IsValid}
@@ -44,6 +44,16 @@ pub record CanWrite (words : Words) (block : IndexBlock) (put : Option Label) : 
   pub valid : IsValid (8 * length words.kept) block
   pub room : (l : Label) → put ≡ Some l → 2 * block.size + 256 * l.slot + 256 ≤ 8 * length words.kept
   pub sound : (l : Label) → put ≡ Some l → IsSound l
+
+-- A label's words and those of a block can be written at these places.
+pub record CanChange (words : Words) (label_at : ℕ) (label : List ℕ) (block_at : ℕ) (block : List ℕ) : Type 0 where
+  pub label_inside : label_at + length label ≤ length words.kept
+  pub block_inside : block_at + length block ≤ length words.kept
+  pub small : length words.kept < 2 ^ 60
+  -- the block has the word with Seq
+  pub enough : 3 ≤ length block
+  pub label_settled : NonePending words label_at (length label)
+  pub block_settled : NonePending words block_at (length block)
 
 -- ---- after a crash
 

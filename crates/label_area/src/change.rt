@@ -4,7 +4,7 @@ ghost use Rattle.cut_words.specs.Runs.{NonePending, run_steps};
 ghost use Rattle.label_codec.specs.declared.label.Label.{Label};
 ghost use Rattle.label_codec.specs.Writable.{IsWritable};
 ghost use Rattle.label_index.specs.Index.{place_of};
-ghost use Rattle.label_area.specs.Writing.{CanWrite, IsWholeAfter, SettlesAfter, block_steps_from, others_keeps, others_steps, others_stores, writing_steps};
+ghost use Rattle.label_area.specs.Writing.{CanChange, CanWrite, IsWholeAfter, SettlesAfter, block_steps_from, others_keeps, others_steps, others_stores, writing_steps};
 
 use crate::spell::{block_words, label_words};
 use cut_words::{
@@ -111,12 +111,7 @@ fn write_steps<W: WordSpace>(
     block_at: u64,
     block: &[u64],
 ) -> Result<(), PowerCut>
-    requires label_inside { label_at + length label.now ≤ length (W.words words.old).kept }
-    requires block_inside { block_at + length block.now ≤ length (W.words words.old).kept }
-    requires small { length (W.words words.old).kept < 2 ^ 60 }
-    requires enough { 3 ≤ length block.now }
-    requires label_settled { NonePending (W.words words.old) label_at (length label.now) }
-    requires block_settled { NonePending (W.words words.old) block_at (length block.now) }
+    requires change { CanChange (W.words words.old) label_at label.now block_at block.now }
     ensures made { Makes (W.words words.old) (W.words words.new) fuse.old fuse.new (run_steps label_at label.now ++ block_steps_from block_at block.now) (is_ok result) }
     ensures count { length (W.words words.new).kept ≡ length (W.words words.old).kept }
     ensures beside { W.beside words.new ≡ W.beside words.old }
@@ -142,12 +137,7 @@ pub fn write_change<W: WordSpace>(
     block_at: u64,
     block: &[u64],
 ) -> Result<(), PowerCut>
-    requires label_inside { label_at + length label.now ≤ length (W.words words.old).kept }
-    requires block_inside { block_at + length block.now ≤ length (W.words words.old).kept }
-    requires small { length (W.words words.old).kept < 2 ^ 60 }
-    requires enough { 3 ≤ length block.now }
-    requires label_settled { NonePending (W.words words.old) label_at (length label.now) }
-    requires block_settled { NonePending (W.words words.old) block_at (length block.now) }
+    requires change { CanChange (W.words words.old) label_at label.now block_at block.now }
     ensures made { Makes (W.words words.old) (W.words words.new) fuse.old fuse.new (run_steps label_at label.now ++ block_steps_from block_at block.now) (is_ok result) }
     ensures whole { IsWholeAfter (W.words words.old) (W.words words.new) label_at label.now block_at block.now (is_ok result) }
     ensures settles { SettlesAfter (W.words words.old) (W.words words.new) label_at label.now block_at block.now (is_ok result) }

@@ -16,7 +16,7 @@ use Rattle.lane_core.specs.Rows.{RowWords}
 use Rattle.lane_core.specs.Sessions.{IsFree, IsServed, ServesSessions}
 use Rattle.lane_core.proofs.Served.{served_begin}
 
-rest_of : (a b : Core) (lane : ℕ) (tag : Tag) (c : Call) → CallBegins a b lane tag c → KeepsRest a b
+pub rest_of : (a b : Core) (lane : ℕ) (tag : Tag) (c : Call) → CallBegins a b lane tag c → KeepsRest a b
 rest_of a b lane tag (call.Read sector) h = h.rest
 rest_of a b lane tag (call.Write sector words) h = h.rest
 

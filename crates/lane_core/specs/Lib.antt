@@ -19,6 +19,7 @@ pub mod Machines
 pub mod Arenas
 pub mod Held
 pub mod Reopening
+pub mod Keeping
 pub mod Sessions
 pub mod Logs
 pub mod Begins

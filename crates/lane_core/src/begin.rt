@@ -1,7 +1,7 @@
 //! Calls begin.
 ghost use Rattle.std.specs.Prelude.{◌≡◌, ◌<◌, ◌≤◌, true, false, length, replicate, IfSome, OnOk, OnErr};
 ghost use Rattle.lane_core.specs.Machines.{IsSomeCore, KeepsCore};
-ghost use Rattle.lane_core.specs.Reopening.{KeepsArena};
+ghost use Rattle.lane_core.specs.Keeping.{Keeps};
 ghost use Rattle.lane_core.specs.Sessions.{IsFree, ServesSessions};
 ghost use Rattle.lane_core.specs.Begins.{read_begun, write_begun, is_idle, BusyExactly, CallBegins, FitsCall, HasRoom, IsIdleLane, ReadBegins, ReadStarts, WriteStarts};
 
@@ -156,10 +156,7 @@ impl Core {
         requires core { IsSomeCore self.old }
         requires lane { lane < self.old.shape.lanes }
         requires call { FitsCall self.old.shape call }
-        ensures sound { IsSomeCore self.new }
-        ensures core { KeepsCore self.old self.new }
-        ensures arena { KeepsArena self.old self.new }
-        ensures shape { self.new.shape ≡ self.old.shape }
+        ensures keeps { Keeps self.old self.new }
         ensures serves { ServesSessions self.old → IsFree tag.session self.old.lanes.items → ServesSessions self.new }
         ensures busy { BusyExactly self.old lane result }
         ensures refused { OnErr result (self.new ≡ self.old) }

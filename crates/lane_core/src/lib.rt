@@ -59,7 +59,7 @@
 //! |---|---|---|
 //! | [`Core::of`] | it shows the state of the opened arena, and its history begins with the cells that a reader gets | `fresh`, `arena` |
 //! | [`Core::begin`] | a call begins only in an idle lane, with room for its entry and its answer | `busy`, `begun`, `refused` |
-//! | [`Core::step`] | it is the line of the lane's phase, and `Nothing` if and only if the lane is idle; what it does and answers is a function of what the core held | `line`, `core`, `held`, `answer` |
+//! | [`Core::step`] | it is the line of the lane's phase, and `Nothing` if and only if the lane is idle; what it does and answers is a function of what the core held | `line`, `keeps`, `held`, `answer` |
 //! | [`Core::log`] | the calls that a lane answered, and its write whose map word is stored | `entries` |
 //! | [`Core::cut`] | the chooser is asked once for each word stored since its last keep; each sector survives as above | `asked`, `survives` |
 //! | the same | the words after the crash open as the same arena, each sector as at the end of the history or with the words of one write in flight | `reopens` |

@@ -4,8 +4,9 @@ ghost use Rattle.arena_open.specs.Moves.{IsOpenState};
 ghost use Rattle.lane_core.specs.Arenas.{cells_in};
 ghost use Rattle.lane_core.specs.Held.{held_by};
 ghost use Rattle.lane_core.specs.Idle.{idle_of};
-ghost use Rattle.lane_core.specs.Machines.{IsCore, IsFresh, IsSomeCore, KeepsCore, StepsOnce};
-ghost use Rattle.lane_core.specs.Reopening.{IsCoreOf, KeepsArena};
+ghost use Rattle.lane_core.specs.Machines.{IsCore, IsFresh, IsSomeCore, StepsOnce};
+ghost use Rattle.lane_core.specs.Keeping.{Keeps};
+ghost use Rattle.lane_core.specs.Reopening.{IsCoreOf};
 ghost use Rattle.lane_core.specs.Schedules.{answer_in, held_after, Step};
 ghost use Rattle.lane_core.specs.Sessions.{ServesSessions};
 
@@ -110,10 +111,7 @@ impl Core {
     pub fn step(&mut self, lane: u32) -> Stepped
         requires core { IsSomeCore self.old }
         requires lane { lane < self.old.shape.lanes }
-        ensures sound { IsSomeCore self.new }
-        ensures core { KeepsCore self.old self.new }
-        ensures arena { KeepsArena self.old self.new }
-        ensures shape { self.new.shape ≡ self.old.shape }
+        ensures keeps { Keeps self.old self.new }
         ensures serves { ServesSessions self.old → ServesSessions self.new }
         ensures line { (p : LaneNow) → slice_get self.old.lanes.items lane ≡ Some p → StepsOnce self.old self.new lane p result }
         ensures held { held_by self.new ≡ held_after (held_by self.old) (Step lane) }

@@ -16,7 +16,7 @@ use Rattle.session_script.specs.declared.payload.Payload.{Payload}
 use Rattle.session_script.specs.declared.schedule.ReplayLine.{ReplayLine}
 use Rattle.session_script.specs.declared.schedule.ReplayLine.TheVariants.{Read, Write, Step}
 use Rattle.lane_replay.specs.declared.refused.Refused.{Refused}
-use Rattle.lane_replay.specs.Lanes.{answered, changed, phase_at, phase_by, stepped}
+use Rattle.lane_replay.specs.Lanes.{answered, lane_changed, phase_at, phase_by, stepped}
 use Rattle.lane_replay.specs.Steps.{steps, was_said}
 use Rattle.lane_replay.specs.Calls.{busy, bytes_said, held_unless, line_tag, misfit, or_else, read_called, read_refusal, sector_bytes, unplaced, write_called, write_refusal}
 use Rattle.lane_replay.specs.Playing.{played, played_all}
@@ -52,11 +52,11 @@ begun_by : (held : Held) (l : ℕ) (f : LaneNow → LaneNow) (o : Option LaneNow
 begun_by held l f None e = refl
 begun_by held l f (Some p) e = sym (ap (λ b. if b then with_lane held l (f p) else held) e)
 
-begun_is : (held : Held) (l : ℕ) (f : LaneNow → LaneNow) → is_idle (phase_at held l) ≡ true → changed held l f ≡ if_there held (lane_begun held l f) (slice_get held.lanes l)
-unfolding changed phase_at
+begun_is : (held : Held) (l : ℕ) (f : LaneNow → LaneNow) → is_idle (phase_at held l) ≡ true → lane_changed held l f ≡ if_there held (lane_begun held l f) (slice_get held.lanes l)
+unfolding lane_changed phase_at
 begun_is held l f e = begun_by held l f (slice_get held.lanes l) e
 
-unless_held : (held : Held) (l : ℕ) (f : LaneNow → LaneNow) (a : Asked) (why : Option Refused) → (why ≡ None → changed held l f ≡ held_after held a) → held_unless held l f why ≡ held_all held (asked_unless a why)
+unless_held : (held : Held) (l : ℕ) (f : LaneNow → LaneNow) (a : Asked) (why : Option Refused) → (why ≡ None → lane_changed held l f ≡ held_after held a) → held_unless held l f why ≡ held_all held (asked_unless a why)
 unfolding held_all
 unless_held held l f a None h = h refl
 unless_held held l f a (Some why) h = refl
@@ -93,11 +93,11 @@ words_length (suc n) _ is = absurd (omega arith)
 -- ---- lines
 
 read_is : (held : Held) (number lane sector : ℕ) → read_refusal held lane sector ≡ None
-    → changed held lane (read_called held.shape (line_tag lane number) sector) ≡ held_after held (AskRead lane (line_tag lane number) sector)
+    → lane_changed held lane (read_called held.shape (line_tag lane number) sector) ≡ held_after held (AskRead lane (line_tag lane number) sector)
 read_is held number lane sector e = begun_is held lane (read_called held.shape (line_tag lane number) sector) (not_busy (phase_at held lane) (neither (unplaced held.shape lane sector) _ e).1)
 
 write_is : (held : Held) (number lane sector : ℕ) (value : Payload) → write_refusal held lane sector (length (bytes_said (sector_bytes held.shape) value)) ≡ None
-    → changed held lane (write_called held.shape (line_tag lane number) sector value) ≡ held_after held (AskWrite lane (line_tag lane number) sector (words_in (bytes_said (sector_bytes held.shape) value)))
+    → lane_changed held lane (write_called held.shape (line_tag lane number) sector value) ≡ held_after held (AskWrite lane (line_tag lane number) sector (words_in (bytes_said (sector_bytes held.shape) value)))
 write_is held number lane sector value e =
     begun_is held lane (write_called held.shape (line_tag lane number) sector value)
     (not_busy (phase_at held lane) (neither (misfit (length (bytes_said (sector_bytes held.shape) value)) (sector_bytes held.shape)) _ (neither (unplaced held.shape lane sector) _ e).1).1)

@@ -13,7 +13,7 @@ use Rattle.lane_core.specs.Rows.{RowWords}
 use Rattle.lane_core.specs.Schedules.{answer_by, if_there, lane_stepped, with_lane}
 use Rattle.lane_core.proofs.Callings.{some_lane}
 use Rattle.lane_core.proofs.Nothing.{nothing_idle}
-use Rattle.lane_replay.specs.Lanes.{answered, changed, phase_at, phase_by, stepped}
+use Rattle.lane_replay.specs.Lanes.{answered, lane_changed, phase_at, phase_by, stepped}
 use Rattle.lane_replay.proofs.LaneLists.{set_same}
 
 abbrev pub held_from : Shape → RowWords → List LaneNow → List Entry → Held
@@ -51,8 +51,8 @@ module _ (held : Held) (l : ℕ) (p : LaneNow) (at : slice_get held.lanes l ≡ 
   unfolding phase_at
   phase_there = ap phase_by at
 
-  pub changed_there : (change : LaneNow → LaneNow) → changed held l change ≡ with_lane held l (change p)
-  unfolding changed
+  pub changed_there : (change : LaneNow → LaneNow) → lane_changed held l change ≡ with_lane held l (change p)
+  unfolding lane_changed
   changed_there change = ap (if_there held (λ p. with_lane held l (change p))) at
 
 -- ---- a step of an idle lane changes nothing

@@ -4,7 +4,7 @@ use Rattle.lane_core.specs.declared.machine.Core.{Core}
 use Rattle.lane_core.specs.Machines.{IsSomeCore}
 use Rattle.session_script.specs.declared.schedule.ReplayLine.{ReplayLine}
 use Rattle.lane_core.specs.Held.{Held}
-use Rattle.lane_replay.specs.Keeping.{Keeps}
+use Rattle.lane_core.specs.Keeping.{Keeps}
 use Rattle.lane_replay.specs.Steps.{Played, Plays, and_text, steps}
 use Rattle.lane_replay.specs.Playing.{all_cuts, cut_line, cut_lines, played, played_all, replay_text, replayed}
 use Rattle.lane_replay.proofs.ManySteps.{only, text_joined}

@@ -13,7 +13,7 @@ use Rattle.session_script.specs.declared.payload.Payload.TheVariants.{Fill, Hex}
 use Rattle.session_script.specs.declared.schedule.ReplayLine.{ReplayLine}
 use Rattle.session_script.specs.declared.schedule.ReplayLine.TheVariants.{Read, Write, Step}
 use Rattle.lane_core.specs.Held.{Held}
-use Rattle.lane_replay.specs.Lanes.{answered, changed, phase_at, stepped}
+use Rattle.lane_replay.specs.Lanes.{answered, lane_changed, phase_at, stepped}
 use Rattle.lane_replay.specs.Steps.{Played, steps}
 use Rattle.lane_replay.specs.Playing.{cut_lines, played_all, replay_text, steps_played}
 use Rattle.lane_replay.proofs.ManySteps.{was_idle}
@@ -45,38 +45,38 @@ printed lines = replay_text new_arena lines
 
 -- a write takes twelve steps here, and a read of what it wrote five
 write_and_read : printed (Write 1 1 (Fill 0x11) ∷ Step 1 12 ∷ Read 0 1 ∷ Step 0 5 ∷ []) ≡ codes "lane 1 ok\nlane 0 ok fill:11\n"
-unfolding steps stepped answered phase_at changed played_all cut_lines entry_in entry_of with_entry kind_in block_in normal word_a word_b next_seq lock_of digits encode_with
+unfolding steps stepped answered phase_at lane_changed played_all cut_lines entry_in entry_of with_entry kind_in block_in normal word_a word_b next_seq lock_of digits encode_with
 write_and_read = refl
 
 -- a busy lane, a lane that isn't there, an idle lane, and an unfinished write
 refusals : printed (Write 1 1 (Fill 0x11) ∷ Step 1 2 ∷ Read 1 1 ∷ Read 5 1 ∷ Step 0 1 ∷ []) ≡ codes "lane 1 refused LaneBusy Staging 1\nlane 5 refused Lane 2\nlane 0 idle\nlane 1 cut\n"
-unfolding steps stepped answered phase_at changed played_all cut_lines entry_in entry_of with_entry kind_in block_in normal word_a word_b next_seq lock_of digits encode_with
+unfolding steps stepped answered phase_at lane_changed played_all cut_lines entry_in entry_of with_entry kind_in block_in normal word_a word_b next_seq lock_of digits encode_with
 refusals = refl
 
 -- the first reason is printed: lane, sector, length, call
 order : printed (Read 0 1 ∷ Read 5 9 ∷ Write 0 9 (Hex []) ∷ Write 0 1 (Hex (1 ∷ [])) ∷ Write 0 1 (Fill 1) ∷ []) ≡ codes "lane 5 refused Lane 2\nlane 0 refused Range 2\nlane 0 refused Length 1 8\nlane 0 refused LaneBusy Called\nlane 0 cut\n"
-unfolding steps stepped answered phase_at changed played_all cut_lines entry_in entry_of with_entry kind_in block_in normal word_a word_b next_seq lock_of digits encode_with
+unfolding steps stepped answered phase_at lane_changed played_all cut_lines entry_in entry_of with_entry kind_in block_in normal word_a word_b next_seq lock_of digits encode_with
 order = refl
 
 -- no steps print nothing, but of a lane that isn't there
 none_of_nobody : printed (Step 0 0 ∷ Step 2 0 ∷ []) ≡ codes "lane 2 refused Lane 2\n"
-unfolding steps stepped answered phase_at changed played_all cut_lines entry_in entry_of with_entry kind_in block_in normal word_a word_b next_seq lock_of digits encode_with
+unfolding steps stepped answered phase_at lane_changed played_all cut_lines entry_in entry_of with_entry kind_in block_in normal word_a word_b next_seq lock_of digits encode_with
 none_of_nobody = refl
 
 -- each line says once that the lane is idle
 idle_once : printed (Read 0 1 ∷ Step 0 9 ∷ Step 0 2 ∷ []) ≡ codes "lane 0 ok fill:00\nlane 0 idle\nlane 0 idle\n"
-unfolding steps stepped answered phase_at changed played_all cut_lines entry_in entry_of with_entry kind_in block_in normal word_a word_b next_seq lock_of digits encode_with
+unfolding steps stepped answered phase_at lane_changed played_all cut_lines entry_in entry_of with_entry kind_in block_in normal word_a word_b next_seq lock_of digits encode_with
 idle_once = refl
 
 -- both sectors have one lock. Lane 1 has it, and lane 0 stays where it is
 lock_is_taken : printed (Write 1 1 (Fill 1) ∷ Step 1 4 ∷ Write 0 0 (Fill 2) ∷ Step 0 9 ∷ Read 0 0 ∷ []) ≡ codes "lane 0 refused LaneBusy Staged\nlane 0 cut\nlane 1 cut\n"
-unfolding steps stepped answered phase_at changed played_all cut_lines entry_in entry_of with_entry kind_in block_in normal word_a word_b next_seq lock_of digits encode_with
+unfolding steps stepped answered phase_at lane_changed played_all cut_lines entry_in entry_of with_entry kind_in block_in normal word_a word_b next_seq lock_of digits encode_with
 lock_is_taken = refl
 
 -- lane 0 reads the block that lane 1 wrote and has again: lane 1 scans until it is read
 scan_goes_round : printed (Write 1 1 (Fill 7) ∷ Step 1 12 ∷ Read 0 1 ∷ Step 0 3 ∷ Write 1 1 (Fill 8) ∷ Step 1 12 ∷ Write 1 1 (Fill 9) ∷ Step 1 5 ∷ Read 1 1 ∷ Step 0 2 ∷ Step 1 12 ∷ [])
     ≡ codes "lane 1 ok\nlane 1 ok\nlane 1 refused LaneBusy Scanning 0\nlane 0 ok fill:07\nlane 1 ok\n"
-unfolding steps stepped answered phase_at changed played_all cut_lines entry_in entry_of with_entry kind_in block_in normal word_a word_b next_seq lock_of digits encode_with
+unfolding steps stepped answered phase_at lane_changed played_all cut_lines entry_in entry_of with_entry kind_in block_in normal word_a word_b next_seq lock_of digits encode_with
 scan_goes_round = refl
 
 -- 2^64 - 1 steps of an idle lane

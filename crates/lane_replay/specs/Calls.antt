@@ -13,7 +13,7 @@ use Rattle.session_script.specs.declared.payload.Payload.TheVariants.{Fill, Hex}
 use Rattle.lane_replay.specs.declared.refused.Refused.{Refused}
 use Rattle.lane_replay.specs.declared.refused.Refused.TheVariants as refused
 use Rattle.lane_core.specs.Held.{Held}
-use Rattle.lane_replay.specs.Lanes.{changed, phase_at}
+use Rattle.lane_replay.specs.Lanes.{lane_changed, phase_at}
 use Rattle.lane_replay.specs.Steps.{Played}
 use Rattle.lane_replay.specs.Texts.{refused_line}
 
@@ -73,7 +73,7 @@ abbrev pub write_called : Shape → Tag → ℕ → Payload → LaneNow → Lane
 write_called x tag sector value p = write_begun x p tag sector (words_in (bytes_said (sector_bytes x) value))
 
 abbrev pub held_unless : Held → ℕ → (LaneNow → LaneNow) → Option Refused → Held
-held_unless held lane change None = changed held lane change
+held_unless held lane change None = lane_changed held lane change
 held_unless held lane change (Some why) = held
 
 -- a call begins unless it is refused, and the refusal is printed

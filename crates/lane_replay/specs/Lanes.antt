@@ -23,5 +23,5 @@ unfoldable pub phase_at : Held → ℕ → Phase
 phase_at held l = phase_by (slice_get held.lanes l)
 
 -- only one lane changes
-unfoldable pub changed : Held → ℕ → (LaneNow → LaneNow) → Held
-changed held l change = if_there held (λ p. with_lane held l (change p)) (slice_get held.lanes l)
+unfoldable pub lane_changed : Held → ℕ → (LaneNow → LaneNow) → Held
+lane_changed held l change = if_there held (λ p. with_lane held l (change p)) (slice_get held.lanes l)

@@ -1,5 +1,4 @@
 pub mod Lanes
-pub mod Keeping
 pub mod Texts
 pub mod Steps
 pub mod Scanning

@@ -3,7 +3,7 @@ use Rattle.std.specs.Prelude.{◌≡◌, ℕ, ◌+◌, ◌==◌, Bool, true, fal
 use Rattle.lane_core.specs.declared.phase.Phase.{Phase}
 use Rattle.lane_core.specs.declared.phase.Phase.TheVariants.{Scanning, Staged}
 use Rattle.lane_core.specs.Held.{Held}
-use Rattle.lane_replay.specs.Lanes.{changed}
+use Rattle.lane_replay.specs.Lanes.{lane_changed}
 use Rattle.lane_replay.specs.Steps.{steps}
 
 abbrev pub is_scanning : Phase → Bool
@@ -21,7 +21,7 @@ is_staged _ = false
 
 -- a lane stands in another phase, and all else is as it was
 abbrev pub with_phase : Held → ℕ → Phase → Held
-with_phase held l phase = changed held l (λ p. record p { phase = phase })
+with_phase held l phase = lane_changed held l (λ p. record p { phase = phase })
 
 -- this many steps of a lane lead from one to the other, and print nothing
 abbrev pub Leads : ℕ → ℕ → Held → Held → Type 0

@@ -4,7 +4,7 @@ ghost use Rattle.lane_core.specs.Begins.{FitsCall};
 ghost use Rattle.lane_core.specs.Machines.{IsSomeCore};
 ghost use Rattle.lane_core.specs.Held.{held_by};
 ghost use Rattle.lane_replay.specs.Lanes.{phase_at};
-ghost use Rattle.lane_replay.specs.Keeping.{Keeps};
+ghost use Rattle.lane_core.specs.Keeping.{Keeps};
 ghost use Rattle.lane_replay.specs.Calls.{Begins, busy, bytes_said, called, line_tag, misfit, read_called, read_refusal, sector_bytes, unplaced, write_called, write_refusal};
 
 use crate::refused::Refused;

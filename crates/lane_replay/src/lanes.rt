@@ -3,7 +3,7 @@ ghost use Rattle.std.specs.Prelude.{◌≡◌, ◌<◌};
 ghost use Rattle.lane_core.specs.Machines.{IsSomeCore};
 ghost use Rattle.lane_core.specs.Held.{held_by};
 ghost use Rattle.lane_replay.specs.Lanes.{answered, phase_at, stepped};
-ghost use Rattle.lane_replay.specs.Keeping.{Keeps};
+ghost use Rattle.lane_core.specs.Keeping.{Keeps};
 
 use lane_core::{Core, Phase, Stepped};
 

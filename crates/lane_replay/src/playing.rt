@@ -4,7 +4,7 @@ ghost use Rattle.lane_core.specs.Begins.{is_idle};
 ghost use Rattle.lane_core.specs.Machines.{IsSomeCore, KeepsCore};
 ghost use Rattle.lane_core.specs.Reopening.{KeepsArena};
 ghost use Rattle.lane_core.specs.Held.{held_by};
-ghost use Rattle.lane_replay.specs.Keeping.{Keeps};
+ghost use Rattle.lane_core.specs.Keeping.{Keeps};
 ghost use Rattle.lane_replay.specs.Steps.{Plays};
 ghost use Rattle.lane_replay.specs.Playing.{all_cuts, cut_line, played, played_all, read_played, replay_text, replayed, steps_played, write_played};
 

@@ -4,7 +4,7 @@ ghost use Rattle.std.specs.Prelude.{◌≡◌, ◌<◌, true, false};
 ghost use Rattle.lane_core.specs.Machines.{IsSomeCore};
 ghost use Rattle.lane_core.specs.Held.{held_by};
 ghost use Rattle.lane_replay.specs.Lanes.{phase_at};
-ghost use Rattle.lane_replay.specs.Keeping.{Keeps};
+ghost use Rattle.lane_core.specs.Keeping.{Keeps};
 ghost use Rattle.lane_replay.specs.Scanning.{is_first_look, is_scanning, is_staged};
 ghost use Rattle.lane_replay.specs.Steps.{steps};
 

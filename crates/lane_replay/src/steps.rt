@@ -2,7 +2,7 @@
 ghost use Rattle.std.specs.Prelude.{◌≡◌, ◌<◌, ◌++◌, false, IfOk, OnOk};
 ghost use Rattle.lane_core.specs.Machines.{IsSomeCore};
 ghost use Rattle.lane_core.specs.Held.{held_by};
-ghost use Rattle.lane_replay.specs.Keeping.{Keeps};
+ghost use Rattle.lane_core.specs.Keeping.{Keeps};
 ghost use Rattle.lane_replay.specs.Steps.{Plays, and_text, steps};
 
 use crate::lanes::{phase_of, step_lane};

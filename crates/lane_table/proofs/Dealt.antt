@@ -16,7 +16,7 @@ use Rattle.lane_table.specs.declared.lanes.Lane.{Lane}
 use Rattle.lane_table.specs.declared.table.Key.{Key}
 use Rattle.lane_table.specs.declared.table.Owned.{Owned}
 use Rattle.lane_table.specs.declared.table.View.{View}
-use Rattle.lane_table.specs.Begun.{AreFresh, IsBegun, IsNew, IsFresh, state_at}
+use Rattle.lane_table.specs.Begun.{AreFresh, IsBegun, IsNew, IsFresh, lane_at}
 use Rattle.lane_table.specs.Kits.{IsAt}
 use Rattle.lane_table.specs.Law.{keeper, seated, dealt, next_seat, opened_from, opened_owned, areas_in, words_of, side_of}
 use Rattle.lane_table.proofs.Moves.{rule}
@@ -43,7 +43,7 @@ pub dealer_is : {S : Type 0} (m d : Me S View) (os : List Owned) (o : Owned) (re
 dealer_is m d os o rest q is w = q ∙ ap (λ d. (dealt d.0, d.1)) is ∙ ap (λ os. (dealt (keeper os), [])) w
 
 -- a lane's seat is as the code takes it
-pub new_seat : {S : Type 0} (k : Key) (l : ℕ) (state : LaneState) (me : Me S View) → IsBegun k → l < k.shape.lanes → me ≡ (seated (opened_owned k l), []) → state ≡ state_at k.lanes.value l → IsNew l state me
+pub new_seat : {S : Type 0} (k : Key) (l : ℕ) (state : LaneState) (me : Me S View) → IsBegun k → l < k.shape.lanes → me ≡ (seated (opened_owned k l), []) → state ≡ lane_at k.lanes.value l → IsNew l state me
 new_seat k l state me b lt is st =
     let a = areas_in k.shape (words_of k) in
     let same : state.group.half ≡ half_at a l (side_of k l) = ap (λ (s : LaneState). s.group.half) st ∙ b.halves l lt in

@@ -18,7 +18,7 @@ use Rattle.lane_core.proofs.Groups.{LaneRead, lane_read, groups_each}
 use Rattle.lane_core.proofs.Openings.{state_open}
 use Rattle.lane_core.proofs.Shapes.{shape_is}
 use Rattle.lane_table.specs.declared.arena.Arena.{Arena}
-use Rattle.lane_table.specs.Begun.{IsMadeOf, IsOpenArena, state_at}
+use Rattle.lane_table.specs.Begun.{IsMadeOf, IsOpenArena, lane_at}
 use Rattle.lane_table.specs.Law.{areas_in, cells_in, no_state, words_of}
 
 module _ (state : ArenaState) (h : IsOpenState state) where
@@ -28,7 +28,7 @@ module _ (state : ArenaState) (h : IsOpenState state) where
   abbrev group : ℕ → Group
   group i = get_or (groups_of_lanes state.lanes) i no_group
 
-  group_is : (i : ℕ) → group i ≡ (state_at state.lanes i).group
+  group_is : (i : ℕ) → group i ≡ (lane_at state.lanes i).group
   group_is i = get_or-map_default (λ (lane : LaneState). lane.group) state.lanes i no_state
 
   groups_count : length (groups_of_lanes state.lanes) ≡ l.lanes
@@ -37,7 +37,7 @@ module _ (state : ArenaState) (h : IsOpenState state) where
   read : (i : ℕ) → i < l.lanes → LaneRead l state.words i (group i)
   read i lt = lane_read l state.words i (group i) h.sound.layout.internal_is ((groups_each l state.words (groups_of_lanes state.lanes) h.groups).1 i lt)
 
-  lane_is : (i : ℕ) → i < l.lanes → state_at state.lanes i ≡ lane_of (group i)
+  lane_is : (i : ℕ) → i < l.lanes → lane_at state.lanes i ≡ lane_of (group i)
   lane_is i lt = ap (λ lanes. get_or lanes i no_state) h.lanes ∙ get_or-map lane_of (groups_of_lanes state.lanes) i no_group no_state (omega (arith, groups_count, lt))
 
   pub opened_arena : IsOpenArena (shape_in state) state.words state.lanes

@@ -27,17 +27,17 @@ abbrev pub row_of : Shape → List ℕ → List ℕ
 row_of x words = words ++ words ++ replicate (2 * x.lanes) 0
 
 -- lane l of a list of lanes
-abbrev pub state_at : List LaneState → ℕ → LaneState
-state_at lanes l = slice_index_or lanes l no_state
+abbrev pub lane_at : List LaneState → ℕ → LaneState
+lane_at lanes l = slice_index_or lanes l no_state
 
 -- an opened arena of this shape with these words and lanes
 pub record IsOpenArena (x : Shape) (words : List ℕ) (lanes : List LaneState) : Type 0 where
   pub shape : IsShape x
   pub size : length words ≡ x.total
   pub count : length lanes ≡ x.lanes
-  pub opens : IsOpen (geometry x) (areas_in x words) (λ l. (state_at lanes l).group.side)
-  pub halves : (l : ℕ) → l < x.lanes → (state_at lanes l).group.half ≡ half_at (areas_in x words) l (state_at lanes l).group.side
-  pub free : (l : ℕ) → l < x.lanes → (state_at lanes l).free ≡ (state_at lanes l).group.half.old
+  pub opens : IsOpen (geometry x) (areas_in x words) (λ l. (lane_at lanes l).group.side)
+  pub halves : (l : ℕ) → l < x.lanes → (lane_at lanes l).group.half ≡ half_at (areas_in x words) l (lane_at lanes l).group.side
+  pub free : (l : ℕ) → l < x.lanes → (lane_at lanes l).free ≡ (lane_at lanes l).group.half.old
 
 -- a table is made of such an arena
 abbrev pub IsBegun : Key → Type 0

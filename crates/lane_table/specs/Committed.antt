@@ -2,8 +2,11 @@
 use Rattle.std.specs.Prelude.{◌≡◌, ℕ, ◌/◌, ◌<◌, zero, suc}
 use Rattle.atomic_table.specs.Seated.{TableId}
 use Rattle.atomic_table.specs.Table.{Me}
+use Rattle.map_table.specs.Entry.{with_entry}
+use Rattle.lane_core.specs.declared.lane.Lane.{Lane}
 use Rattle.lane_core.specs.declared.shape.Shape.{Shape}
-use Rattle.lane_core.specs.Machine.{other, lock_of}
+use Rattle.lane_core.specs.Areas.{word_a, word_b, next_seq, normal}
+use Rattle.lane_core.specs.Machine.{looked, other, lock_of}
 use Rattle.lane_core.specs.Places.{geometry, SeenA, KeptA, SeenB, KeptB, SeenMap, KeptMap, Lock}
 use Rattle.lane_table.specs.declared.committing.CommitWords.{CommitWords}
 use Rattle.lane_table.specs.declared.committing.Fate.{Fate}
@@ -24,6 +27,12 @@ pub record AreCommitWords (table : TableId) (x : Shape) (number side sector : �
   pub kept_log_a : IsWord table x w.kept_log_a (KeptA number (other side))
   pub log_b : IsWord table x w.log_b (SeenB number (other side))
   pub kept_log_b : IsWord table x w.kept_log_b (KeptB number (other side))
+
+-- the values of a commit's words: A and B of the half that isn't current, and the map word with the new entry
+pub record AreCommitValues (s : Lane) (word_of_a word_of_b map_word : ℕ) : Type 0 where
+  pub a : word_of_a ≡ word_a s.sector (looked s)
+  pub b : word_of_b ≡ word_b s.block (next_seq s.half.seq)
+  pub map : map_word ≡ with_entry s.loaded s.sector (normal s.block)
 
 -- the seat after k of the nine steps, which found the map word w
 abbrev pub way : {S : Type 0} → Call → ℕ → ℕ → Me S View → Me S View

@@ -4,7 +4,8 @@ use Rattle.atomic_table.specs.Seated.{TableId}
 use Rattle.atomic_table.specs.Table.{Me}
 use Rattle.lane_core.specs.declared.phase.Phase.{Phase}
 use Rattle.lane_core.specs.declared.shape.Shape.{Shape}
-use Rattle.lane_core.specs.Places.{Place, word_of}
+use Rattle.lane_core.specs.Machine.{lock_of}
+use Rattle.lane_core.specs.Places.{Place, geometry, word_of, Lock}
 use Rattle.lane_table.specs.declared.pieces.Mine.{Mine}
 use Rattle.lane_table.specs.declared.table.View.{View}
 
@@ -15,6 +16,11 @@ IsSeated phase table of me = (of ≡ table) × (me.0.live ≡ true) × (me.0.lan
 -- the word of a place in a table
 abbrev pub IsWord : TableId → Shape → ℕ → Place → Type 0
 IsWord table x at p = (at < table.words) × (at ≡ word_of x p)
+
+-- there is a sector of this number, and this place is its lock's word
+pub record IsLockOf (table : TableId) (x : Shape) (number place : ℕ) : Type 0 where
+  pub sector : number < x.sectors
+  pub at : IsWord table x place (Lock (lock_of (geometry x) number))
 
 -- what the code knows of a lane is true of the view
 pub record IsMine (m : Mine) (v : View) : Type 0 where

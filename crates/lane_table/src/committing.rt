@@ -1,11 +1,8 @@
 //! The nine steps of a commit, in order.
 ghost use Rattle.std.specs.Prelude.{◌≡◌, ◌<◌, ◌≤◌, ◌+◌, ◌^◌, true};
-ghost use Rattle.map_table.specs.Entry.{with_entry};
 ghost use Rattle.lane_core.specs.declared.phase.Phase.TheVariants.{Staged, Known};
-ghost use Rattle.lane_core.specs.Areas.{word_a, word_b, next_seq, normal};
-ghost use Rattle.lane_core.specs.Machine.{looked};
 ghost use Rattle.lane_table.specs.Conditions.{IsMine, IsSeated};
-ghost use Rattle.lane_table.specs.Committed.{AreCommitWords, Ended};
+ghost use Rattle.lane_table.specs.Committed.{AreCommitWords, AreCommitValues, Ended};
 ghost use Rattle.lane_table.specs.Fuse.{Fell, Burnt};
 ghost use Rattle.lane_table.specs.Told.{path, blocks};
 
@@ -55,9 +52,7 @@ pub fn finish(
     requires seat { IsSeated Known table.now.table_id seat.old.table_id seat.old.me }
     requires side { seat.old.me.0.lane.side < 2 }
     requires words { AreCommitWords table.now.table_id table.now.key.shape seat.old.me.0.number seat.old.me.0.lane.side seat.old.me.0.lane.sector words }
-    requires a { a ≡ word_a seat.old.me.0.lane.sector (looked seat.old.me.0.lane) }
-    requires b { b ≡ word_b seat.old.me.0.lane.block (next_seq seat.old.me.0.lane.half.seq) }
-    requires map { map ≡ with_entry seat.old.me.0.lane.loaded seat.old.me.0.lane.sector (normal seat.old.me.0.lane.block) }
+    requires values { AreCommitValues seat.old.me.0.lane a b map }
     ensures table { seat.new.table_id ≡ seat.old.table_id }
     ensures went { (seat.new.me ≡ path result seat.old.me) × (result ≤ 7) }
     ensures done { result ≡ 7 → Fell 7 fuse.old fuse.new }

@@ -9,7 +9,7 @@ ghost use Rattle.map_table.specs.Entry.{entry_in, with_entry};
 ghost use Rattle.lane_core.specs.Areas.{kind_in, word_a, word_b, next_seq, normal};
 ghost use Rattle.lane_core.specs.Machine.{other, other_lane, looked, lock_of};
 ghost use Rattle.lane_core.specs.Places.{geometry, SeenData, KeptData, SeenA, KeptA, SeenB, KeptB, SeenMap, KeptMap, Reader, Lock};
-ghost use Rattle.lane_table.specs.Conditions.{IsSeated, IsWord};
+ghost use Rattle.lane_table.specs.Conditions.{IsSeated, IsWord, IsLockOf};
 ghost use Rattle.lane_table.specs.Fuse.{Fell, Burnt};
 ghost use Rattle.lane_table.specs.Told.{begun, tracked, scanned, with_word, with_keep, locked, missed, known, a_stored, a_kept, b_stored, b_kept, switched, map_kept, freed, blocks};
 ghost use Rattle.lane_table.specs.Told.{called, looked_at, published, reading, moved, with_load, given_up, answered_with_words};
@@ -124,8 +124,7 @@ pub fn lock_take(
 ) -> Option<u64>
     requires seat { IsSeated Staged table.now.table_id seat.old.table_id seat.old.me }
     requires number { seat.old.me.0.number ≡ number }
-    requires sector { call.sector < table.now.key.shape.sectors }
-    requires at { IsWord table.now.table_id table.now.key.shape at (Lock (lock_of (geometry table.now.key.shape) call.sector)) }
+    requires lock { IsLockOf table.now.table_id table.now.key.shape call.sector at }
     ensures table { seat.new.table_id ≡ seat.old.table_id }
     ensures taken { IfSome result (λ n. n ≡ 0 → seat.new.me ≡ locked call seat.old.me) }
     ensures busy { IfSome result (λ n. n ≢ 0 → (seat.new.me ≡ missed n seat.old.me) × (n ≤ seat.old.me.0.shape.lanes) × (n ≤ 2 ^ 30)) }

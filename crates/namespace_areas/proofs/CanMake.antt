@@ -12,7 +12,7 @@ use Rattle.std.proofs.lemmas.List.Quantifiers.{position-Some}
 use Rattle.region_space.proofs.Clashes.{position_none}
 use Rattle.label_codec.specs.declared.label.Label.{Label}
 use Rattle.label_area.specs.Area.{SlotState}
-use Rattle.namespace_map.specs.Areas.{Area as SeenArea, Change, slots_of, slots_on, free_in, is_free, has_uuid, slot_of, area_at, changed_area, changed, all_changed, replaced}
+use Rattle.namespace_map.specs.Areas.{Area as SeenArea, Change, slots_of, slots_on, free_in, is_free, has_uuid, slot_of, area_at, changed_area, changed_areas, all_changed, replaced}
 use Rattle.namespace_map.proofs.Slots.{slot, first_free, has_it}
 use Rattle.namespace_map.proofs.Areas.{slots_of_changed, area_of_other}
 use Rattle.namespace_areas.specs.Went.{HasRoom, CanMake}
@@ -33,27 +33,27 @@ some_then None c some = some
 some_then (Some a) c some = refl
 
 -- a change keeps them ready
-pub ready_kept : (areas : Seens) (c : Change) (m : ℕ) → IsSome (area_at areas m) → IsSome (area_at (changed areas c) m)
+pub ready_kept : (areas : Seens) (c : Change) (m : ℕ) → IsSome (area_at areas m) → IsSome (area_at (changed_areas areas c) m)
 ready_kept areas c m some = elim (cases_eq m c.number) [
   | inl same ↦
       let some' : IsSome (area_at areas c.number) = subst (λ (k : ℕ). IsSome (area_at areas k)) same some in
-      let here : area_at (changed areas c) c.number ≡ changed_area (area_at areas c.number) c =
-      unwrap_or-slice_get (changed areas c) c.number None ∙ get_or-set_same areas c.number (changed_area (area_at areas c.number) c) None (below_some areas c.number some') in
-      subst (λ (k : ℕ). IsSome (area_at (changed areas c) k)) (sym same) (subst (λ (o : Option SeenArea). IsSome o) (sym here) (some_then (area_at areas c.number) c some'))
+      let here : area_at (changed_areas areas c) c.number ≡ changed_area (area_at areas c.number) c =
+      unwrap_or-slice_get (changed_areas areas c) c.number None ∙ get_or-set_same areas c.number (changed_area (area_at areas c.number) c) None (below_some areas c.number some') in
+      subst (λ (k : ℕ). IsSome (area_at (changed_areas areas c) k)) (sym same) (subst (λ (o : Option SeenArea). IsSome o) (sym here) (some_then (area_at areas c.number) c some'))
   | inr apart ↦ subst (λ (o : Option SeenArea). IsSome o) (sym (area_of_other areas c m apart)) some
 ]
 
 pub ready_all : (cs : List Change) (areas : Seens) (m : ℕ) → IsSome (area_at areas m) → IsSome (area_at (all_changed areas cs) m)
 unfolding all_changed
 ready_all [] areas m some = some
-ready_all (c ∷ cs) areas m some = ready_all cs (changed areas c) m (ready_kept areas c m some)
+ready_all (c ∷ cs) areas m some = ready_all cs (changed_areas areas c) m (ready_kept areas c m some)
 
 -- ---- lists one after another
 
 pub can_both : (xs ys : List Change) (areas : Seens) → CanMake areas xs → CanMake (all_changed areas xs) ys → CanMake areas (xs ++ ys)
 unfolding all_changed
 can_both [] ys areas can more = more
-can_both (x ∷ xs) ys areas (ready, room, can) more = (ready, room, can_both xs ys (changed areas x) can more)
+can_both (x ∷ xs) ys areas (ready, room, can) more = (ready, room, can_both xs ys (changed_areas areas x) can more)
 
 -- ---- removals
 
@@ -61,14 +61,14 @@ can_both (x ∷ xs) ys areas (ready, room, can) more = (ready, room, can_both xs
 abbrev pub IsRemoval : Seens → Change → Type 0
 IsRemoval areas c = (c.label ≡ None) × IsSome (area_at areas c.number)
 
-still_removals : (areas : Seens) (c : Change) (cs : List Change) → AllByRecursion (IsRemoval areas) cs → AllByRecursion (IsRemoval (changed areas c)) cs
+still_removals : (areas : Seens) (c : Change) (cs : List Change) → AllByRecursion (IsRemoval areas) cs → AllByRecursion (IsRemoval (changed_areas areas c)) cs
 still_removals areas c [] all = tt
 still_removals areas c (d ∷ ds) ((none, ready), rest) = ((none, ready_kept areas c d.number ready), still_removals areas c ds rest)
 
 pub can_remove : (cs : List Change) (areas : Seens) → AllByRecursion (IsRemoval areas) cs → CanMake areas cs
 can_remove [] areas all = tt
 can_remove (c ∷ cs) areas ((none, ready), rest) =
-    (ready, subst (HasRoom (area_at areas c.number)) (sym none) tt, can_remove cs (changed areas c) (still_removals areas c cs rest))
+    (ready, subst (HasRoom (area_at areas c.number)) (sym none) tt, can_remove cs (changed_areas areas c) (still_removals areas c cs rest))
 
 -- ---- labels that are put over others
 
@@ -150,34 +150,34 @@ pub fits_ready : (areas : Seens) (c : Change) → Fits areas c → IsSome (area_
 fits_ready areas c fits = some_slots (area_at areas c.number) fits.room
 
 module _ (areas : Seens) (c : Change) (fits : Fits areas c) where
-  here : slots_on (changed areas c) c.number ≡ replaced (slot_of (slots_on areas c.number) c.uuid) (Some fits.puts.0) (slots_on areas c.number)
+  here : slots_on (changed_areas areas c) c.number ≡ replaced (slot_of (slots_on areas c.number) c.uuid) (Some fits.puts.0) (slots_on areas c.number)
   here =
       slots_of_changed areas c (below_some areas c.number (fits_ready areas c fits))
       ∙ ap (λ (o : Option Label). replaced (slot_of (slots_on areas c.number) c.uuid) o (slots_on areas c.number)) fits.puts.1
 
   -- as many slots are free as before
-  pub fits_free : (m : ℕ) → free_in (slots_on (changed areas c) m) ≡ free_in (slots_on areas m)
+  pub fits_free : (m : ℕ) → free_in (slots_on (changed_areas areas c) m) ≡ free_in (slots_on areas m)
   fits_free m = elim (cases_eq m c.number) [
     | inl same ↦
-        subst (λ (k : ℕ). free_in (slots_on (changed areas c) k) ≡ free_in (slots_on areas k)) (sym same)
+        subst (λ (k : ℕ). free_in (slots_on (changed_areas areas c) k) ≡ free_in (slots_on areas k)) (sym same)
         (ap free_in here ∙ free_is (slots_on areas c.number) c.uuid fits.puts.0 fits.puts.2 fits.there fits.room)
     | inr apart ↦ ap (λ (o : Option SeenArea). free_in (slots_of o)) (area_of_other areas c m apart)
   ]
 
   -- and modules have labels of the UUIDs of which they had some
-  pub fits_label : (m : ℕ) (v : List ℕ) → HasLabel areas m v → HasLabel (changed areas c) m v
+  pub fits_label : (m : ℕ) (v : List ℕ) → HasLabel areas m v → HasLabel (changed_areas areas c) m v
   fits_label m v has = elim (cases_eq m c.number) [
     | inl same ↦
-        subst (λ (k : ℕ). HasLabel (changed areas c) k v) (sym same)
+        subst (λ (k : ℕ). HasLabel (changed_areas areas c) k v) (sym same)
         (subst (λ (ys : List SlotState). (j : ℕ) × (has_uuid v (slot ys j) ≡ true)) (sym here)
         (label_kept (slots_on areas c.number) c.uuid fits.puts.0 fits.puts.2 fits.there fits.room v (subst (λ (k : ℕ). HasLabel areas k v) same has)))
     | inr apart ↦ subst (λ (o : Option SeenArea). (j : ℕ) × (has_uuid v (slot (slots_of o) j) ≡ true)) (sym (area_of_other areas c m apart)) has
   ]
 
-  pub fits_kept : (d : Change) → Fits areas d → Fits (changed areas c) d
+  pub fits_kept : (d : Change) → Fits areas d → Fits (changed_areas areas c) d
   fits_kept d h = record { puts = h.puts; there = fits_label d.number d.uuid h.there; room = subst (λ (n : ℕ). 1 ≤ n) (sym (fits_free d.number)) h.room }
 
-  pub still_fit : (ds : List Change) → AllByRecursion (Fits areas) ds → AllByRecursion (Fits (changed areas c)) ds
+  pub still_fit : (ds : List Change) → AllByRecursion (Fits areas) ds → AllByRecursion (Fits (changed_areas areas c)) ds
   still_fit [] all = tt
   still_fit (d ∷ ds) (one, rest) = (fits_kept d one, still_fit ds rest)
 
@@ -185,10 +185,10 @@ pub can_put : (cs : List Change) (areas : Seens) → AllByRecursion (Fits areas)
 can_put [] areas all = tt
 can_put (c ∷ cs) areas (one, rest) =
     let room : HasRoom (area_at areas c.number) c.label = subst (HasRoom (area_at areas c.number)) (sym one.puts.1) one.room in
-    (fits_ready areas c one, room, can_put cs (changed areas c) (still_fit areas c one cs rest))
+    (fits_ready areas c one, room, can_put cs (changed_areas areas c) (still_fit areas c one cs rest))
 
 -- what fits, fits after others that fit
 pub fits_after : (cs : List Change) (areas : Seens) (d : Change) → AllByRecursion (Fits areas) cs → Fits areas d → Fits (all_changed areas cs) d
 unfolding all_changed
 fits_after [] areas d all h = h
-fits_after (c ∷ cs) areas d (one, rest) h = fits_after cs (changed areas c) d (still_fit areas c one cs rest) (fits_kept areas c one d h)
+fits_after (c ∷ cs) areas d (one, rest) h = fits_after cs (changed_areas areas c) d (still_fit areas c one cs rest) (fits_kept areas c one d h)

@@ -6,7 +6,7 @@ use Rattle.nvd_words.specs.Checks.{first_fault, fault_if}
 use Rattle.nfit_reader.specs.declared.table.Mapping.{Mapping}
 use Rattle.label_set.specs.declared.placed.Placed.{Placed}
 use Rattle.label_set.specs.Rules.{module_of}
-use Rattle.namespace_map.specs.Namespaces.{Entry, claims_of, entry_with, labels_with, lookup, part_of}
+use Rattle.namespace_map.specs.Namespaces.{NamespaceEntry, claims_of, entry_with, labels_with, lookup, part_of}
 use Rattle.namespace_map.proofs.Entries.{lookup_entries}
 use Rattle.namespace_map.specs.declared.commands.Named.{Named}
 use Rattle.namespace_map.specs.declared.refused.OpRefused.{OpRefused}
@@ -43,12 +43,12 @@ second_none None faults = refl
 second_none (Some f) faults = refl
 
 -- what the definitions ask of an entry
-abbrev deleted_on : List (List Mapping) → List Area → List ℕ → Entry → List (Option OpRefused)
+abbrev deleted_on : List (List Mapping) → List Area → List ℕ → NamespaceEntry → List (Option OpRefused)
 deleted_on sets areas uuid e =
     fault_if (nat_lt 0 (claims_of (shown sets areas) uuid)) (Busy (claims_of (shown sets areas) uuid)) ∷ option_map (λ number. ReadOnlyLabel number) e.read_only
     ∷ (if nat_le 2 (length e.parts) then short_of (shown sets areas) 1 (entry_modules e) else None) ∷ []
 
-abbrev renamed_on : List (List Mapping) → List Area → Entry → List (Option OpRefused)
+abbrev renamed_on : List (List Mapping) → List Area → NamespaceEntry → List (Option OpRefused)
 renamed_on sets areas e = option_map (λ number. ReadOnlyLabel number) e.read_only ∷ short_of (shown sets areas) 1 (entry_modules e) ∷ []
 
 delete_by : (sets : List (List Mapping)) (areas : List Area) (p : Placed) (ps : List Placed) (n : ℕ) (modules : List ℕ) → n ≡ length (p ∷ ps) → modules ≡ map module_of (p ∷ ps)
@@ -60,9 +60,9 @@ delete_by sets areas p ps n modules count are =
 
 pub delete_of : (sets : List (List Mapping)) (areas : List Area) (uuid : List ℕ) (own : List Placed) → lookup uuid (shown sets areas).entries ≡ option_map (entry_with sets own) (slice_get own 0)
     → delete_refusal (shown sets areas) uuid ≡ changing (deleting sets areas) own
-delete_of sets areas uuid [] is = ap (λ (o : Option Entry). entry_refusal o (λ e. deleted_on sets areas uuid e)) is
+delete_of sets areas uuid [] is = ap (λ (o : Option NamespaceEntry). entry_refusal o (λ e. deleted_on sets areas uuid e)) is
 delete_of sets areas uuid (p ∷ ps) is =
-    ap (λ (o : Option Entry). entry_refusal o (λ e. deleted_on sets areas uuid e)) is
+    ap (λ (o : Option NamespaceEntry). entry_refusal o (λ e. deleted_on sets areas uuid e)) is
     ∙ delete_by sets areas p ps (length (map part_of (p ∷ ps))) (map (λ p. p.extent.«module») (map part_of (p ∷ ps))) (parts_count (p ∷ ps)) (modules_in (p ∷ ps))
 
 rename_by : (sets : List (List Mapping)) (areas : List Area) (p : Placed) (ps : List Placed) (name : Option OpRefused) (modules : List ℕ) → modules ≡ map module_of (p ∷ ps)
@@ -71,7 +71,7 @@ rename_by sets areas p ps name modules are = ap (λ (ms : List ℕ). first_fault
 
 pub rename_of : (sets : List (List Mapping)) (areas : List Area) (uuid : List ℕ) (name : Named) (own : List Placed) → lookup uuid (shown sets areas).entries ≡ option_map (entry_with sets own) (slice_get own 0)
     → rename_refusal (shown sets areas) uuid name ≡ first_fault (bad_name name ∷ changing (renaming sets areas) own ∷ [])
-rename_of sets areas uuid name [] is = ap (λ (o : Option Entry). first_fault (bad_name name ∷ entry_refusal o (λ e. renamed_on sets areas e) ∷ [])) is
+rename_of sets areas uuid name [] is = ap (λ (o : Option NamespaceEntry). first_fault (bad_name name ∷ entry_refusal o (λ e. renamed_on sets areas e) ∷ [])) is
 rename_of sets areas uuid name (p ∷ ps) is =
-    ap (λ (o : Option Entry). first_fault (bad_name name ∷ entry_refusal o (λ e. renamed_on sets areas e) ∷ [])) is
+    ap (λ (o : Option NamespaceEntry). first_fault (bad_name name ∷ entry_refusal o (λ e. renamed_on sets areas e) ∷ [])) is
     ∙ rename_by sets areas p ps (bad_name name) (map (λ p. p.extent.«module») (map part_of (p ∷ ps))) (modules_in (p ∷ ps))

@@ -14,7 +14,7 @@ use Rattle.label_set.specs.Rules.{relative_of}
 use Rattle.label_set.specs.Status.{status_of}
 use Rattle.namespace_map.specs.Namespaces.{region_of, holds_label, entry_with}
 use Rattle.namespace_map.specs.Commands.{is_complete, is_sector}
-use Rattle.namespace_areas.specs.Finding.{set_at, found_of, LiesIn}
+use Rattle.namespace_areas.specs.Finding.{set_at, found_of, LiesInSet}
 use Rattle.namespace_areas.proofs.Complete.{IsPlaced, placed}
 
 -- ---- the set of a region that is found
@@ -67,7 +67,7 @@ module _ (sets : List (List Mapping)) (first : Placed) (rest : List Placed) (num
   is_found sector =
       rw (here, complete, sector) (ap (λ (s : List Mapping). Ok (record { region = number; offset = relative_of s first; raw = first.label.raw; mode = mode_of first.label.kind first.label.abstraction })) set_is)
 
-  pub lies_in : (mode : Mode) → LiesIn sets (record { region = number; offset = relative_of set first; raw = first.label.raw; mode = mode })
+  pub lies_in : (mode : Mode) → LiesInSet sets (record { region = number; offset = relative_of set first; raw = first.label.raw; mode = mode })
   lies_in mode =
       let p : IsPlaced set first = placed set first rest complete in
       record {
@@ -91,11 +91,11 @@ module _ (sets : List (List Mapping)) (number : ℕ) (set : List Mapping) where
 
   pub lies_with : (labels : List Placed) (first : Placed) → Some first ≡ slice_get labels 0 → Some (number, set) ≡ region_of sets first
       → true ≡ is_complete (status_of set labels) → (mode : Mode)
-      → LiesIn sets (record { region = number; offset = relative_of set first; raw = first.label.raw; mode = mode })
+      → LiesInSet sets (record { region = number; offset = relative_of set first; raw = first.label.raw; mode = mode })
   lies_with [] first is here complete mode = absurd (let e = is in cc)
   lies_with (p ∷ rest) first is here complete mode =
       let same : first ≡ p = cc in
-      subst (λ (q : Placed). LiesIn sets (record { region = number; offset = relative_of set q; raw = q.label.raw; mode = mode })) (sym same)
+      subst (λ (q : Placed). LiesInSet sets (record { region = number; offset = relative_of set q; raw = q.label.raw; mode = mode })) (sym same)
       (lies_in sets p rest number set (sym (here ∙ ap (region_of sets) same)) (sym complete) mode)
 
 pub sector_is : (m : Mode) → true ≡ is_sector m → m ≡ mode.Sector

@@ -2,7 +2,7 @@
 use Rattle.std.proofs.Common.{◌≡◌, ℕ, ◌+◌, ◌<◌, Bool, true, false, List, [], ◌∷◌, ◌++◌, length, take, drop, get_or, Option, refl, sym, ap, ◌∙◌, subst}
 use Rattle.std.proofs.lemmas.List.{take_more, drop_more, take-append-drop}
 use Rattle.namespace_areas.specs.declared.area.Area.{Area}
-use Rattle.namespace_map.specs.Areas.{Area as SeenArea, Change, changed, all_changed}
+use Rattle.namespace_map.specs.Areas.{Area as SeenArea, Change, changed_areas, all_changed}
 use Rattle.namespace_areas.specs.Seen.{areas_seen}
 use Rattle.namespace_areas.specs.Went.{CanMake, Went}
 use Rattle.namespace_areas.proofs.Went.{went_both, went_cut}
@@ -11,7 +11,7 @@ use Rattle.namespace_areas.proofs.Went.{went_both, went_cut}
 pub rest_is : (P : List Change → Type 0) (cs : List Change) (i : ℕ) (x : Change) → x ≡ get_or cs i x → i < length cs → P (drop i cs) → P (x ∷ drop (i + 1) cs)
 rest_is P cs i x at below h = subst P (drop_more cs i x below ∙ ap (λ (y : Change). y ∷ drop (i + 1) cs) (sym at)) h
 
-one_changed : (areas : List (Option SeenArea)) (c : Change) → all_changed areas (c ∷ []) ≡ changed areas c
+one_changed : (areas : List (Option SeenArea)) (c : Change) → all_changed areas (c ∷ []) ≡ changed_areas areas c
 unfolding all_changed
 one_changed areas c = refl
 

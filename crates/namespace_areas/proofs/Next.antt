@@ -13,7 +13,7 @@ use Rattle.std.proofs.lemmas.List.Elements.{filter-append}
 use Rattle.std.proofs.lemmas.Slice.Eq.{bytes_eq-Decides}
 use Rattle.nfit_reader.specs.declared.table.Mapping.{Mapping}
 use Rattle.label_set.specs.declared.placed.Placed.{Placed}
-use Rattle.namespace_map.specs.Namespaces.{Entry, uuid_of, uuid_lt, labels_with, entry_with, entry_at, entries_of, lookup}
+use Rattle.namespace_map.specs.Namespaces.{NamespaceEntry, uuid_of, uuid_lt, labels_with, entry_with, entry_at, entries_of, lookup}
 use Rattle.namespace_map.specs.Laws.{IsRising}
 use Rattle.namespace_map.proofs.Entries.{lookup_entries}
 use Rattle.namespace_map.proofs.Rising.{rising_entries, rising_same}
@@ -72,10 +72,10 @@ module _ (x : Placed) (xs : List Placed) (up : AreGrouped (x ∷ xs)) where
 
   pub next_entries : (sets : List (List Mapping)) (first : Placed) → slice_get group 0 ≡ Some first → entries_of sets (x ∷ xs) ≡ entry_with sets group first ∷ entries_of sets behind
   next_entries sets first is =
-      let e : Entry = entry_with sets group first in
+      let e : NamespaceEntry = entry_with sets group first in
       let same : first ≡ x = let h = sym is ∙ first_of_group in cc in
       let rises : IsRising (e ∷ entries_of sets behind) = (
-        subst (λ (w : List ℕ). AllByRecursion (λ (f : Entry). uuid_lt w f.uuid ≡ true) (entries_of sets behind)) (ap uuid_of (sym same)) (entries_have sets behind behind (λ w. uuid_lt u w ≡ true) above),
+        subst (λ (w : List ℕ). AllByRecursion (λ (f : NamespaceEntry). uuid_lt w f.uuid ≡ true) (entries_of sets behind)) (ap uuid_of (sym same)) (entries_have sets behind behind (λ w. uuid_lt u w ≡ true) above),
         rising_entries sets behind,
       ) in
       rising_same (entries_of sets (x ∷ xs)) (e ∷ entries_of sets behind) (rising_entries sets (x ∷ xs)) rises

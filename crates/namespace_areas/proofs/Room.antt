@@ -6,30 +6,30 @@ use Rattle.std.proofs.lemmas.Option.{slice_get-map, slice_get-get_or}
 use Rattle.label_set.specs.Rules.{lesser}
 use Rattle.label_set.proofs.Lesser.{IsLeastOf, least_passes, least_fails}
 use Rattle.namespace_areas.specs.declared.area.Area.{Area}
-use Rattle.namespace_map.specs.Namespaces.{AreaState}
+use Rattle.namespace_map.specs.Namespaces.{AreaSummary}
 use Rattle.namespace_map.specs.Commands.{no_area}
-use Rattle.namespace_map.specs.Changes.{area_state}
+use Rattle.namespace_map.specs.Changes.{area_summary}
 use Rattle.namespace_areas.specs.Seen.{area_seen, areas_seen}
-use Rattle.namespace_areas.specs.Refusals.{state_at}
+use Rattle.namespace_areas.specs.Refusals.{area_summary_at}
 
-abbrev state_by : Option Area → AreaState
+abbrev state_by : Option Area → AreaSummary
 state_by None = no_area
-state_by (Some area) = area_state (area_seen area)
+state_by (Some area) = area_summary (area_seen area)
 
-state_is : (areas : List Area) (n : ℕ) → state_at areas n ≡ state_by (slice_get areas n)
-state_is areas n = ap (λ (o : Option AreaState). unwrap_or o no_area) (slice_get-map area_state (areas_seen areas) n ∙ ap (option_map area_state) (slice_get-map area_seen areas n)) ∙ by (slice_get areas n)
+state_is : (areas : List Area) (n : ℕ) → area_summary_at areas n ≡ state_by (slice_get areas n)
+state_is areas n = ap (λ (o : Option AreaSummary). unwrap_or o no_area) (slice_get-map area_summary (areas_seen areas) n ∙ ap (option_map area_summary) (slice_get-map area_seen areas n)) ∙ by (slice_get areas n)
   where
-    by : (o : Option Area) → unwrap_or (option_map area_state (option_map area_seen o)) no_area ≡ state_by o
+    by : (o : Option Area) → unwrap_or (option_map area_summary (option_map area_seen o)) no_area ≡ state_by o
     by None = refl
     by (Some a) = refl
 
-state_here : (areas : List Area) (n : ℕ) (area : Area) → slice_get areas n ≡ Some area → state_at areas n ≡ area_state (area_seen area)
+state_here : (areas : List Area) (n : ℕ) (area : Area) → slice_get areas n ≡ Some area → area_summary_at areas n ≡ area_summary (area_seen area)
 state_here areas n area is = state_is areas n ∙ ap state_by is
 
-state_none : (areas : List Area) (n : ℕ) → slice_get areas n ≡ None → state_at areas n ≡ no_area
+state_none : (areas : List Area) (n : ℕ) → slice_get areas n ≡ None → area_summary_at areas n ≡ no_area
 state_none areas n is = state_is areas n ∙ ap state_by is
 
-pub state_inside : (areas : List Area) (n : ℕ) (d : Area) → n < length areas → state_at areas n ≡ area_state (area_seen (get_or areas n d))
+pub state_inside : (areas : List Area) (n : ℕ) (d : Area) → n < length areas → area_summary_at areas n ≡ area_summary (area_seen (get_or areas n d))
 state_inside areas n d lt = state_here areas n (get_or areas n d) (slice_get-get_or areas n d lt)
 
 pub none_there : {X : Type 0} (xs : List X) (n : ℕ) → length xs ≤ n → slice_get xs n ≡ None
@@ -37,7 +37,7 @@ none_there [] n le = refl
 none_there (x ∷ xs) zero le = absurd (omega arith)
 none_there (x ∷ xs) (suc n) le = none_there xs n (omega arith)
 
-pub state_outside : (areas : List Area) (n : ℕ) → length areas ≤ n → state_at areas n ≡ no_area
+pub state_outside : (areas : List Area) (n : ℕ) → length areas ≤ n → area_summary_at areas n ≡ no_area
 state_outside areas n le = state_none areas n (none_there areas n le)
 
 -- one module more

@@ -27,7 +27,7 @@ use Rattle.namespace_areas.specs.declared.area.Area.TheVariants.{Absent, Refused
 use Rattle.namespace_areas.specs.Areas.{IsRunning, AreRunning, shown_in, labels_of}
 use Rattle.namespace_map.specs.Areas.{Area as SeenArea, free_in, slots_on}
 use Rattle.namespace_map.specs.Changes.{labels_at, placed_in_all}
-use Rattle.namespace_map.specs.Left.{AreRead}
+use Rattle.namespace_map.specs.Left.{LabelsAreRead}
 use Rattle.namespace_areas.specs.Seen.{IsRefused, IsHeld, AreHeld, ready_seen, area_seen, areas_seen, words_of, AreLeft, shown_by, area_shown, areas_shown}
 use Rattle.namespace_areas.proofs.Slots.{label_read, count_is}
 use Rattle.namespace_areas.proofs.OneChange.{labels_shown}
@@ -103,7 +103,7 @@ label_stands areas m s l e = let (bytes, read) = label_reads areas m s l e in (b
 pub label_sound : (areas : List Area) (m s : ℕ) (l : Label) → slice_get (slots_on (areas_seen areas) m) s ≡ Some (Some (Some l)) → IsSound l
 label_sound areas m s l e = let (bytes, read) = label_reads areas m s l e in sound_if_read bytes s l read
 
-pub seen_read : (areas : List Area) → AreRead (areas_seen areas)
+pub seen_read : (areas : List Area) → LabelsAreRead (areas_seen areas)
 seen_read areas = record {
   number = λ m s l e. let (bytes, stands) = label_stands areas m s l e in stands.slot ∙ stands.numbered;
   bytes = λ m s l e. let (bytes, stands) = label_stands areas m s l e in stands.raw_some;

@@ -14,7 +14,7 @@ use Rattle.label_area.specs.Change.{count_of_steps}
 use Rattle.label_area.specs.State.{AreaState}
 use Rattle.namespace_areas.specs.declared.area.Area.{Area}
 use Rattle.namespace_areas.specs.declared.area.Area.TheVariants.{Absent, Refused, Ready}
-use Rattle.namespace_map.specs.Areas.{Area as SeenArea, Change, area_at, block_of, changed_area, changed, all_changed, steps_for, steps_of_all, after_steps, IsLeftBy}
+use Rattle.namespace_map.specs.Areas.{Area as SeenArea, Change, area_at, block_of, changed_area, changed_areas, all_changed, steps_for, steps_of_all, after_steps, IsLeftBy}
 use Rattle.namespace_areas.specs.Seen.{IsHeld, AreHeld, ready_seen, area_seen, areas_seen, words_of, AreLeft, area_shown, areas_shown}
 use Rattle.namespace_areas.specs.Steps.{Rows, AreaStep, MakesAll, after_all, all_rows, all_settled, all_steps, area_steps, front, in_area, row_at, row_after, row_steps, rows_of}
 use Rattle.namespace_areas.specs.Went.{area_after, ShowsCut, AreaWent, unready, size_of, Went}
@@ -54,12 +54,12 @@ lasts_both (Some n) s t all = let le : s ≤ n = leb-true s n all in same_test t
 pub changed_both : (xs ys : List Change) (os : Seens) → all_changed os (xs ++ ys) ≡ all_changed (all_changed os xs) ys
 unfolding all_changed
 changed_both [] ys os = refl
-changed_both (c ∷ xs) ys os = changed_both xs ys (changed os c)
+changed_both (c ∷ xs) ys os = changed_both xs ys (changed_areas os c)
 
 pub steps_both : (xs ys : List Change) (os : Seens) → steps_of_all os (xs ++ ys) ≡ steps_of_all os xs + steps_of_all (all_changed os xs) ys
 unfolding all_changed steps_of_all
 steps_both [] ys os = omega arith
-steps_both (c ∷ xs) ys os = let rest = steps_both xs ys (changed os c) in omega arith
+steps_both (c ∷ xs) ys os = let rest = steps_both xs ys (changed_areas os c) in omega arith
 
 -- a cut in the second
 pub after_both : (xs ys : List Change) (os : Seens) (n : ℕ) (stays : Bool) → steps_of_all os xs ≤ n
@@ -68,8 +68,8 @@ unfolding all_changed steps_of_all after_steps
 after_both [] ys os n stays le = ap (λ (k : ℕ). after_steps os ys k stays) (omega arith)
 after_both (c ∷ xs) ys os n stays le =
     rw (le-leb (steps_for os c) n (omega arith))
-    (after_both xs ys (changed os c) (n - steps_for os c) stays (omega arith)
-    ∙ ap (λ (k : ℕ). after_steps (all_changed (changed os c) xs) ys k stays) (omega arith))
+    (after_both xs ys (changed_areas os c) (n - steps_for os c) stays (omega arith)
+    ∙ ap (λ (k : ℕ). after_steps (all_changed (changed_areas os c) xs) ys k stays) (omega arith))
 
 -- a cut in the first
 pub after_first : (xs ys : List Change) (os : Seens) (n : ℕ) (stays : Bool) → n < steps_of_all os xs → after_steps os (xs ++ ys) n stays ≡ after_steps os xs n stays
@@ -79,17 +79,17 @@ after_first (c ∷ xs) ys os n stays lt =
     elim (cases_Bool (nat_le (steps_for os c) n)) [
       | inl it ↦
           let le : steps_for os c ≤ n = leb-true (steps_for os c) n it in
-          rw it (after_first xs ys (changed os c) (n - steps_for os c) stays (omega arith))
+          rw it (after_first xs ys (changed_areas os c) (n - steps_for os c) stays (omega arith))
       | inr not_it ↦ rw not_it refl
     ]
 
 -- ---- a cut of one change
 
-one_with_all : (os : Seens) (c : Change) (n : ℕ) (stays : Bool) → steps_for os c ≤ n → after_steps os (c ∷ []) n stays ≡ changed os c
+one_with_all : (os : Seens) (c : Change) (n : ℕ) (stays : Bool) → steps_for os c ≤ n → after_steps os (c ∷ []) n stays ≡ changed_areas os c
 unfolding after_steps
 one_with_all os c n stays le = rw (le-leb (steps_for os c) n le) refl
 
-one_stays : (os : Seens) (c : Change) (n : ℕ) → n + 1 ≡ steps_for os c → after_steps os (c ∷ []) n true ≡ changed os c
+one_stays : (os : Seens) (c : Change) (n : ℕ) → n + 1 ≡ steps_for os c → after_steps os (c ∷ []) n true ≡ changed_areas os c
 unfolding after_steps
 one_stays os c n e = rw (lt-leb (steps_for os c) n (omega arith), eq-eqb (n + 1) (steps_for os c) e) refl
 
@@ -161,7 +161,7 @@ module _ (areas : List Area) (held : AreHeld areas) (m : ℕ) (uuid : List ℕ) 
   unfolding steps_of_all
   all_is = omega (arith, steps_is)
 
-  changed_is : changed os c ≡ slice_set os m (Some then)
+  changed_is : changed_areas os c ≡ slice_set os m (Some then)
   changed_is = ap (λ (o : Option SeenArea). slice_set os m (changed_area o c)) (seen_at areas m old at)
 
   same_is : slice_set os m (Some (ready_seen old)) ≡ os
@@ -176,7 +176,7 @@ module _ (areas : List Area) (held : AreHeld areas) (m : ℕ) (uuid : List ℕ) 
       → shown ≡ slice_set os m (area_shown (Some values)) → IsLeftBy os (c ∷ []) n shown
   cut_is n values shown cut is =
       let before : area_shown (Some values) ≡ Some (ready_seen old) → shown ≡ os = λ e. is ∙ ap (slice_set os m) e ∙ same_is in
-      let after : area_shown (Some values) ≡ Some then → shown ≡ changed os c = λ e. is ∙ ap (slice_set os m) e ∙ sym changed_is in
+      let after : area_shown (Some values) ≡ Some then → shown ≡ changed_areas os c = λ e. is ∙ ap (slice_set os m) e ∙ sym changed_is in
       elim (cases_lt n (count_of_steps old.block.size label)) [
         | inr all ↦ inl (after (cut.after all) ∙ sym (one_with_all os c n true (omega (arith, steps_is))))
         | inl short ↦ elim (cases_lt (n + 1) (count_of_steps old.block.size label)) [

@@ -7,7 +7,7 @@ use Rattle.interleave.specs.Sound.{span_of}
 use Rattle.label_codec.specs.declared.mode.Mode.{Mode}
 use Rattle.label_set.specs.Rules.{mapping_of, counted_from}
 use Rattle.region_space.specs.declared.extent.Extent.{Extent}
-use Rattle.namespace_map.specs.Namespaces.{Part, Entry}
+use Rattle.namespace_map.specs.Namespaces.{Part, NamespaceEntry}
 use Rattle.namespace_map.specs.Commands.{is_complete, is_sector}
 use Rattle.namespace_map.specs.declared.refused.OpRefused.{OpRefused}
 use Rattle.namespace_map.specs.declared.refused.OpRefused.TheVariants.{NoSuch, NotComplete, NotSector}
@@ -32,7 +32,7 @@ found_by sets mode (Some region) (part ∷ parts) = Ok (found_at sets mode regio
 found_by sets mode region parts = Err NotComplete
 
 -- by its entry, if a label names it
-abbrev pub found_of : List (List Mapping) → Option Entry → Result Found OpRefused
+abbrev pub found_of : List (List Mapping) → Option NamespaceEntry → Result Found OpRefused
 found_of sets None = Err NoSuch
 found_of sets (Some e) =
     if not (is_complete e.status) then Err NotComplete
@@ -40,7 +40,7 @@ found_of sets (Some e) =
     else found_by sets e.mode e.region e.parts
 
 -- it lies in its region's set, in whole units
-pub record LiesIn (sets : List (List Mapping)) (found : Found) : Type 0 where
+pub record LiesInSet (sets : List (List Mapping)) (found : Found) : Type 0 where
   pub region : found.region < length sets
   pub from : found.offset % unit_of (set_at sets found.region) ≡ 0
   pub to : found.raw % unit_of (set_at sets found.region) ≡ 0

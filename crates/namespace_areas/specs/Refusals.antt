@@ -6,11 +6,11 @@ use Rattle.nfit_reader.specs.declared.table.Mapping.{Mapping}
 use Rattle.label_set.specs.declared.placed.Placed.{Placed}
 use Rattle.label_set.specs.declared.placed.SetStatus.{SetStatus}
 use Rattle.label_set.specs.Rules.{module_of, modules_of}
-use Rattle.namespace_map.specs.Namespaces.{AreaState, Namespaces, extent_of, is_read_only, region_of, status_in}
+use Rattle.namespace_map.specs.Namespaces.{AreaSummary, Namespaces, extent_of, is_read_only, region_of, status_in}
 use Rattle.namespace_map.specs.Commands.{no_area, first_fit_of, is_bad_size, is_complete, least_module, new_offset, set_of, share_of}
 use Rattle.namespace_map.specs.declared.commands.CreateSpec.{CreateSpec}
 use Rattle.namespace_map.specs.declared.commands.Make.{Make}
-use Rattle.namespace_map.specs.Changes.{area_state, namespaces_of}
+use Rattle.namespace_map.specs.Changes.{area_summary, namespaces_of}
 use Rattle.namespace_map.specs.declared.refused.OpRefused.{OpRefused}
 use Rattle.namespace_map.specs.declared.refused.OpRefused.TheVariants.{BadSize, Exists, ModuleLabels, NoSpace, NoSuch, NoSlot, NotComplete, ReadOnlyLabel}
 use Rattle.namespace_areas.specs.declared.area.Area.{Area}
@@ -23,8 +23,8 @@ abbrev pub shown : List (List Mapping) → List Area → Namespaces
 shown sets areas = namespaces_of sets (areas_seen areas)
 
 -- a module's area
-abbrev pub state_at : List Area → ℕ → AreaState
-state_at areas number = unwrap_or (slice_get (map area_state (areas_seen areas)) number) no_area
+abbrev pub area_summary_at : List Area → ℕ → AreaSummary
+area_summary_at areas number = unwrap_or (slice_get (map area_summary (areas_seen areas)) number) no_area
 
 -- areas of which none was stopped, and their labels by UUID
 pub record AreOpen (areas : List Area) (grouping : Grouping) : Type 0 where
@@ -46,7 +46,7 @@ read_only_of labels = option_map (λ number. ReadOnlyLabel number) (option_map m
 
 -- the least of their modules that has no free slot
 abbrev pub full_of : List Area → List Placed → Option OpRefused
-full_of areas labels = option_map (λ number. NoSlot number) (least_module (λ number. nat_lt (state_at areas number).free 1) (map module_of labels))
+full_of areas labels = option_map (λ number. NoSlot number) (least_module (λ number. nat_lt (area_summary_at areas number).free 1) (map module_of labels))
 
 -- why they aren't removed
 abbrev pub deleting : List (List Mapping) → List Area → List Placed → Placed → List (Option OpRefused)
@@ -64,11 +64,11 @@ changing asked labels = unwrap_or (option_map (λ first. first_fault (asked labe
 
 -- the least of its modules whose area isn't ready
 abbrev pub unready_in : List Area → List Mapping → Option OpRefused
-unready_in areas set = option_map (λ number. ModuleLabels number) (least_module (λ number. not (state_at areas number).ready) (modules_of set))
+unready_in areas set = option_map (λ number. ModuleLabels number) (least_module (λ number. not (area_summary_at areas number).ready) (modules_of set))
 
 -- the least of its modules with fewer than two free slots
 abbrev pub crowded_in : List Area → List Mapping → Option OpRefused
-crowded_in areas set = option_map (λ number. NoSlot number) (least_module (λ number. nat_lt (state_at areas number).free 2) (modules_of set))
+crowded_in areas set = option_map (λ number. NoSlot number) (least_module (λ number. nat_lt (area_summary_at areas number).free 2) (modules_of set))
 
 -- where so many bytes of each module fit beside the extents of labels
 abbrev pub fit_beside : List Mapping → List Placed → ℕ → Option ℕ

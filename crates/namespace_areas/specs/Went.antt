@@ -9,7 +9,7 @@ use Rattle.label_area.specs.State.{AreaState}
 use Rattle.label_area.specs.Opened.{IsReady}
 use Rattle.namespace_areas.specs.declared.area.Area.{Area}
 use Rattle.namespace_areas.specs.declared.area.Area.TheVariants.{Absent, Refused, Ready}
-use Rattle.namespace_map.specs.Areas.{Area as SeenArea, Change, slots_of, free_in, slot_of, area_at, replaced, changed, all_changed, steps_of_all, IsLeftBy}
+use Rattle.namespace_map.specs.Areas.{Area as SeenArea, Change, slots_of, free_in, slot_of, area_at, replaced, changed_areas, all_changed, steps_of_all, IsLeftBy}
 use Rattle.namespace_areas.specs.Seen.{AreHeld, ready_seen, areas_seen, words_of, AreLeft, area_shown, areas_shown}
 use Rattle.namespace_areas.specs.Steps.{MakesAll, all_rows, all_steps, area_steps, rows_of}
 
@@ -79,7 +79,7 @@ pub record Went (old new : List Area) (fuse left : Option ℕ) (changes : List C
 -- each can be made when its turn comes: its module's area is ready, and a label that is put finds a free slot
 abbrev pub CanMake : List (Option SeenArea) → List Change → Type 0
 CanMake areas [] = ⊤
-CanMake areas (c ∷ cs) = IsSome (area_at areas c.number) × HasRoom (area_at areas c.number) c.label × CanMake (changed areas c) cs
+CanMake areas (c ∷ cs) = IsSome (area_at areas c.number) × HasRoom (area_at areas c.number) c.label × CanMake (changed_areas areas c) cs
 
 -- a label that is put can be written
 abbrev pub PutsSound : Change → Type 0

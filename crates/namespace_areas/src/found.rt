@@ -3,7 +3,7 @@ ghost use Rattle.std.specs.Option.{option_map};
 ghost use Rattle.label_set.specs.Rules.{mapping_of, relative_of};
 ghost use Rattle.namespace_map.specs.Namespaces.{entry_at, entry_with};
 ghost use Rattle.namespace_map.specs.Commands.{is_complete, is_sector};
-ghost use Rattle.namespace_areas.specs.Finding.{LiesIn, found_of};
+ghost use Rattle.namespace_areas.specs.Finding.{LiesInSet, found_of};
 
 use crate::{LabelGroups, region_of};
 use interleave::InterleaveSet;
@@ -69,7 +69,7 @@ fn is_sector(mode: &Mode) -> bool
 fn found_by(sets: &[InterleaveSet], labels: &[Placed]) -> Result<Found, OpRefused>
     requires few { length sets.now < 2 ^ 32 }
     ensures found { result ≡ found_of sets.now (option_map (entry_with sets.now labels.now) (slice_get labels.now 0)) }
-    ensures lies { IfOk result (LiesIn sets.now) }
+    ensures lies { IfOk result (LiesInSet sets.now) }
     ensures sector { IfOk result (λ found. found.mode ≡ Mode.Sector) }
 {
     let Some(first) = labels.first() else {
@@ -100,7 +100,7 @@ fn found_by(sets: &[InterleaveSet], labels: &[Placed]) -> Result<Found, OpRefuse
 pub fn find(sets: &[InterleaveSet], groups: &LabelGroups, uuid: &Uuid) -> Result<Found, OpRefused>
     requires few { length sets.now < 2 ^ 32 }
     ensures found { result ≡ found_of sets.now (entry_at sets.now groups.now.sorted uuid.now) }
-    ensures lies { IfOk result (LiesIn sets.now) }
+    ensures lies { IfOk result (LiesInSet sets.now) }
     ensures sector { IfOk result (λ found. found.mode ≡ Mode.Sector) }
 {
     found_by(sets, groups.group(uuid))

@@ -75,7 +75,7 @@
 //! ```
 //!
 //! `specs/Finding.antt` defines this (`found_of`), and says that a found namespace lies in its region's set in whole units
-//! (`LiesIn`).
+//! (`LiesInSet`).
 //!
 //! # Refusals
 //!

@@ -1,5 +1,5 @@
 -- The bytes of all sectors are put into a namespace, arena after arena.
-use Rattle.std.proofs.Common.{◌≡◌, ◌≢◌, ℕ, zero, suc, ◌+◌, ◌-◌, ◌*◌, ◌/◌, ◌<◌, ◌≤◌, List, [], ◌∷◌, ◌++◌, length, map, get_or, take, drop, replicate, Ok, refl, sym, ap, ◌∙◌, subst, inl, inr, arith, append_assoc}
+use Rattle.std.proofs.Common.{◌≡◌, ◌≢◌, ◌⊎◌, ℕ, zero, suc, ◌+◌, ◌-◌, ◌*◌, ◌/◌, ◌<◌, ◌≤◌, List, [], ◌∷◌, ◌++◌, length, map, get_or, take, drop, replicate, Ok, refl, sym, ap, ◌∙◌, subst, inl, inr, arith, append_assoc}
 use Rattle.std.specs.Prelude.{sum_by}
 use Rattle.std.specs.List.{flat_map, range_with_len}
 use Rattle.std.proofs.Math.ListN.{set}
@@ -19,7 +19,7 @@ use Rattle.power_cut.specs.Left.{Each}
 use Rattle.sector_namespaces.specs.Changing.{DifferIn, IsFoundAs, start_of}
 use Rattle.sector_namespaces.specs.View.{opened_view}
 use Rattle.sector_namespaces.proofs.Chains.{one_arena_changes}
-use Rattle.namespace_bytes.specs.Contents.{HasContents, IsRewritten, cells_in}
+use Rattle.namespace_bytes.specs.Contents.{HasContents, IsRewritten, arena_words, cells_in}
 use Rattle.namespace_bytes.specs.Putting.{AreAll, Linked, arena_bytes, link_bytes, piece, put_arena, put_links}
 use Rattle.namespace_bytes.proofs.Arena.{before_same, behind_same, cell_is, opens_now, rewritten, size_same}
 
@@ -98,10 +98,11 @@ linked_next words parent bytes at link links linked fits =
 
 -- ---- one arena after another
 
-pub record Done (uuid bytes : List ℕ) (pre states : List ArenaState) (final : List ℕ) : Type 0 where
+pub record Done (uuid bytes words : List ℕ) (at : ℕ) (pre states : List ArenaState) (final : List ℕ) : Type 0 where
   pub news : List ArenaState
   pub opens : opened_view final uuid ≡ Ok (pre ++ news)
   pub each : Each IsRewritten states news
+  pub behind : drop (at + arena_words states) final ≡ drop (at + arena_words states) words
   pub cells : flat_map cells_of news ≡ cells_in (flat_map (λ (state : ArenaState). replicate state.info.layout.external state.info.layout.sector) states) bytes
 
 module _ (uuid bytes words : List ℕ) (pre : List ArenaState) (at : ℕ) (link : Link) (links : List Link) (view : opened_view words uuid ≡ Ok (pre ++ map (state_at words) (link ∷ links)))
@@ -210,10 +211,47 @@ module _ (uuid bytes words : List ℕ) (pre : List ArenaState) (at : ℕ) (link 
       (λ k lt. cell_is link.at link.opened (take (link_bytes link) bytes) words uuid here le fits k lt)
       ∙ ap (λ (k : ℕ). cells_in (replicate link.opened.info.layout.external link.opened.info.layout.sector) (drop k (take (link_bytes link) bytes))) (let e : 0 * link.opened.info.layout.sector ≡ 0 = omega arith in e)
 
-  pub done_on : Done uuid (drop (link_bytes link) bytes) (pre ++ new ∷ []) (map (state_at now) links) (put_links links (drop (link_bytes link) bytes) now)
-      → Done uuid bytes pre (map (state_at words) (link ∷ links)) (put_links (link ∷ links) bytes words)
+  -- the words behind all arenas
+  own_behind : drop (at + link.opened.info.layout.size / 8) now ≡ drop (at + link.opened.info.layout.size / 8) words
+  own_behind =
+      subst (λ (p : ℕ). drop (p + link.opened.info.layout.size / 8) now ≡ drop (p + link.opened.info.layout.size / 8) words) linked.0
+      (behind_same link.at link.opened (take (link_bytes link) bytes) words uuid here le fits)
+
+  words_are : arena_words (old ∷ map (state_at words) links) ≡ link.opened.info.layout.size / 8 + arena_words (map (state_at words) links)
+  words_are = sum_by-cons (λ (state : ArenaState). state.info.layout.size / 8) old (map (state_at words) links)
+
+  -- further on, too
+  further : (k more : ℕ) (xs ys : List ℕ) → drop k xs ≡ drop k ys → drop (k + more) xs ≡ drop (k + more) ys
+  further k more xs ys same = sym (drop-drop more k xs) ∙ ap (drop more) same ∙ drop-drop more k ys
+
+  behind_on : (final : List ℕ) → drop (at + link.opened.info.next / 8 + arena_words (map (state_at words) links)) final ≡ drop (at + link.opened.info.next / 8 + arena_words (map (state_at words) links)) now
+      → drop (at + arena_words (old ∷ map (state_at words) links)) final ≡ drop (at + arena_words (old ∷ map (state_at words) links)) words
+  behind_on final rest =
+      let all : at + arena_words (old ∷ map (state_at words) links) ≡ at + link.opened.info.layout.size / 8 + arena_words (map (state_at words) links) = omega (arith, words_are) in
+      subst (λ (k : ℕ). drop k final ≡ drop k words) (sym all)
+      (by_next linked.3 ∙ further (at + link.opened.info.layout.size / 8) (arena_words (map (state_at words) links)) now words own_behind)
+    where
+      by_next : ((link.opened.info.next ≡ 0) × (links ≡ [])) ⊎ ((link.opened.info.next ≢ 0) × Linked words uuid (at + link.opened.info.next / 8) links)
+          → drop (at + link.opened.info.layout.size / 8 + arena_words (map (state_at words) links)) final ≡ drop (at + link.opened.info.layout.size / 8 + arena_words (map (state_at words) links)) now
+      by_next (inl last) =
+          let none : arena_words (map (state_at words) links) ≡ 0 = ap (λ (ls : List Link). arena_words (map (state_at words) ls)) last.1 in
+          let first : drop at final ≡ drop at now =
+          subst (λ (k : ℕ). drop k final ≡ drop k now) (let e : at + link.opened.info.next / 8 + arena_words (map (state_at words) links) ≡ at = omega (arith, last.0, none) in e) rest in
+          subst (λ (k : ℕ). drop k final ≡ drop k now)
+          (let e : at + (link.opened.info.layout.size / 8 + arena_words (map (state_at words) links)) ≡ at + link.opened.info.layout.size / 8 + arena_words (map (state_at words) links) = omega arith in e)
+          (further at (link.opened.info.layout.size / 8 + arena_words (map (state_at words) links)) final now first)
+      by_next (inr more) =
+          let l : Lies (length words) link.at link.opened = lies words uuid link.at link.opened le here in
+          subst (λ (k : ℕ). drop k final ≡ drop k now)
+          (let e : at + link.opened.info.next / 8 + arena_words (map (state_at words) links) ≡ at + link.opened.info.layout.size / 8 + arena_words (map (state_at words) links) = omega (arith, l.next_is more.0) in e)
+          rest
+
+  pub done_on : Done uuid (drop (link_bytes link) bytes) now (at + link.opened.info.next / 8) (pre ++ new ∷ []) (map (state_at now) links) (put_links links (drop (link_bytes link) bytes) now)
+      → Done uuid bytes words at pre (map (state_at words) (link ∷ links)) (put_links (link ∷ links) bytes words)
   done_on d = record {
     news = new ∷ d.news;
+    behind = behind_on (put_links links (drop (link_bytes link) bytes) now)
+        (subst (λ (ss : List ArenaState). drop (at + link.opened.info.next / 8 + arena_words ss) (put_links links (drop (link_bytes link) bytes) now) ≡ drop (at + link.opened.info.next / 8 + arena_words ss) now) states_on d.behind);
     opens = d.opens ∙ ap (λ (ss : List ArenaState). Ok ss) (append_assoc pre (new ∷ []) d.news);
     each = (new, d.news, refl, rewritten link.at link.opened (take (link_bytes link) bytes) words uuid here le fits, subst (λ (ss : List ArenaState). Each IsRewritten ss d.news) states_on d.each);
     cells = (λ i. cells_new i ++ (d.cells ∙ ap (λ (ss : List ArenaState). cells_in (flat_map (λ (state : ArenaState). replicate state.info.layout.external state.info.layout.sector) ss) (drop (link_bytes link) bytes)) states_on) i)
@@ -221,8 +259,8 @@ module _ (uuid bytes words : List ℕ) (pre : List ArenaState) (at : ℕ) (link 
   }
 
 pub all_done : (links : List Link) (uuid bytes words : List ℕ) (pre : List ArenaState) (at : ℕ) → opened_view words uuid ≡ Ok (pre ++ map (state_at words) links) → at ≡ start_of pre → Linked words uuid at links
-    → length bytes ≡ sum_by link_bytes links → Done uuid bytes pre (map (state_at words) links) (put_links links bytes words)
-all_done [] uuid bytes words pre at view at_is linked long = record { news = []; opens = view; each = refl; cells = refl }
+    → length bytes ≡ sum_by link_bytes links → Done uuid bytes words at pre (map (state_at words) links) (put_links links bytes words)
+all_done [] uuid bytes words pre at view at_is linked long = record { news = []; opens = view; each = refl; behind = refl; cells = refl }
 all_done (link ∷ links) uuid bytes words pre at view at_is linked long =
     done_on uuid bytes words pre at link links view at_is linked long
     (all_done links uuid (drop (link_bytes link) bytes) (put_arena link.at link.opened (take (link_bytes link) bytes) words)
@@ -231,8 +269,9 @@ all_done (link ∷ links) uuid bytes words pre at view at_is linked long =
     (view_on uuid bytes words pre at link links view at_is linked long) (start_on uuid bytes words pre at link links view at_is linked long)
     (linked_on uuid bytes words pre at link links view at_is linked long) (long_on uuid bytes words pre at link links view at_is linked long))
 
-pub has_contents : (links : List Link) (uuid bytes words : List ℕ) → AreAll words uuid links → length bytes ≡ sum_by link_bytes links → HasContents uuid bytes (map (state_at words) links) (put_links links bytes words)
+pub has_contents : (links : List Link) (uuid bytes words : List ℕ) → AreAll words uuid links → length bytes ≡ sum_by link_bytes links → HasContents uuid bytes (map (state_at words) links) words (put_links links bytes words)
 unfolding contents_of sizes_of
 has_contents links uuid bytes words all long =
-    let d : Done uuid bytes [] (map (state_at words) links) (put_links links bytes words) = all_done links uuid bytes words [] 0 all.read refl all.linked long in
-    record { news = d.news; opens = d.opens; each = d.each; cells = d.cells }
+    let d : Done uuid bytes words 0 [] (map (state_at words) links) (put_links links bytes words) = all_done links uuid bytes words [] 0 all.read refl all.linked long in
+    let from : 0 + arena_words (map (state_at words) links) ≡ arena_words (map (state_at words) links) = omega arith in
+    record { news = d.news; opens = d.opens; each = d.each; behind = subst (λ (k : ℕ). drop k (put_links links bytes words) ≡ drop k words) from d.behind; cells = d.cells }

@@ -1,5 +1,5 @@
 -- The words of a namespace of sectors after an import: UEFI 2.10, section 6.2 (BTT data structures), with this project's rules.
-use Rattle.std.specs.Prelude.{◌≡◌, ◌≢◌, ℕ, ◌/◌, ◌<◌, List, [], ◌∷◌, take, drop, slice_index, Ok}
+use Rattle.std.specs.Prelude.{◌≡◌, ◌≢◌, ℕ, ◌/◌, ◌<◌, List, [], ◌∷◌, take, drop, slice_index, sum_by, Ok}
 use Rattle.cut_words.specs.WordBytes.{words_in}
 use Rattle.arena_layout.specs.declared.layout.Layout.{Layout}
 use Rattle.map_table.specs.declared.kinds.Kind.TheVariants as kind
@@ -43,9 +43,15 @@ pub record IsRewritten (old new : ArenaState) : Type 0 where
 
 -- ---- the namespace
 
--- The words of a namespace of which these were the arenas: its sectors have these bytes, one after another.
-pub record HasContents (uuid bytes : List ℕ) (states : List ArenaState) (now : List ℕ) : Type 0 where
+-- how many words arenas have together
+abbrev pub arena_words : List ArenaState → ℕ
+arena_words states = sum_by (λ state. state.info.layout.size / 8) states
+
+-- The words of a namespace of which these were the arenas, and of the words that it had: its sectors have these bytes, one after another.
+pub record HasContents (uuid bytes : List ℕ) (states : List ArenaState) (was now : List ℕ) : Type 0 where
   pub news : List ArenaState
   pub opens : opened_view now uuid ≡ Ok news
   pub each : Each IsRewritten states news
+  -- the words behind all arenas are as they were
+  pub behind : drop (arena_words states) now ≡ drop (arena_words states) was
   pub cells : contents_of news ≡ cells_in (sizes_of states) bytes

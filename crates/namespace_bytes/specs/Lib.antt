@@ -1,2 +1,3 @@
 pub mod Putting
 pub mod Contents
+pub mod Bad

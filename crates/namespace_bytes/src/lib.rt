@@ -20,6 +20,9 @@
 //! log             may have a pending move              as it was; no move is pending
 //! ```
 //!
+//! Since no power is cut, no word is stored and flushed either: `PlainWords` takes the words of all modules and puts words at
+//! their places, in one step each, with no second value beside them. Afterwards they are words that can be stored again.
+//!
 //! | what | definition |
 //! |---|---|
 //! | the words of a namespace of sectors afterwards | `HasContents` of `specs/Contents.antt` |
@@ -29,8 +32,12 @@
 #![tactic(auto)]
 
 mod arenas;
+mod bad;
+mod plain;
 mod putting;
 mod reading;
 
 pub use arenas::{put_raw, put_sectors};
+pub use bad::first_bad;
+pub use plain::PlainWords;
 pub use reading::{ArenaAt, read_arenas, size_of_all};

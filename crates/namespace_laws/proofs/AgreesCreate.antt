@@ -8,7 +8,7 @@ use Rattle.nfit_reader.specs.declared.table.Mapping.{Mapping}
 use Rattle.label_codec.specs.declared.label.Label.{Label}
 use Rattle.label_set.specs.declared.placed.SetStatus.TheVariants.{Complete}
 use Rattle.label_set.specs.Rules.{mapping_of, modules_of}
-use Rattle.namespace_map.specs.Namespaces.{Entry, AreaState}
+use Rattle.namespace_map.specs.Namespaces.{NamespaceEntry, AreaSummary}
 use Rattle.namespace_map.proofs.Rising.{all_pass_to}
 use Rattle.namespace_map.specs.declared.commands.Make.{Make}
 use Rattle.namespace_map.specs.declared.commands.Named.{Named}
@@ -147,7 +147,7 @@ module _ (sets : List (List Mapping)) (areas : List (Option Area)) (uuid : List 
 
   pub create_agrees : namespaces_of sets (all_changed areas creating) ≡ done (namespaces_of sets areas) (law.create sets areas uuid name region size made)
   create_agrees =
-      ap (λ (es : List Entry). record (namespaces_of sets (all_changed areas creating)) { entries = es })
+      ap (λ (es : List NamespaceEntry). record (namespaces_of sets (all_changed areas creating)) { entries = es })
       (entries_put sets areas uuid creating (two_of uuid put_updating put_settled ku ks news (all_pass_to (IsGiven uuid (λ m. None) areas) (λ p. p.1.uuid ≡ uuid) (λ p g. g.0) news given))
       (made_entry sets areas uuid name region size made) refl (whole_left sets areas uuid name region size made regions good (all_changed areas creating) (length_kept creating areas) stands))
-      ∙ ap (λ (as' : List AreaState). record (done (namespaces_of sets areas) (law.create sets areas uuid name region size made)) { areas = as' }) (areas_taken areas creating (modules_of set) free)
+      ∙ ap (λ (as' : List AreaSummary). record (done (namespaces_of sets areas) (law.create sets areas uuid name region size made)) { areas = as' }) (areas_taken areas creating (modules_of set) free)

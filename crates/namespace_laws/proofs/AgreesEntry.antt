@@ -6,19 +6,19 @@ use Rattle.nfit_reader.specs.declared.table.Mapping.{Mapping}
 use Rattle.label_codec.specs.declared.label.Label.{Label}
 use Rattle.label_area.specs.Area.{SlotState}
 use Rattle.label_set.specs.declared.placed.SetStatus.TheVariants.{Complete}
-use Rattle.namespace_map.specs.Namespaces.{Entry, AreaState, lookup, put, without}
+use Rattle.namespace_map.specs.Namespaces.{NamespaceEntry, AreaSummary, lookup, put, without}
 use Rattle.namespace_map.proofs.Entries.{lookup_entries, lookup_put}
 use Rattle.namespace_map.proofs.Entries as entries
 use Rattle.namespace_map.proofs.Rising.{all_pass_to}
 use Rattle.namespace_map.specs.declared.commands.Named.{Named}
 use Rattle.namespace_map.specs.declared.commands.Command.TheVariants as command
-use Rattle.namespace_map.specs.Areas.{Area, Change, slots_of, slots_on, free_in, changed, all_changed, replaced, slot_of}
+use Rattle.namespace_map.specs.Areas.{Area, Change, slots_of, slots_on, free_in, changed_areas, all_changed, replaced, slot_of}
 use Rattle.namespace_map.specs.Commands.{count_in, given_to, done, name_in, refusal_of, entry_modules, renamed, deleted_entry, renamed_entry}
 use Rattle.namespace_map.specs.Changes.{namespaces_of, changes_of, placed_in_all, change_to, in_two}
 use Rattle.label_codec.specs.Flags.{settled}
 use Rattle.namespace_map.proofs.Slots.{owned, remove_count}
 use Rattle.namespace_map.proofs.Areas.{proper_after as areas_proper_after, Proper, Fitting, moved, moved_all, sum_kept, slots_of_changed, area_of_other}
-use Rattle.namespace_map.specs.Left.{AreRegions, AreRead}
+use Rattle.namespace_map.specs.Left.{AreRegions, LabelsAreRead}
 use Rattle.namespace_laws.proofs.Whole.{own_of}
 use Rattle.namespace_laws.proofs.Staged.{names, IsGiven}
 use Rattle.namespace_laws.proofs.Two.{length_kept}
@@ -35,7 +35,7 @@ use Rattle.namespace_laws.proofs.Agrees.{entries_put, entries_without, areas_giv
 
 -- ---- delete and rename
 
-module _ (sets : List (List Mapping)) (areas : List (Option Area)) (uuid : List ℕ) (e : Entry) (pending : Bool) (regions : AreRegions sets) (read : AreRead areas)
+module _ (sets : List (List Mapping)) (areas : List (Option Area)) (uuid : List ℕ) (e : NamespaceEntry) (pending : Bool) (regions : AreRegions sets) (read : LabelsAreRead areas)
     (is : lookup uuid (namespaces_of sets areas).entries ≡ Some e) (status : e.status ≡ Complete e.name pending) where
   entry_uuid : e.uuid ≡ uuid
   entry_uuid = entries.entry_uuid sets (placed_in_all areas) uuid e (sym (lookup_entries sets (placed_in_all areas) uuid) ∙ is)
@@ -109,7 +109,7 @@ module _ (sets : List (List Mapping)) (areas : List (Option Area)) (uuid : List 
       here_at : lab p.0 ≡ Some p.1
       here_at = (subst (AllByRecursion (λ q. lab q.0 ≡ Some q.1)) same labels).0
 
-      one_after : all_changed areas deleting ≡ changed areas gone
+      one_after : all_changed areas deleting ≡ changed_areas areas gone
       unfolding all_changed
       one_after = ap (λ (qs : List (ℕ × Label)). all_changed areas (in_two to_updating to_nothing qs)) same
 
@@ -122,39 +122,39 @@ module _ (sets : List (List Mapping)) (areas : List (Option Area)) (uuid : List 
         | inr apart ↦ rw (ne_eqb m p.0 apart) (elsewhere m apart)
       ]
 
-      slots_then : slots_on (changed areas gone) p.0 ≡ replaced (slot_of (slots_on areas p.0) uuid) None (slots_on areas p.0)
+      slots_then : slots_on (changed_areas areas gone) p.0 ≡ replaced (slot_of (slots_on areas p.0) uuid) None (slots_on areas p.0)
       slots_then =
           slots_of_changed areas gone (lies_there uuid lab areas proper p.0 p.1 here_at)
           ∙ ap (λ (u : List ℕ). replaced (slot_of (slots_on areas p.0) u) None (slots_on areas p.0)) (proper.named p.0 p.1 here_at)
 
-      free_at : free_in (slots_on (changed areas gone) p.0) ≡ free_in (slots_on areas p.0) + count_in (entry_modules e) p.0
+      free_at : free_in (slots_on (changed_areas areas gone) p.0) ≡ free_in (slots_on areas p.0) + count_in (entry_modules e) p.0
       free_at =
           let a = ap (λ (xs : List SlotState). free_in xs) slots_then in
           let b = remove_count uuid (lab p.0) (slots_on areas p.0) (proper.named p.0) (proper.own p.0) in
           omega (arith, a, b, counted p.0)
 
-      free_then : (i : ℕ) → free_in (slots_on (changed areas gone) i) ≡ free_in (slots_on areas i) + count_in (entry_modules e) i
+      free_then : (i : ℕ) → free_in (slots_on (changed_areas areas gone) i) ≡ free_in (slots_on areas i) + count_in (entry_modules e) i
       free_then i = elim (cases_eq i p.0) [
         | inl here ↦ rw here free_at
         | inr apart ↦
             let none : owned (lab i) ≡ 0 = ap owned (elsewhere i apart) in
-            let same_slots : free_in (slots_on (changed areas gone) i) ≡ free_in (slots_on areas i) = ap (λ (a : Option Area). free_in (slots_of a)) (area_of_other areas gone i apart) in
+            let same_slots : free_in (slots_on (changed_areas areas gone) i) ≡ free_in (slots_on areas i) = ap (λ (a : Option Area). free_in (slots_of a)) (area_of_other areas gone i apart) in
             omega (arith, none, same_slots, counted i)
       ]
 
       deleted_one : Deleted
       deleted_one = record {
-        empty = ap (own_of uuid) one_after ∙ own_empty uuid (moved lab gone) (changed areas gone) (proper_gone uuid areas lab proper p here_at) none_left;
+        empty = ap (own_of uuid) one_after ∙ own_empty uuid (moved lab gone) (changed_areas areas gone) (proper_gone uuid areas lab proper p here_at) none_left;
         free = λ i. ap (λ (left : List (Option Area)). free_in (slots_on left i)) one_after ∙ free_then i;
       }
 
   pub delete_agrees : refusal_of (namespaces_of sets areas) (command.Delete uuid) ≡ None
       → namespaces_of sets (all_changed areas (changes_of (namespaces_of sets areas) areas (command.Delete uuid))) ≡ done (namespaces_of sets areas) (command.Delete uuid)
   delete_agrees good =
-      ap (λ (es : List Entry). record (namespaces_of sets (all_changed areas (deleting has.unlocked))) { entries = es })
+      ap (λ (es : List NamespaceEntry). record (namespaces_of sets (all_changed areas (deleting has.unlocked))) { entries = es })
       (entries_without sets areas uuid (deleting has.unlocked) (two_of uuid to_updating to_nothing keeps_updating keeps_nothing (own_ps has.unlocked) (of_uuid has.unlocked))
       (lookup_entries sets (placed_in_all (all_changed areas (deleting has.unlocked))) uuid ∙ entries.entry_none sets (placed_in_all (all_changed areas (deleting has.unlocked))) uuid gone.empty))
-      ∙ ap (λ (as' : List AreaState). record (namespaces_of sets areas) { areas = as'; entries = without uuid (namespaces_of sets areas).entries }) (areas_given areas (deleting has.unlocked) (entry_modules e) gone.free)
+      ∙ ap (λ (as' : List AreaSummary). record (namespaces_of sets areas) { areas = as'; entries = without uuid (namespaces_of sets areas).entries }) (areas_given areas (deleting has.unlocked) (entry_modules e) gone.free)
       ∙ ap (λ (u : List ℕ). record (namespaces_of sets areas) { areas = given_to 0 (entry_modules e) (namespaces_of sets areas).areas; entries = without u (namespaces_of sets areas).entries }) (sym entry_uuid)
       ∙ ap (deleted_entry (namespaces_of sets areas)) (sym is)
     where
@@ -231,8 +231,8 @@ module _ (sets : List (List Mapping)) (areas : List (Option Area)) (uuid : List 
         omega (arith, a, owns i)
 
     pub rename_agrees : namespaces_of sets (all_changed areas (changes_of (namespaces_of sets areas) areas (command.Rename uuid name))) ≡ done (namespaces_of sets areas) (command.Rename uuid name)
-    rename_agrees = ap (λ (es : List Entry). record (namespaces_of sets (all_changed areas renaming)) { entries = es })
+    rename_agrees = ap (λ (es : List NamespaceEntry). record (namespaces_of sets (all_changed areas renaming)) { entries = es })
         (entries_put sets areas uuid renaming (two_of uuid (to_renamed new) (to_settled new) (keeps_renamed new) (keeps_settled new) (own_ps fine.unlocked) (of_uuid fine.unlocked))
         (renamed e new) entry_uuid (st.settled_left sets areas uuid e pending regions read is status fine.unlocked (all_changed areas renaming) (length_kept renaming areas) new stands))
-        ∙ ap (λ (as' : List AreaState). record (namespaces_of sets areas) { areas = as'; entries = put (renamed e new) (namespaces_of sets areas).entries }) (areas_same areas renaming [] free)
+        ∙ ap (λ (as' : List AreaSummary). record (namespaces_of sets areas) { areas = as'; entries = put (renamed e new) (namespaces_of sets areas).entries }) (areas_same areas renaming [] free)
         ∙ ap (renamed_entry (namespaces_of sets areas) new) (sym is)

@@ -16,14 +16,14 @@ use Rattle.label_set.specs.declared.placed.Placed.{Placed}
 use Rattle.label_set.specs.Rules.{least_where, modules_of}
 use Rattle.region_space.specs.declared.extent.Extent.{Extent}
 use Rattle.region_space.specs.Space.{fits, is_clear}
-use Rattle.namespace_map.specs.Namespaces.{Namespaces, AreaState, lookup, labels_with, extents_of}
+use Rattle.namespace_map.specs.Namespaces.{Namespaces, AreaSummary, lookup, labels_with, extents_of}
 use Rattle.namespace_map.specs.declared.commands.Make.{Make}
 use Rattle.namespace_map.specs.declared.commands.Named.{Named}
 use Rattle.namespace_map.specs.declared.commands.Command.TheVariants as command
 use Rattle.namespace_map.specs.declared.refused.OpRefused.TheVariants.{NoSlot, NoRegion, Exists, BadSize, NoSpace}
 use Rattle.namespace_map.specs.Areas.{Area, slots_of, slots_on, free_in, has_uuid}
 use Rattle.namespace_map.specs.Commands.{no_area, area_of, set_of, share_of, first_fit_of, is_bad_size, has_no_plan, refusal_of, short_of, unready_of, bad_name, new_offset}
-use Rattle.namespace_map.specs.Changes.{namespaces_of, area_state, placed_in_all}
+use Rattle.namespace_map.specs.Changes.{namespaces_of, area_summary, placed_in_all}
 use Rattle.namespace_map.proofs.Areas.{Proper}
 use Rattle.namespace_map.proofs.Slots.{slot}
 use Rattle.namespace_map.proofs.Labels.{part, placed_at, own_from, labels_of_areas}
@@ -48,13 +48,13 @@ all_both P Q (x ∷ xs) (p, ps) (q, qs) = ((p, q), all_both P Q xs ps qs)
 
 -- the free slots that a refusal compares
 pub area_free : (sets : List (List Mapping)) (areas : List (Option Area)) (m : ℕ) → (area_of (namespaces_of sets areas) m).free ≡ free_in (slots_on areas m)
-area_free sets areas m = ap (λ (o : Option AreaState). (unwrap_or o no_area).free) (slice_get-map area_state areas m) ∙ free_is (slice_get areas m)
+area_free sets areas m = ap (λ (o : Option AreaSummary). (unwrap_or o no_area).free) (slice_get-map area_summary areas m) ∙ free_is (slice_get areas m)
   where
-    free_of : (a : Option Area) → (area_state a).free ≡ free_in (slots_of a)
+    free_of : (a : Option Area) → (area_summary a).free ≡ free_in (slots_of a)
     free_of None = refl
     free_of (Some a) = refl
 
-    free_is : (o : Option (Option Area)) → (unwrap_or (option_map area_state o) no_area).free ≡ free_in (slots_of (unwrap_or o None))
+    free_is : (o : Option (Option Area)) → (unwrap_or (option_map area_summary o) no_area).free ≡ free_in (slots_of (unwrap_or o None))
     free_is None = refl
     free_is (Some a) = free_of a
 

@@ -8,7 +8,7 @@ use Rattle.std.proofs.lemmas.Option.{none-some, same_Some}
 use Rattle.std.proofs.lemmas.List.{take_all, append-nil}
 use Rattle.nfit_reader.specs.declared.table.Mapping.{Mapping}
 use Rattle.label_codec.specs.declared.label.Label.{Label}
-use Rattle.namespace_map.specs.Areas.{Area, Change, changed, after_steps, all_changed}
+use Rattle.namespace_map.specs.Areas.{Area, Change, changed_areas, after_steps, all_changed}
 use Rattle.label_set.specs.declared.placed.Placed.{Placed}
 use Rattle.label_set.specs.declared.placed.SetStatus.{SetStatus}
 use Rattle.label_set.specs.declared.placed.SetStatus.TheVariants.{Complete, Unfinished}
@@ -108,7 +108,7 @@ module _ (uuid : List ℕ) (set : List Mapping) (c : Model) (whole : IsWhole set
   length_kept : (cs : List Change) (as' : List (Option Area)) → length (all_changed as' cs) ≡ length as'
   unfolding all_changed
   length_kept [] as' = refl
-  length_kept (e ∷ cs) as' = length_kept cs (changed as' e) ∙ length-set as' e.number _
+  length_kept (e ∷ cs) as' = length_kept cs (changed_areas as' e) ∙ length-set as' e.number _
 
   some_one : (k : ℕ) → 0 < k → list_any (λ (p : Placed). true) (own_of uuid (all_changed areas (first (take k ps)))) ≡ true
   some_one k more = by (given_one k 0 more (omega arith))

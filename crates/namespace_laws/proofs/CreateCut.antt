@@ -5,7 +5,7 @@ use Rattle.std.proofs.lemmas.Bool.{cases_lt}
 use Rattle.nfit_reader.specs.declared.table.Mapping.{Mapping}
 use Rattle.label_codec.specs.declared.label.Label.{Label}
 use Rattle.label_set.specs.declared.placed.SetStatus.TheVariants.{Complete}
-use Rattle.namespace_map.specs.Namespaces.{Entry, lookup}
+use Rattle.namespace_map.specs.Namespaces.{NamespaceEntry, lookup}
 use Rattle.namespace_map.specs.declared.commands.Make.{Make}
 use Rattle.namespace_map.specs.declared.commands.Named.{Named}
 use Rattle.namespace_map.specs.Areas.{Area, Change, after_steps}
@@ -43,7 +43,7 @@ module _ (sets : List (List Mapping)) (areas : List (Option Area)) (uuid : List 
   abbrev set : List Mapping
   set = law.set sets areas uuid name region size made
 
-  abbrev new : Entry
+  abbrev new : NamespaceEntry
   new = made_entry sets areas uuid name region size made
 
   abbrev news : List (ℕ × Label)
@@ -52,7 +52,7 @@ module _ (sets : List (List Mapping)) (areas : List (Option Area)) (uuid : List 
   abbrev cut : ℕ → Bool → List (Option Area)
   cut n stays = after_steps areas (changes_of (namespaces_of sets areas) areas (law.create sets areas uuid name region size made)) n stays
 
-  abbrev found : List (Option Area) → Option Entry
+  abbrev found : List (Option Area) → Option NamespaceEntry
   found left = lookup uuid (namespaces_of sets left).entries
 
   absent : found areas ≡ None

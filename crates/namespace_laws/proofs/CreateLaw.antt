@@ -15,7 +15,7 @@ use Rattle.label_set.specs.declared.placed.SetStatus.{SetStatus}
 use Rattle.label_set.specs.declared.placed.SetStatus.TheVariants.{Complete, Unfinished}
 use Rattle.label_set.specs.Rules.{mapping_of}
 use Rattle.region_space.specs.Space.{is_clear}
-use Rattle.namespace_map.specs.Namespaces.{Namespaces, Entry, Part, part_of, lookup, extents_of, region_of}
+use Rattle.namespace_map.specs.Namespaces.{Namespaces, NamespaceEntry, Part, part_of, lookup, extents_of, region_of}
 use Rattle.namespace_map.proofs.Entries.{lookup_entries}
 use Rattle.namespace_map.proofs.Entries as entries
 use Rattle.namespace_map.proofs.Rising.{all_pass_to}
@@ -26,7 +26,7 @@ use Rattle.namespace_map.specs.declared.commands.Command.{Command}
 use Rattle.namespace_map.specs.declared.commands.Command.TheVariants as command
 use Rattle.namespace_map.specs.Areas.{Area}
 use Rattle.namespace_map.specs.Commands.{set_of, area_of, share_of, name_in, refusal_of, new_part, new_parts, new_offset, new_entry, mode_for, lba_for}
-use Rattle.namespace_map.specs.Changes.{namespaces_of, placed_in_all, new_label, new_labels, abstraction_for, area_state}
+use Rattle.namespace_map.specs.Changes.{namespaces_of, placed_in_all, new_label, new_labels, abstraction_for, area_summary}
 use Rattle.namespace_map.proofs.Areas.{Proper}
 use Rattle.std.proofs.Math.ListN.{length-map}
 use Rattle.namespace_map.specs.Left.{AreRegions, IsPartOf, IsPending, Left}
@@ -130,7 +130,7 @@ module _ (sets : List (List Mapping)) (areas : List (Option Area)) (uuid : List 
     base = label_of ps;
   }
 
-  abbrev pub made_entry : Entry
+  abbrev pub made_entry : NamespaceEntry
   made_entry = new_entry ns (spec_with uuid name region size made)
 
   -- the parts of the new labels are the new parts
@@ -246,7 +246,7 @@ module _ (sets : List (List Mapping)) (areas : List (Option Area)) (uuid : List 
     stands_with status left = StandsAs uuid set model (name_in name) status left
 
     same_count : (left : List (Option Area)) → length left ≡ length areas → length left ≡ length ns.areas
-    same_count left e = e ∙ sym (length-map areas area_state)
+    same_count left e = e ∙ sym (length-map areas area_summary)
 
     pub part_left : (left : List (Option Area)) → length left ≡ length areas → stands_with Unfinished left → Left (IsPartOf made_entry) (lookup uuid (namespaces_of sets left).entries)
     part_left left same s = by (entry_there sets set region uuid model region_is loose Unfinished left (as_stands Unfinished left s))

@@ -6,14 +6,14 @@ use Rattle.std.proofs.Math.Seq.{take-length}
 use Rattle.std.proofs.lemmas.Bool.{cases_Bool}
 use Rattle.nfit_reader.specs.declared.table.Mapping.{Mapping}
 use Rattle.label_set.specs.declared.placed.SetStatus.TheVariants.{Complete}
-use Rattle.namespace_map.specs.Namespaces.{Entry, Namespaces}
+use Rattle.namespace_map.specs.Namespaces.{NamespaceEntry, Namespaces}
 use Rattle.namespace_map.specs.Laws.{IsRising}
 use Rattle.namespace_map.proofs.Rising.{rising_entries}
 use Rattle.namespace_map.specs.Areas.{Area, Change, all_changed}
 use Rattle.namespace_map.specs.Commands.{is_complete, is_unfinished}
 use Rattle.namespace_map.specs.Changes.{namespaces_of, placed_in_all, own_labels, change_to, gone_changes, is_unsettled, settling_changes, recovered_areas, recovery_changes}
 use Rattle.namespace_map.proofs.Fronts.{IsFront, cut_is_front}
-use Rattle.namespace_map.specs.Left.{AreRegions, AreRead}
+use Rattle.namespace_map.specs.Left.{AreRegions, LabelsAreRead}
 use Rattle.namespace_laws.proofs.Whole.{own_of}
 use Rattle.namespace_laws.proofs.Allowed.{area_free}
 use Rattle.namespace_laws.proofs.Refusals.{complete_named}
@@ -38,13 +38,13 @@ whole sets areas cs each = ap (λ (ds : List Change). recovery_of sets (all_chan
 
 -- ---- all unfinished entries
 
-gone_fronts : (es : List Entry) (sets : List (List Mapping)) (end : Namespaces) (areas : List (Option Area)) → AreRegions sets → AreRead areas → IsRising es → AreFound sets areas es → ComesTo sets end areas
+gone_fronts : (es : List NamespaceEntry) (sets : List (List Mapping)) (end : Namespaces) (areas : List (Option Area)) → AreRegions sets → LabelsAreRead areas → IsRising es → AreFound sets areas es → ComesTo sets end areas
     → AtFronts (ComesTo sets end) areas (flat_map (gone_changes areas) es)
 gone_fronts [] sets end areas regions read rising all comes = comes
 gone_fronts (e ∷ es) sets end areas regions read (above, rising) (is, rest) comes = by (cases_Bool (is_unfinished e.status)) (gone_fronts es sets end)
   where
     by : (is_unfinished e.status ≡ true) ⊎ (is_unfinished e.status ≡ false)
-        → ((as' : List (Option Area)) → AreRegions sets → AreRead as' → IsRising es → AreFound sets as' es → ComesTo sets end as' → AtFronts (ComesTo sets end) as' (flat_map (gone_changes as') es))
+        → ((as' : List (Option Area)) → AreRegions sets → LabelsAreRead as' → IsRising es → AreFound sets as' es → ComesTo sets end as' → AtFronts (ComesTo sets end) as' (flat_map (gone_changes as') es))
         → AtFronts (ComesTo sets end) areas (flat_map (gone_changes areas) (e ∷ es))
     by (inr not_it) on = rw not_it (on areas regions read rising rest comes)
     by (inl it) on = rw it (fronts_append (ComesTo sets end) cs (flat_map (gone_changes areas) es) areas (fronts_by (ComesTo sets end) cs areas (λ k. fronts k ∙ comes)) next)
@@ -69,13 +69,13 @@ gone_fronts (e ∷ es) sets end areas regions read (above, rising) (is, rest) co
 
 -- ---- all complete ones
 
-settled_fronts : (es : List Entry) (sets : List (List Mapping)) (end : Namespaces) (areas : List (Option Area)) → AreRegions sets → AreRead areas → IsRising es → AreFound sets areas es → ComesTo sets end areas
+settled_fronts : (es : List NamespaceEntry) (sets : List (List Mapping)) (end : Namespaces) (areas : List (Option Area)) → AreRegions sets → LabelsAreRead areas → IsRising es → AreFound sets areas es → ComesTo sets end areas
     → AtFronts (ComesTo sets end) areas (flat_map (settling_changes areas) es)
 settled_fronts [] sets end areas regions read rising all comes = comes
 settled_fronts (e ∷ es) sets end areas regions read (above, rising) (is, rest) comes = by (cases_Bool (is_complete e.status)) (settled_fronts es sets end)
   where
     by : (is_complete e.status ≡ true) ⊎ (is_complete e.status ≡ false)
-        → ((as' : List (Option Area)) → AreRegions sets → AreRead as' → IsRising es → AreFound sets as' es → ComesTo sets end as' → AtFronts (ComesTo sets end) as' (flat_map (settling_changes as') es))
+        → ((as' : List (Option Area)) → AreRegions sets → LabelsAreRead as' → IsRising es → AreFound sets as' es → ComesTo sets end as' → AtFronts (ComesTo sets end) as' (flat_map (settling_changes as') es))
         → AtFronts (ComesTo sets end) areas (flat_map (settling_changes areas) (e ∷ es))
     by (inr not_it) on = rw not_it (on areas regions read rising rest comes)
     by (inl it) on = with_status (complete_named sets areas e.uuid e is it)
@@ -104,7 +104,7 @@ settled_fronts (e ∷ es) sets end areas regions read (above, rising) (is, rest)
 
 -- ---- the law
 
-module _ (sets : List (List Mapping)) (areas : List (Option Area)) (regions : AreRegions sets) (read : AreRead areas) where
+module _ (sets : List (List Mapping)) (areas : List (Option Area)) (regions : AreRegions sets) (read : LabelsAreRead areas) where
   abbrev ns : Namespaces
   ns = namespaces_of sets areas
 
@@ -129,7 +129,7 @@ module _ (sets : List (List Mapping)) (areas : List (Option Area)) (regions : Ar
   went : GoneAll sets areas ns.entries first
   went = gone_all ns.entries sets areas read rising (self_found ns.entries rising)
 
-  read_left : AreRead left
+  read_left : LabelsAreRead left
   read_left = read_all first areas read went.bytes
 
   settles : SettledAll sets left now now.entries second
@@ -160,8 +160,8 @@ module _ (sets : List (List Mapping)) (areas : List (Option Area)) (regions : Ar
     comes : recovery_of sets (recovery_cut sets areas steps stays) ≡ recovery_of sets areas
     comes = ap (recovery_of sets) cut_is ∙ fronts_take (ComesTo sets (recovery_of sets areas)) (recovery_changes sets areas) areas fronts front.0
 
-    read_cut : AreRead (recovery_cut sets areas steps stays)
-    read_cut = subst AreRead (sym cut_is) (read_all (take front.0 (recovery_changes sets areas)) areas read (take_all PutsBytes front.0 (recovery_changes sets areas) bytes))
+    read_cut : LabelsAreRead (recovery_cut sets areas steps stays)
+    read_cut = subst LabelsAreRead (sym cut_is) (read_all (take front.0 (recovery_changes sets areas)) areas read (take_all PutsBytes front.0 (recovery_changes sets areas) bytes))
 
     pub resumes : namespaces_of sets (recovered_areas sets (recovery_cut sets areas steps stays)) ≡ namespaces_of sets (recovered_areas sets areas)
     resumes = recovery_agrees sets (recovery_cut sets areas steps stays) regions read_cut ∙ comes ∙ sym (recovery_agrees sets areas regions read)

@@ -11,7 +11,7 @@ use Rattle.nfit_reader.specs.declared.table.Mapping.{Mapping}
 use Rattle.label_set.specs.Rules.{mapping_of}
 use Rattle.region_space.specs.declared.extent.Extent.{Extent}
 use Rattle.region_space.specs.Space.{extents_meet, ranges_meet, is_clear}
-use Rattle.namespace_map.specs.Namespaces.{Entry, Part, lookup, extents_in, extents_of}
+use Rattle.namespace_map.specs.Namespaces.{NamespaceEntry, Part, lookup, extents_in, extents_of}
 use Rattle.namespace_map.proofs.Rising.{all_pass_to}
 use Rattle.namespace_map.specs.declared.commands.Make.{Make}
 use Rattle.namespace_map.specs.declared.commands.Named.{Named}
@@ -57,14 +57,14 @@ from_filter {X = X} {Y = Y} f (x ∷ xs) y c = by (f x) refl c (from_filter f xs
     by (Some z) e (suc k, below, is) later = later (k, omega arith, is)
 
 -- the extents of an entry are among those of all
-pub in_extents : (es : List Entry) (v : List ℕ) (f : Entry) (b : Part) → lookup v es ≡ Some f → Contains f.parts b → Contains (extents_of es) b.extent
+pub in_extents : (es : List NamespaceEntry) (v : List ℕ) (f : NamespaceEntry) (b : Part) → lookup v es ≡ Some f → Contains f.parts b → Contains (extents_of es) b.extent
 in_extents [] v f b is c = absurd (none-some f is)
 in_extents (e ∷ es) v f b is c = by (cases_Bool (bytes_eq e.uuid v)) (in_extents es v f b)
   where
     by : (bytes_eq e.uuid v ≡ true) ⊎ (bytes_eq e.uuid v ≡ false) → (lookup v es ≡ Some f → Contains f.parts b → Contains (extents_of es) b.extent) → Contains (extents_of (e ∷ es)) b.extent
     by (inl it) later =
         let same : e ≡ f = same_Some e f (rw it at is) in
-        contains_left (extents_in e) (extents_of es) b.extent (contains_map (λ (p : Part). p.extent) e.parts b (subst (λ (x : Entry). Contains x.parts b) (sym same) c))
+        contains_left (extents_in e) (extents_of es) b.extent (contains_map (λ (p : Part). p.extent) e.parts b (subst (λ (x : NamespaceEntry). Contains x.parts b) (sym same) c))
     by (inr not_it) later = contains_right (extents_in e) (extents_of es) b.extent (later (rw not_it at is) c)
 
 eqb_turned : (a b : ℕ) → eqb a b ≡ eqb b a
@@ -84,7 +84,7 @@ meet_turned x y =
     ap (λ (b : Bool). b && ranges_meet x.start x.length y.start y.length) (eqb_turned x.«module» y.«module»)
     ∙ ap (λ (b : Bool). (y.«module» == x.«module») && b) (and_turned (nat_lt x.start (y.start + y.length)) (nat_lt y.start (x.start + x.length)))
 
-pub apart_turned : (e f : Entry) → AreApart e f → AreApart f e
+pub apart_turned : (e f : NamespaceEntry) → AreApart e f → AreApart f e
 apart_turned e f apart a b ca cb = meet_turned a.extent b.extent ∙ apart b a cb ca
 
 itself_from : {X : Type 0} (xs : List X) → AllByRecursion (Contains xs) xs
@@ -96,10 +96,10 @@ itself xs = itself_from xs
 
 -- ---- an entry with some of the parts of one that is apart from all others
 
-pub keeps_apart : (sets : List (List Mapping)) (areas left : List (Option Area)) (uuid : List ℕ) (whole : Entry) → EntriesApart (namespaces_of sets areas)
+pub keeps_apart : (sets : List (List Mapping)) (areas left : List (Option Area)) (uuid : List ℕ) (whole : NamespaceEntry) → EntriesApart (namespaces_of sets areas)
     → ((v : List ℕ) → v ≢ uuid → lookup v (namespaces_of sets left).entries ≡ lookup v (namespaces_of sets areas).entries)
-    → ((x : Entry) → lookup uuid (namespaces_of sets left).entries ≡ Some x → AllByRecursion (Contains whole.parts) x.parts)
-    → ((v : List ℕ) (f : Entry) → v ≢ uuid → lookup v (namespaces_of sets areas).entries ≡ Some f → AreApart whole f)
+    → ((x : NamespaceEntry) → lookup uuid (namespaces_of sets left).entries ≡ Some x → AllByRecursion (Contains whole.parts) x.parts)
+    → ((v : List ℕ) (f : NamespaceEntry) → v ≢ uuid → lookup v (namespaces_of sets areas).entries ≡ Some f → AreApart whole f)
     → EntriesApart (namespaces_of sets left)
 keeps_apart sets areas left uuid whole before others parts free u v e f ne is_e is_f = by (cases_Bool (bytes_eq u uuid)) (cases_Bool (bytes_eq v uuid))
   where
@@ -109,7 +109,7 @@ keeps_apart sets areas left uuid whole before others parts free u v e f ne is_e 
     other_of : (w : List ℕ) → bytes_eq w uuid ≡ false → w ≢ uuid
     other_of w not_it same = false≢true (sym not_it ∙ (bytes_eq-Decides w uuid).1 same)
 
-    mine : (w : List ℕ) (x y : Entry) (z : List ℕ) → w ≡ uuid → z ≢ uuid → lookup w (namespaces_of sets left).entries ≡ Some x → lookup z (namespaces_of sets left).entries ≡ Some y → AreApart x y
+    mine : (w : List ℕ) (x y : NamespaceEntry) (z : List ℕ) → w ≡ uuid → z ≢ uuid → lookup w (namespaces_of sets left).entries ≡ Some x → lookup z (namespaces_of sets left).entries ≡ Some y → AreApart x y
     mine w x y z same other is_x is_y a b ca cb =
         free z y other (sym (others z other) ∙ is_y) a b
         (all_contained (Contains whole.parts) x.parts a (parts x (subst (λ (k : List ℕ). lookup k (namespaces_of sets left).entries ≡ Some x) same is_x)) ca) cb
@@ -124,11 +124,11 @@ keeps_apart sets areas left uuid whole before others parts free u v e f ne is_e 
 
 module _ (sets : List (List Mapping)) (areas : List (Option Area)) (uuid : List ℕ) (name : Named) (region size : ℕ) (made : Make) (regions : AreRegions sets)
     (good : refusal_of (namespaces_of sets areas) (law.create sets areas uuid name region size made) ≡ None) where
-  abbrev new : Entry
+  abbrev new : NamespaceEntry
   new = made_entry sets areas uuid name region size made
 
   -- the new parts overlap no existing extent
-  new_apart : (v : List ℕ) (f : Entry) → lookup v (namespaces_of sets areas).entries ≡ Some f → AreApart new f
+  new_apart : (v : List ℕ) (f : NamespaceEntry) → lookup v (namespaces_of sets areas).entries ≡ Some f → AreApart new f
   new_apart v f is a b ca cb =
       by (from_filter (λ n. option_map (new_part uuid (law.offset sets areas uuid name region size made) (law.raw sets areas uuid name region size made)) (mapping_of (law.set sets areas uuid name region size made) n))
       (range_with_len 0 (length (namespaces_of sets areas).areas)) a ca)
@@ -153,12 +153,12 @@ module _ (sets : List (List Mapping)) (areas : List (Option Area)) (uuid : List 
               ∙ not-true ((b.extent.«module» == k.«module») && ranges_meet (k.start + law.offset sets areas uuid name region size made) (law.raw sets areas uuid name region size made) b.extent.start b.extent.length) none)
 
   -- the entry after a crash has its parts
-  left_parts : (x : Entry) (left : Option Entry) → CutOfCreate new left → left ≡ Some x → AllByRecursion (Contains new.parts) x.parts
+  left_parts : (x : NamespaceEntry) (left : Option NamespaceEntry) → CutOfCreate new left → left ≡ Some x → AllByRecursion (Contains new.parts) x.parts
   left_parts x left (inl none) is = absurd (none-some x (sym none ∙ is))
-  left_parts x left (inr (inl (y, at, part))) is = subst (λ (z : Entry). AllByRecursion (Contains new.parts) z.parts) (same_Some y x (sym at ∙ is)) part.parts
+  left_parts x left (inr (inl (y, at, part))) is = subst (λ (z : NamespaceEntry). AllByRecursion (Contains new.parts) z.parts) (same_Some y x (sym at ∙ is)) part.parts
   left_parts x left (inr (inr (inl (y, at, pending)))) is =
-      subst (λ (z : Entry). AllByRecursion (Contains new.parts) z.parts) (same_Some y x (sym at ∙ is)) (subst (λ (ps : List Part). AllByRecursion (Contains new.parts) ps) (ap (λ (z : Entry). z.parts) (sym pending)) (itself new.parts))
-  left_parts x left (inr (inr (inr at))) is = subst (λ (z : Entry). AllByRecursion (Contains new.parts) z.parts) (same_Some new x (sym at ∙ is)) (itself new.parts)
+      subst (λ (z : NamespaceEntry). AllByRecursion (Contains new.parts) z.parts) (same_Some y x (sym at ∙ is)) (subst (λ (ps : List Part). AllByRecursion (Contains new.parts) ps) (ap (λ (z : NamespaceEntry). z.parts) (sym pending)) (itself new.parts))
+  left_parts x left (inr (inr (inr at))) is = subst (λ (z : NamespaceEntry). AllByRecursion (Contains new.parts) z.parts) (same_Some new x (sym at ∙ is)) (itself new.parts)
 
   pub create_apart : EntriesApart (namespaces_of sets areas) → (n : ℕ) (stays : Bool)
       → EntriesApart (namespaces_of sets (after_steps areas (changes_of (namespaces_of sets areas) areas (law.create sets areas uuid name region size made)) n stays))

@@ -9,7 +9,7 @@ use Rattle.nfit_reader.specs.declared.table.Mapping.{Mapping}
 use Rattle.label_codec.specs.declared.label.Label.{Label}
 use Rattle.label_set.specs.declared.placed.Placed.{Placed}
 use Rattle.label_set.specs.declared.placed.SetStatus.TheVariants.{Complete}
-use Rattle.namespace_map.specs.Namespaces.{Entry, Part, part_of, entry_with, lookup}
+use Rattle.namespace_map.specs.Namespaces.{NamespaceEntry, Part, part_of, entry_with, lookup}
 use Rattle.namespace_map.proofs.Entries.{lookup_entries}
 use Rattle.namespace_map.proofs.Entries as entries
 use Rattle.namespace_map.proofs.Rising.{all_pass_to}
@@ -22,7 +22,7 @@ use Rattle.namespace_map.specs.CommandLaws.{IsOf}
 use Rattle.namespace_map.proofs.Areas.{Proper, HasRoom, moved_all, moved_keeps, proper_after, all_of_front}
 use Rattle.namespace_map.proofs.Fronts.{cut_is_front, IsFront}
 use Rattle.namespace_map.proofs.Others.{cut_leaves_others}
-use Rattle.namespace_map.specs.Left.{AreRegions, AreRead}
+use Rattle.namespace_map.specs.Left.{AreRegions, LabelsAreRead}
 use Rattle.namespace_laws.specs.Apart.{AreApart, EntriesApart, KeepsApart, LeavesOthers}
 use Rattle.namespace_laws.proofs.Whole.{AllLab, all_append, own_of, IsBy, slot_on, all_by}
 use Rattle.namespace_laws.proofs.Staged.{IsGiven, KeepsUuid, all_map}
@@ -62,7 +62,7 @@ parts_like uuid base lab left proper like count same =
         (ap (option_map (part_at p.«module»)) k.1))
 
 -- an entry's parts are those of its labels
-pub own_parts : (sets : List (List Mapping)) (left : List (Option Area)) (uuid : List ℕ) (x : Entry) → lookup uuid (namespaces_of sets left).entries ≡ Some x → x.parts ≡ map part_of (own_of uuid left)
+pub own_parts : (sets : List (List Mapping)) (left : List (Option Area)) (uuid : List ℕ) (x : NamespaceEntry) → lookup uuid (namespaces_of sets left).entries ≡ Some x → x.parts ≡ map part_of (own_of uuid left)
 own_parts sets left uuid x is = by (slice_get (own_of uuid left) 0) refl
   where
     at : option_map (entry_with sets (own_of uuid left)) (slice_get (own_of uuid left) 0) ≡ Some x
@@ -70,7 +70,7 @@ own_parts sets left uuid x is = by (slice_get (own_of uuid left) 0) refl
 
     by : (o : Option Placed) → slice_get (own_of uuid left) 0 ≡ o → x.parts ≡ map part_of (own_of uuid left)
     by None e = absurd (none-some x (sym (ap (option_map (entry_with sets (own_of uuid left))) e) ∙ at))
-    by (Some p) e = ap (λ (y : Entry). y.parts) (sym (same_Some (entry_with sets (own_of uuid left) p) x (sym (ap (option_map (entry_with sets (own_of uuid left))) e) ∙ at)))
+    by (Some p) e = ap (λ (y : NamespaceEntry). y.parts) (sym (same_Some (entry_with sets (own_of uuid left) p) x (sym (ap (option_map (entry_with sets (own_of uuid left))) e) ∙ at)))
 
 -- ---- changes that keep labels like the intended ones
 
@@ -121,9 +121,9 @@ like_ended new l l' is = subst (IsLike l) (same_Some _ l' is) (like_like l _ _ (
 
 -- ---- delete and rename
 
-module _ (sets : List (List Mapping)) (areas : List (Option Area)) (uuid : List ℕ) (e : Entry) (pending : Bool) (regions : AreRegions sets) (read : AreRead areas)
+module _ (sets : List (List Mapping)) (areas : List (Option Area)) (uuid : List ℕ) (e : NamespaceEntry) (pending : Bool) (regions : AreRegions sets) (read : LabelsAreRead areas)
     (is : lookup uuid (namespaces_of sets areas).entries ≡ Some e) (status : e.status ≡ Complete e.name pending) (before : EntriesApart (namespaces_of sets areas)) where
-  free : (v : List ℕ) (f : Entry) → v ≢ uuid → lookup v (namespaces_of sets areas).entries ≡ Some f → AreApart e f
+  free : (v : List ℕ) (f : NamespaceEntry) → v ≢ uuid → lookup v (namespaces_of sets areas).entries ≡ Some f → AreApart e f
   free v f ne at = before uuid v e f (λ same. ne (sym same)) is at
 
   module _ (unlocked : e.read_only ≡ None) where
@@ -143,13 +143,13 @@ module _ (sets : List (List Mapping)) (areas : List (Option Area)) (uuid : List 
     of_uuid = all_pass_to (λ p. lab p.0 ≡ Some p.1) (λ p. p.1.uuid ≡ uuid) (λ p at. proper.named p.0 p.1 at) ps labels
 
     base_is : base_parts lab (length areas) ≡ e.parts
-    base_is = ap (λ (x : Entry). x.parts) (st.entry_shaped sets areas uuid e pending regions read is status unlocked)
+    base_is = ap (λ (x : NamespaceEntry). x.parts) (st.entry_shaped sets areas uuid e pending regions read is status unlocked)
 
     -- some of the labels' parts are some of the entry's
-    among : (left : List (Option Area)) → AllByRecursion (Contains (base_parts lab (length areas))) (map part_of (own_of uuid left)) → (x : Entry) → lookup uuid (namespaces_of sets left).entries ≡ Some x → AllByRecursion (Contains e.parts) x.parts
+    among : (left : List (Option Area)) → AllByRecursion (Contains (base_parts lab (length areas))) (map part_of (own_of uuid left)) → (x : NamespaceEntry) → lookup uuid (namespaces_of sets left).entries ≡ Some x → AllByRecursion (Contains e.parts) x.parts
     among left all x at = subst (λ (xs : List Part). AllByRecursion (Contains e.parts) xs) (sym (own_parts sets left uuid x at)) (subst (λ (base : List Part). AllByRecursion (Contains base) (map part_of (own_of uuid left))) base_is all)
 
-  delete_parts : (has : DeleteGood (namespaces_of sets areas) e) (n : ℕ) (stays : Bool) (x : Entry)
+  delete_parts : (has : DeleteGood (namespaces_of sets areas) e) (n : ℕ) (stays : Bool) (x : NamespaceEntry)
       → lookup uuid (namespaces_of sets (after_steps areas (changes_of (namespaces_of sets areas) areas (command.Delete uuid)) n stays)).entries ≡ Some x → AllByRecursion (Contains e.parts) x.parts
   delete_parts has n stays x at = elim (cases_lt 1 (length e.parts)) [
     | inl many ↦ among has.unlocked (after_steps areas (changes_of (namespaces_of sets areas) areas (command.Delete uuid)) n stays)
@@ -164,7 +164,7 @@ module _ (sets : List (List Mapping)) (areas : List (Option Area)) (uuid : List 
       by : (after_steps areas (changes_of (namespaces_of sets areas) areas (command.Delete uuid)) n stays ≡ areas) ⊎ (own_of uuid (after_steps areas (changes_of (namespaces_of sets areas) areas (command.Delete uuid)) n stays) ≡ [])
           → AllByRecursion (Contains e.parts) x.parts
       by (inl same) =
-          subst (λ (y : Entry). AllByRecursion (Contains e.parts) y.parts) (same_Some e x (sym is ∙ sym (ap (λ (left : List (Option Area)). lookup uuid (namespaces_of sets left).entries) same) ∙ at)) (itself e.parts)
+          subst (λ (y : NamespaceEntry). AllByRecursion (Contains e.parts) y.parts) (same_Some e x (sym is ∙ sym (ap (λ (left : List (Option Area)). lookup uuid (namespaces_of sets left).entries) same) ∙ at)) (itself e.parts)
       by (inr empty) =
           absurd (none-some x (sym (lookup_entries sets (placed_in_all (after_steps areas (changes_of (namespaces_of sets areas) areas (command.Delete uuid)) n stays)) uuid
           ∙ entries.entry_none sets (placed_in_all (after_steps areas (changes_of (namespaces_of sets areas) areas (command.Delete uuid)) n stays)) uuid empty) ∙ at))
@@ -189,7 +189,7 @@ module _ (sets : List (List Mapping)) (areas : List (Option Area)) (uuid : List 
       (front_parts uuid (lab fine.unlocked) areas (ps fine.unlocked) (to_renamed (name_in name)) (to_settled (name_in name)) (keeps_renamed (name_in name)) (keeps_settled (name_in name)) (like_renamed (name_in name)) (like_ended (name_in name))
       (proper fine.unlocked) (st.given sets areas uuid e pending regions read is status fine.unlocked fine.room) (labels fine.unlocked) n stays)) free
 
-pub delete_others : (sets : List (List Mapping)) (areas : List (Option Area)) (uuid : List ℕ) → AreRegions sets → AreRead areas → refusal_of (namespaces_of sets areas) (command.Delete uuid) ≡ None
+pub delete_others : (sets : List (List Mapping)) (areas : List (Option Area)) (uuid : List ℕ) → AreRegions sets → LabelsAreRead areas → refusal_of (namespaces_of sets areas) (command.Delete uuid) ≡ None
     → LeavesOthers sets areas uuid (command.Delete uuid)
 delete_others sets areas uuid regions read good n stays v ne =
     let f = delete_found sets areas uuid good in
@@ -200,7 +200,7 @@ delete_others sets areas uuid regions read good n stays v ne =
     (two_of uuid to_updating to_nothing keeps_updating keeps_nothing (own_labels areas uuid)
     (all_pass_to (λ p. lab_of uuid areas p.0 ≡ Some p.1) (λ p. p.1.uuid ≡ uuid) (λ p at. proper.named p.0 p.1 at) (own_labels areas uuid) labels)) n stays v ne
 
-pub rename_others : (sets : List (List Mapping)) (areas : List (Option Area)) (uuid : List ℕ) (name : Named) → AreRegions sets → AreRead areas → refusal_of (namespaces_of sets areas) (command.Rename uuid name) ≡ None
+pub rename_others : (sets : List (List Mapping)) (areas : List (Option Area)) (uuid : List ℕ) (name : Named) → AreRegions sets → LabelsAreRead areas → refusal_of (namespaces_of sets areas) (command.Rename uuid name) ≡ None
     → LeavesOthers sets areas uuid (command.Rename uuid name)
 rename_others sets areas uuid name regions read good n stays v ne =
     let f = rename_found sets areas uuid name good in
@@ -211,12 +211,12 @@ rename_others sets areas uuid name regions read good n stays v ne =
     (two_of uuid (to_renamed (name_in name)) (to_settled (name_in name)) (keeps_renamed (name_in name)) (keeps_settled (name_in name)) (own_labels areas uuid)
     (all_pass_to (λ p. lab_of uuid areas p.0 ≡ Some p.1) (λ p. p.1.uuid ≡ uuid) (λ p at. proper.named p.0 p.1 at) (own_labels areas uuid) labels)) n stays v ne
 
-pub delete_apart : (sets : List (List Mapping)) (areas : List (Option Area)) (uuid : List ℕ) → AreRegions sets → AreRead areas → refusal_of (namespaces_of sets areas) (command.Delete uuid) ≡ None → KeepsApart sets areas (command.Delete uuid)
+pub delete_apart : (sets : List (List Mapping)) (areas : List (Option Area)) (uuid : List ℕ) → AreRegions sets → LabelsAreRead areas → refusal_of (namespaces_of sets areas) (command.Delete uuid) ≡ None → KeepsApart sets areas (command.Delete uuid)
 delete_apart sets areas uuid regions read good before n stays =
     let f = delete_found sets areas uuid good in
     delete_apart_of sets areas uuid f.entry f.pending regions read f.is f.status before good n stays
 
-pub rename_apart : (sets : List (List Mapping)) (areas : List (Option Area)) (uuid : List ℕ) (name : Named) → AreRegions sets → AreRead areas → refusal_of (namespaces_of sets areas) (command.Rename uuid name) ≡ None
+pub rename_apart : (sets : List (List Mapping)) (areas : List (Option Area)) (uuid : List ℕ) (name : Named) → AreRegions sets → LabelsAreRead areas → refusal_of (namespaces_of sets areas) (command.Rename uuid name) ≡ None
     → KeepsApart sets areas (command.Rename uuid name)
 rename_apart sets areas uuid name regions read good before n stays =
     let f = rename_found sets areas uuid name good in

@@ -7,7 +7,7 @@ use Rattle.nvd_words.specs.Checks.{first_fault, fault_if}
 use Rattle.nfit_reader.specs.declared.table.Mapping.{Mapping}
 use Rattle.label_codec.specs.declared.label.Label.{Label}
 use Rattle.label_set.specs.declared.placed.SetStatus.TheVariants.{Complete}
-use Rattle.namespace_map.specs.Namespaces.{Namespaces, Entry, lookup, claims_of}
+use Rattle.namespace_map.specs.Namespaces.{Namespaces, NamespaceEntry, lookup, claims_of}
 use Rattle.namespace_map.proofs.Entries as entries
 use Rattle.namespace_map.proofs.Entries.{lookup_entries}
 use Rattle.namespace_map.specs.declared.commands.Named.{Named}
@@ -17,7 +17,7 @@ use Rattle.namespace_map.specs.declared.refused.OpRefused.TheVariants.{NotComple
 use Rattle.namespace_map.specs.Areas.{Area, after_steps}
 use Rattle.namespace_map.specs.Commands.{name_in, refusal_of, entry_refusal, entry_modules, short_of, bad_name, is_complete}
 use Rattle.namespace_map.specs.Changes.{namespaces_of, placed_in_all, changes_of}
-use Rattle.namespace_map.specs.Left.{AreRegions, AreRead}
+use Rattle.namespace_map.specs.Left.{AreRegions, LabelsAreRead}
 use Rattle.namespace_laws.specs.Laws.{CutOfDelete, CutOfDeleteAlone, CutOfRename, CutOfRenameAlone}
 use Rattle.namespace_laws.proofs.Whole.{own_of}
 use Rattle.namespace_laws.proofs.Sets.{no_fault, unmapped}
@@ -33,14 +33,14 @@ no_label = (0, record { uuid = []; name = []; flags = 0; count = 0; position = 0
 -- ---- commands that aren't refused
 
 -- a delete that isn't refused
-pub record DeleteGood (ns : Namespaces) (e : Entry) : Type 0 where
+pub record DeleteGood (ns : Namespaces) (e : NamespaceEntry) : Type 0 where
   pub unlocked : e.read_only ≡ None
   pub room : (if nat_le 2 (length e.parts) then short_of ns 1 (entry_modules e) else None) ≡ None
 
-found_refusal : (further : Entry → List (Option OpRefused)) (o : Option Entry) (e : Entry) → o ≡ Some e → entry_refusal o further ≡ None → first_fault (fault_if (not (is_complete e.status)) NotComplete ∷ further e) ≡ None
-found_refusal further o e is good = sym (ap (λ (x : Option Entry). entry_refusal x further) is) ∙ good
+found_refusal : (further : NamespaceEntry → List (Option OpRefused)) (o : Option NamespaceEntry) (e : NamespaceEntry) → o ≡ Some e → entry_refusal o further ≡ None → first_fault (fault_if (not (is_complete e.status)) NotComplete ∷ further e) ≡ None
+found_refusal further o e is good = sym (ap (λ (x : Option NamespaceEntry). entry_refusal x further) is) ∙ good
 
-pub delete_good : (ns : Namespaces) (uuid : List ℕ) (e : Entry) → lookup uuid ns.entries ≡ Some e → refusal_of ns (command.Delete uuid) ≡ None → DeleteGood ns e
+pub delete_good : (ns : Namespaces) (uuid : List ℕ) (e : NamespaceEntry) → lookup uuid ns.entries ≡ Some e → refusal_of ns (command.Delete uuid) ≡ None → DeleteGood ns e
 delete_good ns uuid e is good =
     let all = found_refusal (λ e.
     fault_if (nat_lt 0 (claims_of ns uuid)) (Busy (claims_of ns uuid))
@@ -53,11 +53,11 @@ delete_good ns uuid e is good =
     let r4 = no_fault (if nat_le 2 (length e.parts) then short_of ns 1 (entry_modules e) else None) _ r3.1 in
     record { unlocked = unmapped (λ number. ReadOnlyLabel number) e.read_only r3.0; room = r4.0 }
 
-pub record RenameGood (ns : Namespaces) (e : Entry) : Type 0 where
+pub record RenameGood (ns : Namespaces) (e : NamespaceEntry) : Type 0 where
   pub unlocked : e.read_only ≡ None
   pub room : short_of ns 1 (entry_modules e) ≡ None
 
-pub rename_good : (ns : Namespaces) (uuid : List ℕ) (name : Named) (e : Entry) → lookup uuid ns.entries ≡ Some e → refusal_of ns (command.Rename uuid name) ≡ None → RenameGood ns e
+pub rename_good : (ns : Namespaces) (uuid : List ℕ) (name : Named) (e : NamespaceEntry) → lookup uuid ns.entries ≡ Some e → refusal_of ns (command.Rename uuid name) ≡ None → RenameGood ns e
 rename_good ns uuid name e is good =
     let r0 = (no_fault (bad_name name) _ good).1 in
     let r00 = (no_fault (entry_refusal (lookup uuid ns.entries) (λ e. option_map (λ number. ReadOnlyLabel number) e.read_only ∷ short_of ns 1 (entry_modules e) ∷ [])) _ r0).0 in
@@ -67,9 +67,9 @@ rename_good ns uuid name e is good =
     let r3 = no_fault (short_of ns 1 (entry_modules e)) _ r2.1 in
     record { unlocked = unmapped (λ number. ReadOnlyLabel number) e.read_only r2.0; room = r3.0 }
 
-module _ (sets : List (List Mapping)) (areas : List (Option Area)) (uuid : List ℕ) (e : Entry) (regions : AreRegions sets) (read : AreRead areas)
+module _ (sets : List (List Mapping)) (areas : List (Option Area)) (uuid : List ℕ) (e : NamespaceEntry) (regions : AreRegions sets) (read : LabelsAreRead areas)
     (is : lookup uuid (namespaces_of sets areas).entries ≡ Some e) (status : e.status ≡ Complete e.name false) where
-  abbrev found : List (Option Area) → Option Entry
+  abbrev found : List (Option Area) → Option NamespaceEntry
   found left = lookup uuid (namespaces_of sets left).entries
 
   some_parts : e.read_only ≡ None → 1 ≤ length e.parts

@@ -11,11 +11,11 @@ use Rattle.label_codec.specs.declared.label.Label.{Label}
 use Rattle.label_set.specs.declared.placed.Placed.{Placed}
 use Rattle.label_set.specs.declared.placed.SetStatus.TheVariants.{Complete}
 use Rattle.label_set.specs.Rules.{is_updating}
-use Rattle.namespace_map.specs.Namespaces.{AreaState}
+use Rattle.namespace_map.specs.Namespaces.{AreaSummary}
 use Rattle.namespace_map.proofs.Rising.{all_pass_to}
-use Rattle.namespace_map.specs.Areas.{Area, Change, slots_of, slots_on, block_of, free_in, area_at, changed, changed_area, all_changed}
+use Rattle.namespace_map.specs.Areas.{Area, Change, slots_of, slots_on, block_of, free_in, area_at, changed_areas, changed_area, all_changed}
 use Rattle.namespace_map.specs.Commands.{no_area, count_in, taken_from, given_to}
-use Rattle.namespace_map.specs.Changes.{area_state, change_to, in_two}
+use Rattle.namespace_map.specs.Changes.{area_summary, change_to, in_two}
 use Rattle.namespace_map.specs.CommandLaws.{IsOf}
 use Rattle.namespace_map.proofs.Slots.{owned}
 use Rattle.namespace_map.proofs.Areas.{Proper, HasRoom, Fitting, moved_all, proper_after, area_of_other}
@@ -163,9 +163,9 @@ kept : {X : Type 0} (of : Option Area → X) → ((a : Option Area) (c : Change)
     → of (area_at (all_changed areas cs) m) ≡ of (area_at areas m)
 unfolding all_changed
 kept of same [] areas m = refl
-kept of same (c ∷ cs) areas m = kept of same cs (changed areas c) m ∙ elim (cases_eq m c.number) [
+kept of same (c ∷ cs) areas m = kept of same cs (changed_areas areas c) m ∙ elim (cases_eq m c.number) [
   | inl at ↦ elim (cases_lt c.number (length areas)) [
-    | inl below ↦ rw at (ap of (unwrap_or-slice_get (changed areas c) c.number None ∙ get_or-set_same areas c.number _ None below) ∙ same (area_at areas c.number) c)
+    | inl below ↦ rw at (ap of (unwrap_or-slice_get (changed_areas areas c) c.number None ∙ get_or-set_same areas c.number _ None below) ∙ same (area_at areas c.number) c)
     | inr past ↦ ap (λ (xs : List (Option Area)). of (area_at xs m)) (set_past areas c.number _ past)
   ]
   | inr apart ↦ ap of (area_of_other areas c m apart)
@@ -187,42 +187,42 @@ block_after : (a : Option Area) (c : Change) → block_of (changed_area a c) ≡
 block_after None c = refl
 block_after (Some a) c = refl
 
-state_is : (a : Option Area) → area_state a ≡ record { ready = is_ready a; block = block_of a; free = free_in (slots_of a) }
+state_is : (a : Option Area) → area_summary a ≡ record { ready = is_ready a; block = block_of a; free = free_in (slots_of a) }
 state_is None = refl
 state_is (Some a) = refl
 
 -- after changes, an area's state differs only in its free slots
-pub state_after : (cs : List Change) (areas : List (Option Area)) (m n : ℕ) → free_in (slots_on (all_changed areas cs) m) ≡ n → area_state (area_at (all_changed areas cs) m) ≡ record (area_state (area_at areas m)) { free = n }
+pub state_after : (cs : List Change) (areas : List (Option Area)) (m n : ℕ) → free_in (slots_on (all_changed areas cs) m) ≡ n → area_summary (area_at (all_changed areas cs) m) ≡ record (area_summary (area_at areas m)) { free = n }
 state_after cs areas m n free =
     state_is (area_at (all_changed areas cs) m)
     ∙ states (is_ready (area_at (all_changed areas cs) m)) (is_ready (area_at areas m)) (block_of (area_at (all_changed areas cs) m)) (block_of (area_at areas m)) (free_in (slots_on (all_changed areas cs) m)) n
     (kept is_ready ready_after cs areas m) (kept block_of block_after cs areas m) free
-    ∙ ap (λ (s : AreaState). record s { free = n }) (sym (state_is (area_at areas m)))
+    ∙ ap (λ (s : AreaSummary). record s { free = n }) (sym (state_is (area_at areas m)))
   where
-    states : (a b : Bool) (i j k l : ℕ) → a ≡ b → i ≡ j → k ≡ l → ◌≡◌ {A = AreaState} (record { ready = a; block = i; free = k }) (record { ready = b; block = j; free = l })
+    states : (a b : Bool) (i j k l : ℕ) → a ≡ b → i ≡ j → k ≡ l → ◌≡◌ {A = AreaSummary} (record { ready = a; block = i; free = k }) (record { ready = b; block = j; free = l })
     states a b i j k l e f g = rw (e, f, g) refl
 
-pub same_states : (xs ys : List AreaState) → length xs ≡ length ys → ((i : ℕ) → i < length xs → get_or xs i no_area ≡ get_or ys i no_area) → xs ≡ ys
+pub same_states : (xs ys : List AreaSummary) → length xs ≡ length ys → ((i : ℕ) → i < length xs → get_or xs i no_area ≡ get_or ys i no_area) → xs ≡ ys
 same_states [] [] same each = refl
 same_states [] (y ∷ ys) same each = absurd (omega arith)
 same_states (x ∷ xs) [] same each = absurd (omega arith)
 same_states (x ∷ xs) (y ∷ ys) same each =
-    ap (λ (z : AreaState). z ∷ xs) (each 0 (omega arith)) ∙ ap (λ (zs : List AreaState). y ∷ zs) (same_states xs ys (omega arith) (λ i below. each (suc i) (omega arith)))
+    ap (λ (z : AreaSummary). z ∷ xs) (each 0 (omega arith)) ∙ ap (λ (zs : List AreaSummary). y ∷ zs) (same_states xs ys (omega arith) (λ i below. each (suc i) (omega arith)))
 
-pub get_state : (areas : List (Option Area)) (i : ℕ) → get_or (map area_state areas) i no_area ≡ area_state (area_at areas i)
-get_state areas i = at areas i ∙ ap area_state (sym (unwrap_or-slice_get areas i None))
+pub get_state : (areas : List (Option Area)) (i : ℕ) → get_or (map area_summary areas) i no_area ≡ area_summary (area_at areas i)
+get_state areas i = at areas i ∙ ap area_summary (sym (unwrap_or-slice_get areas i None))
   where
-    at : (as' : List (Option Area)) (j : ℕ) → get_or (map area_state as') j no_area ≡ area_state (get_or as' j None)
+    at : (as' : List (Option Area)) (j : ℕ) → get_or (map area_summary as') j no_area ≡ area_summary (get_or as' j None)
     at [] j = refl
     at (a ∷ as') zero = refl
     at (a ∷ as') (suc j) = at as' j
 
-pub length_taken : (xs : List AreaState) (k : ℕ) (modules : List ℕ) → length (taken_from k modules xs) ≡ length xs
+pub length_taken : (xs : List AreaSummary) (k : ℕ) (modules : List ℕ) → length (taken_from k modules xs) ≡ length xs
 unfolding taken_from
 length_taken [] k modules = refl
 length_taken (x ∷ xs) k modules = ap suc (length_taken xs (k + 1) modules)
 
-pub get_taken : (xs : List AreaState) (k i : ℕ) (modules : List ℕ) → i < length xs
+pub get_taken : (xs : List AreaSummary) (k i : ℕ) (modules : List ℕ) → i < length xs
     → get_or (taken_from k modules xs) i no_area ≡ record (get_or xs i no_area) { free = (get_or xs i no_area).free - count_in modules (k + i) }
 unfolding taken_from
 get_taken [] k i modules below = absurd (omega arith)
@@ -230,12 +230,12 @@ get_taken (x ∷ xs) k zero modules below = ap (λ (n : ℕ). record x { free = 
 get_taken (x ∷ xs) k (suc i) modules below =
     get_taken xs (k + 1) i modules (omega arith) ∙ ap (λ (n : ℕ). record (get_or xs i no_area) { free = (get_or xs i no_area).free - count_in modules n }) (omega arith)
 
-pub length_given : (xs : List AreaState) (k : ℕ) (modules : List ℕ) → length (given_to k modules xs) ≡ length xs
+pub length_given : (xs : List AreaSummary) (k : ℕ) (modules : List ℕ) → length (given_to k modules xs) ≡ length xs
 unfolding given_to
 length_given [] k modules = refl
 length_given (x ∷ xs) k modules = ap suc (length_given xs (k + 1) modules)
 
-pub get_given : (xs : List AreaState) (k i : ℕ) (modules : List ℕ) → i < length xs
+pub get_given : (xs : List AreaSummary) (k i : ℕ) (modules : List ℕ) → i < length xs
     → get_or (given_to k modules xs) i no_area ≡ record (get_or xs i no_area) { free = (get_or xs i no_area).free + count_in modules (k + i) }
 unfolding given_to
 get_given [] k i modules below = absurd (omega arith)

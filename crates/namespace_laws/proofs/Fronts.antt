@@ -4,29 +4,29 @@ use Rattle.std.specs.Prelude.{◌&&◌, map, filter}
 use Rattle.std.specs.List.{AllByRecursion}
 use Rattle.std.proofs.lemmas.Bool.{cases_Bool, eq-eqb, ne_eqb, and_right}
 use Rattle.label_codec.specs.declared.label.Label.{Label}
-use Rattle.namespace_map.specs.Areas.{Area, Change, changed, all_changed}
+use Rattle.namespace_map.specs.Areas.{Area, Change, changed_areas, all_changed}
 use Rattle.namespace_laws.proofs.Staged.{Apart, names}
 
 abbrev pub AtFronts : (List (Option Area) → Type 0) → List (Option Area) → List Change → Type 0
 AtFronts P areas [] = P areas
-AtFronts P areas (c ∷ cs) = P areas × AtFronts P (changed areas c) cs
+AtFronts P areas (c ∷ cs) = P areas × AtFronts P (changed_areas areas c) cs
 
 pub fronts_take : (P : List (Option Area) → Type 0) (cs : List Change) (areas : List (Option Area)) → AtFronts P areas cs → (k : ℕ) → P (all_changed areas (take k cs))
 unfolding all_changed
 fronts_take P [] areas all zero = all
 fronts_take P [] areas all (suc k) = all
 fronts_take P (c ∷ cs) areas (one, rest) zero = one
-fronts_take P (c ∷ cs) areas (one, rest) (suc k) = fronts_take P cs (changed areas c) rest k
+fronts_take P (c ∷ cs) areas (one, rest) (suc k) = fronts_take P cs (changed_areas areas c) rest k
 
 pub fronts_by : (P : List (Option Area) → Type 0) (cs : List Change) (areas : List (Option Area)) → ((k : ℕ) → P (all_changed areas (take k cs))) → AtFronts P areas cs
 unfolding all_changed
 fronts_by P [] areas each = each 0
-fronts_by P (c ∷ cs) areas each = (each 0, fronts_by P cs (changed areas c) (λ k. each (suc k)))
+fronts_by P (c ∷ cs) areas each = (each 0, fronts_by P cs (changed_areas areas c) (λ k. each (suc k)))
 
 pub fronts_append : (P : List (Option Area) → Type 0) (cs ds : List Change) (areas : List (Option Area)) → AtFronts P areas cs → AtFronts P (all_changed areas cs) ds → AtFronts P areas (cs ++ ds)
 unfolding all_changed
 fronts_append P [] ds areas all more = more
-fronts_append P (c ∷ cs) ds areas (one, rest) more = (one, fronts_append P cs ds (changed areas c) rest more)
+fronts_append P (c ∷ cs) ds areas (one, rest) more = (one, fronts_append P cs ds (changed_areas areas c) rest more)
 
 -- a front of the elements that pass a test is the elements of a front that pass
 pub front_passes : (s : ℕ × Label → Bool) (k : ℕ) (xs : List (ℕ × Label)) → Apart xs → take k (filter s xs) ≡ filter (λ p. s p && names (take k (filter s xs)) p.0) xs

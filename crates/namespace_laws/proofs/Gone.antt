@@ -12,7 +12,7 @@ use Rattle.label_codec.specs.declared.label.Label.{Label}
 use Rattle.label_set.specs.declared.placed.Placed.{Placed}
 use Rattle.label_set.specs.declared.placed.SetStatus.{SetStatus}
 use Rattle.label_set.specs.declared.placed.SetStatus.TheVariants.{Complete, Unfinished, Local, Incomplete}
-use Rattle.namespace_map.specs.Namespaces.{Entry, lookup, entry_with, uuid_lt}
+use Rattle.namespace_map.specs.Namespaces.{NamespaceEntry, lookup, entry_with, uuid_lt}
 use Rattle.namespace_map.specs.Laws.{IsRising}
 use Rattle.namespace_map.proofs.Entries.{lookup_entries, lt_irreflexive}
 use Rattle.namespace_map.proofs.Rising.{all_pass_to}
@@ -23,7 +23,7 @@ use Rattle.namespace_map.specs.CommandLaws.{IsOf}
 use Rattle.namespace_map.proofs.Slots.{owned}
 use Rattle.namespace_map.proofs.Areas.{moved_all}
 use Rattle.namespace_map.proofs.Labels.{others_stay_all}
-use Rattle.namespace_map.specs.Left.{AreRead}
+use Rattle.namespace_map.specs.Left.{LabelsAreRead}
 use Rattle.namespace_laws.proofs.Whole.{own_of}
 use Rattle.namespace_laws.proofs.Staged.{names, moved_hit, moved_miss, unnamed, all_changed_append, all_map}
 use Rattle.namespace_laws.proofs.Delete.{to_nothing, own_empty}
@@ -33,18 +33,18 @@ use Rattle.namespace_laws.proofs.Recovery.{goes, total, weight}
 use Rattle.namespace_laws.proofs.GoneLists.{PutsBytes, read_all, removed, Removed}
 use Rattle.namespace_laws.proofs.OwnLabels.{IsOnce, lab, proper, labels, only, apart, entry_once}
 
-abbrev pub found : List (List Mapping) → List (Option Area) → List ℕ → Option Entry
+abbrev pub found : List (List Mapping) → List (Option Area) → List ℕ → Option NamespaceEntry
 found sets areas u = lookup u (namespaces_of sets areas).entries
 
 -- ---- one unfinished entry
 
-pub record GoneOne (uuid : List ℕ) (areas : List (Option Area)) (e : Entry) (cs : List Change) : Type 0 where
+pub record GoneOne (uuid : List ℕ) (areas : List (Option Area)) (e : NamespaceEntry) (cs : List Change) : Type 0 where
   pub of : AllByRecursion (IsOf uuid) cs
   pub bytes : AllByRecursion PutsBytes cs
   pub empty : own_of uuid (all_changed areas cs) ≡ []
   pub free : (i : ℕ) → free_in (slots_on (all_changed areas cs) i) ≡ free_in (slots_on areas i) + count_in (entry_modules e) i
 
-module _ (sets : List (List Mapping)) (areas : List (Option Area)) (uuid : List ℕ) (e : Entry) (read : AreRead areas) (is : found sets areas uuid ≡ Some e) (status : e.status ≡ Unfinished) where
+module _ (sets : List (List Mapping)) (areas : List (Option Area)) (uuid : List ℕ) (e : NamespaceEntry) (read : LabelsAreRead areas) (is : found sets areas uuid ≡ Some e) (status : e.status ≡ Unfinished) where
   once : IsOnce (own_of uuid areas)
   once = entry_once sets (own_of uuid areas) e (sym (lookup_entries sets (placed_in_all areas) uuid) ∙ is) status
 
@@ -86,16 +86,16 @@ module _ (sets : List (List Mapping)) (areas : List (Option Area)) (uuid : List 
 
 -- ---- all of them
 
-pub record GoneAll (sets : List (List Mapping)) (areas : List (Option Area)) (es : List Entry) (cs : List Change) : Type 0 where
+pub record GoneAll (sets : List (List Mapping)) (areas : List (Option Area)) (es : List NamespaceEntry) (cs : List Change) : Type 0 where
   pub bytes : AllByRecursion PutsBytes cs
   pub labels : (u : List ℕ) → own_of u (all_changed areas cs) ≡ cond (list_any (goes u) es) [] (own_of u areas)
   pub free : (i : ℕ) → free_in (slots_on (all_changed areas cs) i) ≡ free_in (slots_on areas i) + total es i
 
-abbrev pub AreFound : List (List Mapping) → List (Option Area) → List Entry → Type 0
-AreFound sets areas es = AllByRecursion (λ (e : Entry). found sets areas e.uuid ≡ Some e) es
+abbrev pub AreFound : List (List Mapping) → List (Option Area) → List NamespaceEntry → Type 0
+AreFound sets areas es = AllByRecursion (λ (e : NamespaceEntry). found sets areas e.uuid ≡ Some e) es
 
-abbrev pub Above : List ℕ → List Entry → Type 0
-Above u es = AllByRecursion (λ (f : Entry). uuid_lt u f.uuid ≡ true) es
+abbrev pub Above : List ℕ → List NamespaceEntry → Type 0
+Above u es = AllByRecursion (λ (f : NamespaceEntry). uuid_lt u f.uuid ≡ true) es
 
 pub above_apart : (a b : List ℕ) → uuid_lt a b ≡ true → b ≢ a
 above_apart a b less same = false≢true (sym (lt_irreflexive a b less) ∙ (bytes_eq-Decides a b).1 (sym same))
@@ -118,26 +118,26 @@ pub found_by_own : (sets : List (List Mapping)) (left areas : List (Option Area)
 found_by_own sets left areas u same =
     lookup_entries sets (placed_in_all left) u ∙ ap (λ (own : List Placed). option_map (entry_with sets own) (slice_get own 0)) same ∙ sym (lookup_entries sets (placed_in_all areas) u)
 
-pub still_found : (sets : List (List Mapping)) (left areas : List (Option Area)) (v : List ℕ) (es : List Entry) → Above v es → ((u : List ℕ) → u ≢ v → own_of u left ≡ own_of u areas) → AreFound sets areas es → AreFound sets left es
+pub still_found : (sets : List (List Mapping)) (left areas : List (Option Area)) (v : List ℕ) (es : List NamespaceEntry) → Above v es → ((u : List ℕ) → u ≢ v → own_of u left ≡ own_of u areas) → AreFound sets areas es → AreFound sets left es
 still_found sets left areas v [] above same all = tt
 still_found sets left areas v (f ∷ fs) (less, above) same (one, rest) = (found_by_own sets left areas f.uuid (same f.uuid (above_apart v f.uuid less)) ∙ one, still_found sets left areas v fs above same rest)
 
 pub own_labels_same : (left areas : List (Option Area)) (u : List ℕ) → own_of u left ≡ own_of u areas → own_labels left u ≡ own_labels areas u
 own_labels_same left areas u same = ap (λ (own : List Placed). map (λ p. (p.«module», p.label)) (by_position own)) same
 
-pub same_gone : (left areas : List (Option Area)) (v : List ℕ) (es : List Entry) → Above v es → ((u : List ℕ) → u ≢ v → own_of u left ≡ own_of u areas) → flat_map (gone_changes areas) es ≡ flat_map (gone_changes left) es
+pub same_gone : (left areas : List (Option Area)) (v : List ℕ) (es : List NamespaceEntry) → Above v es → ((u : List ℕ) → u ≢ v → own_of u left ≡ own_of u areas) → flat_map (gone_changes areas) es ≡ flat_map (gone_changes left) es
 same_gone left areas v [] above same = refl
 same_gone left areas v (f ∷ fs) (less, above) same =
     ap (λ (xs : List Change). xs ++ flat_map (gone_changes areas) fs) (ap (λ (qs : List (ℕ × Label)). cond (is_unfinished f.status) (map (change_to (λ l. None)) qs) []) (sym (own_labels_same left areas f.uuid (same f.uuid (above_apart v f.uuid less)))))
     ∙ ap (λ (xs : List Change). gone_changes left f ++ xs) (same_gone left areas v fs above same)
 
-pub gone_all : (es : List Entry) (sets : List (List Mapping)) (areas : List (Option Area)) → AreRead areas → IsRising es → AreFound sets areas es → GoneAll sets areas es (flat_map (gone_changes areas) es)
+pub gone_all : (es : List NamespaceEntry) (sets : List (List Mapping)) (areas : List (Option Area)) → LabelsAreRead areas → IsRising es → AreFound sets areas es → GoneAll sets areas es (flat_map (gone_changes areas) es)
 unfolding all_changed
 gone_all [] sets areas read rising all = record { bytes = tt; labels = λ u. refl; free = λ i. omega arith }
 gone_all (e ∷ es) sets areas read (above, rising) (one, rest) = by (cases_Bool (is_unfinished e.status)) (gone_all es sets)
   where
     by : (is_unfinished e.status ≡ true) ⊎ (is_unfinished e.status ≡ false)
-        → ((as' : List (Option Area)) → AreRead as' → IsRising es → AreFound sets as' es → GoneAll sets as' es (flat_map (gone_changes as') es))
+        → ((as' : List (Option Area)) → LabelsAreRead as' → IsRising es → AreFound sets as' es → GoneAll sets as' es (flat_map (gone_changes as') es))
         → GoneAll sets areas (e ∷ es) (flat_map (gone_changes areas) (e ∷ es))
     by (inr not_it) on =
         let later = on areas read rising rest in

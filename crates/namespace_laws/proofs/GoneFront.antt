@@ -13,16 +13,16 @@ use Rattle.label_set.specs.declared.placed.SetStatus.TheVariants.{Unfinished, Lo
 use Rattle.label_set.specs.declared.placed.Why.TheVariants.{Outside}
 use Rattle.label_set.specs.Rules.{is_local}
 use Rattle.label_set.specs.Status.{status_of}
-use Rattle.namespace_map.specs.Namespaces.{AreaState, Entry, Namespaces, entry_with, holds_label, region_of, status_in}
+use Rattle.namespace_map.specs.Namespaces.{AreaSummary, NamespaceEntry, Namespaces, entry_with, holds_label, region_of, status_in}
 use Rattle.namespace_map.proofs.Entries.{lookup_entries}
 use Rattle.namespace_map.proofs.Rising.{rising_entries}
 use Rattle.namespace_map.specs.Areas.{Area, Change, slots_on, slots_of, free_in, area_at, all_changed}
 use Rattle.namespace_map.specs.Commands.{no_area, count_in, unfinished_gone}
-use Rattle.namespace_map.specs.Changes.{namespaces_of, placed_in_all, area_state, own_labels, change_to}
+use Rattle.namespace_map.specs.Changes.{namespaces_of, placed_in_all, area_summary, own_labels, change_to}
 use Rattle.namespace_map.specs.CommandLaws.{IsOf}
 use Rattle.namespace_map.proofs.Slots.{owned}
 use Rattle.namespace_map.proofs.Areas.{Proper, moved_all}
-use Rattle.namespace_map.specs.Left.{AreRegions, AreRead}
+use Rattle.namespace_map.specs.Left.{AreRegions, LabelsAreRead}
 use Rattle.namespace_laws.proofs.Whole.{AllLab, own_of, IsBy, slot_on, all_by, own_each}
 use Rattle.namespace_laws.proofs.Sound.{Shared, SoundAt, SoundIn}
 use Rattle.namespace_laws.proofs.Table.{Model, SoundAs, at_like, changes_now, like_self, like_slot, own_unfinished}
@@ -69,7 +69,7 @@ found_place (s ∷ sets) test k r e = by (cases_Bool (test s)) (found_place sets
     by (inl it) later = (0, ap (λ (x : ℕ × List Mapping). Some x.1) (same_Some (k, s) r (rw it at e)))
     by (inr not_it) later = let h = later (rw not_it at e) in (suc h.0, h.1)
 
-found_in : (sets : List (List Mapping)) (own : List Placed) (e : Entry) → option_map (entry_with sets own) (slice_get own 0) ≡ Some e → e.status ≡ Unfinished → Found sets own
+found_in : (sets : List (List Mapping)) (own : List Placed) (e : NamespaceEntry) → option_map (entry_with sets own) (slice_get own 0) ≡ Some e → e.status ≡ Unfinished → Found sets own
 found_in sets own e is status = by own refl
   where
     region_by : (first : Placed) (rest : List Placed) → own ≡ first ∷ rest → (o : Option (ℕ × List Mapping)) → region_of sets first ≡ o → status_in o own first ≡ Unfinished → Found sets own
@@ -84,13 +84,13 @@ found_in sets own e is status = by own refl
     by [] nothing = absurd (none-some e (sym (ap (λ (xs : List Placed). option_map (entry_with sets own) (slice_get xs 0)) nothing) ∙ is))
     by (first ∷ rest) own_is =
         let same : entry_with sets own first ≡ e = same_Some (entry_with sets own first) e (sym (ap (λ (xs : List Placed). option_map (entry_with sets own) (slice_get xs 0)) own_is) ∙ is) in
-        region_by first rest own_is (region_of sets first) refl (ap (λ (x : Entry). x.status) same ∙ status)
+        region_by first rest own_is (region_of sets first) refl (ap (λ (x : NamespaceEntry). x.status) same ∙ status)
 
 -- nothing is left, or an unfinished entry
-abbrev Goes : Option Entry → Type 0
-Goes o = (o ≡ None) ⊎ ((x : Entry) × (o ≡ Some x) × (x.status ≡ Unfinished))
+abbrev Goes : Option NamespaceEntry → Type 0
+Goes o = (o ≡ None) ⊎ ((x : NamespaceEntry) × (o ≡ Some x) × (x.status ≡ Unfinished))
 
-goes_settled : (gone : Namespaces) (o : Option Entry) → Goes o → settle gone o ≡ None
+goes_settled : (gone : Namespaces) (o : Option NamespaceEntry) → Goes o → settle gone o ≡ None
 goes_settled gone o (inl none) = ap (settle gone) none
 goes_settled gone o (inr (x, is, status)) = ap (settle gone) is ∙ rw status refl
 
@@ -99,8 +99,8 @@ goes_weight : (sets : List (List Mapping)) (left : List (Option Area)) (uuid : L
 goes_weight sets left uuid lab proper goes i = by goes ∙ sym (owned_count uuid lab left proper i)
   where
     by : Goes (found sets left uuid) → weight (found sets left uuid) i ≡ count_in (map (λ (p : Placed). p.«module») (own_of uuid left)) i
-    by (inr (x, is, status)) = ap (λ (o : Option Entry). weight o i) is ∙ rw status (ap (λ (ms : List ℕ). count_in ms i) (own_modules sets left uuid x is))
-    by (inl none) = ap (λ (o : Option Entry). weight o i) none ∙ sym (ap (λ (xs : List Placed). count_in (map (λ (p : Placed). p.«module») xs) i) (nothing (own_of uuid left) refl))
+    by (inr (x, is, status)) = ap (λ (o : Option NamespaceEntry). weight o i) is ∙ rw status (ap (λ (ms : List ℕ). count_in ms i) (own_modules sets left uuid x is))
+    by (inl none) = ap (λ (o : Option NamespaceEntry). weight o i) none ∙ sym (ap (λ (xs : List Placed). count_in (map (λ (p : Placed). p.«module») xs) i) (nothing (own_of uuid left) refl))
       where
         nothing : (xs : List Placed) → own_of uuid left ≡ xs → xs ≡ []
         nothing [] own_is = refl
@@ -108,7 +108,7 @@ goes_weight sets left uuid lab proper goes i = by goes ∙ sym (owned_count uuid
             absurd (none-some (entry_with sets (own_of uuid left) x)
             (sym none ∙ lookup_entries sets (placed_in_all left) uuid ∙ ap (λ (ys : List Placed). option_map (entry_with sets (own_of uuid left)) (slice_get ys 0)) own_is))
 
-module _ (sets : List (List Mapping)) (areas : List (Option Area)) (uuid : List ℕ) (e : Entry) (regions : AreRegions sets) (read : AreRead areas) (is : found sets areas uuid ≡ Some e) (status : e.status ≡ Unfinished) where
+module _ (sets : List (List Mapping)) (areas : List (Option Area)) (uuid : List ℕ) (e : NamespaceEntry) (regions : AreRegions sets) (read : LabelsAreRead areas) (is : found sets areas uuid ≡ Some e) (status : e.status ≡ Unfinished) where
   abbrev own : List Placed
   own = own_of uuid areas
 
@@ -210,10 +210,10 @@ module _ (sets : List (List Mapping)) (areas : List (Option Area)) (uuid : List 
     abbrev ns : Namespaces
     ns = namespaces_of sets areas
 
-    free_is : (i : ℕ) → (area_state (area_at areas i)).free ≡ free_in (slots_on areas i)
+    free_is : (i : ℕ) → (area_summary (area_at areas i)).free ≡ free_in (slots_on areas i)
     free_is i = by (area_at areas i)
       where
-        by : (a : Option Area) → (area_state a).free ≡ free_in (slots_of a)
+        by : (a : Option Area) → (area_summary a).free ≡ free_in (slots_of a)
         by None = refl
         by (Some a) = refl
 
@@ -231,16 +231,16 @@ module _ (sets : List (List Mapping)) (areas : List (Option Area)) (uuid : List 
       rising_left = rising_entries sets (placed_in_all left);
       rising_right = rising_entries sets (placed_in_all areas);
       others = λ u ne. found_by_own sets left areas u (others_own cs areas u uuid ne of);
-      count = length-map left area_state ∙ length_kept cs areas ∙ sym (length-map areas area_state);
+      count = length-map left area_summary ∙ length_kept cs areas ∙ sym (length-map areas area_summary);
       areas = λ i below.
-          let s : AreaState = get_or ns.areas i no_area in
-          let free : s.free ≡ free_in (slots_on areas i) = ap (λ (a : AreaState). a.free) (get_state areas i) ∙ free_is i in
+          let s : AreaSummary = get_or ns.areas i no_area in
+          let free : s.free ≡ free_in (slots_on areas i) = ap (λ (a : AreaSummary). a.free) (get_state areas i) ∙ free_is i in
           let then : get_or (namespaces_of sets left).areas i no_area ≡ with_free s (free_in (slots_on left i)) =
-          get_state left i ∙ state_after cs areas i (free_in (slots_on left i)) refl ∙ sym (ap (λ (a : AreaState). with_free a (free_in (slots_on left i))) (get_state areas i)) in
+          get_state left i ∙ state_after cs areas i (free_in (slots_on left i)) refl ∙ sym (ap (λ (a : AreaSummary). with_free a (free_in (slots_on left i))) (get_state areas i)) in
           let a = goes_weight sets left uuid lab_then went.proper goes i in
           let b = goes_weight sets areas uuid lab proper (inr (e, is, status)) i in
           let sum = went.sum i in
-          ap (λ (a : AreaState). with_free a (a.free + weight (found sets left uuid) i)) then
+          ap (λ (a : AreaSummary). with_free a (a.free + weight (found sets left uuid) i)) then
           ∙ ap (with_free s) (omega (arith, a, b, sum, free));
     }
 

@@ -8,11 +8,11 @@ use Rattle.std.proofs.lemmas.Option.{none-some, same_Some}
 use Rattle.label_codec.specs.declared.label.Label.{Label}
 use Rattle.label_area.specs.Area.{SlotState}
 use Rattle.label_area.specs.Change.{without as without_slot}
-use Rattle.namespace_map.specs.Areas.{Area, Change, slots_of, slots_on, free_in, is_free, changed, changed_slots, all_changed, refilled, replaced, slot_of}
+use Rattle.namespace_map.specs.Areas.{Area, Change, slots_of, slots_on, free_in, is_free, changed_areas, changed_slots, all_changed, refilled, replaced, slot_of}
 use Rattle.namespace_map.specs.Changes.{change_to}
 use Rattle.namespace_map.proofs.Slots.{owned, remove_count}
 use Rattle.namespace_map.proofs.Areas.{Proper, moved, moved_all, slots_of_changed, area_of_other}
-use Rattle.namespace_map.specs.Left.{AreRead}
+use Rattle.namespace_map.specs.Left.{LabelsAreRead}
 use Rattle.namespace_laws.proofs.Staged.{Apart}
 use Rattle.namespace_laws.proofs.Delete.{to_nothing}
 use Rattle.namespace_laws.proofs.One.{proper_gone}
@@ -44,10 +44,10 @@ replaced_has P slots out (Some l) each news = by (position is_free slots)
         (λ k e. subst (P f) (same_Some _ k (same_Some _ (Some k) e)) (news l f refl)))
 
 -- one change leaves slots as they were, or changes them
-pub slots_then : (areas : List (Option Area)) (c : Change) (m : ℕ) → (slots_on (changed areas c) m ≡ slots_on areas m) ⊎ (slots_on (changed areas c) m ≡ changed_slots (slots_on areas m) c)
+pub slots_then : (areas : List (Option Area)) (c : Change) (m : ℕ) → (slots_on (changed_areas areas c) m ≡ slots_on areas m) ⊎ (slots_on (changed_areas areas c) m ≡ changed_slots (slots_on areas m) c)
 slots_then areas c m = elim (cases_eq m c.number) [
   | inl same ↦ elim (cases_lt c.number (length areas)) [
-    | inl below ↦ inr (ap (slots_on (changed areas c)) same ∙ slots_of_changed areas c below ∙ ap (λ (n : ℕ). changed_slots (slots_on areas n) c) (sym same))
+    | inl below ↦ inr (ap (slots_on (changed_areas areas c)) same ∙ slots_of_changed areas c below ∙ ap (λ (n : ℕ). changed_slots (slots_on areas n) c) (sym same))
     | inr past ↦ inl (ap (λ (xs : List (Option Area)). slots_on xs m) (set_past areas c.number _ past))
   ]
   | inr apart ↦ inl (ap slots_of (area_of_other areas c m apart))
@@ -64,41 +64,41 @@ IsReadAt s l = (l.slot ≡ s) × (0 < l.raw)
 abbrev pub PutsBytes : Change → Type 0
 PutsBytes c = (l : Label) → c.label ≡ Some l → 0 < l.raw
 
-read_one : (areas : List (Option Area)) (c : Change) → AreRead areas → PutsBytes c → AreRead (changed areas c)
+read_one : (areas : List (Option Area)) (c : Change) → LabelsAreRead areas → PutsBytes c → LabelsAreRead (changed_areas areas c)
 read_one areas c read bytes = record { number = λ m s l is. (each m s l is).0; bytes = λ m s l is. (each m s l is).1 }
   where
     before : (m : ℕ) → HasEach IsReadAt (slots_on areas m)
     before m s l is = (read.number m s l is, read.bytes m s l is)
 
-    each : (m s : ℕ) (l : Label) → slice_get (slots_on (changed areas c) m) s ≡ Some (Some (Some l)) → IsReadAt s l
+    each : (m s : ℕ) (l : Label) → slice_get (slots_on (changed_areas areas c) m) s ≡ Some (Some (Some l)) → IsReadAt s l
     each m s l is = by (slots_then areas c m)
       where
-        by : (slots_on (changed areas c) m ≡ slots_on areas m) ⊎ (slots_on (changed areas c) m ≡ changed_slots (slots_on areas m) c) → IsReadAt s l
+        by : (slots_on (changed_areas areas c) m ≡ slots_on areas m) ⊎ (slots_on (changed_areas areas c) m ≡ changed_slots (slots_on areas m) c) → IsReadAt s l
         by (inl same) = before m s l (sym (ap (λ (xs : List SlotState). slice_get xs s) same) ∙ is)
         by (inr changes) =
             replaced_has IsReadAt (slots_on areas m) (slot_of (slots_on areas m) c.uuid) c.label (before m) (λ k n e. (refl, bytes k e)) s l (sym (ap (λ (xs : List SlotState). slice_get xs s) changes) ∙ is)
 
 -- labels stay as they were read
-pub read_all : (cs : List Change) (areas : List (Option Area)) → AreRead areas → AllByRecursion PutsBytes cs → AreRead (all_changed areas cs)
+pub read_all : (cs : List Change) (areas : List (Option Area)) → LabelsAreRead areas → AllByRecursion PutsBytes cs → LabelsAreRead (all_changed areas cs)
 unfolding all_changed
 read_all [] areas read all = read
-read_all (c ∷ cs) areas read (one, rest) = read_all cs (changed areas c) (read_one areas c read one) rest
+read_all (c ∷ cs) areas read (one, rest) = read_all cs (changed_areas areas c) (read_one areas c read one) rest
 
 -- ---- removing a list of labels
 
 one_free : (uuid : List ℕ) (lab : ℕ → Option Label) (areas : List (Option Area)) (p : ℕ × Label) → Proper uuid lab areas → lab p.0 ≡ Some p.1 → (i : ℕ)
-    → free_in (slots_on (changed areas (change_to to_nothing p)) i) + owned (moved lab (change_to to_nothing p) i) ≡ free_in (slots_on areas i) + owned (lab i)
+    → free_in (slots_on (changed_areas areas (change_to to_nothing p)) i) + owned (moved lab (change_to to_nothing p) i) ≡ free_in (slots_on areas i) + owned (lab i)
 one_free uuid lab areas p proper at i = elim (cases_eq i p.0) [
   | inl here ↦ rw (here, eq-eqb p.0 p.0 refl) at_p
   | inr apart ↦ rw (ne_eqb i p.0 apart) (ap (λ (a : Option Area). free_in (slots_of a) + owned (lab i)) (area_of_other areas (change_to to_nothing p) i apart))
 ]
   where
-    slots : slots_on (changed areas (change_to to_nothing p)) p.0 ≡ replaced (slot_of (slots_on areas p.0) uuid) None (slots_on areas p.0)
+    slots : slots_on (changed_areas areas (change_to to_nothing p)) p.0 ≡ replaced (slot_of (slots_on areas p.0) uuid) None (slots_on areas p.0)
     slots =
         slots_of_changed areas (change_to to_nothing p) (lies_there uuid lab areas proper p.0 p.1 at)
         ∙ ap (λ (u : List ℕ). replaced (slot_of (slots_on areas p.0) u) None (slots_on areas p.0)) (proper.named p.0 p.1 at)
 
-    at_p : free_in (slots_on (changed areas (change_to to_nothing p)) p.0) + 0 ≡ free_in (slots_on areas p.0) + owned (lab p.0)
+    at_p : free_in (slots_on (changed_areas areas (change_to to_nothing p)) p.0) + 0 ≡ free_in (slots_on areas p.0) + owned (lab p.0)
     at_p =
         let a = ap (λ (xs : List SlotState). free_in xs) slots in
         let b = remove_count uuid (lab p.0) (slots_on areas p.0) (proper.named p.0) (proper.own p.0) in
@@ -112,7 +112,7 @@ pub removed : (ps : List (ℕ × Label)) (uuid : List ℕ) (lab : ℕ → Option
 unfolding all_changed
 removed [] uuid lab areas proper labels apart = record { proper = proper; sum = λ i. refl }
 removed (p ∷ ps) uuid lab areas proper (at, labels) (one, rest) =
-    let later = removed ps uuid (moved lab (change_to to_nothing p)) (changed areas (change_to to_nothing p)) (proper_gone uuid areas lab proper p at) (still ps one labels) rest in
+    let later = removed ps uuid (moved lab (change_to to_nothing p)) (changed_areas areas (change_to to_nothing p)) (proper_gone uuid areas lab proper p at) (still ps one labels) rest in
     record { proper = later.proper; sum = λ i. later.sum i ∙ one_free uuid lab areas p proper at i }
   where
     still : (qs : List (ℕ × Label)) → AllByRecursion (λ q. p.0 ≢ q.0) qs → AllByRecursion (λ q. lab q.0 ≡ Some q.1) qs → AllByRecursion (λ q. moved lab (change_to to_nothing p) q.0 ≡ Some q.1) qs

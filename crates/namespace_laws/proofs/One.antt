@@ -11,7 +11,7 @@ use Rattle.label_set.specs.declared.placed.Placed.{Placed}
 use Rattle.label_set.specs.declared.placed.SetStatus.TheVariants.{Complete}
 use Rattle.label_set.specs.Rules.{is_updating}
 use Rattle.namespace_map.proofs.Rising.{all_pass_to}
-use Rattle.namespace_map.specs.Areas.{Area, Change, slots_of, slots_on, changed, all_changed, after_steps, replaced, slot_of}
+use Rattle.namespace_map.specs.Areas.{Area, Change, slots_of, slots_on, changed_areas, all_changed, after_steps, replaced, slot_of}
 use Rattle.namespace_map.specs.Changes.{change_to, in_two}
 use Rattle.namespace_map.proofs.Slots.{IsOwn, remove_own}
 use Rattle.namespace_map.proofs.Areas.{Proper, moved, moved_all, proper_after, slots_of_changed, area_of_other}
@@ -31,11 +31,11 @@ one_of (x ∷ []) e = (x, refl)
 one_of (x ∷ y ∷ xs) e = absurd (omega arith)
 
 -- one change is made, or not
-pub cut_of_one : (areas : List (Option Area)) (c : Change) (n : ℕ) (stays : Bool) → (after_steps areas (c ∷ []) n stays ≡ areas) ⊎ (after_steps areas (c ∷ []) n stays ≡ changed areas c)
+pub cut_of_one : (areas : List (Option Area)) (c : Change) (n : ℕ) (stays : Bool) → (after_steps areas (c ∷ []) n stays ≡ areas) ⊎ (after_steps areas (c ∷ []) n stays ≡ changed_areas areas c)
 unfolding all_changed
 cut_of_one areas c n stays = by (cut_is_front (c ∷ []) areas n stays)
   where
-    by : IsFront areas (c ∷ []) (after_steps areas (c ∷ []) n stays) → (after_steps areas (c ∷ []) n stays ≡ areas) ⊎ (after_steps areas (c ∷ []) n stays ≡ changed areas c)
+    by : IsFront areas (c ∷ []) (after_steps areas (c ∷ []) n stays) → (after_steps areas (c ∷ []) n stays ≡ areas) ⊎ (after_steps areas (c ∷ []) n stays ≡ changed_areas areas c)
     by (zero, below, is) = inl is
     by (suc zero, below, is) = inr is
     by (suc (suc k), below, is) = absurd (omega arith)
@@ -50,17 +50,17 @@ module _ (uuid : List ℕ) (areas : List (Option Area)) (lab : ℕ → Option La
   of_uuid = proper.named p.0 p.1 at
 
   -- removing a label needs no free slot
-  pub proper_gone : Proper uuid (moved lab gone) (changed areas gone)
+  pub proper_gone : Proper uuid (moved lab gone) (changed_areas areas gone)
   proper_gone = record { own = own; named = named }
     where
-      here : slots_on (changed areas gone) p.0 ≡ replaced (slot_of (slots_on areas p.0) uuid) None (slots_on areas p.0)
+      here : slots_on (changed_areas areas gone) p.0 ≡ replaced (slot_of (slots_on areas p.0) uuid) None (slots_on areas p.0)
       here =
           slots_of_changed areas gone (lies_there uuid lab areas proper p.0 p.1 at)
           ∙ ap (λ (u : List ℕ). replaced (slot_of (slots_on areas p.0) u) None (slots_on areas p.0)) of_uuid
 
-      own : (m : ℕ) → IsOwn uuid (moved lab gone m) (slots_on (changed areas gone) m)
+      own : (m : ℕ) → IsOwn uuid (moved lab gone m) (slots_on (changed_areas areas gone) m)
       own m = elim (cases_eq m p.0) [
-        | inl same ↦ rw (eq-eqb m p.0 same) (subst (λ (k : ℕ). IsOwn uuid None (slots_on (changed areas gone) k)) (sym same)
+        | inl same ↦ rw (eq-eqb m p.0 same) (subst (λ (k : ℕ). IsOwn uuid None (slots_on (changed_areas areas gone) k)) (sym same)
             (subst (λ (slots : List SlotState). IsOwn uuid None slots) (sym here) (remove_own uuid (lab p.0) (slots_on areas p.0) (proper.named p.0) (proper.own p.0))))
         | inr apart ↦ rw (ne_eqb m p.0 apart) (subst (λ (a : Option Area). IsOwn uuid (lab m) (slots_of a)) (sym (area_of_other areas gone m apart)) (proper.own m))
       ]
@@ -80,10 +80,10 @@ delete_cut_one uuid areas lab ps proper only labels one n stays = by (one_of ps 
     by (p, is) =
         let at : lab p.0 ≡ Some p.1 = (subst (AllByRecursion (λ p. lab p.0 ≡ Some p.1)) is labels).0 in
         subst (λ (qs : List (ℕ × Label)). (after_steps areas (in_two to_updating to_nothing qs) n stays ≡ areas) ⊎ (own_of uuid (after_steps areas (in_two to_updating to_nothing qs) n stays) ≡ [])) (sym is)
-        (left (cut_of_one areas (change_to to_nothing p) n stays) (own_empty uuid (moved lab (change_to to_nothing p)) (changed areas (change_to to_nothing p)) (proper_gone uuid areas lab proper p at) (λ m. none m (lab m) refl)))
+        (left (cut_of_one areas (change_to to_nothing p) n stays) (own_empty uuid (moved lab (change_to to_nothing p)) (changed_areas areas (change_to to_nothing p)) (proper_gone uuid areas lab proper p at) (λ m. none m (lab m) refl)))
       where
-        left : (after_steps areas (change_to to_nothing p ∷ []) n stays ≡ areas) ⊎ (after_steps areas (change_to to_nothing p ∷ []) n stays ≡ changed areas (change_to to_nothing p))
-            → own_of uuid (changed areas (change_to to_nothing p)) ≡ []
+        left : (after_steps areas (change_to to_nothing p ∷ []) n stays ≡ areas) ⊎ (after_steps areas (change_to to_nothing p ∷ []) n stays ≡ changed_areas areas (change_to to_nothing p))
+            → own_of uuid (changed_areas areas (change_to to_nothing p)) ≡ []
             → (after_steps areas (change_to to_nothing p ∷ []) n stays ≡ areas) ⊎ (own_of uuid (after_steps areas (change_to to_nothing p ∷ []) n stays) ≡ [])
         left (inl before) empty = inl before
         left (inr after) empty = inr (ap (own_of uuid) after ∙ empty)
@@ -157,7 +157,7 @@ module _ (uuid : List ℕ) (set : List Mapping) (c : Model) (whole : IsWhole set
     unfolding all_changed
     renamed_or_not n stays = by (cut_of_one areas (change_to (to_settled new) p) n stays)
       where
-        by : (after_steps areas (one_changes (p ∷ [])) n stays ≡ areas) ⊎ (after_steps areas (one_changes (p ∷ [])) n stays ≡ changed areas (change_to (to_settled new) p))
+        by : (after_steps areas (one_changes (p ∷ [])) n stays ≡ areas) ⊎ (after_steps areas (one_changes (p ∷ [])) n stays ≡ changed_areas areas (change_to (to_settled new) p))
             → (after_steps areas (one_changes (p ∷ [])) n stays ≡ areas) ⊎ Stands uuid set c (Complete new false) (after_steps areas (one_changes (p ∷ [])) n stays)
         by (inl before) = inl before
         by (inr after) = inr (subst (Stands uuid set c (Complete new false)) (sym after) stands_then)

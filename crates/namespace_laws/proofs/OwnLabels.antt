@@ -15,12 +15,12 @@ use Rattle.label_set.specs.declared.placed.SetStatus.TheVariants.{Complete, Unfi
 use Rattle.label_set.specs.declared.placed.Field.TheVariants.{Names}
 use Rattle.label_set.specs.Rules.{module_of, is_local, is_updating, is_twice, is_marked, least_where, least_twice, agreed_name}
 use Rattle.label_set.specs.Status.{local_finding, twice_finding, findings, half_named, named_by, naming_of, status_of}
-use Rattle.namespace_map.specs.Namespaces.{Entry, entry_with, region_of, status_in}
+use Rattle.namespace_map.specs.Namespaces.{NamespaceEntry, entry_with, region_of, status_in}
 use Rattle.namespace_map.proofs.Rising.{all_pass_to}
 use Rattle.namespace_map.specs.Areas.{Area}
 use Rattle.namespace_map.specs.Changes.{own_labels, by_position}
 use Rattle.namespace_map.proofs.Areas.{Proper}
-use Rattle.namespace_map.specs.Left.{AreRead}
+use Rattle.namespace_map.specs.Left.{LabelsAreRead}
 use Rattle.namespace_map.proofs.Labels.{placed_at}
 use Rattle.namespace_laws.proofs.Whole.{AllLab, own_of, IsBy, slot_on, all_by, any_of}
 use Rattle.namespace_laws.proofs.Agree.{own_by, placed_by}
@@ -36,7 +36,7 @@ use Rattle.namespace_laws.proofs.Shaped.{least_nothing, lies_there, in_filter, i
 abbrev pub IsOnce : List Placed → Type 0
 IsOnce own = AllByRecursion (λ q. is_twice own q ≡ false) own
 
-module _ (uuid : List ℕ) (areas : List (Option Area)) (read : AreRead areas) (once : IsOnce (own_of uuid areas)) where
+module _ (uuid : List ℕ) (areas : List (Option Area)) (read : LabelsAreRead areas) (once : IsOnce (own_of uuid areas)) where
   abbrev pub lab : ℕ → Option Label
   lab = lab_of uuid areas
 
@@ -113,7 +113,7 @@ unfinished_once set own e = by (first_fault (findings set own)) refl e
         (λ x a. local_not (list_any is_local own) x a) (λ x b. twice_not (least_twice own) x b))
 
 -- the same for an unfinished entry
-pub entry_once : (sets : List (List Mapping)) (own : List Placed) (e : Entry) → option_map (entry_with sets own) (slice_get own 0) ≡ Some e → e.status ≡ Unfinished → IsOnce own
+pub entry_once : (sets : List (List Mapping)) (own : List Placed) (e : NamespaceEntry) → option_map (entry_with sets own) (slice_get own 0) ≡ Some e → e.status ≡ Unfinished → IsOnce own
 entry_once sets own e is status = by (slice_get own 0) refl
   where
     region : (p : Placed) (o : Option (ℕ × List Mapping)) → status_in o own p ≡ Unfinished → IsOnce own
@@ -127,4 +127,4 @@ entry_once sets own e is status = by (slice_get own 0) refl
     by None at = absurd (none-some e (sym (ap (option_map (entry_with sets own)) at) ∙ is))
     by (Some p) at =
         let same : entry_with sets own p ≡ e = same_Some (entry_with sets own p) e (sym (ap (option_map (entry_with sets own)) at) ∙ is) in
-        region p (region_of sets p) (ap (λ (x : Entry). x.status) same ∙ status)
+        region p (region_of sets p) (ap (λ (x : NamespaceEntry). x.status) same ∙ status)

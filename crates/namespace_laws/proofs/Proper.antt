@@ -19,7 +19,7 @@ use Rattle.namespace_map.specs.Areas.{Area, slots_of, slots_on, has_uuid, slot_o
 use Rattle.namespace_map.proofs.Slots.{slot, IsOwn}
 use Rattle.namespace_map.proofs.Areas.{Proper}
 use Rattle.namespace_map.proofs.Labels.{part, placed_at, own_from, labels_of_areas}
-use Rattle.namespace_map.specs.Left.{AreRead}
+use Rattle.namespace_map.specs.Left.{LabelsAreRead}
 use Rattle.namespace_laws.proofs.Whole.{own_of, AllLab, slot_on}
 use Rattle.namespace_laws.proofs.Apart.{on_module, count_none}
 use Rattle.namespace_laws.proofs.Statuses.{some_gives}
@@ -125,7 +125,7 @@ there_is [] s x below e = absurd (omega arith)
 there_is (y ∷ ys) zero x below e = ap Some e
 there_is (y ∷ ys) (suc s) x below e = there_is ys s x (omega arith) e
 
-module _ (uuid : List ℕ) (areas : List (Option Area)) (read : AreRead areas) (once : AllByRecursion (λ q. is_twice (own_of uuid areas) q ≡ false) (own_of uuid areas)) where
+module _ (uuid : List ℕ) (areas : List (Option Area)) (read : LabelsAreRead areas) (once : AllByRecursion (λ q. is_twice (own_of uuid areas) q ≡ false) (own_of uuid areas)) where
   few_on : (m : ℕ) → count_by (on_module m) (own_of uuid areas) ≤ 1
   few_on m = elim (cases_Bool (list_any (on_module m) (own_of uuid areas))) [
     | inl some ↦ some_gives (on_module m) (count_by (on_module m) (own_of uuid areas) ≤ 1) (own_of uuid areas) some

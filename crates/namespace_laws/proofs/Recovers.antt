@@ -12,13 +12,13 @@ use Rattle.label_set.specs.declared.placed.Placed.{Placed}
 use Rattle.label_set.specs.declared.placed.SetStatus.{SetStatus}
 use Rattle.label_set.specs.declared.placed.SetStatus.TheVariants.{Complete, Unfinished}
 use Rattle.label_set.specs.Rules.{is_updating}
-use Rattle.namespace_map.specs.Namespaces.{Namespaces, Entry, Part, AreaState, entry_with, part_of, lookup}
+use Rattle.namespace_map.specs.Namespaces.{Namespaces, NamespaceEntry, Part, AreaSummary, entry_with, part_of, lookup}
 use Rattle.namespace_map.proofs.Entries.{lookup_entries}
 use Rattle.namespace_map.proofs.Entries as entries
 use Rattle.namespace_map.proofs.Rising.{all_pass_to, rising_entries}
 use Rattle.namespace_map.specs.Areas.{Area, Change, slots_on, free_in, area_at, all_changed, after_steps}
-use Rattle.namespace_map.specs.Commands.{no_area, area_of, count_in, given_to, entry_modules, deleted_entry, is_unfinished, unfinished_gone, settled_entry, recovered}
-use Rattle.namespace_map.specs.Changes.{namespaces_of, placed_in_all, area_state}
+use Rattle.namespace_map.specs.Commands.{no_area, area_of, count_in, given_to, entry_modules, deleted_entry, is_unfinished, unfinished_gone, settled_entry, after_recovery}
+use Rattle.namespace_map.specs.Changes.{namespaces_of, placed_in_all, area_summary}
 use Rattle.namespace_map.specs.CommandLaws.{IsOf}
 use Rattle.namespace_map.proofs.Slots.{owned}
 use Rattle.namespace_map.proofs.Areas.{Proper, HasRoom, Fitting, moved_all, moved_keeps, proper_after, sum_kept, all_of_front}
@@ -40,7 +40,7 @@ pub record FrontOf (sets : List (List Mapping)) (uuid : List ℕ) (lab : ℕ →
   pub proper : Proper uuid lab_then left
   pub sum : (i : ℕ) → free_in (slots_on left i) + owned (lab_then i) ≡ free_in (slots_on areas i) + owned (lab i)
   pub room : (m : ℕ) (l : Label) → lab_then m ≡ Some l → 1 ≤ free_in (slots_on left m)
-  pub state : (i n : ℕ) → free_in (slots_on left i) ≡ n → area_state (area_at left i) ≡ record (area_state (area_at areas i)) { free = n }
+  pub state : (i n : ℕ) → free_in (slots_on left i) ≡ n → area_summary (area_at left i) ≡ record (area_summary (area_at areas i)) { free = n }
   pub count : length left ≡ length areas
   pub others : (u : List ℕ) → u ≢ uuid → lookup u (namespaces_of sets left).entries ≡ lookup u (namespaces_of sets areas).entries
 
@@ -88,11 +88,11 @@ module _ (sets : List (List Mapping)) (uuid : List ℕ) (lab : ℕ → Option La
 
 -- ---- free slots for what changes
 
-settles_all : (gone : Namespaces) (e : Entry) (name : List ℕ) (pending : Bool) → e.status ≡ Complete name pending → AllByRecursion (λ m. ((area_of gone m).free == 0) ≡ false) e.updating
+settles_all : (gone : Namespaces) (e : NamespaceEntry) (name : List ℕ) (pending : Bool) → e.status ≡ Complete name pending → AllByRecursion (λ m. ((area_of gone m).free == 0) ≡ false) e.updating
     → settled_entry gone e ≡ record e { updating = []; status = Complete name false }
 settles_all gone e name pending status free = rw (status, filter_none (λ m. (area_of gone m).free == 0) e.updating free) refl
 
-given_more : (states : List AreaState) (modules : List ℕ) (k m : ℕ)
+given_more : (states : List AreaSummary) (modules : List ℕ) (k m : ℕ)
     → (unwrap_or (slice_get states m) no_area).free ≤ (unwrap_or (slice_get (given_to k modules states) m) no_area).free
 unfolding given_to
 given_more [] modules k m = omega arith
@@ -100,7 +100,7 @@ given_more (a ∷ as') modules k zero = omega arith
 given_more (a ∷ as') modules k (suc m) = given_more as' modules (k + 1) m
 
 -- recovering unfinished entries takes no free slot
-gone_free : (es : List Entry) (ns : Namespaces) (m : ℕ) → (area_of ns m).free ≤ (area_of (unfinished_gone ns es) m).free
+gone_free : (es : List NamespaceEntry) (ns : Namespaces) (m : ℕ) → (area_of ns m).free ≤ (area_of (unfinished_gone ns es) m).free
 unfolding unfinished_gone
 gone_free [] ns m = omega arith
 gone_free (e ∷ es) ns m = step (is_unfinished e.status) (gone_free es (deleted_entry ns (Some e)) m) (gone_free es ns m)
@@ -121,15 +121,15 @@ modules_all P test (x ∷ xs) (one, rest) = elim (cases_Bool (test x)) [
 -- ---- the entry of a front
 
 -- how often a module occurs among those of an entry, if it isn't removed
-abbrev pub cnt : Option Entry → ℕ → ℕ
+abbrev pub cnt : Option NamespaceEntry → ℕ → ℕ
 cnt None i = 0
 cnt (Some e) i = count_in (entry_modules e) i
 
-abbrev pub kept_count : Option Entry → ℕ → ℕ
+abbrev pub kept_count : Option NamespaceEntry → ℕ → ℕ
 kept_count None i = 0
 kept_count (Some e) i = cond (is_unfinished e.status) 0 (count_in (entry_modules e) i)
 
-cnt_parts : (o : Option Entry) (i : ℕ) → cnt o i ≡ kept_count o i + weight o i
+cnt_parts : (o : Option NamespaceEntry) (i : ℕ) → cnt o i ≡ kept_count o i + weight o i
 cnt_parts None i = refl
 cnt_parts (Some e) i = both (is_unfinished e.status)
   where
@@ -137,7 +137,7 @@ cnt_parts (Some e) i = both (is_unfinished e.status)
     both true = omega arith
     both false = omega arith
 
-pub own_modules : (sets : List (List Mapping)) (left : List (Option Area)) (uuid : List ℕ) (x : Entry) → lookup uuid (namespaces_of sets left).entries ≡ Some x
+pub own_modules : (sets : List (List Mapping)) (left : List (Option Area)) (uuid : List ℕ) (x : NamespaceEntry) → lookup uuid (namespaces_of sets left).entries ≡ Some x
     → entry_modules x ≡ map (λ (p : Placed). p.«module») (own_of uuid left)
 own_modules sets left uuid x is = ap (map (λ (p : Part). p.extent.«module»)) (own_parts sets left uuid x is) ∙ twice (own_of uuid left)
   where
@@ -145,7 +145,7 @@ own_modules sets left uuid x is = ap (map (λ (p : Part). p.extent.«module»)) 
     twice [] = refl
     twice (x ∷ xs) = ap (λ (ys : List ℕ). x.«module» ∷ ys) (twice xs)
 
-pub own_updating : (sets : List (List Mapping)) (left : List (Option Area)) (uuid : List ℕ) (x : Entry) → lookup uuid (namespaces_of sets left).entries ≡ Some x → x.updating ≡ changing (own_of uuid left)
+pub own_updating : (sets : List (List Mapping)) (left : List (Option Area)) (uuid : List ℕ) (x : NamespaceEntry) → lookup uuid (namespaces_of sets left).entries ≡ Some x → x.updating ≡ changing (own_of uuid left)
 own_updating sets left uuid x is = by (slice_get (own_of uuid left) 0) refl
   where
     at : option_map (entry_with sets (own_of uuid left)) (slice_get (own_of uuid left) 0) ≡ Some x
@@ -153,16 +153,16 @@ own_updating sets left uuid x is = by (slice_get (own_of uuid left) 0) refl
 
     by : (o : Option Placed) → slice_get (own_of uuid left) 0 ≡ o → x.updating ≡ changing (own_of uuid left)
     by None e = absurd (none-some x (sym (ap (option_map (entry_with sets (own_of uuid left))) e) ∙ at))
-    by (Some p) e = ap (λ (y : Entry). y.updating) (sym (same_Some (entry_with sets (own_of uuid left) p) x (sym (ap (option_map (entry_with sets (own_of uuid left))) e) ∙ at)))
+    by (Some p) e = ap (λ (y : NamespaceEntry). y.updating) (sym (same_Some (entry_with sets (own_of uuid left) p) x (sym (ap (option_map (entry_with sets (own_of uuid left))) e) ∙ at)))
 
 module _ (sets : List (List Mapping)) (uuid : List ℕ) (lab : ℕ → Option Label) (areas : List (Option Area)) where
-  abbrev found : List (Option Area) → Option Entry
+  abbrev found : List (Option Area) → Option NamespaceEntry
   found left = lookup uuid (namespaces_of sets left).entries
 
   owned_is : (left : List (Option Area)) (front : FrontOf sets uuid lab areas left) (i : ℕ) → owned (front.lab_then i) ≡ cnt (found left) i
   owned_is left front i = owned_count uuid front.lab_then left front.proper i ∙ by (found left) refl
     where
-      by : (o : Option Entry) → found left ≡ o → count_in (map (λ (p : Placed). p.«module») (own_of uuid left)) i ≡ cnt o i
+      by : (o : Option NamespaceEntry) → found left ≡ o → count_in (map (λ (p : Placed). p.«module») (own_of uuid left)) i ≡ cnt o i
       by None is =
           ap (λ (xs : List Placed). count_in (map (λ (p : Placed). p.«module») xs) i) (entries.entry_there sets (placed_in_all left) uuid (sym (lookup_entries sets (placed_in_all left) uuid) ∙ is))
       by (Some x) is = ap (λ (ms : List ℕ). count_in ms i) (sym (own_modules sets left uuid x is))
@@ -176,46 +176,46 @@ module _ (sets : List (List Mapping)) (uuid : List ℕ) (lab : ℕ → Option La
     rising_left = rising_entries sets (placed_in_all left);
     rising_right = rising_entries sets (placed_in_all right);
     others = λ u ne. fl.others u ne ∙ sym (fr.others u ne);
-    count = length-map left area_state ∙ fl.count ∙ sym fr.count ∙ sym (length-map right area_state);
+    count = length-map left area_summary ∙ fl.count ∙ sym fr.count ∙ sym (length-map right area_summary);
     areas = λ i below. each i;
   }
     where
-      each : (i : ℕ) → with_free (get_or (map area_state left) i no_area) ((get_or (map area_state left) i no_area).free + weight (found left) i)
-          ≡ with_free (get_or (map area_state right) i no_area) ((get_or (map area_state right) i no_area).free + weight (found right) i)
+      each : (i : ℕ) → with_free (get_or (map area_summary left) i no_area) ((get_or (map area_summary left) i no_area).free + weight (found left) i)
+          ≡ with_free (get_or (map area_summary right) i no_area) ((get_or (map area_summary right) i no_area).free + weight (found right) i)
       each i =
-          ap (λ (a : AreaState). with_free a (a.free + weight (found left) i)) (get_state left i ∙ fl.state i (free_in (slots_on left i)) refl)
-          ∙ ap (with_free (area_state (area_at areas i)))
+          ap (λ (a : AreaSummary). with_free a (a.free + weight (found left) i)) (get_state left i ∙ fl.state i (free_in (slots_on left i)) refl)
+          ∙ ap (with_free (area_summary (area_at areas i)))
           (let a = fl.sum i in let b = fr.sum i in let c = owned_is left fl i in let d = owned_is right fr i in
           let e = cnt_parts (found left) i in let f = cnt_parts (found right) i in let g = kept i in omega (arith, a, b, c, d, e, f, g))
-          ∙ ap (λ (a : AreaState). with_free a (a.free + weight (found right) i)) (sym (get_state right i ∙ fr.state i (free_in (slots_on right i)) refl))
+          ∙ ap (λ (a : AreaSummary). with_free a (a.free + weight (found right) i)) (sym (get_state right i ∙ fr.state i (free_in (slots_on right i)) refl))
 
   -- both have the same entry
-  pub recovers_same : (left right : List (Option Area)) → FrontOf sets uuid lab areas left → FrontOf sets uuid lab areas right → found left ≡ found right → recovered (namespaces_of sets left) ≡ recovered (namespaces_of sets right)
+  pub recovers_same : (left right : List (Option Area)) → FrontOf sets uuid lab areas left → FrontOf sets uuid lab areas right → found left ≡ found right → after_recovery (namespaces_of sets left) ≡ after_recovery (namespaces_of sets right)
   recovers_same left right fl fr same =
-      let n = near left right fl fr (λ i. ap (λ (o : Option Entry). kept_count o i) same) in
+      let n = near left right fl fr (λ i. ap (λ (o : Option NamespaceEntry). kept_count o i) same) in
       recovered_same (namespaces_of sets left) (namespaces_of sets right) uuid n
       (settle_same (namespaces_of sets left) (namespaces_of sets right) uuid n (found left) ∙ ap (settle (unfinished_gone (namespaces_of sets right) (namespaces_of sets right).entries)) same)
 
   -- one is unfinished, the other has none
-  pub recovers_gone : (left right : List (Option Area)) → FrontOf sets uuid lab areas left → FrontOf sets uuid lab areas right → (x : Entry) → found left ≡ Some x → x.status ≡ Unfinished → found right ≡ None
-      → recovered (namespaces_of sets left) ≡ recovered (namespaces_of sets right)
+  pub recovers_gone : (left right : List (Option Area)) → FrontOf sets uuid lab areas left → FrontOf sets uuid lab areas right → (x : NamespaceEntry) → found left ≡ Some x → x.status ≡ Unfinished → found right ≡ None
+      → after_recovery (namespaces_of sets left) ≡ after_recovery (namespaces_of sets right)
   recovers_gone left right fl fr x is status none =
       recovered_same (namespaces_of sets left) (namespaces_of sets right) uuid
-      (near left right fl fr (λ i. ap (λ (o : Option Entry). kept_count o i) is ∙ ap (λ (s : SetStatus). cond (is_unfinished s) 0 (count_in (entry_modules x) i)) status ∙ sym (ap (λ (o : Option Entry). kept_count o i) none)))
+      (near left right fl fr (λ i. ap (λ (o : Option NamespaceEntry). kept_count o i) is ∙ ap (λ (s : SetStatus). cond (is_unfinished s) 0 (count_in (entry_modules x) i)) status ∙ sym (ap (λ (o : Option NamespaceEntry). kept_count o i) none)))
       (ap (settle (unfinished_gone (namespaces_of sets left) (namespaces_of sets left).entries)) is
       ∙ ap (λ (s : SetStatus). cond (is_unfinished s) None (Some (settled_entry (unfinished_gone (namespaces_of sets left) (namespaces_of sets left).entries) x))) status
       ∙ sym (ap (settle (unfinished_gone (namespaces_of sets right) (namespaces_of sets right).entries)) none))
 
   -- one is pending, the other is settled
-  pub recovers_settled : (left right : List (Option Area)) → FrontOf sets uuid lab areas left → FrontOf sets uuid lab areas right → (x b : Entry) (name : List ℕ) → found left ≡ Some x
+  pub recovers_settled : (left right : List (Option Area)) → FrontOf sets uuid lab areas left → FrontOf sets uuid lab areas right → (x b : NamespaceEntry) (name : List ℕ) → found left ≡ Some x
       → x ≡ record b { name = name; status = Complete name true; updating = x.updating } → found right ≡ Some b → b.name ≡ name → b.status ≡ Complete name false → b.updating ≡ []
-      → recovered (namespaces_of sets left) ≡ recovered (namespaces_of sets right)
+      → after_recovery (namespaces_of sets left) ≡ after_recovery (namespaces_of sets right)
   recovers_settled left right fl fr x b name is like is_b named status quiet =
       recovered_same (namespaces_of sets left) (namespaces_of sets right) uuid
-      (near left right fl fr (λ i. ap (λ (o : Option Entry). kept_count o i) is
-      ∙ ap (λ (s : SetStatus). cond (is_unfinished s) 0 (count_in (entry_modules x) i)) (ap (λ (y : Entry). y.status) like)
-      ∙ ap (λ (ps : List Part). count_in (map (λ (p : Part). p.extent.«module») ps) i) (ap (λ (y : Entry). y.parts) like)
-      ∙ sym (ap (λ (o : Option Entry). kept_count o i) is_b ∙ ap (λ (s : SetStatus). cond (is_unfinished s) 0 (count_in (entry_modules b) i)) status)))
+      (near left right fl fr (λ i. ap (λ (o : Option NamespaceEntry). kept_count o i) is
+      ∙ ap (λ (s : SetStatus). cond (is_unfinished s) 0 (count_in (entry_modules x) i)) (ap (λ (y : NamespaceEntry). y.status) like)
+      ∙ ap (λ (ps : List Part). count_in (map (λ (p : Part). p.extent.«module») ps) i) (ap (λ (y : NamespaceEntry). y.parts) like)
+      ∙ sym (ap (λ (o : Option NamespaceEntry). kept_count o i) is_b ∙ ap (λ (s : SetStatus). cond (is_unfinished s) 0 (count_in (entry_modules b) i)) status)))
       (ap (settle gone) is ∙ settles ∙ sym (ap (settle (unfinished_gone (namespaces_of sets right) (namespaces_of sets right).entries)) is_b ∙ settles_b (unfinished_gone (namespaces_of sets right) (namespaces_of sets right).entries)))
     where
       gone : Namespaces
@@ -234,9 +234,9 @@ module _ (sets : List (List Mapping)) (uuid : List ℕ) (lab : ℕ → Option La
 
       settles : settle gone (Some x) ≡ Some b
       settles =
-          ap (λ (s : SetStatus). cond (is_unfinished s) None (Some (settled_entry gone x))) (ap (λ (y : Entry). y.status) like)
-          ∙ ap Some (settles_all gone x name true (ap (λ (y : Entry). y.status) like) frees
-          ∙ ap (λ (y : Entry). record y { updating = []; status = Complete name false }) like
+          ap (λ (s : SetStatus). cond (is_unfinished s) None (Some (settled_entry gone x))) (ap (λ (y : NamespaceEntry). y.status) like)
+          ∙ ap Some (settles_all gone x name true (ap (λ (y : NamespaceEntry). y.status) like) frees
+          ∙ ap (λ (y : NamespaceEntry). record y { updating = []; status = Complete name false }) like
           ∙ back name b.name (Complete name false) b.status [] b.updating (sym named) (sym status) (sym quiet))
 
       settles_b : (gone : Namespaces) → settle gone (Some b) ≡ Some b

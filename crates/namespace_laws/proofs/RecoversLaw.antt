@@ -8,7 +8,7 @@ use Rattle.std.proofs.lemmas.Slice.Eq.{bytes_eq-Decides}
 use Rattle.nfit_reader.specs.declared.table.Mapping.{Mapping}
 use Rattle.label_codec.specs.declared.label.Label.{Label}
 use Rattle.label_set.specs.declared.placed.SetStatus.TheVariants.{Complete}
-use Rattle.namespace_map.specs.Namespaces.{Namespaces, Entry, lookup}
+use Rattle.namespace_map.specs.Namespaces.{Namespaces, NamespaceEntry, lookup}
 use Rattle.namespace_map.proofs.Entries.{lookup_entries, lookup_put}
 use Rattle.namespace_map.proofs.Entries as entries
 use Rattle.namespace_map.proofs.Rising.{all_pass_to}
@@ -17,11 +17,11 @@ use Rattle.namespace_map.specs.declared.commands.Named.{Named}
 use Rattle.namespace_map.specs.declared.commands.Command.{Command}
 use Rattle.namespace_map.specs.declared.commands.Command.TheVariants as command
 use Rattle.namespace_map.specs.Areas.{Area, Change, all_changed, after_steps}
-use Rattle.namespace_map.specs.Commands.{refusal_of, done, name_in, recovered, renamed, deleted_entry, renamed_entry}
+use Rattle.namespace_map.specs.Commands.{refusal_of, done, name_in, after_recovery, renamed, deleted_entry, renamed_entry}
 use Rattle.namespace_map.specs.Changes.{namespaces_of, changes_of, placed_in_all, in_two}
 use Rattle.namespace_map.proofs.Areas.{Proper, HasRoom, Fitting}
 use Rattle.namespace_map.proofs.Fronts.{cut_is_front, IsFront}
-use Rattle.namespace_map.specs.Left.{AreRegions, AreRead}
+use Rattle.namespace_map.specs.Left.{AreRegions, LabelsAreRead}
 use Rattle.namespace_laws.specs.Laws.{CutOfCreate, CutOfDelete, CutOfRename}
 use Rattle.namespace_laws.specs.Recovered.{RecoversToEither}
 use Rattle.namespace_laws.proofs.Staged.{IsGiven}
@@ -52,7 +52,7 @@ module _ (sets : List (List Mapping)) (areas : List (Option Area)) (uuid : List 
   abbrev cs : List Change
   cs = changes_of (namespaces_of sets areas) areas create
 
-  abbrev new : Entry
+  abbrev new : NamespaceEntry
   new = made_entry sets areas uuid name region size made
 
   abbrev Front : List (Option Area) → Type 0
@@ -89,12 +89,12 @@ module _ (sets : List (List Mapping)) (areas : List (Option Area)) (uuid : List 
       absent = (law.has sets areas uuid name region size made regions good).absent
 
       by : CutOfCreate new (lookup uuid (namespaces_of sets (after_steps areas cs n stays)).entries)
-          → (recovered (namespaces_of sets (after_steps areas cs n stays)) ≡ recovered (namespaces_of sets areas)) ⊎ (recovered (namespaces_of sets (after_steps areas cs n stays)) ≡ recovered (done (namespaces_of sets areas) create))
+          → (after_recovery (namespaces_of sets (after_steps areas cs n stays)) ≡ after_recovery (namespaces_of sets areas)) ⊎ (after_recovery (namespaces_of sets (after_steps areas cs n stays)) ≡ after_recovery (done (namespaces_of sets areas) create))
       by (inl none) = inl (recovers_same sets uuid (λ m. None) areas (after_steps areas cs n stays) areas cut before (none ∙ sym absent))
       by (inr (inl (x, is, part))) = inl (recovers_gone sets uuid (λ m. None) areas (after_steps areas cs n stays) areas cut before x is part.unfinished absent)
       by (inr (inr (inl (x, is, pending)))) =
-          inr (recovers_settled sets uuid (λ m. None) areas (after_steps areas cs n stays) (all_changed areas cs) cut after x new new.name is pending at_end refl refl refl ∙ ap recovered whole)
-      by (inr (inr (inr is))) = inr (recovers_same sets uuid (λ m. None) areas (after_steps areas cs n stays) (all_changed areas cs) cut after (is ∙ sym at_end) ∙ ap recovered whole)
+          inr (recovers_settled sets uuid (λ m. None) areas (after_steps areas cs n stays) (all_changed areas cs) cut after x new new.name is pending at_end refl refl refl ∙ ap after_recovery whole)
+      by (inr (inr (inr is))) = inr (recovers_same sets uuid (λ m. None) areas (after_steps areas cs n stays) (all_changed areas cs) cut after (is ∙ sym at_end) ∙ ap after_recovery whole)
 
 -- ---- delete and rename
 
@@ -117,7 +117,7 @@ one_or_none areas cs n stays one = by cs refl (cut_is_front cs areas n stays)
         whole_front (d ∷ e ∷ ds) zero few = absurd (omega arith)
         whole_front (d ∷ e ∷ ds) (suc k) few = ap (λ (xs : List Change). d ∷ xs) (whole_front (e ∷ ds) k (omega arith))
 
-module _ (sets : List (List Mapping)) (areas : List (Option Area)) (uuid : List ℕ) (e : Entry) (regions : AreRegions sets) (read : AreRead areas)
+module _ (sets : List (List Mapping)) (areas : List (Option Area)) (uuid : List ℕ) (e : NamespaceEntry) (regions : AreRegions sets) (read : LabelsAreRead areas)
     (is : lookup uuid (namespaces_of sets areas).entries ≡ Some e) (status : e.status ≡ Complete e.name false) where
   quiet : e.read_only ≡ None → e.updating ≡ []
   quiet unlocked =
@@ -154,7 +154,7 @@ module _ (sets : List (List Mapping)) (areas : List (Option Area)) (uuid : List 
     deleted_end : lookup uuid (namespaces_of sets (all_changed areas ds)).entries ≡ None
     deleted_end =
         ap (λ (ns : Namespaces). lookup uuid ns.entries) whole_delete
-        ∙ ap (λ (o : Option Entry). lookup uuid (deleted_entry (namespaces_of sets areas) o).entries) is
+        ∙ ap (λ (o : Option NamespaceEntry). lookup uuid (deleted_entry (namespaces_of sets areas) o).entries) is
         ∙ lookup_without (namespaces_of sets areas).entries e.uuid uuid
         ∙ rw ((bytes_eq-Decides e.uuid uuid).1 (entries.entry_uuid sets (placed_in_all areas) uuid e (sym (lookup_entries sets (placed_in_all areas) uuid) ∙ is))) refl
 
@@ -174,14 +174,14 @@ module _ (sets : List (List Mapping)) (areas : List (Option Area)) (uuid : List 
         after = front_after sets uuid (lab has.unlocked) areas ds (proper_own has.unlocked) fits (room_own has.unlocked given)
 
         by : CutOfDelete e (lookup uuid (namespaces_of sets (after_steps areas ds n stays)).entries)
-            → (recovered (namespaces_of sets (after_steps areas ds n stays)) ≡ recovered (namespaces_of sets areas))
-            ⊎ (recovered (namespaces_of sets (after_steps areas ds n stays)) ≡ recovered (done (namespaces_of sets areas) (command.Delete uuid)))
+            → (after_recovery (namespaces_of sets (after_steps areas ds n stays)) ≡ after_recovery (namespaces_of sets areas))
+            ⊎ (after_recovery (namespaces_of sets (after_steps areas ds n stays)) ≡ after_recovery (done (namespaces_of sets areas) (command.Delete uuid)))
         by (inl same) = inl (recovers_same sets uuid (lab has.unlocked) areas (after_steps areas ds n stays) areas cut before (same ∙ sym is))
         by (inr (inl (x, at, pending))) =
             inl (recovers_settled sets uuid (lab has.unlocked) areas (after_steps areas ds n stays) areas cut before x e e.name at pending is refl status (quiet has.unlocked))
         by (inr (inr (inl (x, at, part)))) =
-            inr (recovers_gone sets uuid (lab has.unlocked) areas (after_steps areas ds n stays) (all_changed areas ds) cut after x at part.unfinished deleted_end ∙ ap recovered whole_delete)
-        by (inr (inr (inr none))) = inr (recovers_same sets uuid (lab has.unlocked) areas (after_steps areas ds n stays) (all_changed areas ds) cut after (none ∙ sym deleted_end) ∙ ap recovered whole_delete)
+            inr (recovers_gone sets uuid (lab has.unlocked) areas (after_steps areas ds n stays) (all_changed areas ds) cut after x at part.unfinished deleted_end ∙ ap after_recovery whole_delete)
+        by (inr (inr (inr none))) = inr (recovers_same sets uuid (lab has.unlocked) areas (after_steps areas ds n stays) (all_changed areas ds) cut after (none ∙ sym deleted_end) ∙ ap after_recovery whole_delete)
 
     pub delete_recovers : RecoversToEither sets areas (command.Delete uuid)
     delete_recovers n stays = elim (cases_lt 1 (length e.parts)) [
@@ -198,10 +198,10 @@ module _ (sets : List (List Mapping)) (areas : List (Option Area)) (uuid : List 
         one_change (q ∷ r ∷ qs) e = absurd (omega arith)
 
         by : (after_steps areas ds n stays ≡ areas) ⊎ (after_steps areas ds n stays ≡ all_changed areas ds)
-            → (recovered (namespaces_of sets (after_steps areas ds n stays)) ≡ recovered (namespaces_of sets areas))
-            ⊎ (recovered (namespaces_of sets (after_steps areas ds n stays)) ≡ recovered (done (namespaces_of sets areas) (command.Delete uuid)))
-        by (inl same) = inl (ap (λ (left : List (Option Area)). recovered (namespaces_of sets left)) same)
-        by (inr same) = inr (ap (λ (left : List (Option Area)). recovered (namespaces_of sets left)) same ∙ ap recovered whole_delete)
+            → (after_recovery (namespaces_of sets (after_steps areas ds n stays)) ≡ after_recovery (namespaces_of sets areas))
+            ⊎ (after_recovery (namespaces_of sets (after_steps areas ds n stays)) ≡ after_recovery (done (namespaces_of sets areas) (command.Delete uuid)))
+        by (inl same) = inl (ap (λ (left : List (Option Area)). after_recovery (namespaces_of sets left)) same)
+        by (inr same) = inr (ap (λ (left : List (Option Area)). after_recovery (namespaces_of sets left)) same ∙ ap after_recovery whole_delete)
 
   -- ---- rename
 
@@ -221,7 +221,7 @@ module _ (sets : List (List Mapping)) (areas : List (Option Area)) (uuid : List 
     renamed_end : lookup uuid (namespaces_of sets (all_changed areas rs)).entries ≡ Some (renamed e new_name)
     renamed_end =
         ap (λ (ns : Namespaces). lookup uuid ns.entries) whole_rename
-        ∙ ap (λ (o : Option Entry). lookup uuid (renamed_entry (namespaces_of sets areas) new_name o).entries) is
+        ∙ ap (λ (o : Option NamespaceEntry). lookup uuid (renamed_entry (namespaces_of sets areas) new_name o).entries) is
         ∙ lookup_put (namespaces_of sets areas).entries (renamed e new_name) uuid
         ∙ rw ((bytes_eq-Decides e.uuid uuid).1 (entries.entry_uuid sets (placed_in_all areas) uuid e (sym (lookup_entries sets (placed_in_all areas) uuid) ∙ is))) refl
 
@@ -244,11 +244,11 @@ module _ (sets : List (List Mapping)) (areas : List (Option Area)) (uuid : List 
         after = front_after sets uuid (lab fine.unlocked) areas rs (proper_own fine.unlocked) fits (room_own fine.unlocked given)
 
         by : CutOfRename e new_name (lookup uuid (namespaces_of sets (after_steps areas rs n stays)).entries)
-            → (recovered (namespaces_of sets (after_steps areas rs n stays)) ≡ recovered (namespaces_of sets areas))
-            ⊎ (recovered (namespaces_of sets (after_steps areas rs n stays)) ≡ recovered (done (namespaces_of sets areas) (command.Rename uuid name)))
+            → (after_recovery (namespaces_of sets (after_steps areas rs n stays)) ≡ after_recovery (namespaces_of sets areas))
+            ⊎ (after_recovery (namespaces_of sets (after_steps areas rs n stays)) ≡ after_recovery (done (namespaces_of sets areas) (command.Rename uuid name)))
         by (inl same) = inl (recovers_same sets uuid (lab fine.unlocked) areas (after_steps areas rs n stays) areas cut before (same ∙ sym is))
         by (inr (inl (x, at, pending))) =
             inl (recovers_settled sets uuid (lab fine.unlocked) areas (after_steps areas rs n stays) areas cut before x e e.name at pending is refl status (quiet fine.unlocked))
         by (inr (inr (inl (x, at, pending)))) =
-            inr (recovers_settled sets uuid (lab fine.unlocked) areas (after_steps areas rs n stays) (all_changed areas rs) cut after x (renamed e new_name) new_name at pending renamed_end refl refl refl ∙ ap recovered whole_rename)
-        by (inr (inr (inr same))) = inr (recovers_same sets uuid (lab fine.unlocked) areas (after_steps areas rs n stays) (all_changed areas rs) cut after (same ∙ sym renamed_end) ∙ ap recovered whole_rename)
+            inr (recovers_settled sets uuid (lab fine.unlocked) areas (after_steps areas rs n stays) (all_changed areas rs) cut after x (renamed e new_name) new_name at pending renamed_end refl refl refl ∙ ap after_recovery whole_rename)
+        by (inr (inr (inr same))) = inr (recovers_same sets uuid (lab fine.unlocked) areas (after_steps areas rs n stays) (all_changed areas rs) cut after (same ∙ sym renamed_end) ∙ ap after_recovery whole_rename)

@@ -8,28 +8,28 @@ use Rattle.std.proofs.lemmas.Bool.{cases_Bool, false≢true, and_right, or_right
 use Rattle.std.proofs.lemmas.Option.{none-some, same_Some}
 use Rattle.std.proofs.lemmas.Slice.Eq.{bytes_eq-Decides}
 use Rattle.nfit_reader.specs.declared.table.Mapping.{Mapping}
-use Rattle.namespace_map.specs.Namespaces.{Namespaces, Entry, AreaState, lookup, without, uuid_lt}
+use Rattle.namespace_map.specs.Namespaces.{Namespaces, NamespaceEntry, AreaSummary, lookup, without, uuid_lt}
 use Rattle.namespace_map.specs.Laws.{IsRising}
 use Rattle.namespace_map.proofs.Entries.{lt_irreflexive}
 use Rattle.namespace_map.proofs.Rising.{rising_same}
-use Rattle.namespace_map.specs.Commands.{no_area, count_in, entry_modules, deleted_entry, is_unfinished, unfinished_gone, settled_entry, recovered}
+use Rattle.namespace_map.specs.Commands.{no_area, count_in, entry_modules, deleted_entry, is_unfinished, unfinished_gone, settled_entry, after_recovery}
 use Rattle.namespace_laws.proofs.Agrees.{lookup_without, rising_without}
 use Rattle.namespace_laws.proofs.Final.{same_states, length_given, get_given}
 
 -- ---- lookups after recovery
 
-pub lookup_settled : (gone : Namespaces) (es : List Entry) (u : List ℕ) → lookup u (map (settled_entry gone) es) ≡ option_map (settled_entry gone) (lookup u es)
+pub lookup_settled : (gone : Namespaces) (es : List NamespaceEntry) (u : List ℕ) → lookup u (map (settled_entry gone) es) ≡ option_map (settled_entry gone) (lookup u es)
 lookup_settled gone [] u = refl
 lookup_settled gone (e ∷ es) u = elim (cases_Bool (bytes_eq e.uuid u)) [
   | inl it ↦ rw it refl
   | inr not_it ↦ rw not_it (lookup_settled gone es u)
 ]
 
-abbrev pub goes : List ℕ → Entry → Bool
+abbrev pub goes : List ℕ → NamespaceEntry → Bool
 goes u e = is_unfinished e.status && bytes_eq e.uuid u
 
 -- lookups after the unfinished entries of a list were removed
-pub lookup_gone : (es : List Entry) (ns : Namespaces) (u : List ℕ) → lookup u (unfinished_gone ns es).entries ≡ cond (list_any (goes u) es) None (lookup u ns.entries)
+pub lookup_gone : (es : List NamespaceEntry) (ns : Namespaces) (u : List ℕ) → lookup u (unfinished_gone ns es).entries ≡ cond (list_any (goes u) es) None (lookup u ns.entries)
 unfolding unfinished_gone
 lookup_gone [] ns u = refl
 lookup_gone (e ∷ es) ns u = step (is_unfinished e.status) (lookup_gone es (deleted_entry ns (Some e)) u) (lookup_gone es ns u)
@@ -43,53 +43,53 @@ lookup_gone (e ∷ es) ns u = step (is_unfinished e.status) (lookup_gone es (del
     step : (b : Bool) → lookup u (unfinished_gone (deleted_entry ns (Some e)) es).entries ≡ cond (list_any (goes u) es) None (lookup u (without e.uuid ns.entries))
         → lookup u (unfinished_gone ns es).entries ≡ cond (list_any (goes u) es) None (lookup u ns.entries)
         → lookup u (unfinished_gone (cond b (deleted_entry ns (Some e)) ns) es).entries ≡ cond ((b && bytes_eq e.uuid u) || list_any (goes u) es) None (lookup u ns.entries)
-    step true gone stays = gone ∙ ap (λ (o : Option Entry). cond (list_any (goes u) es) None o) (lookup_without ns.entries e.uuid u) ∙ both (bytes_eq e.uuid u) (list_any (goes u) es)
+    step true gone stays = gone ∙ ap (λ (o : Option NamespaceEntry). cond (list_any (goes u) es) None o) (lookup_without ns.entries e.uuid u) ∙ both (bytes_eq e.uuid u) (list_any (goes u) es)
     step false gone stays = stays
 
 -- an entry is found in its list
-goes_there : (es : List Entry) (u : List ℕ) (e : Entry) → lookup u es ≡ Some e → is_unfinished e.status ≡ true → list_any (goes u) es ≡ true
+goes_there : (es : List NamespaceEntry) (u : List ℕ) (e : NamespaceEntry) → lookup u es ≡ Some e → is_unfinished e.status ≡ true → list_any (goes u) es ≡ true
 goes_there [] u e is gone = absurd (none-some e is)
 goes_there (f ∷ fs) u e is gone = elim (cases_Bool (bytes_eq f.uuid u)) [
   | inl it ↦
       let same : f ≡ e = same_Some f e (rw it at is) in
-      let ends : is_unfinished f.status ≡ true = ap (λ (x : Entry). is_unfinished x.status) same ∙ gone in
+      let ends : is_unfinished f.status ≡ true = ap (λ (x : NamespaceEntry). is_unfinished x.status) same ∙ gone in
       rw (it, ends) refl
   | inr not_it ↦ or_right (goes u f) (list_any (goes u) fs) (goes_there fs u e (rw not_it at is) gone)
 ]
 
-not_above : (es : List Entry) (u v : List ℕ) → v ≡ u → AllByRecursion (λ (f : Entry). uuid_lt v f.uuid ≡ true) es → list_any (goes u) es ≡ false
+not_above : (es : List NamespaceEntry) (u v : List ℕ) → v ≡ u → AllByRecursion (λ (f : NamespaceEntry). uuid_lt v f.uuid ≡ true) es → list_any (goes u) es ≡ false
 not_above [] u v same all = refl
 not_above (f ∷ fs) u v same (less, rest) =
     let apart : bytes_eq f.uuid u ≡ false =
     false_from_ne_true _ (λ s. false≢true (sym (lt_irreflexive v f.uuid less) ∙ (bytes_eq-Decides v f.uuid).1 (same ∙ sym ((bytes_eq-Decides f.uuid u).0 s)))) in
     rw (and_right (is_unfinished f.status) (bytes_eq f.uuid u) apart) (not_above fs u v same rest)
 
-stays_there : (es : List Entry) (u : List ℕ) (e : Entry) → IsRising es → lookup u es ≡ Some e → is_unfinished e.status ≡ false → list_any (goes u) es ≡ false
+stays_there : (es : List NamespaceEntry) (u : List ℕ) (e : NamespaceEntry) → IsRising es → lookup u es ≡ Some e → is_unfinished e.status ≡ false → list_any (goes u) es ≡ false
 stays_there [] u e rising is status = refl
 stays_there (f ∷ fs) u e (above_f, rising) is status = elim (cases_Bool (bytes_eq f.uuid u)) [
   | inl it ↦
       let same : f ≡ e = same_Some f e (rw it at is) in
-      let quiet : is_unfinished f.status ≡ false = ap (λ (x : Entry). is_unfinished x.status) same ∙ status in
+      let quiet : is_unfinished f.status ≡ false = ap (λ (x : NamespaceEntry). is_unfinished x.status) same ∙ status in
       rw quiet (not_above fs u f.uuid ((bytes_eq-Decides f.uuid u).0 it) above_f)
   | inr not_it ↦ rw (and_right (is_unfinished f.status) (bytes_eq f.uuid u) not_it) (stays_there fs u e rising (rw not_it at is) status)
 ]
 
 -- an entry tells whether it is removed
-abbrev pub gone_of : Option Entry → Bool
+abbrev pub gone_of : Option NamespaceEntry → Bool
 gone_of None = false
 gone_of (Some e) = is_unfinished e.status
 
-pub goes_is : (es : List Entry) (u : List ℕ) → IsRising es → list_any (goes u) es ≡ gone_of (lookup u es)
+pub goes_is : (es : List NamespaceEntry) (u : List ℕ) → IsRising es → list_any (goes u) es ≡ gone_of (lookup u es)
 goes_is es u rising = by (lookup u es) refl
   where
-    none_goes : (xs : List Entry) → lookup u xs ≡ None → list_any (goes u) xs ≡ false
+    none_goes : (xs : List NamespaceEntry) → lookup u xs ≡ None → list_any (goes u) xs ≡ false
     none_goes [] is = refl
     none_goes (x ∷ xs) is = elim (cases_Bool (bytes_eq x.uuid u)) [
       | inl it ↦ absurd (none-some x (sym (rw it at is)))
       | inr not_it ↦ rw (and_right (is_unfinished x.status) (bytes_eq x.uuid u) not_it) (none_goes xs (rw not_it at is))
     ]
 
-    by : (o : Option Entry) → lookup u es ≡ o → list_any (goes u) es ≡ gone_of o
+    by : (o : Option NamespaceEntry) → lookup u es ≡ o → list_any (goes u) es ≡ gone_of o
     by None is = none_goes es is
     by (Some e) is = elim (cases_Bool (is_unfinished e.status)) [
       | inl it ↦ goes_there es u e is it ∙ sym it
@@ -97,27 +97,27 @@ goes_is es u rising = by (lookup u es) refl
     ]
 
 -- the entry after settling
-abbrev pub settle : Namespaces → Option Entry → Option Entry
+abbrev pub settle : Namespaces → Option NamespaceEntry → Option NamespaceEntry
 settle gone None = None
 settle gone (Some e) = cond (is_unfinished e.status) None (Some (settled_entry gone e))
 
-pub lookup_recovered : (ns : Namespaces) (u : List ℕ) → IsRising ns.entries → lookup u (recovered ns).entries ≡ settle (unfinished_gone ns ns.entries) (lookup u ns.entries)
+pub lookup_recovered : (ns : Namespaces) (u : List ℕ) → IsRising ns.entries → lookup u (after_recovery ns).entries ≡ settle (unfinished_gone ns ns.entries) (lookup u ns.entries)
 lookup_recovered ns u rising =
     lookup_settled (unfinished_gone ns ns.entries) (unfinished_gone ns ns.entries).entries u
     ∙ ap (option_map (settled_entry (unfinished_gone ns ns.entries))) (lookup_gone ns.entries ns u ∙ ap (λ (b : Bool). cond b None (lookup u ns.entries)) (goes_is ns.entries u rising))
     ∙ by (lookup u ns.entries)
   where
-    both : (b : Bool) (e : Entry) → option_map (settled_entry (unfinished_gone ns ns.entries)) (cond b None (Some e)) ≡ cond b None (Some (settled_entry (unfinished_gone ns ns.entries) e))
+    both : (b : Bool) (e : NamespaceEntry) → option_map (settled_entry (unfinished_gone ns ns.entries)) (cond b None (Some e)) ≡ cond b None (Some (settled_entry (unfinished_gone ns ns.entries) e))
     both true e = refl
     both false e = refl
 
-    by : (o : Option Entry) → option_map (settled_entry (unfinished_gone ns ns.entries)) (cond (gone_of o) None o) ≡ settle (unfinished_gone ns ns.entries) o
+    by : (o : Option NamespaceEntry) → option_map (settled_entry (unfinished_gone ns ns.entries)) (cond (gone_of o) None o) ≡ settle (unfinished_gone ns ns.entries) o
     by None = refl
     by (Some e) = both (is_unfinished e.status) e
 
 -- ---- what recovery keeps
 
-pub gone_rising : (es : List Entry) (ns : Namespaces) → IsRising ns.entries → IsRising (unfinished_gone ns es).entries
+pub gone_rising : (es : List NamespaceEntry) (ns : Namespaces) → IsRising ns.entries → IsRising (unfinished_gone ns es).entries
 unfolding unfinished_gone
 gone_rising [] ns rising = rising
 gone_rising (e ∷ es) ns rising = by (is_unfinished e.status) (gone_rising es)
@@ -126,18 +126,18 @@ gone_rising (e ∷ es) ns rising = by (is_unfinished e.status) (gone_rising es)
     by true on = on (deleted_entry ns (Some e)) (rising_without ns.entries e.uuid rising)
     by false on = on ns rising
 
-pub settled_rising : (gone : Namespaces) (es : List Entry) → IsRising es → IsRising (map (settled_entry gone) es)
+pub settled_rising : (gone : Namespaces) (es : List NamespaceEntry) → IsRising es → IsRising (map (settled_entry gone) es)
 settled_rising gone [] rising = tt
 settled_rising gone (e ∷ es) (one, rest) = (above es one, settled_rising gone es rest)
   where
-    above : (fs : List Entry) → AllByRecursion (λ (f : Entry). uuid_lt e.uuid f.uuid ≡ true) fs → AllByRecursion (λ (f : Entry). uuid_lt e.uuid f.uuid ≡ true) (map (settled_entry gone) fs)
+    above : (fs : List NamespaceEntry) → AllByRecursion (λ (f : NamespaceEntry). uuid_lt e.uuid f.uuid ≡ true) fs → AllByRecursion (λ (f : NamespaceEntry). uuid_lt e.uuid f.uuid ≡ true) (map (settled_entry gone) fs)
     above [] all = tt
     above (f ∷ fs) (less, rest) = (less, above fs rest)
 
-pub recovered_rising : (ns : Namespaces) → IsRising ns.entries → IsRising (recovered ns).entries
+pub recovered_rising : (ns : Namespaces) → IsRising ns.entries → IsRising (after_recovery ns).entries
 recovered_rising ns rising = settled_rising (unfinished_gone ns ns.entries) (unfinished_gone ns ns.entries).entries (gone_rising ns.entries ns rising)
 
-pub gone_sets : (es : List Entry) (ns : Namespaces) → (unfinished_gone ns es).sets ≡ ns.sets
+pub gone_sets : (es : List NamespaceEntry) (ns : Namespaces) → (unfinished_gone ns es).sets ≡ ns.sets
 unfolding unfinished_gone
 gone_sets [] ns = refl
 gone_sets (e ∷ es) ns = by (is_unfinished e.status) (gone_sets es)
@@ -146,7 +146,7 @@ gone_sets (e ∷ es) ns = by (is_unfinished e.status) (gone_sets es)
     by true on = on (deleted_entry ns (Some e))
     by false on = on ns
 
-pub gone_claims : (es : List Entry) (ns : Namespaces) → (unfinished_gone ns es).claims ≡ ns.claims
+pub gone_claims : (es : List NamespaceEntry) (ns : Namespaces) → (unfinished_gone ns es).claims ≡ ns.claims
 unfolding unfinished_gone
 gone_claims [] ns = refl
 gone_claims (e ∷ es) ns = by (is_unfinished e.status) (gone_claims es)
@@ -157,15 +157,15 @@ gone_claims (e ∷ es) ns = by (is_unfinished e.status) (gone_claims es)
 
 -- ---- the slots that unfinished entries free
 
-abbrev pub weight : Option Entry → ℕ → ℕ
+abbrev pub weight : Option NamespaceEntry → ℕ → ℕ
 weight None i = 0
 weight (Some e) i = cond (is_unfinished e.status) (count_in (entry_modules e) i) 0
 
-abbrev pub total : List Entry → ℕ → ℕ
+abbrev pub total : List NamespaceEntry → ℕ → ℕ
 total [] i = 0
 total (e ∷ es) i = weight (Some e) i + total es i
 
-pub gone_length : (es : List Entry) (ns : Namespaces) → length (unfinished_gone ns es).areas ≡ length ns.areas
+pub gone_length : (es : List NamespaceEntry) (ns : Namespaces) → length (unfinished_gone ns es).areas ≡ length ns.areas
 unfolding unfinished_gone
 gone_length [] ns = refl
 gone_length (e ∷ es) ns = by (is_unfinished e.status) (gone_length es)
@@ -174,10 +174,10 @@ gone_length (e ∷ es) ns = by (is_unfinished e.status) (gone_length es)
     by true on = on (deleted_entry ns (Some e)) ∙ length_given ns.areas 0 (entry_modules e)
     by false on = on ns
 
-abbrev pub with_free : AreaState → ℕ → AreaState
+abbrev pub with_free : AreaSummary → ℕ → AreaSummary
 with_free a n = record a { free = n }
 
-pub gone_area : (es : List Entry) (ns : Namespaces) (i : ℕ) → i < length ns.areas
+pub gone_area : (es : List NamespaceEntry) (ns : Namespaces) (i : ℕ) → i < length ns.areas
     → get_or (unfinished_gone ns es).areas i no_area ≡ with_free (get_or ns.areas i no_area) ((get_or ns.areas i no_area).free + total es i)
 unfolding unfinished_gone
 gone_area [] ns i below = ap (with_free (get_or ns.areas i no_area)) (omega arith)
@@ -188,23 +188,23 @@ gone_area (e ∷ es) ns i below = by (is_unfinished e.status) (gone_area es)
         ≡ with_free (get_or ns.areas i no_area) ((get_or ns.areas i no_area).free + (cond b (count_in (entry_modules e) i) 0 + total es i))
     by true on =
         on (deleted_entry ns (Some e)) i (omega (arith, length_given ns.areas 0 (entry_modules e)))
-        ∙ ap (λ (a : AreaState). with_free a (a.free + total es i)) (get_given ns.areas 0 i (entry_modules e) below)
+        ∙ ap (λ (a : AreaSummary). with_free a (a.free + total es i)) (get_given ns.areas 0 i (entry_modules e) below)
         ∙ ap (with_free (get_or ns.areas i no_area)) (let z : count_in (entry_modules e) (0 + i) ≡ count_in (entry_modules e) i = ap (count_in (entry_modules e)) (omega arith) in omega (arith, z))
     by false on = on ns i below ∙ ap (with_free (get_or ns.areas i no_area)) (omega arith)
 
 -- ---- the total, by one entry and the others
 
-without_above : (es : List Entry) (u v : List ℕ) → v ≡ u → AllByRecursion (λ (f : Entry). uuid_lt v f.uuid ≡ true) es → without u es ≡ es
+without_above : (es : List NamespaceEntry) (u v : List ℕ) → v ≡ u → AllByRecursion (λ (f : NamespaceEntry). uuid_lt v f.uuid ≡ true) es → without u es ≡ es
 without_above [] u v same all = refl
 without_above (f ∷ fs) u v same (less, rest) =
     let apart : bytes_eq f.uuid u ≡ false =
     false_from_ne_true _ (λ s. false≢true (sym (lt_irreflexive v f.uuid less) ∙ (bytes_eq-Decides v f.uuid).1 (same ∙ sym ((bytes_eq-Decides f.uuid u).0 s)))) in
-    rw apart (ap (λ (xs : List Entry). f ∷ xs) (without_above fs u v same rest))
+    rw apart (ap (λ (xs : List NamespaceEntry). f ∷ xs) (without_above fs u v same rest))
 
-total_parts : (es : List Entry) (u : List ℕ) (i : ℕ) → IsRising es → total es i ≡ total (without u es) i + weight (lookup u es) i
+total_parts : (es : List NamespaceEntry) (u : List ℕ) (i : ℕ) → IsRising es → total es i ≡ total (without u es) i + weight (lookup u es) i
 total_parts [] u i rising = refl
 total_parts (f ∷ fs) u i (above, rising) = elim (cases_Bool (bytes_eq f.uuid u)) [
-  | inl it ↦ rw it (let same = ap (λ (xs : List Entry). total xs i) (without_above fs u f.uuid ((bytes_eq-Decides f.uuid u).0 it) above) in omega (arith, same))
+  | inl it ↦ rw it (let same = ap (λ (xs : List NamespaceEntry). total xs i) (without_above fs u f.uuid ((bytes_eq-Decides f.uuid u).0 it) above) in omega (arith, same))
   | inr not_it ↦ rw not_it (let h = total_parts fs u i rising in omega (arith, h))
 ]
 
@@ -241,15 +241,15 @@ module _ (left right : Namespaces) (uuid : List ℕ) (near : AreNear left right 
   pub same_areas : gone_left.areas ≡ gone_right.areas
   same_areas = same_states gone_left.areas gone_right.areas (gone_length left.entries left ∙ near.count ∙ sym (gone_length right.entries right)) each
     where
-      more : (a b : AreaState) (x y t : ℕ) → with_free a (a.free + x) ≡ with_free b (b.free + y) → with_free a (a.free + (t + x)) ≡ with_free b (b.free + (t + y))
+      more : (a b : AreaSummary) (x y t : ℕ) → with_free a (a.free + x) ≡ with_free b (b.free + y) → with_free a (a.free + (t + x)) ≡ with_free b (b.free + (t + y))
       more a b x y t e =
-          let frees : a.free + x ≡ b.free + y = ap (λ (s : AreaState). s.free) e in
-          ap (with_free a) (omega arith) ∙ ap (λ (s : AreaState). with_free s (t + s.free)) e ∙ ap (with_free b) (omega arith)
+          let frees : a.free + x ≡ b.free + y = ap (λ (s : AreaSummary). s.free) e in
+          ap (with_free a) (omega arith) ∙ ap (λ (s : AreaSummary). with_free s (t + s.free)) e ∙ ap (with_free b) (omega arith)
 
       each : (i : ℕ) → i < length gone_left.areas → get_or gone_left.areas i no_area ≡ get_or gone_right.areas i no_area
       each i below =
           let below_left : i < length left.areas = omega (arith, gone_length left.entries left) in
-          let rest : total (without uuid left.entries) i ≡ total (without uuid right.entries) i = ap (λ (xs : List Entry). total xs i) same_rest in
+          let rest : total (without uuid left.entries) i ≡ total (without uuid right.entries) i = ap (λ (xs : List NamespaceEntry). total xs i) same_rest in
           gone_area left.entries left i below_left
           ∙ ap (λ (n : ℕ). with_free (get_or left.areas i no_area) ((get_or left.areas i no_area).free + n)) (total_parts left.entries uuid i near.rising_left)
           ∙ more (get_or left.areas i no_area) (get_or right.areas i no_area) (weight (lookup uuid left.entries) i) (weight (lookup uuid right.entries) i) (total (without uuid left.entries) i) (near.areas i below_left)
@@ -258,25 +258,25 @@ module _ (left right : Namespaces) (uuid : List ℕ) (near : AreNear left right 
           ∙ sym (gone_area right.entries right i (omega (arith, near.count)))
 
   -- settling depends only on the areas
-  pub settle_same : (o : Option Entry) → settle gone_left o ≡ settle gone_right o
+  pub settle_same : (o : Option NamespaceEntry) → settle gone_left o ≡ settle gone_right o
   settle_same None = refl
-  settle_same (Some e) = ap (λ (areas : List AreaState). cond (is_unfinished e.status) None (Some (settled_entry (record gone_right { areas = areas }) e))) same_areas
+  settle_same (Some e) = ap (λ (areas : List AreaSummary). cond (is_unfinished e.status) None (Some (settled_entry (record gone_right { areas = areas }) e))) same_areas
 
   -- if the entry has the same result, so has the whole map
-  pub recovered_same : settle gone_left (lookup uuid left.entries) ≡ settle gone_right (lookup uuid right.entries) → recovered left ≡ recovered right
+  pub recovered_same : settle gone_left (lookup uuid left.entries) ≡ settle gone_right (lookup uuid right.entries) → after_recovery left ≡ after_recovery right
   recovered_same own =
-      namespaces_same (recovered left) (recovered right) (gone_sets left.entries left ∙ near.sets ∙ sym (gone_sets right.entries right)) same_areas
-      (rising_same (recovered left).entries (recovered right).entries (recovered_rising left near.rising_left) (recovered_rising right near.rising_right) each)
+      namespaces_same (after_recovery left) (after_recovery right) (gone_sets left.entries left ∙ near.sets ∙ sym (gone_sets right.entries right)) same_areas
+      (rising_same (after_recovery left).entries (after_recovery right).entries (recovered_rising left near.rising_left) (recovered_rising right near.rising_right) each)
       (gone_claims left.entries left ∙ near.claims ∙ sym (gone_claims right.entries right))
     where
       namespaces_same : (a b : Namespaces) → a.sets ≡ b.sets → a.areas ≡ b.areas → a.entries ≡ b.entries → a.claims ≡ b.claims → a ≡ b
       namespaces_same a b e f g h =
           ap (λ (s : List (List Mapping)). record a { sets = s }) e
-          ∙ ap (λ (as' : List AreaState). record a { sets = b.sets; areas = as' }) f
-          ∙ ap (λ (es : List Entry). record a { sets = b.sets; areas = b.areas; entries = es }) g
+          ∙ ap (λ (as' : List AreaSummary). record a { sets = b.sets; areas = as' }) f
+          ∙ ap (λ (es : List NamespaceEntry). record a { sets = b.sets; areas = b.areas; entries = es }) g
           ∙ ap (λ (cs : List (List ℕ × ℕ)). record b { claims = cs }) h
 
-      each : (u : List ℕ) → lookup u (recovered left).entries ≡ lookup u (recovered right).entries
+      each : (u : List ℕ) → lookup u (after_recovery left).entries ≡ lookup u (after_recovery right).entries
       each u =
           lookup_recovered left u near.rising_left
           ∙ elim (cases_Bool (bytes_eq u uuid)) [

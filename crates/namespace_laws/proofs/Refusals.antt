@@ -9,7 +9,7 @@ use Rattle.nfit_reader.specs.declared.table.Mapping.{Mapping}
 use Rattle.label_set.specs.declared.placed.Placed.{Placed}
 use Rattle.label_set.specs.declared.placed.SetStatus.{SetStatus}
 use Rattle.label_set.specs.declared.placed.SetStatus.TheVariants.{Complete, Unfinished, Local, Incomplete}
-use Rattle.namespace_map.specs.Namespaces.{Entry, entry_with, labels_with, region_of, status_in, shown_name, lookup}
+use Rattle.namespace_map.specs.Namespaces.{NamespaceEntry, entry_with, labels_with, region_of, status_in, shown_name, lookup}
 use Rattle.namespace_map.proofs.Entries.{lookup_entries}
 use Rattle.namespace_map.specs.declared.commands.Named.{Named}
 use Rattle.namespace_map.specs.declared.commands.Command.TheVariants as command
@@ -18,7 +18,7 @@ use Rattle.namespace_map.specs.declared.refused.OpRefused.TheVariants.{NoSuch, N
 use Rattle.namespace_map.specs.Areas.{Area}
 use Rattle.namespace_map.specs.Commands.{refusal_of, entry_refusal, bad_name, is_complete}
 use Rattle.namespace_map.specs.Changes.{namespaces_of, placed_in_all}
-use Rattle.namespace_map.specs.Left.{AreRegions, AreRead}
+use Rattle.namespace_map.specs.Left.{AreRegions, LabelsAreRead}
 use Rattle.namespace_laws.specs.Whole.{Agrees}
 use Rattle.namespace_laws.proofs.Sets.{no_fault}
 use Rattle.namespace_laws.proofs.Allowed.{passed_if}
@@ -26,7 +26,7 @@ use Rattle.namespace_laws.proofs.AgreesEntry as agree
 
 -- a complete entry, with the name of its status
 pub record IsFound (sets : List (List Mapping)) (areas : List (Option Area)) (uuid : List ℕ) : Type 0 where
-  pub entry : Entry
+  pub entry : NamespaceEntry
   pub pending : Bool
   pub is : lookup uuid (namespaces_of sets areas).entries ≡ Some entry
   pub status : entry.status ≡ Complete entry.name pending
@@ -38,25 +38,25 @@ complete_is Local e = absurd (false≢true e)
 complete_is (Incomplete why) e = absurd (false≢true e)
 
 -- the name is that of the status
-named_by_status : (sets : List (List Mapping)) (own : List Placed) (e : Entry) (name : List ℕ) (pending : Bool) → option_map (entry_with sets own) (slice_get own 0) ≡ Some e → e.status ≡ Complete name pending → e.name ≡ name
+named_by_status : (sets : List (List Mapping)) (own : List Placed) (e : NamespaceEntry) (name : List ℕ) (pending : Bool) → option_map (entry_with sets own) (slice_get own 0) ≡ Some e → e.status ≡ Complete name pending → e.name ≡ name
 named_by_status sets own e name pending is status = by (slice_get own 0) refl
   where
     by : (o : Option Placed) → slice_get own 0 ≡ o → e.name ≡ name
     by None at = absurd (none-some e (sym (ap (option_map (entry_with sets own)) at) ∙ is))
     by (Some p) at =
         let same : entry_with sets own p ≡ e = same_Some (entry_with sets own p) e (sym (ap (option_map (entry_with sets own)) at) ∙ is) in
-        let st : status_in (region_of sets p) own p ≡ Complete name pending = ap (λ (x : Entry). x.status) same ∙ status in
-        ap (λ (x : Entry). x.name) (sym same) ∙ ap (λ (s : SetStatus). shown_name s p) st
+        let st : status_in (region_of sets p) own p ≡ Complete name pending = ap (λ (x : NamespaceEntry). x.status) same ∙ status in
+        ap (λ (x : NamespaceEntry). x.name) (sym same) ∙ ap (λ (s : SetStatus). shown_name s p) st
 
 -- a complete entry has the name of its status
-pub complete_named : (sets : List (List Mapping)) (areas : List (Option Area)) (uuid : List ℕ) (e : Entry) → lookup uuid (namespaces_of sets areas).entries ≡ Some e → is_complete e.status ≡ true
+pub complete_named : (sets : List (List Mapping)) (areas : List (Option Area)) (uuid : List ℕ) (e : NamespaceEntry) → lookup uuid (namespaces_of sets areas).entries ≡ Some e → is_complete e.status ≡ true
     → (pending : Bool) × (e.status ≡ Complete e.name pending)
 complete_named sets areas uuid e at it =
     let complete = complete_is e.status it in
     let name : e.name ≡ complete.0 = named_by_status sets (labels_with uuid (placed_in_all areas)) e complete.0 complete.1 (sym (lookup_entries sets (placed_in_all areas) uuid) ∙ at) complete.2 in
     (complete.1, complete.2 ∙ ap (λ (n : List ℕ). Complete n complete.1) (sym name))
 
-found_in : (sets : List (List Mapping)) (areas : List (Option Area)) (uuid : List ℕ) (further : Entry → List (Option OpRefused)) (o : Option Entry) → lookup uuid (namespaces_of sets areas).entries ≡ o
+found_in : (sets : List (List Mapping)) (areas : List (Option Area)) (uuid : List ℕ) (further : NamespaceEntry → List (Option OpRefused)) (o : Option NamespaceEntry) → lookup uuid (namespaces_of sets areas).entries ≡ o
     → entry_refusal o further ≡ None → IsFound sets areas uuid
 found_in sets areas uuid further None at good = absurd (none-some NoSuch (sym good))
 found_in sets areas uuid further (Some e) at good =
@@ -70,13 +70,13 @@ delete_found sets areas uuid good = found_in sets areas uuid _ (lookup uuid (nam
 pub rename_found : (sets : List (List Mapping)) (areas : List (Option Area)) (uuid : List ℕ) (name : Named) → refusal_of (namespaces_of sets areas) (command.Rename uuid name) ≡ None → IsFound sets areas uuid
 rename_found sets areas uuid name good = found_in sets areas uuid _ (lookup uuid (namespaces_of sets areas).entries) refl (no_fault _ [] (no_fault (bad_name name) _ good).1).0
 
-pub delete_agrees : (sets : List (List Mapping)) (areas : List (Option Area)) (uuid : List ℕ) → AreRegions sets → AreRead areas
+pub delete_agrees : (sets : List (List Mapping)) (areas : List (Option Area)) (uuid : List ℕ) → AreRegions sets → LabelsAreRead areas
     → refusal_of (namespaces_of sets areas) (command.Delete uuid) ≡ None → Agrees sets areas (command.Delete uuid)
 delete_agrees sets areas uuid regions read good =
     let f = delete_found sets areas uuid good in
     agree.delete_agrees sets areas uuid f.entry f.pending regions read f.is f.status good
 
-pub rename_agrees : (sets : List (List Mapping)) (areas : List (Option Area)) (uuid : List ℕ) (name : Named) → AreRegions sets → AreRead areas
+pub rename_agrees : (sets : List (List Mapping)) (areas : List (Option Area)) (uuid : List ℕ) (name : Named) → AreRegions sets → LabelsAreRead areas
     → refusal_of (namespaces_of sets areas) (command.Rename uuid name) ≡ None → Agrees sets areas (command.Rename uuid name)
 rename_agrees sets areas uuid name regions read good =
     let f = rename_found sets areas uuid name good in

@@ -10,13 +10,13 @@ use Rattle.nfit_reader.specs.declared.table.Mapping.{Mapping}
 use Rattle.label_codec.specs.declared.label.Label.{Label}
 use Rattle.label_set.specs.declared.placed.SetStatus.{SetStatus}
 use Rattle.label_set.specs.declared.placed.SetStatus.TheVariants.{Complete, Unfinished, Local, Incomplete}
-use Rattle.namespace_map.specs.Namespaces.{Namespaces, Entry}
+use Rattle.namespace_map.specs.Namespaces.{Namespaces, NamespaceEntry}
 use Rattle.namespace_map.specs.Laws.{IsRising}
 use Rattle.namespace_map.specs.Areas.{Area, Change, slots_on, free_in, all_changed}
 use Rattle.namespace_map.specs.Commands.{area_of, is_complete, settled_status, settled_entry}
 use Rattle.namespace_map.specs.Changes.{own_labels, change_to, with_name, is_unsettled, settling_changes}
 use Rattle.label_codec.specs.Flags.{settled}
-use Rattle.namespace_map.specs.Left.{AreRegions, AreRead}
+use Rattle.namespace_map.specs.Left.{AreRegions, LabelsAreRead}
 use Rattle.namespace_laws.proofs.Whole.{own_of}
 use Rattle.namespace_laws.proofs.Staged.{all_changed_append}
 use Rattle.namespace_laws.proofs.Refusals.{complete_named}
@@ -24,13 +24,13 @@ use Rattle.namespace_laws.proofs.GoneLists.{PutsBytes, read_all}
 use Rattle.namespace_laws.proofs.Gone.{found, AreFound, Above, above_apart, others_own, found_by_own, still_found, own_labels_same, append_all}
 use Rattle.namespace_laws.proofs.SettleEntry as one
 
-pub record SettledAll (sets : List (List Mapping)) (areas : List (Option Area)) (gone : Namespaces) (es : List Entry) (cs : List Change) : Type 0 where
+pub record SettledAll (sets : List (List Mapping)) (areas : List (Option Area)) (gone : Namespaces) (es : List NamespaceEntry) (cs : List Change) : Type 0 where
   pub bytes : AllByRecursion PutsBytes cs
-  pub entries : (u : List ℕ) → found sets (all_changed areas cs) u ≡ cond (list_any (λ (e : Entry). bytes_eq e.uuid u) es) (option_map (settled_entry gone) (found sets areas u)) (found sets areas u)
+  pub entries : (u : List ℕ) → found sets (all_changed areas cs) u ≡ cond (list_any (λ (e : NamespaceEntry). bytes_eq e.uuid u) es) (option_map (settled_entry gone) (found sets areas u)) (found sets areas u)
   pub free : (i : ℕ) → free_in (slots_on (all_changed areas cs) i) ≡ free_in (slots_on areas i)
 
 -- an entry that isn't complete is unchanged
-unsettled_stays : (gone : Namespaces) (e : Entry) → is_complete e.status ≡ false → settled_entry gone e ≡ e
+unsettled_stays : (gone : Namespaces) (e : NamespaceEntry) → is_complete e.status ≡ false → settled_entry gone e ≡ e
 unsettled_stays gone e not_it = ap (λ (b : Bool). record e {
   updating = cond b (filter (λ m. (area_of gone m).free == 0) e.updating) e.updating;
   status = settled_status e.status (cond b (filter (λ m. (area_of gone m).free == 0) e.updating) e.updating);
@@ -49,7 +49,7 @@ filter_same left areas same (p ∷ ps) =
     let t : is_unsettled areas p ≡ is_unsettled left p = ap (λ (n : ℕ). (p.1.flags / 8 % 2 == 1) && nat_le 1 n) (sym (same p.0)) in
     ap (λ (b : Bool). cond b (p ∷ filter (is_unsettled areas) ps) (filter (is_unsettled areas) ps)) t ∙ ap (λ (qs : List (ℕ × Label)). cond (is_unsettled left p) (p ∷ qs) qs) (filter_same left areas same ps)
 
-pub same_settling : (left areas : List (Option Area)) (v : List ℕ) (es : List Entry) → Above v es → ((u : List ℕ) → u ≢ v → own_of u left ≡ own_of u areas) → ((i : ℕ) → free_in (slots_on left i) ≡ free_in (slots_on areas i))
+pub same_settling : (left areas : List (Option Area)) (v : List ℕ) (es : List NamespaceEntry) → Above v es → ((u : List ℕ) → u ≢ v → own_of u left ≡ own_of u areas) → ((i : ℕ) → free_in (slots_on left i) ≡ free_in (slots_on areas i))
     → flat_map (settling_changes areas) es ≡ flat_map (settling_changes left) es
 same_settling left areas v [] above same free = refl
 same_settling left areas v (f ∷ fs) (less, above) same free =
@@ -59,20 +59,20 @@ same_settling left areas v (f ∷ fs) (less, above) same free =
     ∙ ap (λ (xs : List Change). settling_changes left f ++ xs) (same_settling left areas v fs above same free)
 
 -- a UUID isn't among greater ones
-not_among : (es : List Entry) (v : List ℕ) → Above v es → list_any (λ (e : Entry). bytes_eq e.uuid v) es ≡ false
+not_among : (es : List NamespaceEntry) (v : List ℕ) → Above v es → list_any (λ (e : NamespaceEntry). bytes_eq e.uuid v) es ≡ false
 not_among [] v above = refl
 not_among (f ∷ fs) v (less, above) =
     let apart : bytes_eq f.uuid v ≡ false = false_from_ne_true _ (λ s. above_apart v f.uuid less ((bytes_eq-Decides f.uuid v).0 s)) in
     rw apart (not_among fs v above)
 
-pub settled_all : (es : List Entry) (sets : List (List Mapping)) (areas : List (Option Area)) (gone : Namespaces) → AreRegions sets → AreRead areas → IsRising es → AreFound sets areas es
+pub settled_all : (es : List NamespaceEntry) (sets : List (List Mapping)) (areas : List (Option Area)) (gone : Namespaces) → AreRegions sets → LabelsAreRead areas → IsRising es → AreFound sets areas es
     → ((m : ℕ) → (area_of gone m).free ≡ free_in (slots_on areas m)) → SettledAll sets areas gone es (flat_map (settling_changes areas) es)
 unfolding all_changed
 settled_all [] sets areas gone regions read rising all frees = record { bytes = tt; entries = λ u. refl; free = λ i. refl }
 settled_all (e ∷ es) sets areas gone regions read (above, rising) (is, rest) frees = by (cases_Bool (is_complete e.status)) (settled_all es sets)
   where
     by : (is_complete e.status ≡ true) ⊎ (is_complete e.status ≡ false)
-        → ((as' : List (Option Area)) (gone : Namespaces) → AreRegions sets → AreRead as' → IsRising es → AreFound sets as' es → ((m : ℕ) → (area_of gone m).free ≡ free_in (slots_on as' m))
+        → ((as' : List (Option Area)) (gone : Namespaces) → AreRegions sets → LabelsAreRead as' → IsRising es → AreFound sets as' es → ((m : ℕ) → (area_of gone m).free ≡ free_in (slots_on as' m))
         → SettledAll sets as' gone es (flat_map (settling_changes as') es))
         → SettledAll sets areas gone (e ∷ es) (flat_map (settling_changes areas) (e ∷ es))
     by (inr not_it) on =
@@ -80,21 +80,21 @@ settled_all (e ∷ es) sets areas gone regions read (above, rising) (is, rest) f
         rw not_it (record { bytes = later.bytes; entries = λ u. later.entries u ∙ same u (cases_Bool (bytes_eq e.uuid u)); free = later.free })
       where
         same : (u : List ℕ) → (bytes_eq e.uuid u ≡ true) ⊎ (bytes_eq e.uuid u ≡ false)
-            → cond (list_any (λ (f : Entry). bytes_eq f.uuid u) es) (option_map (settled_entry gone) (found sets areas u)) (found sets areas u)
-            ≡ cond (bytes_eq e.uuid u || list_any (λ (f : Entry). bytes_eq f.uuid u) es) (option_map (settled_entry gone) (found sets areas u)) (found sets areas u)
+            → cond (list_any (λ (f : NamespaceEntry). bytes_eq f.uuid u) es) (option_map (settled_entry gone) (found sets areas u)) (found sets areas u)
+            ≡ cond (bytes_eq e.uuid u || list_any (λ (f : NamespaceEntry). bytes_eq f.uuid u) es) (option_map (settled_entry gone) (found sets areas u)) (found sets areas u)
         same u (inl at) =
             let same_uuid : e.uuid ≡ u = (bytes_eq-Decides e.uuid u).0 at in
             let stays : option_map (settled_entry gone) (found sets areas u) ≡ found sets areas u =
             subst (λ (v : List ℕ). option_map (settled_entry gone) (found sets areas v) ≡ found sets areas v) same_uuid (ap (option_map (settled_entry gone)) is ∙ ap Some (unsettled_stays gone e not_it) ∙ sym is) in
-            ap (λ (o : Option Entry). cond (list_any (λ (f : Entry). bytes_eq f.uuid u) es) o (found sets areas u)) stays
-            ∙ either (list_any (λ (f : Entry). bytes_eq f.uuid u) es) (found sets areas u)
+            ap (λ (o : Option NamespaceEntry). cond (list_any (λ (f : NamespaceEntry). bytes_eq f.uuid u) es) o (found sets areas u)) stays
+            ∙ either (list_any (λ (f : NamespaceEntry). bytes_eq f.uuid u) es) (found sets areas u)
             ∙ sym stays
-            ∙ sym (ap (λ (b : Bool). cond (b || list_any (λ (f : Entry). bytes_eq f.uuid u) es) (option_map (settled_entry gone) (found sets areas u)) (found sets areas u)) at)
+            ∙ sym (ap (λ (b : Bool). cond (b || list_any (λ (f : NamespaceEntry). bytes_eq f.uuid u) es) (option_map (settled_entry gone) (found sets areas u)) (found sets areas u)) at)
           where
-            either : (b : Bool) (o : Option Entry) → cond b o o ≡ o
+            either : (b : Bool) (o : Option NamespaceEntry) → cond b o o ≡ o
             either true o = refl
             either false o = refl
-        same u (inr not_at) = sym (ap (λ (b : Bool). cond (b || list_any (λ (f : Entry). bytes_eq f.uuid u) es) (option_map (settled_entry gone) (found sets areas u)) (found sets areas u)) not_at)
+        same u (inr not_at) = sym (ap (λ (b : Bool). cond (b || list_any (λ (f : NamespaceEntry). bytes_eq f.uuid u) es) (option_map (settled_entry gone) (found sets areas u)) (found sets areas u)) not_at)
     by (inl it) on = with_status (complete_named sets areas e.uuid e is it)
       where
         with_status : (pending : Bool) × (e.status ≡ Complete e.name pending) → SettledAll sets areas gone (e ∷ es) (flat_map (settling_changes areas) (e ∷ es))
@@ -124,12 +124,12 @@ settled_all (e ∷ es) sets areas gone regions read (above, rising) (is, rest) f
             joined = all_changed_append (one.cs sets areas e.uuid e pending regions read is status (is_unsettled areas) (λ p u. u)) (flat_map (settling_changes areas) es) areas
 
             entries_by : (u : List ℕ) → (bytes_eq e.uuid u ≡ true) ⊎ (bytes_eq e.uuid u ≡ false)
-                → cond (list_any (λ (f : Entry). bytes_eq f.uuid u) es) (option_map (settled_entry gone) (found sets (all_changed areas (one.cs sets areas e.uuid e pending regions read is status (is_unsettled areas) (λ p u. u))) u))
+                → cond (list_any (λ (f : NamespaceEntry). bytes_eq f.uuid u) es) (option_map (settled_entry gone) (found sets (all_changed areas (one.cs sets areas e.uuid e pending regions read is status (is_unsettled areas) (λ p u. u))) u))
                 (found sets (all_changed areas (one.cs sets areas e.uuid e pending regions read is status (is_unsettled areas) (λ p u. u))) u)
-                ≡ cond (bytes_eq e.uuid u || list_any (λ (f : Entry). bytes_eq f.uuid u) es) (option_map (settled_entry gone) (found sets areas u)) (found sets areas u)
+                ≡ cond (bytes_eq e.uuid u || list_any (λ (f : NamespaceEntry). bytes_eq f.uuid u) es) (option_map (settled_entry gone) (found sets areas u)) (found sets areas u)
             entries_by u (inl at) =
                 let same_uuid : e.uuid ≡ u = (bytes_eq-Decides e.uuid u).0 at in
-                let none : list_any (λ (f : Entry). bytes_eq f.uuid u) es ≡ false = ap (λ (v : List ℕ). list_any (λ (f : Entry). bytes_eq f.uuid v) es) (sym same_uuid) ∙ not_among es e.uuid above in
+                let none : list_any (λ (f : NamespaceEntry). bytes_eq f.uuid u) es ≡ false = ap (λ (v : List ℕ). list_any (λ (f : NamespaceEntry). bytes_eq f.uuid v) es) (sym same_uuid) ∙ not_among es e.uuid above in
                 let after : found sets (all_changed areas (one.cs sets areas e.uuid e pending regions read is status (is_unsettled areas) (λ p u. u))) u ≡ Some (settled_entry gone e) =
                 subst (λ (v : List ℕ). found sets (all_changed areas (one.cs sets areas e.uuid e pending regions read is status (is_unsettled areas) (λ p u. u))) v ≡ Some (settled_entry gone e)) same_uuid
                 (one.settled_found sets areas e.uuid e pending regions read is status (is_unsettled areas) (λ p u. u) (λ p. refl) gone frees) in
@@ -137,9 +137,9 @@ settled_all (e ∷ es) sets areas gone regions read (above, rising) (is, rest) f
                 ap (λ (b : Bool). cond b (option_map (settled_entry gone) (found sets (all_changed areas (one.cs sets areas e.uuid e pending regions read is status (is_unsettled areas) (λ p u. u))) u))
                 (found sets (all_changed areas (one.cs sets areas e.uuid e pending regions read is status (is_unsettled areas) (λ p u. u))) u)) none
                 ∙ after
-                ∙ sym (ap (λ (b : Bool). cond (b || list_any (λ (f : Entry). bytes_eq f.uuid u) es) (option_map (settled_entry gone) (found sets areas u)) (found sets areas u)) at ∙ ap (option_map (settled_entry gone)) before)
+                ∙ sym (ap (λ (b : Bool). cond (b || list_any (λ (f : NamespaceEntry). bytes_eq f.uuid u) es) (option_map (settled_entry gone) (found sets areas u)) (found sets areas u)) at ∙ ap (option_map (settled_entry gone)) before)
             entries_by u (inr not_at) =
                 let same : found sets (all_changed areas (one.cs sets areas e.uuid e pending regions read is status (is_unsettled areas) (λ p u. u))) u ≡ found sets areas u =
                 found_by_own sets (all_changed areas (one.cs sets areas e.uuid e pending regions read is status (is_unsettled areas) (λ p u. u))) areas u (others u (λ s. false≢true (sym not_at ∙ (bytes_eq-Decides e.uuid u).1 (sym s)))) in
-                ap (λ (o : Option Entry). cond (list_any (λ (f : Entry). bytes_eq f.uuid u) es) (option_map (settled_entry gone) o) o) same
-                ∙ sym (ap (λ (b : Bool). cond (b || list_any (λ (f : Entry). bytes_eq f.uuid u) es) (option_map (settled_entry gone) (found sets areas u)) (found sets areas u)) not_at)
+                ap (λ (o : Option NamespaceEntry). cond (list_any (λ (f : NamespaceEntry). bytes_eq f.uuid u) es) (option_map (settled_entry gone) o) o) same
+                ∙ sym (ap (λ (b : Bool). cond (b || list_any (λ (f : NamespaceEntry). bytes_eq f.uuid u) es) (option_map (settled_entry gone) (found sets areas u)) (found sets areas u)) not_at)

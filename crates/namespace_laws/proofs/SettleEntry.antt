@@ -13,7 +13,7 @@ use Rattle.label_set.specs.declared.placed.SetStatus.{SetStatus}
 use Rattle.label_set.specs.declared.placed.SetStatus.TheVariants.{Complete}
 use Rattle.label_set.specs.Rules.{module_of, is_updating, least_missing}
 use Rattle.label_set.specs.Status.{status_of}
-use Rattle.namespace_map.specs.Namespaces.{Namespaces, Entry, Part, part_of, entry_with, region_of, is_read_only}
+use Rattle.namespace_map.specs.Namespaces.{Namespaces, NamespaceEntry, Part, part_of, entry_with, region_of, is_read_only}
 use Rattle.namespace_map.proofs.Entries.{lookup_entries}
 use Rattle.namespace_map.proofs.Rising.{all_pass_to}
 use Rattle.namespace_map.specs.Areas.{Area, Change, slots_on, free_in, all_changed}
@@ -22,7 +22,7 @@ use Rattle.namespace_map.specs.Changes.{placed_in_all, is_unsettled}
 use Rattle.namespace_map.specs.CommandLaws.{IsOf}
 use Rattle.namespace_map.proofs.Areas.{Proper}
 use Rattle.namespace_map.proofs.Labels.{placed_at}
-use Rattle.namespace_map.specs.Left.{AreRegions, AreRead}
+use Rattle.namespace_map.specs.Left.{AreRegions, LabelsAreRead}
 use Rattle.namespace_laws.proofs.Whole.{AllLab, own_of, IsBy, slot_on, all_by, any_of, any_none, own_each}
 use Rattle.namespace_laws.proofs.Agree.{own_by, placed_by, map_filter_map}
 use Rattle.namespace_laws.proofs.Apart.{on_module}
@@ -41,7 +41,7 @@ use Rattle.namespace_laws.proofs.Settle as settle
 use Rattle.namespace_laws.proofs.Settle.{upd, locked, updating_by, locked_by, find_same, filter_both}
 use Rattle.namespace_laws.proofs.Gone.{found}
 
-module _ (sets : List (List Mapping)) (areas : List (Option Area)) (uuid : List ℕ) (e : Entry) (pending : Bool) (regions : AreRegions sets) (read : AreRead areas)
+module _ (sets : List (List Mapping)) (areas : List (Option Area)) (uuid : List ℕ) (e : NamespaceEntry) (pending : Bool) (regions : AreRegions sets) (read : LabelsAreRead areas)
     (is : found sets areas uuid ≡ Some e) (status : e.status ≡ Complete e.name pending)
     -- which of the unsettled labels are settled
     (t : ℕ × Label → Bool) (may : (p : ℕ × Label) → t p ≡ true → is_unsettled areas p ≡ true) where
@@ -186,7 +186,7 @@ module _ (sets : List (List Mapping)) (areas : List (Option Area)) (uuid : List 
   some_of [] = refl
   some_of (x ∷ xs) = elim (cases_Bool (is_updating x)) [ inl it ↦ rw it refl | inr not_it ↦ rw not_it (some_of xs) ]
 
-  abbrev shape : List Part → SetStatus → List ℕ → Option ℕ → Entry
+  abbrev shape : List Part → SetStatus → List ℕ → Option ℕ → NamespaceEntry
   shape parts st updating read_only = record {
     uuid = uuid;
     name = e.name;
@@ -217,14 +217,14 @@ module _ (sets : List (List Mapping)) (areas : List (Option Area)) (uuid : List 
       sym (entry_of own pending standing.first (subst (AllByRecursion IsGood) standing.own_is good).0 standing.complete) ∙ standing.entry_is
 
   updating_is : e.updating ≡ filter (λ m. upd (lab m)) (range_with_len 0 (length areas))
-  updating_is = ap (λ (x : Entry). x.updating) (sym shape_before) ∙ updating_before
+  updating_is = ap (λ (x : NamespaceEntry). x.updating) (sym shape_before) ∙ updating_before
 
   -- the modules whose label still has UPDATING
   abbrev pub still_updating : List ℕ
   still_updating = filter (λ m. upd (lab_then m)) (range_with_len 0 (length areas))
 
   -- the entry, with some of its labels settled
-  abbrev pub entry_then : Entry
+  abbrev pub entry_then : NamespaceEntry
   entry_then = record e { updating = still_updating; status = Complete e.name (list_any (λ (m : ℕ). true) still_updating) }
 
   pub found_then : found sets left uuid ≡ Some entry_then
@@ -242,13 +242,13 @@ module _ (sets : List (List Mapping)) (areas : List (Option Area)) (uuid : List 
           ∙ ap (λ (o : Option ℕ). shape (map part_of own) (Complete e.name (list_any is_updating (own_of uuid left))) (map module_of (filter is_updating (own_of uuid left))) o) locked_same
           ∙ ap (λ (b : Bool). shape (map part_of own) (Complete e.name b) (map module_of (filter is_updating (own_of uuid left))) (option_map module_of (find is_read_only own))) pending_is
           ∙ ap (λ (u : List ℕ). shape (map part_of own) (Complete e.name (list_any (λ (m : ℕ). true) still_updating)) u (option_map module_of (find is_read_only own))) updating_then
-          ∙ ap (λ (x : Entry). record x { updating = still_updating; status = Complete e.name (list_any (λ (m : ℕ). true) still_updating) }) shape_before)
+          ∙ ap (λ (x : NamespaceEntry). record x { updating = still_updating; status = Complete e.name (list_any (λ (m : ℕ). true) still_updating) }) shape_before)
 
   filter_same : (s u : ℕ → Bool) → ((m : ℕ) → s m ≡ u m) → (xs : List ℕ) → filter s xs ≡ filter u xs
   filter_same s u same [] = refl
   filter_same s u same (x ∷ xs) = ap (λ (b : Bool). cond b (x ∷ filter s xs) (filter s xs)) (same x) ∙ ap (λ (ys : List ℕ). cond (u x) (x ∷ ys) ys) (filter_same s u same xs)
 
-  settles : (gone : Namespaces) (x : Entry) (b : Bool) → x.status ≡ Complete e.name b → settled_entry gone x ≡ record x {
+  settles : (gone : Namespaces) (x : NamespaceEntry) (b : Bool) → x.status ≡ Complete e.name b → settled_entry gone x ≡ record x {
     updating = filter (λ m. (area_of gone m).free == 0) x.updating;
     status = Complete e.name (list_any (λ (m : ℕ). true) (filter (λ m. (area_of gone m).free == 0) x.updating));
   }

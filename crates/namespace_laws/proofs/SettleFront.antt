@@ -7,13 +7,13 @@ use Rattle.std.proofs.lemmas.Option.{unwrap_or-slice_get, slice_get_past}
 use Rattle.nfit_reader.specs.declared.table.Mapping.{Mapping}
 use Rattle.label_codec.specs.declared.label.Label.{Label}
 use Rattle.label_set.specs.declared.placed.SetStatus.TheVariants.{Complete}
-use Rattle.namespace_map.specs.Namespaces.{AreaState, Entry, Namespaces}
+use Rattle.namespace_map.specs.Namespaces.{AreaSummary, NamespaceEntry, Namespaces}
 use Rattle.namespace_map.proofs.Rising.{rising_entries}
 use Rattle.namespace_map.specs.Areas.{Area, Change, slots_on, slots_of, free_in, area_at, all_changed}
-use Rattle.namespace_map.specs.Commands.{no_area, area_of, unfinished_gone, recovered}
-use Rattle.namespace_map.specs.Changes.{namespaces_of, placed_in_all, area_state, own_labels, change_to, with_name, is_unsettled}
+use Rattle.namespace_map.specs.Commands.{no_area, area_of, unfinished_gone, after_recovery}
+use Rattle.namespace_map.specs.Changes.{namespaces_of, placed_in_all, area_summary, own_labels, change_to, with_name, is_unsettled}
 use Rattle.label_codec.specs.Flags.{settled}
-use Rattle.namespace_map.specs.Left.{AreRegions, AreRead}
+use Rattle.namespace_map.specs.Left.{AreRegions, LabelsAreRead}
 use Rattle.namespace_laws.proofs.Staged.{Apart, names}
 use Rattle.namespace_laws.proofs.Two.{length_kept}
 use Rattle.namespace_laws.proofs.Allowed.{area_free}
@@ -26,7 +26,7 @@ use Rattle.namespace_laws.proofs.SettleEntry as one
 
 -- the result of recovery for the namespaces of areas
 abbrev pub recovery_of : List (List Mapping) → List (Option Area) → Namespaces
-recovery_of sets areas = recovered (namespaces_of sets areas)
+recovery_of sets areas = after_recovery (namespaces_of sets areas)
 
 -- removing unfinished entries leaves no module with fewer free slots
 pub more_free : (sets : List (List Mapping)) (areas : List (Option Area)) (m : ℕ) → free_in (slots_on areas m) ≤ (area_of (unfinished_gone (namespaces_of sets areas) (namespaces_of sets areas).entries) m).free
@@ -38,15 +38,15 @@ more_free sets areas m = by (cases_lt m (length areas))
         let at : area_of (namespaces_of sets areas) m ≡ get_or (namespaces_of sets areas).areas m no_area = unwrap_or-slice_get (namespaces_of sets areas).areas m no_area in
         let then : area_of (unfinished_gone (namespaces_of sets areas) (namespaces_of sets areas).entries) m ≡ get_or (unfinished_gone (namespaces_of sets areas) (namespaces_of sets areas).entries).areas m no_area =
         unwrap_or-slice_get (unfinished_gone (namespaces_of sets areas) (namespaces_of sets areas).entries).areas m no_area in
-        let given = ap (λ (s : AreaState). s.free) (gone_area (namespaces_of sets areas).entries (namespaces_of sets areas) m (omega (arith, below, length-map areas area_state))) in
-        let f = ap (λ (s : AreaState). s.free) then in
-        let g = ap (λ (s : AreaState). s.free) at in
+        let given = ap (λ (s : AreaSummary). s.free) (gone_area (namespaces_of sets areas).entries (namespaces_of sets areas) m (omega (arith, below, length-map areas area_summary))) in
+        let f = ap (λ (s : AreaSummary). s.free) then in
+        let g = ap (λ (s : AreaSummary). s.free) at in
         omega (arith, before, given, f, g)
     by (inr past) =
         let nothing : free_in (slots_on areas m) ≡ 0 = ap (λ (o : Option (Option Area)). free_in (slots_of (unwrap_or o None))) (slice_get_past areas m past) in
         omega (arith, nothing)
 
-module _ (sets : List (List Mapping)) (areas : List (Option Area)) (uuid : List ℕ) (e : Entry) (pending : Bool) (regions : AreRegions sets) (read : AreRead areas)
+module _ (sets : List (List Mapping)) (areas : List (Option Area)) (uuid : List ℕ) (e : NamespaceEntry) (pending : Bool) (regions : AreRegions sets) (read : LabelsAreRead areas)
     (is : found sets areas uuid ≡ Some e) (status : e.status ≡ Complete e.name pending) (t : ℕ × Label → Bool) (may : (p : ℕ × Label) → t p ≡ true → is_unsettled areas p ≡ true) where
   abbrev cs : List Change
   cs = one.cs sets areas uuid e pending regions read is status t may
@@ -57,16 +57,16 @@ module _ (sets : List (List Mapping)) (areas : List (Option Area)) (uuid : List 
   abbrev ns : Namespaces
   ns = namespaces_of sets areas
 
-  abbrev then : Entry
+  abbrev then : NamespaceEntry
   then = one.entry_then sets areas uuid e pending regions read is status t may
 
   found_then : found sets left uuid ≡ Some then
   found_then = one.found_then sets areas uuid e pending regions read is status t may
 
-  free_is : (i : ℕ) → (area_state (area_at areas i)).free ≡ free_in (slots_on areas i)
+  free_is : (i : ℕ) → (area_summary (area_at areas i)).free ≡ free_in (slots_on areas i)
   free_is i = by (area_at areas i)
     where
-      by : (a : Option Area) → (area_state a).free ≡ free_in (slots_of a)
+      by : (a : Option Area) → (area_summary a).free ≡ free_in (slots_of a)
       by None = refl
       by (Some a) = refl
 
@@ -74,14 +74,14 @@ module _ (sets : List (List Mapping)) (areas : List (Option Area)) (uuid : List 
   same_state i =
       get_state left i
       ∙ state_after cs areas i (free_in (slots_on areas i)) (one.free_same sets areas uuid e pending regions read is status t may i)
-      ∙ ap (λ (n : ℕ). record (area_state (area_at areas i)) { free = n }) (sym (free_is i))
+      ∙ ap (λ (n : ℕ). record (area_summary (area_at areas i)) { free = n }) (sym (free_is i))
       ∙ sym (get_state areas i)
 
   none_given : (i : ℕ) → weight (found sets areas uuid) i ≡ 0
-  none_given i = ap (λ (o : Option Entry). weight o i) is ∙ rw status refl
+  none_given i = ap (λ (o : Option NamespaceEntry). weight o i) is ∙ rw status refl
 
   none_given_then : (i : ℕ) → weight (found sets left uuid) i ≡ 0
-  none_given_then i = ap (λ (o : Option Entry). weight o i) found_then
+  none_given_then i = ap (λ (o : Option NamespaceEntry). weight o i) found_then
 
   near : AreNear (namespaces_of sets left) ns uuid
   near = record {
@@ -90,10 +90,10 @@ module _ (sets : List (List Mapping)) (areas : List (Option Area)) (uuid : List 
     rising_left = rising_entries sets (placed_in_all left);
     rising_right = rising_entries sets (placed_in_all areas);
     others = λ u ne. found_by_own sets left areas u (others_own cs areas u uuid ne (one.of sets areas uuid e pending regions read is status t may));
-    count = length-map left area_state ∙ length_kept cs areas ∙ sym (length-map areas area_state);
+    count = length-map left area_summary ∙ length_kept cs areas ∙ sym (length-map areas area_summary);
     areas = λ i below.
         ap (λ (n : ℕ). with_free (get_or (namespaces_of sets left).areas i no_area) ((get_or (namespaces_of sets left).areas i no_area).free + n)) (none_given_then i)
-        ∙ ap (λ (s : AreaState). with_free s (s.free + 0)) (same_state i)
+        ∙ ap (λ (s : AreaSummary). with_free s (s.free + 0)) (same_state i)
         ∙ ap (λ (n : ℕ). with_free (get_or ns.areas i no_area) ((get_or ns.areas i no_area).free + n)) (sym (none_given i));
   }
 
@@ -108,7 +108,7 @@ module _ (sets : List (List Mapping)) (areas : List (Option Area)) (uuid : List 
       ∙ ap Some (one.settled_same sets areas uuid e pending regions read is status t may gone (more_free sets areas))
       ∙ sym (ap (settle gone) is ∙ rw status refl))
 
-module _ (sets : List (List Mapping)) (areas : List (Option Area)) (uuid : List ℕ) (e : Entry) (pending : Bool) (regions : AreRegions sets) (read : AreRead areas)
+module _ (sets : List (List Mapping)) (areas : List (Option Area)) (uuid : List ℕ) (e : NamespaceEntry) (pending : Bool) (regions : AreRegions sets) (read : LabelsAreRead areas)
     (is : found sets areas uuid ≡ Some e) (status : e.status ≡ Complete e.name pending) where
   abbrev pub unsettled : List (ℕ × Label)
   unsettled = filter (is_unsettled areas) (own_labels areas uuid)

@@ -14,7 +14,7 @@ use Rattle.label_set.specs.declared.placed.SetStatus.TheVariants.{Complete, Unfi
 use Rattle.label_set.specs.declared.placed.Why.TheVariants.{Missing}
 use Rattle.label_set.specs.Rules.{least_where, lesser, modules_of, module_of, count_on, is_updating, least_missing}
 use Rattle.label_set.specs.Status.{missing_finding, naming_of, short_of}
-use Rattle.namespace_map.specs.Namespaces.{Part, Entry, part_of, entry_with, region_of, shown_name, is_read_only, lookup}
+use Rattle.namespace_map.specs.Namespaces.{Part, NamespaceEntry, part_of, entry_with, region_of, shown_name, is_read_only, lookup}
 use Rattle.label_codec.specs.Flags.{without_updating}
 use Rattle.namespace_map.proofs.Entries.{lookup_entries}
 use Rattle.namespace_map.proofs.Rising.{all_pass_to}
@@ -100,7 +100,7 @@ find_none test (x ∷ xs) (one, rest) = rw one (find_none test xs rest)
 
 -- ---- the entry
 
-abbrev pub shaped : List ℕ → ℕ → Shared → List ℕ → List Part → SetStatus → List ℕ → Entry
+abbrev pub shaped : List ℕ → ℕ → Shared → List ℕ → List Part → SetStatus → List ℕ → NamespaceEntry
 shaped uuid region c name parts status updating = record {
   uuid = uuid;
   name = name;

@@ -4,7 +4,7 @@ use Rattle.std.specs.Prelude.{◌==◌, map}
 use Rattle.std.specs.List.{AllByRecursion, list_any}
 use Rattle.std.proofs.lemmas.Bool.{cases_Bool, false≢true, eq-eqb, eqb-true, eqb-false, or_right}
 use Rattle.label_codec.specs.declared.label.Label.{Label}
-use Rattle.namespace_map.specs.Areas.{Area, Change, changed, all_changed}
+use Rattle.namespace_map.specs.Areas.{Area, Change, changed_areas, all_changed}
 use Rattle.namespace_map.specs.Changes.{change_to, in_two}
 use Rattle.namespace_map.specs.CommandLaws.{IsOf}
 use Rattle.namespace_map.proofs.Areas.{HasRoom, Fitting, moved, moved_all, moved_none}
@@ -43,7 +43,7 @@ moved_all_append (c ∷ cs) ds lab = moved_all_append cs ds (moved lab c)
 pub all_changed_append : (cs ds : List Change) (areas : List (Option Area)) → all_changed areas (cs ++ ds) ≡ all_changed (all_changed areas cs) ds
 unfolding all_changed
 all_changed_append [] ds areas = refl
-all_changed_append (c ∷ cs) ds areas = all_changed_append cs ds (changed areas c)
+all_changed_append (c ∷ cs) ds areas = all_changed_append cs ds (changed_areas areas c)
 
 pub all_map : {X Y : Type 0} (P : Y → Type 0) (f : X → Y) (xs : List X) → AllByRecursion (λ x. P (f x)) xs → AllByRecursion P (map f xs)
 all_map P f [] all = tt

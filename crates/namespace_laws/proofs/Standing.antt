@@ -13,7 +13,7 @@ use Rattle.label_set.specs.declared.placed.Why.TheVariants.{Outside}
 use Rattle.label_set.specs.declared.placed.SetStatus.TheVariants.{Complete, Unfinished, Local, Incomplete}
 use Rattle.label_set.specs.Rules.{is_local, is_updating, module_of, least_missing}
 use Rattle.label_set.specs.Status.{status_of}
-use Rattle.namespace_map.specs.Namespaces.{Part, Entry, part_of, entry_with, region_of, holds_label, status_in, is_read_only, lookup}
+use Rattle.namespace_map.specs.Namespaces.{Part, NamespaceEntry, part_of, entry_with, region_of, holds_label, status_in, is_read_only, lookup}
 use Rattle.namespace_map.proofs.Entries.{lookup_entries}
 use Rattle.namespace_map.proofs.Rising.{all_pass_to}
 use Rattle.namespace_map.specs.Areas.{Area}
@@ -21,7 +21,7 @@ use Rattle.namespace_map.specs.Commands.{entry_modules, short_of, area_of, renam
 use Rattle.namespace_map.specs.Changes.{namespaces_of, placed_in_all, own_labels, by_position, by_position_with}
 use Rattle.namespace_map.proofs.Areas.{Proper}
 use Rattle.namespace_map.proofs.Labels.{placed_at}
-use Rattle.namespace_map.specs.Left.{AreRegions, AreRead, IsPartOf, IsPending, Left}
+use Rattle.namespace_map.specs.Left.{AreRegions, LabelsAreRead, IsPartOf, IsPending, Left}
 use Rattle.namespace_laws.proofs.Whole.{AllLab, own_of, IsBy, slot_on, all_by, any_of, all_from_none}
 use Rattle.namespace_laws.proofs.Agree.{own_by, placed_by}
 use Rattle.namespace_laws.proofs.Apart.{on_module, own_apart}
@@ -69,7 +69,7 @@ found_place (s ∷ sets) test k r e = by (cases_Bool (test s)) (found_place sets
 
 -- ---- the labels of a complete entry
 
-pub record Found (sets : List (List Mapping)) (own : List Placed) (e : Entry) (pending : Bool) : Type 0 where
+pub record Found (sets : List (List Mapping)) (own : List Placed) (e : NamespaceEntry) (pending : Bool) : Type 0 where
   pub first : Placed
   pub rest : List Placed
   pub own_is : own ≡ first ∷ rest
@@ -79,7 +79,7 @@ pub record Found (sets : List (List Mapping)) (own : List Placed) (e : Entry) (p
   pub at : slice_get sets region ≡ Some set
   pub complete : status_of set own ≡ Complete e.name pending
 
-pub found_by : (sets : List (List Mapping)) (own : List Placed) (e : Entry) (pending : Bool) → option_map (entry_with sets own) (slice_get own 0) ≡ Some e → e.status ≡ Complete e.name pending → Found sets own e pending
+pub found_by : (sets : List (List Mapping)) (own : List Placed) (e : NamespaceEntry) (pending : Bool) → option_map (entry_with sets own) (slice_get own 0) ≡ Some e → e.status ≡ Complete e.name pending → Found sets own e pending
 found_by sets own e pending is status = by own refl
   where
     region_by : (first : Placed) (rest : List Placed) → own ≡ first ∷ rest → entry_with sets own first ≡ e → (o : Option (ℕ × List Mapping)) → region_of sets first ≡ o
@@ -96,9 +96,9 @@ found_by sets own e pending is status = by own refl
     by [] nothing = absurd (none-some e (sym (ap (λ (xs : List Placed). option_map (entry_with sets own) (slice_get xs 0)) nothing) ∙ is))
     by (first ∷ rest) own_is =
         let same : entry_with sets own first ≡ e = same_Some (entry_with sets own first) e (sym (ap (λ (xs : List Placed). option_map (entry_with sets own) (slice_get xs 0)) own_is) ∙ is) in
-        region_by first rest own_is same (region_of sets first) refl (ap (λ (x : Entry). x.status) same ∙ status)
+        region_by first rest own_is same (region_of sets first) refl (ap (λ (x : NamespaceEntry). x.status) same ∙ status)
 
-module _ (sets : List (List Mapping)) (areas : List (Option Area)) (uuid : List ℕ) (e : Entry) (pending : Bool) (regions : AreRegions sets) (read : AreRead areas)
+module _ (sets : List (List Mapping)) (areas : List (Option Area)) (uuid : List ℕ) (e : NamespaceEntry) (pending : Bool) (regions : AreRegions sets) (read : LabelsAreRead areas)
     (is : lookup uuid (namespaces_of sets areas).entries ≡ Some e) (status : e.status ≡ Complete e.name pending) (unlocked : e.read_only ≡ None) where
   abbrev own : List Placed
   own = own_of uuid areas
@@ -188,7 +188,7 @@ module _ (sets : List (List Mapping)) (areas : List (Option Area)) (uuid : List 
 
   -- its parts are those of its labels
   pub parts_are : e.parts ≡ map part_of own
-  parts_are = ap (λ (x : Entry). x.parts) (sym standing.entry_is)
+  parts_are = ap (λ (x : NamespaceEntry). x.parts) (sym standing.entry_is)
 
   pub count_is : length ps ≡ length e.parts
   count_is = length-map (by_position own) pair_of ∙ length_by_position own ∙ sym (length-map own part_of) ∙ ap (λ (xs : List Part). length xs) (sym parts_are)
@@ -223,7 +223,7 @@ module _ (sets : List (List Mapping)) (areas : List (Option Area)) (uuid : List 
   -- ---- its entry
 
   pub loose : IsLoose lab
-  loose = each_lab (λ m l. (l.flags % 2 == 1) ≡ false) (none_found is_read_only own (by (find is_read_only own) (ap (λ (x : Entry). x.read_only) standing.entry_is ∙ unlocked)))
+  loose = each_lab (λ m l. (l.flags % 2 == 1) ≡ false) (none_found is_read_only own (by (find is_read_only own) (ap (λ (x : NamespaceEntry). x.read_only) standing.entry_is ∙ unlocked)))
     where
       by : (o : Option Placed) → option_map module_of o ≡ None → o ≡ None
       by None e' = refl
@@ -263,7 +263,7 @@ module _ (sets : List (List Mapping)) (areas : List (Option Area)) (uuid : List 
         by (p, found) = (
           _,
           found,
-          subst (λ (x : Entry). IsPartOf x (shaped uuid standing.region model.shared p.label.name (map part_of (own_of uuid left)) Unfinished (changing (own_of uuid left)))) entry_shaped (record {
+          subst (λ (x : NamespaceEntry). IsPartOf x (shaped uuid standing.region model.shared p.label.name (map part_of (own_of uuid left)) Unfinished (changing (own_of uuid left)))) entry_shaped (record {
             unfinished = refl;
             uuid = refl;
             region = refl;
@@ -286,7 +286,7 @@ module _ (sets : List (List Mapping)) (areas : List (Option Area)) (uuid : List 
         by (p, found) =
             found
             ∙ ap (λ (xs : List Part). Some (shaped uuid standing.region model.shared name xs (Complete name pending) (changing (own_of uuid left)))) parts
-            ∙ ap (λ (x : Entry). Some (record x { name = name; status = Complete name pending; updating = changing (own_of uuid left) })) entry_shaped
+            ∙ ap (λ (x : NamespaceEntry). Some (record x { name = name; status = Complete name pending; updating = changing (own_of uuid left) })) entry_shaped
 
     pub pending_left : (name : List ℕ) → Stands uuid set model (Complete name true) left → Left (IsPending name e) (lookup uuid (namespaces_of sets left).entries)
     pending_left name s = (_, whole_is name true s, refl)

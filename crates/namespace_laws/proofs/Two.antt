@@ -6,7 +6,7 @@ use Rattle.std.specs.List.{AllByRecursion}
 use Rattle.std.proofs.lemmas.Bool.{cases_lt}
 use Rattle.std.proofs.lemmas.List.{take_all, append-nil}
 use Rattle.label_codec.specs.declared.label.Label.{Label}
-use Rattle.namespace_map.specs.Areas.{Area, Change, changed, after_steps, all_changed}
+use Rattle.namespace_map.specs.Areas.{Area, Change, changed_areas, after_steps, all_changed}
 use Rattle.namespace_map.specs.Changes.{change_to, in_two}
 use Rattle.namespace_map.specs.CommandLaws.{IsOf}
 use Rattle.namespace_map.proofs.Areas.{Proper, HasRoom, Fitting, moved_all, proper_after, moved_keeps, all_of_front}
@@ -18,7 +18,7 @@ use Rattle.namespace_map.proofs.Fronts.{cut_is_front, IsFront}
 pub length_kept : (cs : List Change) (areas : List (Option Area)) → length (all_changed areas cs) ≡ length areas
 unfolding all_changed
 length_kept [] areas = refl
-length_kept (e ∷ cs) areas = length_kept cs (changed areas e) ∙ length-set areas e.number _
+length_kept (e ∷ cs) areas = length_kept cs (changed_areas areas e) ∙ length-set areas e.number _
 
 -- a property that holds before, and of each new label, holds after
 pub lab_keeps : (Q : ℕ → Label → Type 0) (f : Label → Option Label) (ps : List (ℕ × Label)) (lab : ℕ → Option Label) → AllLab Q lab

@@ -3,7 +3,7 @@ use Rattle.std.specs.Prelude.{◌≡◌, ◌≢◌, ℕ, Bool, false, List, Opti
 use Rattle.std.specs.List.{Contains}
 use Rattle.nfit_reader.specs.declared.table.Mapping.{Mapping}
 use Rattle.region_space.specs.Space.{extents_meet}
-use Rattle.namespace_map.specs.Namespaces.{Part, Entry, Namespaces, lookup}
+use Rattle.namespace_map.specs.Namespaces.{Part, NamespaceEntry, Namespaces, lookup}
 use Rattle.namespace_map.specs.declared.commands.CreateSpec.{CreateSpec}
 use Rattle.namespace_map.specs.declared.commands.Named.{Named}
 use Rattle.namespace_map.specs.declared.commands.Command.{Command}
@@ -11,15 +11,15 @@ use Rattle.namespace_map.specs.declared.commands.Command.TheVariants.{Create, De
 use Rattle.namespace_map.specs.Areas.{Area, after_steps}
 use Rattle.namespace_map.specs.Commands.{refusal_of}
 use Rattle.namespace_map.specs.Changes.{namespaces_of, changes_of}
-use Rattle.namespace_map.specs.Left.{AreRegions, AreRead}
+use Rattle.namespace_map.specs.Left.{AreRegions, LabelsAreRead}
 
 -- no extents of the two entries overlap
-abbrev pub AreApart : Entry → Entry → Type 0
+abbrev pub AreApart : NamespaceEntry → NamespaceEntry → Type 0
 AreApart e f = (a b : Part) → Contains e.parts a → Contains f.parts b → extents_meet a.extent b.extent ≡ false
 
 -- no two entries overlap
 abbrev pub EntriesApart : Namespaces → Type 0
-EntriesApart ns = (u v : List ℕ) (e f : Entry) → u ≢ v → lookup u ns.entries ≡ Some e → lookup v ns.entries ≡ Some f → AreApart e f
+EntriesApart ns = (u v : List ℕ) (e f : NamespaceEntry) → u ≢ v → lookup u ns.entries ≡ Some e → lookup v ns.entries ≡ Some f → AreApart e f
 
 -- after a crash every other entry is as before
 abbrev pub LeavesOthers : List (List Mapping) → List (Option Area) → List ℕ → Command → Type 0
@@ -36,13 +36,13 @@ CreateLeavesOthers =
 -- a law: for a delete that isn't refused
 abbrev pub DeleteLeavesOthers : Type 0
 DeleteLeavesOthers =
-    (sets : List (List Mapping)) (areas : List (Option Area)) (uuid : List ℕ) → AreRegions sets → AreRead areas
+    (sets : List (List Mapping)) (areas : List (Option Area)) (uuid : List ℕ) → AreRegions sets → LabelsAreRead areas
     → refusal_of (namespaces_of sets areas) (Delete uuid) ≡ None → LeavesOthers sets areas uuid (Delete uuid)
 
 -- a law: for a rename that isn't refused
 abbrev pub RenameLeavesOthers : Type 0
 RenameLeavesOthers =
-    (sets : List (List Mapping)) (areas : List (Option Area)) (uuid : List ℕ) (name : Named) → AreRegions sets → AreRead areas
+    (sets : List (List Mapping)) (areas : List (Option Area)) (uuid : List ℕ) (name : Named) → AreRegions sets → LabelsAreRead areas
     → refusal_of (namespaces_of sets areas) (Rename uuid name) ≡ None → LeavesOthers sets areas uuid (Rename uuid name)
 
 -- entries that are apart stay apart after a crash in a command
@@ -59,11 +59,11 @@ CreateKeepsApart =
 -- a law: for a delete that isn't refused
 abbrev pub DeleteKeepsApart : Type 0
 DeleteKeepsApart =
-    (sets : List (List Mapping)) (areas : List (Option Area)) (uuid : List ℕ) → AreRegions sets → AreRead areas
+    (sets : List (List Mapping)) (areas : List (Option Area)) (uuid : List ℕ) → AreRegions sets → LabelsAreRead areas
     → refusal_of (namespaces_of sets areas) (Delete uuid) ≡ None → KeepsApart sets areas (Delete uuid)
 
 -- a law: for a rename that isn't refused
 abbrev pub RenameKeepsApart : Type 0
 RenameKeepsApart =
-    (sets : List (List Mapping)) (areas : List (Option Area)) (uuid : List ℕ) (name : Named) → AreRegions sets → AreRead areas
+    (sets : List (List Mapping)) (areas : List (Option Area)) (uuid : List ℕ) (name : Named) → AreRegions sets → LabelsAreRead areas
     → refusal_of (namespaces_of sets areas) (Rename uuid name) ≡ None → KeepsApart sets areas (Rename uuid name)

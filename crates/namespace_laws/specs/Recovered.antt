@@ -2,21 +2,21 @@
 use Rattle.std.specs.Prelude.{◌≡◌, ◌⊎◌, ℕ, Bool, false, List, Option, Some, None}
 use Rattle.nfit_reader.specs.declared.table.Mapping.{Mapping}
 use Rattle.label_set.specs.declared.placed.SetStatus.TheVariants.{Complete}
-use Rattle.namespace_map.specs.Namespaces.{Entry, lookup}
+use Rattle.namespace_map.specs.Namespaces.{NamespaceEntry, lookup}
 use Rattle.namespace_map.specs.declared.commands.CreateSpec.{CreateSpec}
 use Rattle.namespace_map.specs.declared.commands.Named.{Named}
 use Rattle.namespace_map.specs.declared.commands.Command.{Command}
 use Rattle.namespace_map.specs.declared.commands.Command.TheVariants.{Create, Delete, Rename}
 use Rattle.namespace_map.specs.Areas.{Area, after_steps}
-use Rattle.namespace_map.specs.Commands.{refusal_of, done, recovered}
+use Rattle.namespace_map.specs.Commands.{refusal_of, done, after_recovery}
 use Rattle.namespace_map.specs.Changes.{namespaces_of, changes_of}
-use Rattle.namespace_map.specs.Left.{AreRegions, AreRead}
+use Rattle.namespace_map.specs.Left.{AreRegions, LabelsAreRead}
 
 -- after a crash, recovery leads to the recovery of the map before the command or of the map after it, with all entries and areas
 abbrev pub RecoversToEither : List (List Mapping) → List (Option Area) → Command → Type 0
 RecoversToEither sets areas c =
     (steps : ℕ) (stays : Bool) → let left = namespaces_of sets (after_steps areas (changes_of (namespaces_of sets areas) areas c) steps stays) in
-    (recovered left ≡ recovered (namespaces_of sets areas)) ⊎ (recovered left ≡ recovered (done (namespaces_of sets areas) c))
+    (after_recovery left ≡ after_recovery (namespaces_of sets areas)) ⊎ (after_recovery left ≡ after_recovery (done (namespaces_of sets areas) c))
 
 -- a law: for a create that isn't refused
 abbrev pub CreateRecovers : Type 0
@@ -27,13 +27,13 @@ CreateRecovers =
 -- a law: for a delete that isn't refused, of an entry that is complete and not pending
 abbrev pub DeleteRecovers : Type 0
 DeleteRecovers =
-    (sets : List (List Mapping)) (areas : List (Option Area)) (uuid : List ℕ) (e : Entry) → AreRegions sets → AreRead areas
+    (sets : List (List Mapping)) (areas : List (Option Area)) (uuid : List ℕ) (e : NamespaceEntry) → AreRegions sets → LabelsAreRead areas
     → lookup uuid (namespaces_of sets areas).entries ≡ Some e → e.status ≡ Complete e.name false
     → refusal_of (namespaces_of sets areas) (Delete uuid) ≡ None → RecoversToEither sets areas (Delete uuid)
 
 -- a law: for a rename that isn't refused, of an entry that is complete and not pending
 abbrev pub RenameRecovers : Type 0
 RenameRecovers =
-    (sets : List (List Mapping)) (areas : List (Option Area)) (uuid : List ℕ) (e : Entry) → AreRegions sets → AreRead areas
+    (sets : List (List Mapping)) (areas : List (Option Area)) (uuid : List ℕ) (e : NamespaceEntry) → AreRegions sets → LabelsAreRead areas
     → lookup uuid (namespaces_of sets areas).entries ≡ Some e → e.status ≡ Complete e.name false → (name : Named)
     → refusal_of (namespaces_of sets areas) (Rename uuid name) ≡ None → RecoversToEither sets areas (Rename uuid name)

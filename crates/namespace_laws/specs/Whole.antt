@@ -8,7 +8,7 @@ use Rattle.namespace_map.specs.declared.commands.Command.TheVariants.{Create, De
 use Rattle.namespace_map.specs.Areas.{Area, all_changed}
 use Rattle.namespace_map.specs.Commands.{refusal_of, done}
 use Rattle.namespace_map.specs.Changes.{namespaces_of, changes_of}
-use Rattle.namespace_map.specs.Left.{AreRegions, AreRead}
+use Rattle.namespace_map.specs.Left.{AreRegions, LabelsAreRead}
 
 -- both definitions of a command agree
 abbrev pub Agrees : List (List Mapping) → List (Option Area) → Command → Type 0
@@ -23,11 +23,11 @@ CreateAgrees =
 -- a law: for a delete that isn't refused, of a complete entry, pending or not
 abbrev pub DeleteAgrees : Type 0
 DeleteAgrees =
-    (sets : List (List Mapping)) (areas : List (Option Area)) (uuid : List ℕ) → AreRegions sets → AreRead areas
+    (sets : List (List Mapping)) (areas : List (Option Area)) (uuid : List ℕ) → AreRegions sets → LabelsAreRead areas
     → refusal_of (namespaces_of sets areas) (Delete uuid) ≡ None → Agrees sets areas (Delete uuid)
 
 -- a law: for a rename that isn't refused, of a complete entry, pending or not
 abbrev pub RenameAgrees : Type 0
 RenameAgrees =
-    (sets : List (List Mapping)) (areas : List (Option Area)) (uuid : List ℕ) (name : Named) → AreRegions sets → AreRead areas
+    (sets : List (List Mapping)) (areas : List (Option Area)) (uuid : List ℕ) (name : Named) → AreRegions sets → LabelsAreRead areas
     → refusal_of (namespaces_of sets areas) (Rename uuid name) ≡ None → Agrees sets areas (Rename uuid name)

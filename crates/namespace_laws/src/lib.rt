@@ -14,7 +14,7 @@
 //!
 //! They are laws about definitions: they hold for any code that makes the changes in this order.
 //! `specs/Left.antt` of `namespace_map` has their premises about interleave sets and labels
-//! (`AreRegions`, `AreRead`), and defines an entry during a command (`IsPartOf`, `IsPending`).
+//! (`AreRegions`, `LabelsAreRead`), and defines an entry during a command (`IsPartOf`, `IsPending`).
 //!
 //! - [`create_is_cut`], [`delete_is_cut`], [`rename_is_cut`]: the command's own entry after a crash
 //!   (`specs/Laws.antt`).
@@ -30,7 +30,7 @@
 //! Recovery finishes the commands that a crash interrupted: it removes the labels of **unfinished**
 //! entries, and rewrites the labels of **pending** ones without UPDATING, under the entry's name. A
 //! label on a module without a free slot can't be rewritten and stays as it is. `namespace_map`
-//! defines recovery twice: as a step on the map of entries, `recovered`, and as a list of label
+//! defines recovery twice: as a step on the map of entries, `after_recovery`, and as a list of label
 //! changes, `recovery_changes`, for many UUIDs one after another. [`recovery_is_its_changes`] says
 //! that both agree, for any number of entries of any status (`RecoveryAgrees` of
 //! `specs/Recovery.antt`).

@@ -7,7 +7,7 @@ use Rattle.std.proofs.lemmas.Option.{unwrap_or-slice_get}
 use Rattle.std.proofs.lemmas.List.{get_or-set_same, get_or-set_other}
 use Rattle.label_area.specs.Area.{SlotState}
 use Rattle.label_codec.specs.declared.label.Label.{Label}
-use Rattle.namespace_map.specs.Areas.{Area, Change, slots_of, slots_on, free_in, area_at, changed, changed_area, changed_slots, replaced, slot_of, all_changed}
+use Rattle.namespace_map.specs.Areas.{Area, Change, slots_of, slots_on, free_in, area_at, changed_areas, changed_area, changed_slots, replaced, slot_of, all_changed}
 use Rattle.namespace_map.specs.CommandLaws.{IsOf}
 use Rattle.namespace_map.proofs.Slots.{IsOwn, owned, put_own, remove_own, put_count, remove_count}
 
@@ -21,12 +21,12 @@ slots_after None c = nothing c.label
     nothing (Some l) = refl
 slots_after (Some a) c = refl
 
-pub slots_of_changed : (areas : List (Option Area)) (c : Change) → c.number < length areas → slots_on (changed areas c) c.number ≡ changed_slots (slots_on areas c.number) c
+pub slots_of_changed : (areas : List (Option Area)) (c : Change) → c.number < length areas → slots_on (changed_areas areas c) c.number ≡ changed_slots (slots_on areas c.number) c
 slots_of_changed areas c below =
-    ap slots_of (unwrap_or-slice_get (changed areas c) c.number None ∙ get_or-set_same areas c.number _ None below) ∙ slots_after (area_at areas c.number) c
+    ap slots_of (unwrap_or-slice_get (changed_areas areas c) c.number None ∙ get_or-set_same areas c.number _ None below) ∙ slots_after (area_at areas c.number) c
 
-pub area_of_other : (areas : List (Option Area)) (c : Change) (m : ℕ) → m ≢ c.number → area_at (changed areas c) m ≡ area_at areas m
-area_of_other areas c m ne = unwrap_or-slice_get (changed areas c) m None ∙ get_or-set_other areas c.number m _ None ne ∙ sym (unwrap_or-slice_get areas m None)
+pub area_of_other : (areas : List (Option Area)) (c : Change) (m : ℕ) → m ≢ c.number → area_at (changed_areas areas c) m ≡ area_at areas m
+area_of_other areas c m ne = unwrap_or-slice_get (changed_areas areas c) m None ∙ get_or-set_other areas c.number m _ None ne ∙ sym (unwrap_or-slice_get areas m None)
 
 -- ---- the label of a UUID on each module
 
@@ -66,13 +66,13 @@ module _ (uuid : List ℕ) (lab : ℕ → Option Label) (areas : List (Option Ar
   some_free : 1 ≤ free_in (slots_on areas c.number)
   some_free = let a = room.room in omega (arith, owned_le (lab c.number))
 
-  here : slots_on (changed areas c) c.number ≡ replaced (slot_of (slots_on areas c.number) uuid) c.label (slots_on areas c.number)
-  here = subst (λ (u : List ℕ). slots_on (changed areas c) c.number ≡ replaced (slot_of (slots_on areas c.number) u) c.label (slots_on areas c.number)) of.of_uuid (slots_of_changed areas c room.there)
+  here : slots_on (changed_areas areas c) c.number ≡ replaced (slot_of (slots_on areas c.number) uuid) c.label (slots_on areas c.number)
+  here = subst (λ (u : List ℕ). slots_on (changed_areas areas c) c.number ≡ replaced (slot_of (slots_on areas c.number) u) c.label (slots_on areas c.number)) of.of_uuid (slots_of_changed areas c room.there)
 
-  own_then : (m : ℕ) → IsOwn uuid (moved lab c m) (slots_on (changed areas c) m)
+  own_then : (m : ℕ) → IsOwn uuid (moved lab c m) (slots_on (changed_areas areas c) m)
   own_then m =
       elim (cases_eq m c.number) [
-        | inl same ↦ rw (eq-eqb m c.number same) (subst (λ (k : ℕ). IsOwn uuid c.label (slots_on (changed areas c) k)) (sym same)
+        | inl same ↦ rw (eq-eqb m c.number same) (subst (λ (k : ℕ). IsOwn uuid c.label (slots_on (changed_areas areas c) k)) (sym same)
             (subst (λ (slots : List SlotState). IsOwn uuid c.label slots) (sym here)
             (replaced_own uuid (lab c.number) c.label (slots_on areas c.number) (proper.named c.number) of.label_of_uuid some_free (proper.own c.number))))
         | inr apart ↦ rw (ne_eqb m c.number apart) (subst (λ (a : Option Area). IsOwn uuid (lab m) (slots_of a)) (sym (area_of_other areas c m apart)) (proper.own m))
@@ -86,20 +86,20 @@ module _ (uuid : List ℕ) (lab : ℕ → Option Label) (areas : List (Option Ar
       ]
 
   -- a change keeps the areas proper
-  pub proper_then : Proper uuid (moved lab c) (changed areas c)
+  pub proper_then : Proper uuid (moved lab c) (changed_areas areas c)
   proper_then = record { own = own_then; named = named_then }
 
-  pub room_kept : (m : ℕ) → free_in (slots_on (changed areas c) m) + owned (moved lab c m) ≡ free_in (slots_on areas m) + owned (lab m)
+  pub room_kept : (m : ℕ) → free_in (slots_on (changed_areas areas c) m) + owned (moved lab c m) ≡ free_in (slots_on areas m) + owned (lab m)
   room_kept m =
       elim (cases_eq m c.number) [
-        | inl same ↦ rw (eq-eqb m c.number same) (subst (λ (k : ℕ). free_in (slots_on (changed areas c) k) + owned c.label ≡ free_in (slots_on areas k) + owned (lab k)) (sym same)
+        | inl same ↦ rw (eq-eqb m c.number same) (subst (λ (k : ℕ). free_in (slots_on (changed_areas areas c) k) + owned c.label ≡ free_in (slots_on areas k) + owned (lab k)) (sym same)
             (subst (λ (slots : List SlotState). free_in slots + owned c.label ≡ free_in (slots_on areas c.number) + owned (lab c.number)) (sym here)
             (replaced_room uuid (lab c.number) c.label (slots_on areas c.number) (proper.named c.number) some_free (proper.own c.number))))
         | inr apart ↦ rw (ne_eqb m c.number apart, area_of_other areas c m apart) refl
       ]
 
   -- and the sum of free slots and labels of the UUID
-  pub room_then : (m : ℕ) → HasRoom lab areas m → HasRoom (moved lab c) (changed areas c) m
+  pub room_then : (m : ℕ) → HasRoom lab areas m → HasRoom (moved lab c) (changed_areas areas c) m
   room_then m has = record {
     there = let a = has.there in omega (arith, length-set areas c.number (changed_area (area_at areas c.number) c));
     room = let a = has.room in omega (arith, room_kept m);
@@ -119,8 +119,8 @@ pub proper_after : (cs : List Change) (uuid : List ℕ) (lab : ℕ → Option La
 unfolding all_changed
 proper_after [] uuid lab areas proper fit = proper
 proper_after (c ∷ cs) uuid lab areas proper (one, rest) =
-    proper_after cs uuid (moved lab c) (changed areas c) (proper_then uuid lab areas c proper one.0 one.1)
-    (all_weaker (λ d. IsOf uuid d × HasRoom lab areas d.number) (λ d. IsOf uuid d × HasRoom (moved lab c) (changed areas c) d.number)
+    proper_after cs uuid (moved lab c) (changed_areas areas c) (proper_then uuid lab areas c proper one.0 one.1)
+    (all_weaker (λ d. IsOf uuid d × HasRoom lab areas d.number) (λ d. IsOf uuid d × HasRoom (moved lab c) (changed_areas areas c) d.number)
     (λ d both. (both.0, room_then uuid lab areas c proper one.0 one.1 d.number both.1)) cs rest)
 
 -- free slots and labels of the UUID are as many as before, on each module
@@ -129,8 +129,8 @@ pub sum_kept : (cs : List Change) (uuid : List ℕ) (lab : ℕ → Option Label)
 unfolding all_changed
 sum_kept [] uuid lab areas proper fit m = refl
 sum_kept (c ∷ cs) uuid lab areas proper (one, rest) m =
-    sum_kept cs uuid (moved lab c) (changed areas c) (proper_then uuid lab areas c proper one.0 one.1)
-    (all_weaker (λ d. IsOf uuid d × HasRoom lab areas d.number) (λ d. IsOf uuid d × HasRoom (moved lab c) (changed areas c) d.number)
+    sum_kept cs uuid (moved lab c) (changed_areas areas c) (proper_then uuid lab areas c proper one.0 one.1)
+    (all_weaker (λ d. IsOf uuid d × HasRoom lab areas d.number) (λ d. IsOf uuid d × HasRoom (moved lab c) (changed_areas areas c) d.number)
     (λ d both. (both.0, room_then uuid lab areas c proper one.0 one.1 d.number both.1)) cs rest) m
     ∙ room_kept uuid lab areas c proper one.0 one.1 m
 

@@ -10,14 +10,14 @@ use Rattle.label_set.specs.declared.placed.SetStatus.TheVariants.{Complete, Unfi
 use Rattle.label_set.specs.declared.placed.Why.TheVariants.{Missing, Differs}
 use Rattle.label_set.specs.declared.placed.Field.TheVariants as field
 use Rattle.label_set.specs.Status.{status_of}
-use Rattle.namespace_map.specs.Namespaces.{Entry, Namespaces, put_all, put}
+use Rattle.namespace_map.specs.Namespaces.{NamespaceEntry, Namespaces, put_all, put}
 use Rattle.namespace_map.specs.declared.commands.Make.TheVariants as make
 use Rattle.namespace_map.specs.declared.commands.Named.TheVariants as named
 use Rattle.namespace_map.specs.declared.commands.Command.{Command}
 use Rattle.namespace_map.specs.declared.commands.Command.TheVariants as command
 use Rattle.namespace_map.specs.declared.refused.OpRefused.TheVariants.{NoSlot}
 use Rattle.namespace_map.specs.Areas.{Area, Change, steps_of_all, after_steps, all_changed}
-use Rattle.namespace_map.specs.Commands.{refusal_of, step, recovered, taken_from, given_to, unfinished_gone}
+use Rattle.namespace_map.specs.Commands.{refusal_of, step, after_recovery, taken_from, given_to, unfinished_gone}
 use Rattle.namespace_map.specs.Changes.{namespaces_of, changes_of, recovered_areas, by_position, by_position_with}
 use Rattle.namespace_map.proofs.Asking.{create_with}
 
@@ -59,7 +59,7 @@ unfolding after_steps steps_of_all all_changed put_all put status_of first_fault
 create_steps = refl
 
 abbrev statuses : List (Option Area) → List SetStatus
-statuses areas = map (λ (e : Entry). e.status) (namespaces_of sets areas).entries
+statuses areas = map (λ (e : NamespaceEntry). e.status) (namespaces_of sets areas).entries
 
 abbrev cut_at : ℕ → Bool → List SetStatus
 cut_at steps stays = statuses (after_steps fresh making steps stays)
@@ -200,11 +200,11 @@ pub delete_agrees : left_by (namespaces_of sets made) (command.Delete u) ≡ nam
 unfolding after_steps steps_of_all all_changed put_all put status_of first_fault checked by_position by_position_with taken_from given_to unfinished_gone
 delete_agrees = refl
 
-pub recovery_agrees : recovered (namespaces_of sets renamed_half) ≡ namespaces_of sets (recovered_areas sets renamed_half)
+pub recovery_agrees : after_recovery (namespaces_of sets renamed_half) ≡ namespaces_of sets (recovered_areas sets renamed_half)
 unfolding after_steps steps_of_all all_changed put_all put status_of first_fault checked by_position by_position_with taken_from given_to unfinished_gone
 recovery_agrees = refl
 
-pub recovery_of_unfinished_agrees : recovered (namespaces_of sets (after_steps made deleting 326 false)) ≡ namespaces_of sets (recovered_areas sets (after_steps made deleting 326 false))
+pub recovery_of_unfinished_agrees : after_recovery (namespaces_of sets (after_steps made deleting 326 false)) ≡ namespaces_of sets (recovered_areas sets (after_steps made deleting 326 false))
 unfolding after_steps steps_of_all all_changed put_all put status_of first_fault checked by_position by_position_with taken_from given_to unfinished_gone
 recovery_of_unfinished_agrees = refl
 
@@ -214,7 +214,7 @@ abbrev swapped : List (List Mapping)
 swapped = (pair_mapping 1 0 2 ∷ pair_mapping 0 4096 1 ∷ []) ∷ []
 
 abbrev modules_in : Namespaces → List (List ℕ)
-modules_in ns = map (λ (e : Entry). map (λ p. p.extent.«module») e.parts) ns.entries
+modules_in ns = map (λ (e : NamespaceEntry). map (λ p. p.extent.«module») e.parts) ns.entries
 
 abbrev swapped_made : List (Option Area)
 swapped_made = after_steps fresh (changes_of (namespaces_of swapped fresh) fresh make_u) 520 false
@@ -265,7 +265,7 @@ stuck_whole = area_with (half_label 0 8 a 0) ∷ full_with (half_label 1 8 a 0) 
 abbrev stuck_one : List (Option Area)
 stuck_one = full_with (half_label 0 8 a 0) ∷ empty_area ∷ []
 
-pub stuck_half_agrees : recovered (namespaces_of sets stuck_half) ≡ namespaces_of sets (recovered_areas sets stuck_half)
+pub stuck_half_agrees : after_recovery (namespaces_of sets stuck_half) ≡ namespaces_of sets (recovered_areas sets stuck_half)
 unfolding after_steps steps_of_all all_changed put_all put status_of first_fault checked by_position by_position_with taken_from given_to unfinished_gone
 stuck_half_agrees = refl
 
@@ -273,12 +273,12 @@ pub stuck_half_refused : refusal_of (namespaces_of sets (recovered_areas sets st
 unfolding after_steps steps_of_all all_changed put_all put status_of first_fault checked by_position by_position_with taken_from given_to unfinished_gone
 stuck_half_refused = refl
 
-pub stuck_whole_agrees : recovered (namespaces_of sets stuck_whole) ≡ namespaces_of sets (recovered_areas sets stuck_whole)
+pub stuck_whole_agrees : after_recovery (namespaces_of sets stuck_whole) ≡ namespaces_of sets (recovered_areas sets stuck_whole)
 unfolding after_steps steps_of_all all_changed put_all put status_of first_fault checked by_position by_position_with taken_from given_to unfinished_gone
 stuck_whole_agrees = refl
 
 -- removing the label of an unfinished entry needs no free slot
-pub stuck_one_agrees : recovered (namespaces_of sets stuck_one) ≡ namespaces_of sets (recovered_areas sets stuck_one)
+pub stuck_one_agrees : after_recovery (namespaces_of sets stuck_one) ≡ namespaces_of sets (recovered_areas sets stuck_one)
 unfolding after_steps steps_of_all all_changed put_all put status_of first_fault checked by_position by_position_with taken_from given_to unfinished_gone
 stuck_one_agrees = refl
 
@@ -297,7 +297,7 @@ abbrev one_made : List (Option Area)
 one_made = all_changed one_area (changes_of (namespaces_of alone one_area) one_area make_one)
 
 abbrev statuses_alone : List (Option Area) → List SetStatus
-statuses_alone areas = map (λ (e : Entry). e.status) (namespaces_of alone areas).entries
+statuses_alone areas = map (λ (e : NamespaceEntry). e.status) (namespaces_of alone areas).entries
 
 pub one_steps : steps_of_all one_area (changes_of (namespaces_of alone one_area) one_area make_one) ≡ 130
 unfolding after_steps steps_of_all all_changed put_all put status_of first_fault checked by_position by_position_with taken_from given_to unfinished_gone

@@ -12,7 +12,7 @@ use Rattle.std.proofs.lemmas.Slice.Eq.{bytes_eq-Decides}
 use Rattle.std.proofs.lemmas.Map.Text.{is_eq-slice_cmp}
 use Rattle.nfit_reader.specs.declared.table.Mapping.{Mapping}
 use Rattle.label_set.specs.declared.placed.Placed.{Placed}
-use Rattle.namespace_map.specs.Namespaces.{Entry, entry_at, entry_with, entries_of, labels_with, uuid_of, uuid_lt, put, put_all, lookup}
+use Rattle.namespace_map.specs.Namespaces.{NamespaceEntry, entry_at, entry_with, entries_of, labels_with, uuid_of, uuid_lt, put, put_all, lookup}
 
 same_bytes : (a : List ℕ) → bytes_eq a a ≡ true
 same_bytes a = (bytes_eq-Decides a a).1 refl
@@ -27,7 +27,7 @@ lt_irreflexive a b less =
     false_from_ne_true _ (λ same. false≢true (sym (not_less (slice_cmp nat_cmp a b) (is_eq-slice_cmp a b ∙ same)) ∙ less))
 
 -- a lookup after an entry was put
-pub lookup_put : (es : List Entry) (e : Entry) (u : List ℕ) → lookup u (put e es) ≡ cond (bytes_eq e.uuid u) (Some e) (lookup u es)
+pub lookup_put : (es : List NamespaceEntry) (e : NamespaceEntry) (u : List ℕ) → lookup u (put e es) ≡ cond (bytes_eq e.uuid u) (Some e) (lookup u es)
 unfolding put
 lookup_put [] e u = refl
 lookup_put (f ∷ fs) e u =
@@ -61,12 +61,12 @@ own_uuids (p ∷ ps) u =
     ]
 
 -- an entry has the UUID under which it is found
-pub entry_uuid : (sets : List (List Mapping)) (labels : List Placed) (u : List ℕ) (e : Entry) → entry_at sets labels u ≡ Some e → e.uuid ≡ u
+pub entry_uuid : (sets : List (List Mapping)) (labels : List Placed) (u : List ℕ) (e : NamespaceEntry) → entry_at sets labels u ≡ Some e → e.uuid ≡ u
 entry_uuid sets labels u e is = by (labels_with u labels) (own_uuids labels u) is
   where
     by : (own : List Placed) → AllByRecursion (λ p. p.label.uuid ≡ u) own → option_map (entry_with sets own) (slice_get own 0) ≡ Some e → e.uuid ≡ u
     by [] all eq = absurd (none-some e eq)
-    by (p ∷ ps) (one, rest) eq = ap (λ (f : Entry). f.uuid) (sym (same_Some (entry_with sets (p ∷ ps) p) e eq)) ∙ one
+    by (p ∷ ps) (one, rest) eq = ap (λ (f : NamespaceEntry). f.uuid) (sym (same_Some (entry_with sets (p ∷ ps) p) e eq)) ∙ one
 
 -- a UUID that no label has
 pub entry_none : (sets : List (List Mapping)) (labels : List Placed) (u : List ℕ) → labels_with u labels ≡ [] → entry_at sets labels u ≡ None
@@ -81,10 +81,10 @@ entry_there sets labels u e = by (labels_with u labels) e
     by (p ∷ ps) eq = absurd (none-some (entry_with sets (p ∷ ps) p) (sym eq))
 
 module _ (sets : List (List Mapping)) (labels : List Placed) (u : List ℕ) where
-  abbrev from_labels : List Placed → List Entry
+  abbrev from_labels : List Placed → List NamespaceEntry
   from_labels ps = put_all (map (λ p. entry_at sets labels (uuid_of p)) ps)
 
-  lookup_one : (o : Option Entry) (p : Placed) (ps : List Placed) → entry_at sets labels (uuid_of p) ≡ o → lookup u (put_all (o ∷ map (λ p. entry_at sets labels (uuid_of p)) ps))
+  lookup_one : (o : Option NamespaceEntry) (p : Placed) (ps : List Placed) → entry_at sets labels (uuid_of p) ≡ o → lookup u (put_all (o ∷ map (λ p. entry_at sets labels (uuid_of p)) ps))
       ≡ cond (bytes_eq (uuid_of p) u) (cond (is_some o) o (lookup u (from_labels ps))) (lookup u (from_labels ps))
   unfolding put_all
   lookup_one None p ps is = both (bytes_eq (uuid_of p) u)
@@ -98,7 +98,7 @@ module _ (sets : List (List Mapping)) (labels : List Placed) (u : List ℕ) wher
   lookup_from : (ps : List Placed) → lookup u (from_labels ps) ≡ cond (list_any (λ p. bytes_eq (uuid_of p) u) ps) (entry_at sets labels u) None
   unfolding put_all
   lookup_from [] = refl
-  lookup_from (p ∷ ps) = ap (λ (o : Option Entry). lookup u (put_all (o ∷ map (λ p. entry_at sets labels (uuid_of p)) ps))) refl ∙ lookup_one (entry_at sets labels (uuid_of p)) p ps refl ∙ cases (cases_Bool (bytes_eq (uuid_of p) u)) (lookup_from ps)
+  lookup_from (p ∷ ps) = ap (λ (o : Option NamespaceEntry). lookup u (put_all (o ∷ map (λ p. entry_at sets labels (uuid_of p)) ps))) refl ∙ lookup_one (entry_at sets labels (uuid_of p)) p ps refl ∙ cases (cases_Bool (bytes_eq (uuid_of p) u)) (lookup_from ps)
     where
       cases : (bytes_eq (uuid_of p) u ≡ true) ⊎ (bytes_eq (uuid_of p) u ≡ false) → lookup u (from_labels ps) ≡ cond (list_any (λ p. bytes_eq (uuid_of p) u) ps) (entry_at sets labels u) None
           → cond (bytes_eq (uuid_of p) u) (cond (is_some (entry_at sets labels (uuid_of p))) (entry_at sets labels (uuid_of p)) (lookup u (from_labels ps))) (lookup u (from_labels ps))
@@ -107,10 +107,10 @@ module _ (sets : List (List Mapping)) (labels : List Placed) (u : List ℕ) wher
       cases (inl it) ih =
           rw (it, (bytes_eq-Decides (uuid_of p) u).0 it) (here (entry_at sets labels u) refl)
         where
-          here : (o : Option Entry) → entry_at sets labels u ≡ o → cond (is_some o) o (lookup u (from_labels ps)) ≡ o
+          here : (o : Option NamespaceEntry) → entry_at sets labels u ≡ o → cond (is_some o) o (lookup u (from_labels ps)) ≡ o
           here None e = ih ∙ rw e (none (list_any (λ p. bytes_eq (uuid_of p) u) ps))
             where
-              none : (b : Bool) → ◌≡◌ {A = Option Entry} (cond b None None) None
+              none : (b : Bool) → ◌≡◌ {A = Option NamespaceEntry} (cond b None None) None
               none true = refl
               none false = refl
           here (Some x) e = refl

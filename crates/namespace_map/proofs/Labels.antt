@@ -16,7 +16,7 @@ use Rattle.label_area.specs.Area.{SlotState, labels_in}
 use Rattle.label_area.specs.Change.{without}
 use Rattle.label_set.specs.declared.placed.Placed.{Placed}
 use Rattle.namespace_map.specs.Namespaces.{placed_in, placed_on, labels_with, uuid_of, entry_at}
-use Rattle.namespace_map.specs.Areas.{Area, Change, slots_of, area_at, changed, changed_area, all_changed, is_free, refilled, replaced, has_uuid, slot_of}
+use Rattle.namespace_map.specs.Areas.{Area, Change, slots_of, area_at, changed_areas, changed_area, all_changed, is_free, refilled, replaced, has_uuid, slot_of}
 use Rattle.namespace_map.specs.Changes.{placed_in_all, labels_at}
 use Rattle.namespace_map.specs.CommandLaws.{IsOf}
 use Rattle.namespace_map.proofs.Slots.{slot}
@@ -145,10 +145,10 @@ module _ (u v : List ℕ) (apart : u ≢ v) (m : ℕ) where
           ∙ part_kept slots u m 0 s _ (free_has_none u (slot slots s) (position-Some is_free slots s None is).1) (not_there u v l s apart (ls l refl))
 
 -- a change of one UUID doesn't change the labels of another
-pub others_stay : (u v : List ℕ) (areas : List (Option Area)) (c : Change) → u ≢ v → IsOf v c → labels_with u (placed_in_all (changed areas c)) ≡ labels_with u (placed_in_all areas)
+pub others_stay : (u v : List ℕ) (areas : List (Option Area)) (c : Change) → u ≢ v → IsOf v c → labels_with u (placed_in_all (changed_areas areas c)) ≡ labels_with u (placed_in_all areas)
 others_stay u v areas c apart of =
     let area = area_at areas c.number in
-    labels_of_areas u (changed areas c)
+    labels_of_areas u (changed_areas areas c)
     ∙ own_from_set areas u 0 c.number (changed_area area c) (λ m.
     ap (part u m 0) (slots_after area c)
     ∙ subst (λ (w : List ℕ). part u m 0 (replaced (slot_of (slots_of area) w) c.label (slots_of area)) ≡ part u m 0 (slots_of (get_or areas c.number None))) (sym of.of_uuid)
@@ -159,7 +159,7 @@ pub others_stay_all : (cs : List Change) (u v : List ℕ) (areas : List (Option 
     → labels_with u (placed_in_all (all_changed areas cs)) ≡ labels_with u (placed_in_all areas)
 unfolding all_changed
 others_stay_all [] u v areas apart all = refl
-others_stay_all (c ∷ cs) u v areas apart (one, rest) = others_stay_all cs u v (changed areas c) apart rest ∙ others_stay u v areas c apart one
+others_stay_all (c ∷ cs) u v areas apart (one, rest) = others_stay_all cs u v (changed_areas areas c) apart rest ∙ others_stay u v areas c apart one
 
 -- so every other entry is as before
 pub other_entries_stay : (sets : List (List Mapping)) (cs : List Change) (u v : List ℕ) (areas : List (Option Area)) → u ≢ v → AllByRecursion (IsOf v) cs

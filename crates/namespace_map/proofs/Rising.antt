@@ -12,7 +12,7 @@ use Rattle.std.proofs.lemmas.Slice.Eq.{bytes_eq-Decides}
 use Rattle.std.proofs.lemmas.Map.Text.{is_eq-slice_cmp}
 use Rattle.nfit_reader.specs.declared.table.Mapping.{Mapping}
 use Rattle.label_set.specs.declared.placed.Placed.{Placed}
-use Rattle.namespace_map.specs.Namespaces.{Entry, entry_at, entries_of, uuid_of, uuid_lt, put, put_all, lookup}
+use Rattle.namespace_map.specs.Namespaces.{NamespaceEntry, entry_at, entries_of, uuid_of, uuid_lt, put, put_all, lookup}
 use Rattle.namespace_map.specs.Laws.{IsRising}
 use Rattle.namespace_map.proofs.Entries.{lt_irreflexive}
 
@@ -33,14 +33,14 @@ lt_other a b not_less apart = by (slice_cmp nat_cmp a b) refl (is_eq-slice_cmp a
     by Ordering.Equal is e = absurd (false≢true (sym e ∙ ap is_eq is))
     by Ordering.Greater is e = ap is_lt (nat_list_cmp_total.antisymm b a ∙ ap ordering_reverse is)
 
-abbrev Above : List ℕ → List Entry → Type 0
-Above u es = AllByRecursion (λ (f : Entry). uuid_lt u f.uuid ≡ true) es
+abbrev Above : List ℕ → List NamespaceEntry → Type 0
+Above u es = AllByRecursion (λ (f : NamespaceEntry). uuid_lt u f.uuid ≡ true) es
 
 pub all_pass_to : {X : Type 0} (P Q : X → Type 0) → ((x : X) → P x → Q x) → (xs : List X) → AllByRecursion P xs → AllByRecursion Q xs
 all_pass_to P Q step [] all = all
 all_pass_to P Q step (x ∷ xs) (one, rest) = (step x one, all_pass_to P Q step xs rest)
 
-above_put : (es : List Entry) (e : Entry) (u : List ℕ) → uuid_lt u e.uuid ≡ true → Above u es → Above u (put e es)
+above_put : (es : List NamespaceEntry) (e : NamespaceEntry) (u : List ℕ) → uuid_lt u e.uuid ≡ true → Above u es → Above u (put e es)
 unfolding put
 above_put [] e u less all = (less, tt)
 above_put (f ∷ fs) e u less (one, rest) =
@@ -49,10 +49,10 @@ above_put (f ∷ fs) e u less (one, rest) =
       | inr not_it ↦ rw not_it (elim (cases_Bool (bytes_eq f.uuid e.uuid)) [ inl same ↦ rw same (less, rest) | inr apart ↦ rw apart (less, (one, rest)) ])
     ]
 
-above_more : (es : List Entry) (u v : List ℕ) → uuid_lt u v ≡ true → Above v es → Above u es
-above_more es u v less all = all_pass_to (λ (f : Entry). uuid_lt v f.uuid ≡ true) (λ (f : Entry). uuid_lt u f.uuid ≡ true) (λ f e. lt_trans u v f.uuid less e) es all
+above_more : (es : List NamespaceEntry) (u v : List ℕ) → uuid_lt u v ≡ true → Above v es → Above u es
+above_more es u v less all = all_pass_to (λ (f : NamespaceEntry). uuid_lt v f.uuid ≡ true) (λ (f : NamespaceEntry). uuid_lt u f.uuid ≡ true) (λ f e. lt_trans u v f.uuid less e) es all
 
-pub rising_put : (es : List Entry) (e : Entry) → IsRising es → IsRising (put e es)
+pub rising_put : (es : List NamespaceEntry) (e : NamespaceEntry) → IsRising es → IsRising (put e es)
 unfolding put
 rising_put [] e rising = (tt, tt)
 rising_put (f ∷ fs) e (one, rest) =
@@ -66,7 +66,7 @@ rising_put (f ∷ fs) e (one, rest) =
       ])
     ]
 
-pub rising_all : (os : List (Option Entry)) → IsRising (put_all os)
+pub rising_all : (os : List (Option NamespaceEntry)) → IsRising (put_all os)
 unfolding put_all
 rising_all [] = tt
 rising_all (None ∷ os) = rising_all os
@@ -76,7 +76,7 @@ pub rising_entries : (sets : List (List Mapping)) (labels : List Placed) → IsR
 rising_entries sets labels = rising_all (map (λ p. entry_at sets labels (uuid_of p)) labels)
 
 -- nothing is found under a UUID that is below all
-below_none : (es : List Entry) (u : List ℕ) → Above u es → lookup u es ≡ None
+below_none : (es : List NamespaceEntry) (u : List ℕ) → Above u es → lookup u es ≡ None
 below_none [] u all = refl
 below_none (e ∷ es) u (one, rest) = rw (apart e.uuid u one) (below_none es u rest)
   where
@@ -87,11 +87,11 @@ self : (u : List ℕ) → bytes_eq u u ≡ true
 self u = (bytes_eq-Decides u u).1 refl
 
 -- the first of a rising list is found under its UUID alone
-later : (e : Entry) (es : List Entry) (u : List ℕ) → bytes_eq e.uuid u ≡ false → lookup u (e ∷ es) ≡ lookup u es
+later : (e : NamespaceEntry) (es : List NamespaceEntry) (u : List ℕ) → bytes_eq e.uuid u ≡ false → lookup u (e ∷ es) ≡ lookup u es
 later e es u apart = rw apart refl
 
 -- an entry that a lookup in an ascending list finds is its first, or after it
-found_above : (es : List Entry) (u v : List ℕ) (e : Entry) → Above v es → lookup u es ≡ Some e → uuid_lt v u ≡ true
+found_above : (es : List NamespaceEntry) (u v : List ℕ) (e : NamespaceEntry) → Above v es → lookup u es ≡ Some e → uuid_lt v u ≡ true
 found_above [] u v e all is = absurd (none-some e is)
 found_above (f ∷ fs) u v e (one, rest) is =
     elim (cases_Bool (bytes_eq f.uuid u)) [
@@ -100,7 +100,7 @@ found_above (f ∷ fs) u v e (one, rest) is =
     ]
 
 -- two ascending lists with the same lookups are equal
-pub rising_same : (es fs : List Entry) → IsRising es → IsRising fs → ((u : List ℕ) → lookup u es ≡ lookup u fs) → es ≡ fs
+pub rising_same : (es fs : List NamespaceEntry) → IsRising es → IsRising fs → ((u : List ℕ) → lookup u es ≡ lookup u fs) → es ≡ fs
 rising_same [] [] a b same = refl
 rising_same [] (f ∷ fs) a b same = absurd (none-some f (same f.uuid ∙ rw (self f.uuid) refl))
 rising_same (e ∷ es) [] a b same = absurd (none-some e (sym (same e.uuid) ∙ rw (self e.uuid) refl))
@@ -110,7 +110,7 @@ rising_same (e ∷ es) (f ∷ fs) (above_e, rising_e) (above_f, rising_f) same =
           let at_f : Some e ≡ Some f = sym (rw (self e.uuid) refl) ∙ same e.uuid ∙ rw it refl in
           let first : e ≡ f = same_Some e f at_f in
           let tails : es ≡ fs = rising_same es fs rising_e rising_f (λ u. tail u ((bytes_eq-Decides f.uuid e.uuid).0 it) (cases_Bool (bytes_eq e.uuid u))) in
-          ap (λ (x : Entry). x ∷ es) first ∙ ap (λ (xs : List Entry). f ∷ xs) tails
+          ap (λ (x : NamespaceEntry). x ∷ es) first ∙ ap (λ (xs : List NamespaceEntry). f ∷ xs) tails
       | inr not_it ↦
           let e_in_fs : lookup e.uuid fs ≡ Some e = sym (later f fs e.uuid not_it) ∙ sym (same e.uuid) ∙ rw (self e.uuid) refl in
           let less : uuid_lt f.uuid e.uuid ≡ true = found_above fs e.uuid f.uuid e above_f e_in_fs in

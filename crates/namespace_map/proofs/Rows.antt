@@ -13,7 +13,7 @@ use Rattle.label_set.specs.declared.placed.Why.TheVariants.{Twice, Outside, Miss
 use Rattle.label_set.specs.declared.placed.Field.TheVariants as field
 use Rattle.label_set.specs.Status.{status_of}
 use Rattle.region_space.specs.declared.extent.Extent.{Extent}
-use Rattle.namespace_map.specs.Namespaces.{Entry, Namespaces, placed_of, entries_of, lookup, extents_of, put, put_all, listed}
+use Rattle.namespace_map.specs.Namespaces.{NamespaceEntry, Namespaces, placed_of, entries_of, lookup, extents_of, put, put_all, listed}
 
 abbrev mapping : ℕ → ℕ → ℕ → Mapping
 mapping number offset ways = record {
@@ -62,11 +62,11 @@ extent uuid number offset = record { owner = uuid; «module» = number; start = 
 abbrev Areas : Type 0
 Areas = List (Option (List (Option Label)))
 
-abbrev entries : Areas → List Entry
+abbrev entries : Areas → List NamespaceEntry
 entries areas = entries_of sets (placed_of areas)
 
 abbrev statuses : Areas → List SetStatus
-statuses areas = map (λ (e : Entry). e.status) (entries areas)
+statuses areas = map (λ (e : NamespaceEntry). e.status) (entries areas)
 
 -- ---- two namespaces, in slots that stand in another order than their UUIDs
 
@@ -77,7 +77,7 @@ two =
     ∷ None
     ∷ []
 
-pub rising_by_uuid : map (λ (e : Entry). e.uuid) (entries two) ≡ u ∷ v ∷ []
+pub rising_by_uuid : map (λ (e : NamespaceEntry). e.uuid) (entries two) ≡ u ∷ v ∷ []
 unfolding put_all put status_of first_fault
 rising_by_uuid = refl
 
@@ -131,10 +131,10 @@ unfolding put_all put status_of first_fault
 alone_local = refl
 
 abbrev names : Areas → List (SetStatus × List ℕ)
-names areas = map (λ (e : Entry). (e.status, e.name)) (entries areas)
+names areas = map (λ (e : NamespaceEntry). (e.status, e.name)) (entries areas)
 
 abbrev regions : Areas → List (Option ℕ × SetStatus)
-regions areas = map (λ (e : Entry). (e.region, e.status)) (entries areas)
+regions areas = map (λ (e : NamespaceEntry). (e.region, e.status)) (entries areas)
 
 -- two labels on a module
 pub twice : statuses (Some (Some (label u (codes "a") 0 0 0 0) ∷ Some (label u (codes "a") 0 0 0 1) ∷ []) ∷ []) ≡ Incomplete (Twice 0) ∷ []

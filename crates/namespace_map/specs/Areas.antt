@@ -69,12 +69,12 @@ abbrev pub changed_area : Option Area → Change → Option Area
 changed_area None c = None
 changed_area (Some area) c = Some (record area { slots = changed_slots area.slots c })
 
-abbrev pub changed : List (Option Area) → Change → List (Option Area)
-changed areas c = slice_set areas c.number (changed_area (area_at areas c.number) c)
+abbrev pub changed_areas : List (Option Area) → Change → List (Option Area)
+changed_areas areas c = slice_set areas c.number (changed_area (area_at areas c.number) c)
 
 unfoldable pub all_changed : List (Option Area) → List Change → List (Option Area)
 all_changed areas [] = areas
-all_changed areas (c ∷ cs) = all_changed (changed areas c) cs
+all_changed areas (c ∷ cs) = all_changed (changed_areas areas c) cs
 
 -- ---- steps, and the areas after a crash
 
@@ -85,15 +85,15 @@ steps_for areas c = count_of_steps (block_of (area_at areas c.number)) c.label
 -- the steps of all changes
 unfoldable pub steps_of_all : List (Option Area) → List Change → ℕ
 steps_of_all areas [] = 0
-steps_of_all areas (c ∷ cs) = steps_for areas c + steps_of_all (changed areas c) cs
+steps_of_all areas (c ∷ cs) = steps_for areas c + steps_of_all (changed_areas areas c) cs
 
 -- the areas after this many steps: the changes that these steps complete are made, and no other; a change that lacks only its
 -- last step is made if the chooser says so
 unfoldable pub after_steps : List (Option Area) → List Change → ℕ → Bool → List (Option Area)
 after_steps areas [] steps stays = areas
 after_steps areas (c ∷ cs) steps stays =
-    if nat_le (steps_for areas c) steps then after_steps (changed areas c) cs (steps - steps_for areas c) stays
-    else if (steps + 1 == steps_for areas c) && stays then changed areas c
+    if nat_le (steps_for areas c) steps then after_steps (changed_areas areas c) cs (steps - steps_for areas c) stays
+    else if (steps + 1 == steps_for areas c) && stays then changed_areas areas c
     else areas
 
 -- the areas after a crash that follows this many steps

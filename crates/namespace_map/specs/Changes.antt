@@ -9,7 +9,7 @@ use Rattle.label_codec.specs.Flags.{has_updating, updating, settled}
 use Rattle.label_codec.specs.Mode.{persistent_memory, no_abstraction, btt_2_0}
 use Rattle.label_area.specs.Area.{labels_in}
 use Rattle.label_set.specs.declared.placed.Placed.{Placed}
-use Rattle.namespace_map.specs.Namespaces.{Entry, AreaState, Namespaces, placed_of, labels_with, entries_of}
+use Rattle.namespace_map.specs.Namespaces.{NamespaceEntry, AreaSummary, Namespaces, placed_of, labels_with, entries_of}
 use Rattle.namespace_map.specs.declared.commands.Make.{Make}
 use Rattle.namespace_map.specs.declared.commands.Make.TheVariants as make
 use Rattle.namespace_map.specs.declared.commands.CreateSpec.{CreateSpec}
@@ -28,13 +28,13 @@ labels_at area = option_map (λ a. labels_in a.slots) area
 abbrev pub placed_in_all : List (Option Area) → List Placed
 placed_in_all areas = placed_of (map labels_at areas)
 
-abbrev pub area_state : Option Area → AreaState
-area_state None = no_area
-area_state (Some area) = record { ready = true; block = area.block; free = free_in area.slots }
+abbrev pub area_summary : Option Area → AreaSummary
+area_summary None = no_area
+area_summary (Some area) = record { ready = true; block = area.block; free = free_in area.slots }
 
 -- the namespaces of the labels of areas, without claims
 abbrev pub namespaces_of : List (List Mapping) → List (Option Area) → Namespaces
-namespaces_of sets areas = record { sets = sets; areas = map area_state areas; entries = entries_of sets (placed_in_all areas); claims = [] }
+namespaces_of sets areas = record { sets = sets; areas = map area_summary areas; entries = entries_of sets (placed_in_all areas); claims = [] }
 
 -- ---- changes
 
@@ -110,7 +110,7 @@ changes_of ns areas (command.Unclaim uuid) = []
 -- ---- recovery
 
 -- the labels of an unfinished entry are removed
-abbrev pub gone_changes : List (Option Area) → Entry → List Change
+abbrev pub gone_changes : List (Option Area) → NamespaceEntry → List Change
 gone_changes areas e = if is_unfinished e.status then map (change_to (λ l. None)) (own_labels areas e.uuid) else []
 
 -- a label with UPDATING on a module with a free slot
@@ -118,7 +118,7 @@ abbrev pub is_unsettled : List (Option Area) → ℕ × Label → Bool
 is_unsettled areas p = has_updating p.1.flags && nat_le 1 (free_in (slots_on areas p.0))
 
 -- those of a complete entry are rewritten without UPDATING, under the entry's name
-abbrev pub settling_changes : List (Option Area) → Entry → List Change
+abbrev pub settling_changes : List (Option Area) → NamespaceEntry → List Change
 settling_changes areas e =
     if is_complete e.status then map (change_to (λ l. Some (with_name e.name (settled l)))) (filter (is_unsettled areas) (own_labels areas e.uuid)) else []
 

@@ -15,7 +15,7 @@ use Rattle.label_set.specs.declared.placed.SetStatus.TheVariants.{Complete, Unfi
 use Rattle.label_set.specs.Rules.{least_where, modules_of}
 use Rattle.region_space.specs.declared.extent.Extent.{Extent}
 use Rattle.region_space.specs.Space.{fits}
-use Rattle.namespace_map.specs.Namespaces.{Part, Entry, AreaState, Namespaces, lookup, put, without, extents_of, claims_of}
+use Rattle.namespace_map.specs.Namespaces.{Part, NamespaceEntry, AreaSummary, Namespaces, lookup, put, without, extents_of, claims_of}
 use Rattle.namespace_map.specs.declared.commands.Make.{Make}
 use Rattle.namespace_map.specs.declared.commands.Make.TheVariants as make
 use Rattle.namespace_map.specs.declared.commands.Named.{Named}
@@ -28,10 +28,10 @@ use Rattle.namespace_map.specs.declared.refused.OpRefused.TheVariants.{NoSuch, E
 
 -- ---- the facts behind a refusal
 
-abbrev pub no_area : AreaState
+abbrev pub no_area : AreaSummary
 no_area = record { ready = false; block = 0; free = 0 }
 
-abbrev pub area_of : Namespaces → ℕ → AreaState
+abbrev pub area_of : Namespaces → ℕ → AreaSummary
 area_of ns which = unwrap_or (slice_get ns.areas which) no_area
 
 abbrev pub set_of : Namespaces → ℕ → List Mapping
@@ -46,7 +46,7 @@ is_sector mode.Sector = true
 is_sector other = false
 
 -- the modules of an entry, in ascending order
-abbrev pub entry_modules : Entry → List ℕ
+abbrev pub entry_modules : NamespaceEntry → List ℕ
 entry_modules e = map (λ p. p.extent.«module») e.parts
 
 -- the least module that passes a test
@@ -108,7 +108,7 @@ create_refusal ns spec =
     ∷ [])
 
 -- refuses unless there is an entry and it is complete
-abbrev pub entry_refusal : Option Entry → (Entry → List (Option OpRefused)) → Option OpRefused
+abbrev pub entry_refusal : Option NamespaceEntry → (NamespaceEntry → List (Option OpRefused)) → Option OpRefused
 entry_refusal None further = Some NoSuch
 entry_refusal (Some e) further = first_fault (fault_if (not (is_complete e.status)) NotComplete ∷ further e)
 
@@ -142,11 +142,11 @@ abbrev pub count_in : List ℕ → ℕ → ℕ
 count_in modules which = length (filter (λ m. m == which) modules)
 
 -- the areas after a slot on each of these modules was taken, or freed
-unfoldable pub taken_from : ℕ → List ℕ → List AreaState → List AreaState
+unfoldable pub taken_from : ℕ → List ℕ → List AreaSummary → List AreaSummary
 taken_from which modules [] = []
 taken_from which modules (a ∷ areas) = record a { free = a.free - count_in modules which } ∷ taken_from (which + 1) modules areas
 
-unfoldable pub given_to : ℕ → List ℕ → List AreaState → List AreaState
+unfoldable pub given_to : ℕ → List ℕ → List AreaSummary → List AreaSummary
 given_to which modules [] = []
 given_to which modules (a ∷ areas) = record a { free = a.free + count_in modules which } ∷ given_to (which + 1) modules areas
 
@@ -173,7 +173,7 @@ new_parts uuid offset raw set count = filter_map (λ n. option_map (new_part uui
 abbrev pub new_offset : Namespaces → List Mapping → ℕ → ℕ
 new_offset ns set raw = unwrap_or (first_fit_of set (extents_of ns.entries) raw) 0
 
-abbrev pub new_entry : Namespaces → CreateSpec → Entry
+abbrev pub new_entry : Namespaces → CreateSpec → NamespaceEntry
 new_entry ns spec =
     let set = set_of ns spec.region in
     let raw = share_of set spec.size in
@@ -195,14 +195,14 @@ created ns spec = record ns {
   entries = put (new_entry ns spec) ns.entries;
 }
 
-abbrev pub deleted_entry : Namespaces → Option Entry → Namespaces
+abbrev pub deleted_entry : Namespaces → Option NamespaceEntry → Namespaces
 deleted_entry ns None = ns
 deleted_entry ns (Some e) = record ns { areas = given_to 0 (entry_modules e) ns.areas; entries = without e.uuid ns.entries }
 
-abbrev pub renamed : Entry → List ℕ → Entry
+abbrev pub renamed : NamespaceEntry → List ℕ → NamespaceEntry
 renamed e name = record e { name = name; status = Complete name false; updating = [] }
 
-abbrev pub renamed_entry : Namespaces → List ℕ → Option Entry → Namespaces
+abbrev pub renamed_entry : Namespaces → List ℕ → Option NamespaceEntry → Namespaces
 renamed_entry ns name None = ns
 renamed_entry ns name (Some e) = record ns { entries = put (renamed e name) ns.entries }
 
@@ -227,7 +227,7 @@ is_unfinished Unfinished = true
 is_unfinished status = false
 
 -- the unfinished entries are removed, and their slots freed
-unfoldable pub unfinished_gone : Namespaces → List Entry → Namespaces
+unfoldable pub unfinished_gone : Namespaces → List NamespaceEntry → Namespaces
 unfinished_gone ns [] = ns
 unfinished_gone ns (e ∷ es) = unfinished_gone (if is_unfinished e.status then deleted_entry ns (Some e) else ns) es
 
@@ -236,10 +236,10 @@ settled_status (Complete name pending) updating = Complete name (list_any (λ m.
 settled_status status updating = status
 
 -- each module with a free slot is removed from the `updating` list of a complete entry
-abbrev pub settled_entry : Namespaces → Entry → Entry
+abbrev pub settled_entry : Namespaces → NamespaceEntry → NamespaceEntry
 settled_entry ns e =
     let updating = if is_complete e.status then filter (λ m. (area_of ns m).free == 0) e.updating else e.updating in
     record e { updating = updating; status = settled_status e.status updating }
 
-abbrev pub recovered : Namespaces → Namespaces
-recovered ns = let gone = unfinished_gone ns ns.entries in record gone { entries = map (settled_entry gone) gone.entries }
+abbrev pub after_recovery : Namespaces → Namespaces
+after_recovery ns = let gone = unfinished_gone ns ns.entries in record gone { entries = map (settled_entry gone) gone.entries }

@@ -3,12 +3,12 @@ use Rattle.std.specs.Prelude.{◌≡◌, ℕ, true, List, [], ◌∷◌}
 use Rattle.std.specs.List.{AllByRecursion}
 use Rattle.nfit_reader.specs.declared.table.Mapping.{Mapping}
 use Rattle.label_set.specs.declared.placed.Placed.{Placed}
-use Rattle.namespace_map.specs.Namespaces.{Entry, uuid_lt, entry_at, entries_of, lookup}
+use Rattle.namespace_map.specs.Namespaces.{NamespaceEntry, uuid_lt, entry_at, entries_of, lookup}
 
 -- each entry's UUID is less than those of the later entries
-abbrev pub IsRising : List Entry → Type 0
+abbrev pub IsRising : List NamespaceEntry → Type 0
 IsRising [] = Unit {0}
-IsRising (e ∷ es) = AllByRecursion (λ (f : Entry). uuid_lt e.uuid f.uuid ≡ true) es × IsRising es
+IsRising (e ∷ es) = AllByRecursion (λ (f : NamespaceEntry). uuid_lt e.uuid f.uuid ≡ true) es × IsRising es
 
 -- a law: looking up a UUID finds the entry of its labels, or nothing if no label has it
 abbrev pub EntriesAreFound : Type 0
@@ -20,4 +20,4 @@ EntriesRise = (sets : List (List Mapping)) (labels : List Placed) → IsRising (
 
 -- a law: ascending lists with the same lookups are equal
 abbrev pub RisingListsAreMaps : Type 0
-RisingListsAreMaps = (es fs : List Entry) → IsRising es → IsRising fs → ((uuid : List ℕ) → lookup uuid es ≡ lookup uuid fs) → es ≡ fs
+RisingListsAreMaps = (es fs : List NamespaceEntry) → IsRising es → IsRising fs → ((uuid : List ℕ) → lookup uuid es ≡ lookup uuid fs) → es ≡ fs

@@ -7,7 +7,7 @@ use Rattle.interleave.specs.Sets.{set_reading}
 use Rattle.label_codec.specs.declared.label.Label.{Label}
 use Rattle.label_set.specs.declared.placed.SetStatus.TheVariants.{Complete, Unfinished}
 use Rattle.region_space.specs.Space.{ranges_meet}
-use Rattle.namespace_map.specs.Namespaces.{Entry}
+use Rattle.namespace_map.specs.Namespaces.{NamespaceEntry}
 use Rattle.namespace_map.specs.Areas.{Area, slots_on}
 
 -- ---- the premises of the laws
@@ -20,14 +20,14 @@ pub record AreRegions (sets : List (List Mapping)) : Type 0 where
       → ranges_meet m.start m.size k.start k.size ≡ false
 
 -- labels are as a reader of slots accepts them: each names the number of its slot, and has a positive size
-pub record AreRead (areas : List (Option Area)) : Type 0 where
+pub record LabelsAreRead (areas : List (Option Area)) : Type 0 where
   pub number : (m s : ℕ) (l : Label) → slice_get (slots_on areas m) s ≡ Some (Some (Some l)) → l.slot ≡ s
   pub bytes : (m s : ℕ) (l : Label) → slice_get (slots_on areas m) s ≡ Some (Some (Some l)) → 0 < l.raw
 
 -- ---- an entry during a command
 
 -- an unfinished entry with some of another entry's parts
-pub record IsPartOf (e x : Entry) : Type 0 where
+pub record IsPartOf (e x : NamespaceEntry) : Type 0 where
   pub unfinished : x.status ≡ Unfinished
   pub uuid : x.uuid ≡ e.uuid
   pub region : x.region ≡ e.region
@@ -36,9 +36,9 @@ pub record IsPartOf (e x : Entry) : Type 0 where
   pub parts : AllByRecursion (Contains e.parts) x.parts
 
 -- the same entry, but complete with this name, and some labels have UPDATING
-abbrev pub IsPending : List ℕ → Entry → Entry → Type 0
+abbrev pub IsPending : List ℕ → NamespaceEntry → NamespaceEntry → Type 0
 IsPending name e x = x ≡ record e { name = name; status = Complete name true; updating = x.updating }
 
 -- there is an entry after the crash, with this property
-abbrev pub Left : (Entry → Type 0) → Option Entry → Type 0
-Left P left = (x : Entry) × (left ≡ Some x) × P x
+abbrev pub Left : (NamespaceEntry → Type 0) → Option NamespaceEntry → Type 0
+Left P left = (x : NamespaceEntry) × (left ≡ Some x) × P x

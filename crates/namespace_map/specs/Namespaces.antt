@@ -55,7 +55,7 @@ pub record Part : Type 0 where
   -- Flags without UPDATING
   pub flags : ℕ
 
-pub record Entry : Type 0 where
+pub record NamespaceEntry : Type 0 where
   pub uuid : List ℕ
   pub name : List ℕ
   pub region : Option ℕ
@@ -92,7 +92,7 @@ abbrev pub shown_name : SetStatus → Placed → List ℕ
 shown_name (Complete name pending) first = name
 shown_name status first = first.label.name
 
-abbrev pub entry_with : List (List Mapping) → List Placed → Placed → Entry
+abbrev pub entry_with : List (List Mapping) → List Placed → Placed → NamespaceEntry
 entry_with sets labels first =
     let region = region_of sets first in
     let status = status_in region labels first in
@@ -113,7 +113,7 @@ abbrev pub labels_with : List ℕ → List Placed → List Placed
 labels_with uuid labels = filter (λ p. bytes_eq (uuid_of p) uuid) labels
 
 -- the entry of a UUID, if a label names it; the labels are ordered by module and slot
-abbrev pub entry_at : List (List Mapping) → List Placed → List ℕ → Option Entry
+abbrev pub entry_at : List (List Mapping) → List Placed → List ℕ → Option NamespaceEntry
 entry_at sets labels uuid = let own = labels_with uuid labels in option_map (entry_with sets own) (slice_get own 0)
 
 -- ---- the map from UUIDs to entries, as a list of entries that ascend by UUID
@@ -122,36 +122,36 @@ abbrev pub uuid_lt : List ℕ → List ℕ → Bool
 uuid_lt a b = is_lt (slice_cmp nat_cmp a b)
 
 -- an entry replaces the one with its UUID, or is inserted before the first greater one
-unfoldable pub put : Entry → List Entry → List Entry
+unfoldable pub put : NamespaceEntry → List NamespaceEntry → List NamespaceEntry
 put e [] = e ∷ []
 put e (f ∷ fs) = if uuid_lt f.uuid e.uuid then f ∷ put e fs else if bytes_eq f.uuid e.uuid then e ∷ fs else e ∷ f ∷ fs
 
-abbrev pub without : List ℕ → List Entry → List Entry
+abbrev pub without : List ℕ → List NamespaceEntry → List NamespaceEntry
 without uuid entries = filter (λ e. not (bytes_eq e.uuid uuid)) entries
 
-abbrev pub lookup : List ℕ → List Entry → Option Entry
+abbrev pub lookup : List ℕ → List NamespaceEntry → Option NamespaceEntry
 lookup uuid entries = find (λ e. bytes_eq e.uuid uuid) entries
 
-unfoldable pub put_all : List (Option Entry) → List Entry
+unfoldable pub put_all : List (Option NamespaceEntry) → List NamespaceEntry
 put_all [] = []
 put_all (None ∷ entries) = put_all entries
 put_all (Some e ∷ entries) = put e (put_all entries)
 
 -- one entry for each UUID that a label names; the labels are ordered by module and slot
-abbrev pub entries_of : List (List Mapping) → List Placed → List Entry
+abbrev pub entries_of : List (List Mapping) → List Placed → List NamespaceEntry
 entries_of sets labels = put_all (map (λ p. entry_at sets labels (uuid_of p)) labels)
 
-abbrev pub extents_in : Entry → List Extent
+abbrev pub extents_in : NamespaceEntry → List Extent
 extents_in e = map (λ p. p.extent) e.parts
 
 -- the extents of all entries
-abbrev pub extents_of : List Entry → List Extent
+abbrev pub extents_of : List NamespaceEntry → List Extent
 extents_of entries = flat_map extents_in entries
 
 -- ---- the namespaces of an image set, with the state of its areas
 
 -- a module's label area: whether it is ready, the size of its index blocks, and the number of free slots
-pub record AreaState : Type 0 where
+pub record AreaSummary : Type 0 where
   pub ready : Bool
   pub block : ℕ
   pub free : ℕ
@@ -160,9 +160,9 @@ pub record Namespaces : Type 0 where
   -- the interleave sets by region number, each a list of mappings in order of position
   pub sets : List (List Mapping)
   -- by module number
-  pub areas : List AreaState
+  pub areas : List AreaSummary
   -- in ascending order of UUIDs
-  pub entries : List Entry
+  pub entries : List NamespaceEntry
   -- the claims of UUIDs
   pub claims : List (List ℕ × ℕ)
 
@@ -170,7 +170,7 @@ abbrev pub claims_of : Namespaces → List ℕ → ℕ
 claims_of ns uuid = unwrap_or (option_map (λ c. c.1) (find (λ c. bytes_eq c.0 uuid) ns.claims)) 0
 
 -- an entry as a caller sees it
-abbrev pub namespace_of : Entry → ℕ → Namespace
+abbrev pub namespace_of : NamespaceEntry → ℕ → Namespace
 namespace_of e claims = record {
   uuid = e.uuid;
   name = e.name;

@@ -44,18 +44,18 @@
 //! A delete goes the other way: it sets UPDATING on each label, and then removes each. A rename
 //! writes the new name with UPDATING on each label, and then clears UPDATING. So recovery knows
 //! what to do: it removes what is **unfinished**, and settles what is **pending** under the name of
-//! its status (`recovered`, `recovery_changes`). On one module a single change suffices.
+//! its status (`after_recovery`, `recovery_changes`). On one module a single change suffices.
 //!
 //! A command is defined twice: as a step on the map of entries, and as its list of changes.
 //! `namespace_laws` proves that both agree, and which states are possible after a crash in each
 //! command.
 //!
 //! - `specs/Commands.antt` has the reasons for a refusal in order (`refusal_of`), the effect of a
-//!   command on the map (`done`, `step`), and recovery (`recovered`).
+//!   command on the map (`done`, `step`), and recovery (`after_recovery`).
 //! - `specs/Changes.antt` has the label changes of a command and of recovery (`changes_of`,
 //!   `recovery_changes`).
 //! - `specs/Areas.antt` has one change, a list of changes, their steps, and the areas after a crash
-//!   that follows some of the steps (`changed`, `all_changed`, `steps_of_all`, `after_steps`,
+//!   that follows some of the steps (`changed_areas`, `all_changed`, `steps_of_all`, `after_steps`,
 //!   `IsLeftBy`).
 //! - With all steps, all changes are made: [`all_steps_make_all_changes`]. A crash during changes
 //!   of one UUID leaves every other entry unchanged: [`cut_leaves_others`]

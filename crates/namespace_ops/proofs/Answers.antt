@@ -9,7 +9,7 @@ use Rattle.cut_words.specs.Words.{Words}
 use Rattle.cut_words.specs.Fuses.{burnt, lasts}
 use Rattle.arena_open.specs.Format.{format_count}
 use Rattle.sector_namespaces.specs.Creation.{IsFormattedIn, arena_steps, arena_steps_of, has_sectors, layout_for, layout_of, place_for}
-use Rattle.namespace_map.specs.Namespaces.{Entry, Namespaces, lookup}
+use Rattle.namespace_map.specs.Namespaces.{NamespaceEntry, Namespaces, lookup}
 use Rattle.namespace_map.specs.Areas.{Change}
 use Rattle.namespace_map.specs.declared.commands.CreateSpec.{CreateSpec}
 use Rattle.namespace_map.specs.declared.commands.Make.{Make}
@@ -118,7 +118,7 @@ refusal_at ns uuid n = entry_refusal (lookup uuid ns.entries) (λ e.
 unclaimed : (old : State) (uuid : List ℕ) → count_of old.claims uuid ≡ 0 → delete_refusal (namespaces_in old) uuid ≡ delete_refusal (shown old.sets old.areas) uuid
 unclaimed old uuid zero = ap (refusal_at (shown old.sets old.areas) uuid) zero
 
-deleted_with : (ns : Namespaces) (claims : List (List ℕ × ℕ)) (o : Option Entry) → with_claims (deleted_entry ns o) claims ≡ deleted_entry (with_claims ns claims) o
+deleted_with : (ns : Namespaces) (claims : List (List ℕ × ℕ)) (o : Option NamespaceEntry) → with_claims (deleted_entry ns o) claims ≡ deleted_entry (with_claims ns claims) o
 deleted_with ns claims None = refl
 deleted_with ns claims (Some e) = refl
 
@@ -170,7 +170,7 @@ unclaim_answered old counts fuse uuid running went is =
 
 -- ---- rename, and a create without sectors
 
-renamed_with : (ns : Namespaces) (claims : List (List ℕ × ℕ)) (name : List ℕ) (o : Option Entry) → with_claims (renamed_entry ns name o) claims ≡ renamed_entry (with_claims ns claims) name o
+renamed_with : (ns : Namespaces) (claims : List (List ℕ × ℕ)) (name : List ℕ) (o : Option NamespaceEntry) → with_claims (renamed_entry ns name o) claims ≡ renamed_entry (with_claims ns claims) name o
 renamed_with ns claims name None = refl
 renamed_with ns claims name (Some e) = refl
 

@@ -3,7 +3,7 @@ use Rattle.std.proofs.Common.{◌≡◌, ℕ, true, List, [], ◌∷◌, Option,
 use Rattle.std.specs.Prelude.{nat_lt, not, Ok}
 use Rattle.std.proofs.lemmas.Bool.{cases_Bool}
 use Rattle.nvd_words.specs.Checks.{value_unless, first_fault, fault_if}
-use Rattle.namespace_map.specs.Namespaces.{Entry}
+use Rattle.namespace_map.specs.Namespaces.{NamespaceEntry}
 use Rattle.namespace_map.specs.declared.refused.OpRefused.{OpRefused}
 use Rattle.namespace_map.specs.declared.refused.OpRefused.TheVariants.{Busy, NotSector}
 use Rattle.namespace_map.specs.Commands.{entry_refusal, is_complete, is_sector}
@@ -15,7 +15,7 @@ abbrev pub busy_or : Reply → ℕ → OpRefused
 busy_or (Err f) n = if is_first f then f else Busy n
 busy_or (Ok x) n = Busy n
 
-pub busy_is : (o : Option Entry) (n : ℕ) (further : Entry → List (Option OpRefused)) → nat_lt 0 n ≡ true
+pub busy_is : (o : Option NamespaceEntry) (n : ℕ) (further : NamespaceEntry → List (Option OpRefused)) → nat_lt 0 n ≡ true
     → entry_refusal o (λ e. fault_if (nat_lt 0 n) (Busy n) ∷ further e) ≡ Some (busy_or (value_unless tt (entry_refusal o (λ e. fault_if (not (is_sector e.mode)) NotSector ∷ []))) n)
 unfolding first_fault
 busy_is None n further some = refl

@@ -9,7 +9,7 @@ use Rattle.std.proofs.lemmas.Bool.Decides.{nat_tests}
 use Rattle.label_codec.specs.declared.label.Label.{Label}
 use Rattle.label_codec.specs.Sizes.{size_fault_of}
 use Rattle.label_codec.specs.Writable.{IsSound}
-use Rattle.namespace_map.specs.Areas.{Area as SeenArea, Change, slots_of, slots_on, free_in, area_at, changed}
+use Rattle.namespace_map.specs.Areas.{Area as SeenArea, Change, slots_of, slots_on, free_in, area_at, changed_areas}
 use Rattle.namespace_map.specs.Changes.{change_to, in_two}
 use Rattle.namespace_map.specs.CommandLaws.{IsOf}
 use Rattle.namespace_map.proofs.Slots.{owned}
@@ -39,7 +39,7 @@ slot_by o (Some l) room = room
 abbrev pub Fitting : List ℕ → (ℕ → Option Label) → Seens → List Change → Type 0
 Fitting uuid lab areas cs = AllByRecursion (λ c. IsOf uuid c × HasRoom lab areas c.number) cs
 
-still_fitting : (uuid : List ℕ) (lab : ℕ → Option Label) (areas : Seens) (c : Change) → Proper uuid lab areas → IsOf uuid c → HasRoom lab areas c.number → (cs : List Change) → Fitting uuid lab areas cs → Fitting uuid (moved lab c) (changed areas c) cs
+still_fitting : (uuid : List ℕ) (lab : ℕ → Option Label) (areas : Seens) (c : Change) → Proper uuid lab areas → IsOf uuid c → HasRoom lab areas c.number → (cs : List Change) → Fitting uuid lab areas cs → Fitting uuid (moved lab c) (changed_areas areas c) cs
 still_fitting uuid lab areas c proper of room [] all = tt
 still_fitting uuid lab areas c proper of room (d ∷ ds) ((of_d, room_d), rest) = ((of_d, room_then uuid lab areas c proper of room d.number room_d), still_fitting uuid lab areas c proper of room ds rest)
 
@@ -49,7 +49,7 @@ can_fitting (c ∷ cs) uuid lab areas proper ((of, room), rest) =
     let free : 1 ≤ free_in (slots_on areas c.number) = let h = room.room in omega (arith, h, owned_few (lab c.number)) in (
       ready_by (area_at areas c.number) free,
       slot_by (area_at areas c.number) c.label free,
-      can_fitting cs uuid (moved lab c) (changed areas c) (proper_then uuid lab areas c proper of room) (still_fitting uuid lab areas c proper of room cs rest),
+      can_fitting cs uuid (moved lab c) (changed_areas areas c) (proper_then uuid lab areas c proper of room) (still_fitting uuid lab areas c proper of room cs rest),
     )
 
 -- new labels, in rounds that keep their UUID

@@ -30,7 +30,7 @@ use Rattle.namespace_areas.proofs.CanMake.{IsRemoval, Fits, can_both, can_put, c
 use Rattle.namespace_areas.proofs.Placed.{IsPlaced, placed_each, placed_ready, placed_label, placed_sound}
 use Rattle.namespace_areas.specs.Groups.{Grouping}
 use Rattle.namespace_areas.proofs.Changing.{delete_of, rename_of, entry_of_group, own_labels as group_labels}
-use Rattle.namespace_areas.specs.Refusals.{AreOpen, shown, changing, deleting, full_of, incomplete_of, read_only_of, renaming, state_at}
+use Rattle.namespace_areas.specs.Refusals.{AreOpen, shown, changing, deleting, full_of, incomplete_of, read_only_of, renaming, area_summary_at}
 use Rattle.namespace_ops.specs.declared.turns.Round.{Round}
 use Rattle.namespace_ops.specs.declared.turns.Round.TheVariants.{Mark, MarkAs, Remove, SettleAs}
 use Rattle.namespace_ops.specs.Carried.{becomes, rounds}
@@ -165,13 +165,13 @@ sound_remove l n sound e = absurd (none-some n e)
 -- ---- from what isn't refused
 
 full_free : (sets : List (List Mapping)) (areas : List Area) (labels : List Placed) → full_of areas labels ≡ None → AllByRecursion (HasFree (areas_seen areas)) labels
-full_free sets areas labels e = step labels (unmap_all (λ m. nat_lt (state_at areas m).free 1 ≡ false) module_of labels fine)
+full_free sets areas labels e = step labels (unmap_all (λ m. nat_lt (area_summary_at areas m).free 1 ≡ false) module_of labels fine)
   where
-    fine : AllByRecursion (λ m. nat_lt (state_at areas m).free 1 ≡ false) (map module_of labels)
-    fine = least_nothing (λ number. number) (λ number. nat_lt (state_at areas number).free 1) (map module_of labels)
-        (unmapped (λ number. NoSlot number) (least_where (λ number. number) (λ number. nat_lt (state_at areas number).free 1) (map module_of labels)) e)
+    fine : AllByRecursion (λ m. nat_lt (area_summary_at areas m).free 1 ≡ false) (map module_of labels)
+    fine = least_nothing (λ number. number) (λ number. nat_lt (area_summary_at areas number).free 1) (map module_of labels)
+        (unmapped (λ number. NoSlot number) (least_where (λ number. number) (λ number. nat_lt (area_summary_at areas number).free 1) (map module_of labels)) e)
 
-    step : (ps : List Placed) → AllByRecursion (λ p. nat_lt (state_at areas p.«module»).free 1 ≡ false) ps → AllByRecursion (HasFree (areas_seen areas)) ps
+    step : (ps : List Placed) → AllByRecursion (λ p. nat_lt (area_summary_at areas p.«module»).free 1 ≡ false) ps → AllByRecursion (HasFree (areas_seen areas)) ps
     step [] all = tt
     step (p ∷ ps) (one, rest) = ((free_there sets (areas_seen areas) p.«module» 1 (omega arith) one).1, step ps rest)
 

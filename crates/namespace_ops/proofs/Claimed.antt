@@ -8,7 +8,7 @@ use Rattle.nvd_words.specs.Checks.{value_unless, first_fault, fault_if}
 use Rattle.nfit_reader.specs.declared.table.Mapping.{Mapping}
 use Rattle.label_set.specs.declared.placed.Placed.{Placed}
 use Rattle.label_set.specs.Rules.{is_local}
-use Rattle.namespace_map.specs.Namespaces.{Entry, region_of, status_in, entry_with, entry_at, entries_of, labels_with, lookup, part_of, Namespaces}
+use Rattle.namespace_map.specs.Namespaces.{NamespaceEntry, region_of, status_in, entry_with, entry_at, entries_of, labels_with, lookup, part_of, Namespaces}
 use Rattle.namespace_map.proofs.Entries.{lookup_entries}
 use Rattle.namespace_areas.specs.declared.area.Area.{Area}
 use Rattle.namespace_areas.specs.Areas.{labels_of}
@@ -33,7 +33,7 @@ abbrev pub unit_of : Result Found OpRefused → Result (Unit {0}) OpRefused
 unit_of (Ok found) = Ok tt
 unit_of (Err refused) = Err refused
 
-abbrev refusal : Option Entry → Option OpRefused
+abbrev refusal : Option NamespaceEntry → Option OpRefused
 refusal o = entry_refusal o (λ e. fault_if (not (is_sector e.mode)) NotSector ∷ [])
 
 no_region : (labels : List Placed) (first : Placed) → is_complete (status_in None labels first) ≡ false
@@ -42,7 +42,7 @@ no_region labels first = elim (cases_Bool (list_any is_local labels)) [ inl it �
 entry_claimed : (sets : List (List Mapping)) (p : Placed) (ps : List Placed) → unit_of (found_of sets (Some (entry_with sets (p ∷ ps) p))) ≡ value_unless tt (refusal (Some (entry_with sets (p ∷ ps) p)))
 unfolding first_fault
 entry_claimed sets p ps =
-    let e : Entry = entry_with sets (p ∷ ps) p in
+    let e : NamespaceEntry = entry_with sets (p ∷ ps) p in
     elim (cases_Bool (is_complete e.status)) [
       | inr not_it ↦ rw not_it refl
       | inl it ↦ rw it (elim (cases_Bool (is_sector e.mode)) [
@@ -69,7 +69,7 @@ claimed sets areas sorted uuid held same =
     let entry : lookup uuid (entries_of sets labels) ≡ option_map (entry_with sets (labels_with uuid labels)) (slice_get (labels_with uuid labels) 0) = lookup_entries sets labels uuid in
     ap (λ (xs : List Placed). unit_of (found_of sets (option_map (entry_with sets xs) (slice_get xs 0)))) own
     ∙ own_claimed sets (labels_with uuid labels)
-    ∙ ap (λ (o : Option Entry). value_unless tt (refusal o)) (sym entry)
+    ∙ ap (λ (o : Option NamespaceEntry). value_unless tt (refusal o)) (sym entry)
 
 -- ---- as a command
 
@@ -102,6 +102,6 @@ claim_uncut ns uuid = by (lookup uuid ns.entries)
     tests false true = refl
     tests false false = refl
 
-    by : (o : Option Entry) → is_cut (value_unless tt (refusal o)) ≡ false
+    by : (o : Option NamespaceEntry) → is_cut (value_unless tt (refusal o)) ≡ false
     by None = refl
     by (Some e) = tests (not (is_complete e.status)) (not (is_sector e.mode))

@@ -12,7 +12,7 @@ use Rattle.label_area.specs.Area.{SlotState, label_in}
 use Rattle.label_area.specs.Change.{without, with_put}
 use Rattle.namespace_areas.specs.declared.area.Area.{Area}
 use Rattle.namespace_areas.specs.declared.area.Area.TheVariants.{Absent, Refused, Ready}
-use Rattle.namespace_map.specs.Areas.{Area as SeenArea, Change, slots_of as seen_slots, area_at, is_free, refilled, replaced, changed_area, changed, all_changed, slot_of}
+use Rattle.namespace_map.specs.Areas.{Area as SeenArea, Change, slots_of as seen_slots, area_at, is_free, refilled, replaced, changed_area, changed_areas, all_changed, slot_of}
 use Rattle.namespace_map.proofs.Areas.{slots_after}
 use Rattle.namespace_areas.specs.Groups.{slots_of, slots_in}
 use Rattle.namespace_areas.specs.Seen.{IsHeld, AreHeld, ready_seen, area_seen, areas_seen}
@@ -45,7 +45,7 @@ replaced_count out (Some l) slots = refilled_count out l (position is_free slots
 
 -- ---- all areas
 
-changed_counts : (areas : List (Option SeenArea)) (c : Change) → counts_of (changed areas c) ≡ counts_of areas
+changed_counts : (areas : List (Option SeenArea)) (c : Change) → counts_of (changed_areas areas c) ≡ counts_of areas
 changed_counts areas c =
     map-set_same count_of areas c.number (changed_area (area_at areas c.number) c) None
     (ap (λ (xs : List SlotState). length xs) (slots_after (area_at areas c.number) c)
@@ -55,7 +55,7 @@ changed_counts areas c =
 all_counts : (cs : List Change) (areas : List (Option SeenArea)) → counts_of (all_changed areas cs) ≡ counts_of areas
 unfolding all_changed
 all_counts [] areas = refl
-all_counts (c ∷ cs) areas = all_counts cs (changed areas c) ∙ changed_counts areas c
+all_counts (c ∷ cs) areas = all_counts cs (changed_areas areas c) ∙ changed_counts areas c
 
 -- ---- those that are held
 

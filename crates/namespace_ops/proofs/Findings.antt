@@ -8,7 +8,7 @@ use Rattle.std.proofs.lemmas.Option.{none-some}
 use Rattle.nvd_words.specs.Checks.{first_fault, fault_if}
 use Rattle.nfit_reader.specs.declared.table.Mapping.{Mapping}
 use Rattle.label_set.specs.Rules.{modules_of}
-use Rattle.namespace_map.specs.Namespaces.{Entry, Namespaces, claims_of, lookup}
+use Rattle.namespace_map.specs.Namespaces.{NamespaceEntry, Namespaces, claims_of, lookup}
 use Rattle.namespace_map.specs.declared.commands.Named.{Named}
 use Rattle.namespace_map.specs.declared.commands.Named.TheVariants as named
 use Rattle.namespace_map.specs.declared.commands.CreateSpec.{CreateSpec}
@@ -72,7 +72,7 @@ name_finding (named.Refused bytes) = some_finding (BadName bytes) refl
 short_finding : (ns : Namespaces) (wanted : ℕ) (modules : List ℕ) → IsFinding (short_of ns wanted modules)
 short_finding ns wanted modules = map_finding (λ number. NoSlot number) (least_module (λ number. nat_lt _ wanted) modules) (λ n. refl)
 
-entry_finding : (o : Option Entry) (further : Entry → List (Option OpRefused)) → ((e : Entry) → AllByRecursion IsFinding (further e)) → IsFinding (entry_refusal o further)
+entry_finding : (o : Option NamespaceEntry) (further : NamespaceEntry → List (Option OpRefused)) → ((e : NamespaceEntry) → AllByRecursion IsFinding (further e)) → IsFinding (entry_refusal o further)
 entry_finding None further fine = some_finding NoSuch refl
 entry_finding (Some e) further fine = first_finding (fault_if (not (is_complete e.status)) NotComplete ∷ further e) (if_finding _ NotComplete refl, fine e)
 

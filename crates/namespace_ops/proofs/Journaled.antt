@@ -19,7 +19,7 @@ use Rattle.namespace_areas.specs.Seen.{AreHeld, AreLeft, areas_seen, areas_shown
 use Rattle.namespace_areas.specs.Went.{Went}
 use Rattle.namespace_areas.proofs.Went.{went_none}
 use Rattle.namespace_ops.specs.Carried.{is_cut}
-use Rattle.namespace_ops.specs.Entries.{Entry, Reply}
+use Rattle.namespace_ops.specs.Entries.{JournalEntry, Reply}
 use Rattle.namespace_ops.specs.Counted.{Answered, GoesOn, State, namespaces_in, steps_before}
 use Rattle.namespace_ops.specs.Replay.{after_entry, Gives, is_memory, Kept, kept_after, namespaces_with, remade}
 use Rattle.namespace_ops.specs.Registered.{IsCutIn, IsJournaled, kept_of, opened_on, opening_of, Registered, state_of, WasCut, WasCutFirst}
@@ -55,7 +55,7 @@ left_as areas are_held rows left = by ((went_none areas (Some 0) are_held).cut 0
 -- ---- one call, with power on before it
 
 module _ (old new : State) (fuse left : Option ℕ) (tag : Tag) (c : Command) (reply : Reply) (is : Answered old new fuse left c reply) (running : old.stopped ≡ false) where
-  abbrev entry : Entry
+  abbrev entry : JournalEntry
   entry = record { tag = tag; command = c; reply = reply }
 
   abbrev sets : List (List Mapping)
@@ -146,7 +146,7 @@ module _ (old new : State) (fuse left : Option ℕ) (tag : Tag) (c : Command) (r
       by (inl it) = on_memory it
       by (inr other) = asked other (refusal_of ns c) refl
 
-  still_gives : (from : Kept) (es : List Entry) → new.stopped ≡ false → Gives sets from es was → Gives sets from (es ++ entry ∷ []) (kept_of new)
+  still_gives : (from : Kept) (es : List JournalEntry) → new.stopped ≡ false → Gives sets from es was → Gives sets from (es ++ entry ∷ []) (kept_of new)
   still_gives from es still gives = let m = meets still in gives_more sets from was (kept_of new) es entry gives m.map_is m.fits m.kept m.uncut
 
   -- ---- power is cut in it
@@ -228,7 +228,7 @@ module _ (old new : State) (fuse left : Option ℕ) (tag : Tag) (c : Command) (r
 -- ---- any call
 
 module _ (old : Registered) (new : State) (fuse left : Option ℕ) (tag : Tag) (c : Command) (reply : Reply) (room : List ℕ) (is : Answered (state_of old) new fuse left c reply) where
-  abbrev entered : Entry
+  abbrev entered : JournalEntry
   entered = record { tag = tag; command = c; reply = reply }
 
   -- over the sets of before
@@ -260,7 +260,7 @@ module _ (old : Registered) (new : State) (fuse left : Option ℕ) (tag : Tag) (
         first,
         began,
         record {
-          journal = ap (λ (es : List Entry). es ++ entered ∷ []) cut.journal ∙ append_assoc before (first ∷ later) (entered ∷ []);
+          journal = ap (λ (es : List JournalEntry). es ++ entered ∷ []) cut.journal ∙ append_assoc before (first ∷ later) (entered ∷ []);
           gives = cut.gives;
           reply = cut.reply;
           allowed = cut.allowed;
@@ -329,7 +329,7 @@ journaled_first sets areas = record {
 -- what a registry with an empty journal began with is what it has
 pub as_opened : (r : Registered) → r.stopped ≡ false → r.journal ≡ [] → IsJournaled r → opening_of r ≡ kept_of (state_of r)
 unfolding remade
-as_opened r running empty j = (subst (λ (es : List Entry). Gives r.sets (opening_of r) es (kept_of (state_of r))) empty (j.on running)).changes
+as_opened r running empty j = (subst (λ (es : List JournalEntry). Gives r.sets (opening_of r) es (kept_of (state_of r))) empty (j.on running)).changes
 
 -- recovery was made to its end
 pub journaled_recovered : (old : Registered) (new : Registered) → old.stopped ≡ false → old.journal ≡ [] → IsJournaled old → new.stopped ≡ false → new.claims ≡ old.claims → new.journal ≡ [] → new.opening ≡ new.areas → IsJournaled new
@@ -337,7 +337,7 @@ journaled_recovered old new running empty j on claims none opening =
     let no_claims : new.claims ≡ [] = claims ∙ sym (ap (λ (k : Kept). k.claims) (as_opened old running empty j)) in
     record {
       on = λ _.
-          subst (λ (es : List Entry). Gives new.sets (opening_of new) es (kept_of (state_of new))) (sym none)
+          subst (λ (es : List JournalEntry). Gives new.sets (opening_of new) es (kept_of (state_of new))) (sym none)
           (subst (λ (k : Kept). Gives new.sets (opening_of new) [] k) (λ i. record { areas = areas_seen (opening i); claims = sym no_claims i }) (gives_none new.sets (opening_of new)));
       off = λ gone. absurd (false≢true (sym on ∙ gone));
     }
@@ -351,7 +351,7 @@ journaled_cut old new fuse left running empty j went off sets claims none openin
     areas = subst (λ (s : List (List Mapping)). IsCutIn (areas_seen new.opening) 0 (recovery_changes s (areas_seen new.opening)) new.areas) (sym sets)
         (subst (λ (xs : List (Option SeenArea)). IsCutIn xs 0 (recovery_changes old.sets xs) new.areas) (sym began) (by fuse went.made went.cut));
     claims = claims ∙ sym (ap (λ (k : Kept). k.claims) (as_opened old running empty j));
-    same = subst (λ (es : List Entry). AllByRecursion (λ e. e.reply ≡ Err refused.PowerCut) es) (sym none) tt;
+    same = subst (λ (es : List JournalEntry). AllByRecursion (λ e. e.reply ≡ Err refused.PowerCut) es) (sym none) tt;
   });
 }
   where

@@ -8,7 +8,7 @@ use Rattle.namespace_areas.specs.Areas.{labels_of}
 use Rattle.namespace_ops.specs.declared.registry.OpenFault.{OpenFault}
 use Rattle.namespace_ops.specs.declared.registry.OpenFault.TheVariants.{OutOfMemory}
 use Rattle.namespace_ops.specs.Registered.{Registered, opened_on}
-use Rattle.namespace_ops.specs.Opening.{opening, sets_of, set_fault_from, overlap_fault}
+use Rattle.namespace_ops.specs.Opening.{registry_opening, sets_of, set_fault_from, overlap_fault}
 
 module _ (nfit : Nfit) (areas : List Area) where
   abbrev all : Registered
@@ -33,12 +33,12 @@ module _ (nfit : Nfit) (areas : List Area) where
   accepted (Some f) sets is = absurd (let e = is in cc)
 
   -- a region is no set
-  pub set_refused : (f : OpenFault) → (f ≢ OutOfMemory → Err f ≡ value_unless (sets_of nfit) (set_fault_from 0 nfit.regions)) → f ≢ OutOfMemory → Err f ≡ opening nfit areas
-  unfolding opening
+  pub set_refused : (f : OpenFault) → (f ≢ OutOfMemory → Err f ≡ value_unless (sets_of nfit) (set_fault_from 0 nfit.regions)) → f ≢ OutOfMemory → Err f ≡ registry_opening nfit areas
+  unfolding registry_opening
   set_refused f told other = refused (set_fault_from 0 nfit.regions) f (told other)
 
   -- all regions are sets
   pub set_accepted : (sets : List (List Mapping)) (r : Result Registered OpenFault) → Ok sets ≡ value_unless (sets_of nfit) (set_fault_from 0 nfit.regions)
-      → (r ≢ Err OutOfMemory → r ≡ value_unless (opened_on sets areas) (overlap_fault (labels_of areas))) → r ≢ Err OutOfMemory → r ≡ opening nfit areas
-  unfolding opening
+      → (r ≢ Err OutOfMemory → r ≡ value_unless (opened_on sets areas) (overlap_fault (labels_of areas))) → r ≢ Err OutOfMemory → r ≡ registry_opening nfit areas
+  unfolding registry_opening
   set_accepted sets r sets_are told other = told other ∙ accepted (set_fault_from 0 nfit.regions) sets sets_are

@@ -9,7 +9,7 @@ use Rattle.std.proofs.lemmas.List.{drop_all}
 use Rattle.std.proofs.lemmas.Slice.Eq.{bytes_eq-Decides}
 use Rattle.nfit_reader.specs.declared.table.Mapping.{Mapping}
 use Rattle.label_set.specs.declared.placed.Placed.{Placed}
-use Rattle.namespace_map.specs.Namespaces.{Entry, uuid_of, labels_with, entry_with, entries_of, put_all}
+use Rattle.namespace_map.specs.Namespaces.{NamespaceEntry, uuid_of, labels_with, entry_with, entries_of, put_all}
 use Rattle.namespace_map.specs.Areas.{Change}
 use Rattle.namespace_areas.specs.Groups.{IsNextGroup, IsStart}
 
@@ -33,17 +33,17 @@ group_is sorted at group first next is =
     ap (λ (u : List ℕ). labels_with u sorted) ((bytes_eq-Decides (uuid_of first) uuid).0 passes) ∙ sym (next.whole first)
 
 -- one entry more
-pub planned_more : (sets : List (List Mapping)) (sorted : List Placed) (at : ℕ) (group : List Placed) (first : Placed) (f : Entry → List Change) (now then all : List Change)
+pub planned_more : (sets : List (List Mapping)) (sorted : List Placed) (at : ℕ) (group : List Placed) (first : Placed) (f : NamespaceEntry → List Change) (now then all : List Change)
     → IsNextGroup sorted at group → slice_get group 0 ≡ Some first → then ≡ now ++ f (entry_with sets group first)
     → now ++ flat_map f (entries_of sets (drop at sorted)) ≡ all → then ++ flat_map f (entries_of sets (drop (at + length group) sorted)) ≡ all
 planned_more sets sorted at group first f now then all next is more before =
     ap (λ (xs : List Change). xs ++ flat_map f (entries_of sets (drop (at + length group) sorted))) more
     ∙ append_assoc now (f (entry_with sets group first)) (flat_map f (entries_of sets (drop (at + length group) sorted)))
-    ∙ ap (λ (es : List Entry). now ++ flat_map f es) (sym (next.entries sets first is))
+    ∙ ap (λ (es : List NamespaceEntry). now ++ flat_map f es) (sym (next.entries sets first is))
     ∙ before
 
 -- none is left
-pub planned_all : (sets : List (List Mapping)) (sorted : List Placed) (at : ℕ) (f : Entry → List Change) (now all : List Change) → length sorted ≤ at
+pub planned_all : (sets : List (List Mapping)) (sorted : List Placed) (at : ℕ) (f : NamespaceEntry → List Change) (now all : List Change) → length sorted ≤ at
     → now ++ flat_map f (entries_of sets (drop at sorted)) ≡ all → now ≡ all
 unfolding put_all
 planned_all sets sorted at f now all past is =

@@ -4,7 +4,7 @@ use Rattle.std.specs.Prelude.{OnOk}
 use Rattle.nfit_reader.specs.declared.table.Mapping.{Mapping}
 use Rattle.namespace_areas.specs.declared.area.Area.{Area}
 use Rattle.namespace_map.specs.Areas.{Area as SeenArea, all_changed}
-use Rattle.namespace_map.specs.Commands.{recovered}
+use Rattle.namespace_map.specs.Commands.{after_recovery}
 use Rattle.namespace_map.specs.Changes.{namespaces_of, recovery_changes}
 use Rattle.namespace_map.specs.Left.{AreRegions}
 use Rattle.namespace_laws.proofs.RecoveryLaw.{recovery_agrees}
@@ -29,11 +29,11 @@ recovered_both sets old mid new fuse left last whole first second =
 
 -- where it wasn't, the namespaces are what recovery makes of the map
 pub recovered_map : (sets : List (List Mapping)) (old new : List Area) (fuse left : Option ℕ) → AreRegions sets → Went old new fuse left (recovery_changes sets (areas_seen old)) true
-    → namespaces_of sets (areas_seen new) ≡ recovered (namespaces_of sets (areas_seen old))
+    → namespaces_of sets (areas_seen new) ≡ after_recovery (namespaces_of sets (areas_seen old))
 recovered_map sets old new fuse left regions went =
     ap (namespaces_of sets) (went.done refl) ∙ recovery_agrees sets (areas_seen old) regions (seen_read old)
 
 pub map_on_ok : {A E : Type 0} (r : Result A E) (sets : List (List Mapping)) (old new : List Area) (fuse left : Option ℕ) → AreRegions sets → Went old new fuse left (recovery_changes sets (areas_seen old)) (is_ok r)
-    → OnOk r (namespaces_of sets (areas_seen new) ≡ recovered (namespaces_of sets (areas_seen old)))
+    → OnOk r (namespaces_of sets (areas_seen new) ≡ after_recovery (namespaces_of sets (areas_seen old)))
 map_on_ok (Ok x) sets old new fuse left regions went = recovered_map sets old new fuse left regions went
 map_on_ok (Err x) sets old new fuse left regions went = tt

@@ -11,7 +11,7 @@ use Rattle.interleave.specs.declared.set.SetFault.{SetFault}
 use Rattle.interleave.specs.Sets.{set_reading}
 use Rattle.namespace_areas.specs.declared.area.Area.{Area}
 use Rattle.namespace_areas.specs.Areas.{labels_of}
-use Rattle.namespace_ops.specs.Opening.{WasRead, opening, overlap_fault, set_as, set_fault_from, set_in, set_or_fault, sets_of}
+use Rattle.namespace_ops.specs.Opening.{WasRead, registry_opening, overlap_fault, set_as, set_fault_from, set_in, set_or_fault, sets_of}
 use Rattle.namespace_ops.specs.Registered.{Registered, opened_on}
 use Rattle.namespace_map.specs.Left.{AreRegions}
 use Rattle.namespace_laws.specs.Regions.{AreSetsOf}
@@ -60,8 +60,8 @@ pub record WasOpened (nfit : Nfit) (areas : List Area) (opened : Registered) : T
   pub sets : sets_of nfit ≡ opened.sets
   pub areas_are : areas ≡ opened.areas
 
-pub was_opened : (nfit : Nfit) (areas : List Area) (opened : Registered) → Ok opened ≡ opening nfit areas → WasOpened nfit areas opened
-unfolding opening
+pub was_opened : (nfit : Nfit) (areas : List Area) (opened : Registered) → Ok opened ≡ registry_opening nfit areas → WasOpened nfit areas opened
+unfolding registry_opening
 was_opened nfit areas opened is =
     let parts = parts_of (opened_on (sets_of nfit) areas) opened (first_fault (set_fault_from 0 nfit.regions ∷ overlap_fault (labels_of areas) ∷ [])) is in
     let one = no_first (set_fault_from 0 nfit.regions) (overlap_fault (labels_of areas) ∷ []) parts.0 in

@@ -4,7 +4,7 @@ use Rattle.std.specs.Prelude.{not, filter}
 use Rattle.std.specs.List.{AllByRecursion}
 use Rattle.std.specs.Str.{bytes_eq}
 use Rattle.std.proofs.lemmas.Bool.{cases_Bool}
-use Rattle.namespace_map.specs.Namespaces.{Entry, Namespaces, lookup}
+use Rattle.namespace_map.specs.Namespaces.{NamespaceEntry, Namespaces, lookup}
 use Rattle.namespace_map.specs.declared.commands.Command.{Command}
 use Rattle.namespace_map.specs.declared.commands.Command.TheVariants as command
 use Rattle.namespace_map.specs.Commands.{deleted_entry, done, renamed_entry}
@@ -52,11 +52,11 @@ count_grows n old uuid k all small = record {
   longer = let l : length (filter (λ (c : List ℕ × ℕ). not (bytes_eq c.0 uuid)) old) ≤ length old = left_length _ old in omega (arith, l);
 }
 
-deleted_same : (ns : Namespaces) (o : Option Entry) → (deleted_entry ns o).claims ≡ ns.claims
+deleted_same : (ns : Namespaces) (o : Option NamespaceEntry) → (deleted_entry ns o).claims ≡ ns.claims
 deleted_same ns None = refl
 deleted_same ns (Some e) = refl
 
-renamed_same : (ns : Namespaces) (name : List ℕ) (o : Option Entry) → (renamed_entry ns name o).claims ≡ ns.claims
+renamed_same : (ns : Namespaces) (name : List ℕ) (o : Option NamespaceEntry) → (renamed_entry ns name o).claims ≡ ns.claims
 renamed_same ns name None = refl
 renamed_same ns name (Some e) = refl
 

@@ -17,7 +17,7 @@ use Rattle.label_set.specs.declared.placed.Why.TheVariants.{Outside, Differs}
 use Rattle.label_set.specs.declared.placed.Field.TheVariants.{Names}
 use Rattle.label_set.specs.Rules.{is_local, is_updating, is_marked, same_name, agreed_name}
 use Rattle.label_set.specs.Status.{half_named, named_by, naming_of}
-use Rattle.namespace_map.specs.Namespaces.{Entry, uuid_of, uuid_lt, labels_with, region_of, status_in, shown_name, entry_with, entry_at, entries_of, put, put_all}
+use Rattle.namespace_map.specs.Namespaces.{NamespaceEntry, uuid_of, uuid_lt, labels_with, region_of, status_in, shown_name, entry_with, entry_at, entries_of, put, put_all}
 use Rattle.namespace_areas.specs.declared.area.Area.{Area}
 use Rattle.namespace_areas.specs.Areas.{labels_of}
 use Rattle.namespace_map.specs.Areas.{Area as SeenArea, free_in, slots_on}
@@ -91,7 +91,7 @@ own_each P labels u all =
 
 -- ---- removals can be made
 
-removal_each : (areas : List (Option SeenArea)) (e : Entry) → AllByRecursion (IsRemoval areas) (gone_changes areas e)
+removal_each : (areas : List (Option SeenArea)) (e : NamespaceEntry) → AllByRecursion (IsRemoval areas) (gone_changes areas e)
 removal_each areas e = elim (cases_Bool (is_unfinished e.status)) [
   | inl it ↦ rw it (
       all_map (IsRemoval areas) (change_to (λ l. None)) (own_labels areas e.uuid)
@@ -113,7 +113,7 @@ gone_sound sets areas = all_pass_to (IsRemoval areas) PutsSound (λ c is label e
 
 -- ---- settlings can be made
 
-fits_each : (areas : List (Option SeenArea)) (e : Entry) → AllByRecursion (Fits areas) (settling_changes areas e)
+fits_each : (areas : List (Option SeenArea)) (e : NamespaceEntry) → AllByRecursion (Fits areas) (settling_changes areas e)
 fits_each areas e = elim (cases_Bool (is_complete e.status)) [
   | inl it ↦ rw it (
       all_map (Fits areas) (change_to become) (filter (is_unsettled areas) (own_labels areas e.uuid))
@@ -165,7 +165,7 @@ name_from Q own name pending e all = by (agreed_name own) refl e
         (all_pass_to (λ p. Q p.label.name × (is_marked false p ≡ true)) (λ p. Q p.label.name) (λ p h. h.0) (filter (is_marked false) own) (filtered (λ p. Q p.label.name) (is_marked false) own all)))
 
 -- the name of a complete entry has no zero byte
-abbrev IsNamed : Entry → Type 0
+abbrev IsNamed : NamespaceEntry → Type 0
 IsNamed e = (name : List ℕ) (pending : Bool) → e.status ≡ Complete name pending → HasNoZero e.name
 
 entry_named : (sets : List (List Mapping)) (first : Placed) (rest : List Placed) → AllByRecursion (λ p. HasNoZero p.label.name) (first ∷ rest) → IsNamed (entry_with sets (first ∷ rest) first)
@@ -180,11 +180,11 @@ entry_named sets first rest all name pending = by (region_of sets first)
         subst (λ (s : SetStatus). HasNoZero (shown_name s first)) (sym e)
         (name_from HasNoZero (first ∷ rest) name pending (facts r.1 first rest name pending e).named all)
 
-at_named : (sets : List (List Mapping)) (own : List Placed) (e : Entry) → AllByRecursion (λ p. HasNoZero p.label.name) own → option_map (entry_with sets own) (slice_get own 0) ≡ Some e → IsNamed e
+at_named : (sets : List (List Mapping)) (own : List Placed) (e : NamespaceEntry) → AllByRecursion (λ p. HasNoZero p.label.name) own → option_map (entry_with sets own) (slice_get own 0) ≡ Some e → IsNamed e
 at_named sets [] e all is = absurd (none-some e is)
 at_named sets (p ∷ ps) e all is = subst IsNamed (same_Some (entry_with sets (p ∷ ps) p) e is) (entry_named sets p ps all)
 
-put_each : (P : Entry → Type 0) (e : Entry) (es : List Entry) → P e → AllByRecursion P es → AllByRecursion P (put e es)
+put_each : (P : NamespaceEntry → Type 0) (e : NamespaceEntry) (es : List NamespaceEntry) → P e → AllByRecursion P es → AllByRecursion P (put e es)
 unfolding put
 put_each P e [] one all = (one, tt)
 put_each P e (f ∷ fs) one (first, rest) = elim (cases_Bool (uuid_lt f.uuid e.uuid)) [
@@ -192,7 +192,7 @@ put_each P e (f ∷ fs) one (first, rest) = elim (cases_Bool (uuid_lt f.uuid e.u
   | inr not_it ↦ rw not_it (elim (cases_Bool (bytes_eq f.uuid e.uuid)) [ inl at ↦ rw at (one, rest) | inr apart ↦ rw apart (one, (first, rest)) ])
 ]
 
-put_all_each : (P : Entry → Type 0) (os : List (Option Entry)) → AllByRecursion (λ (o : Option Entry). (e : Entry) → o ≡ Some e → P e) os → AllByRecursion P (put_all os)
+put_all_each : (P : NamespaceEntry → Type 0) (os : List (Option NamespaceEntry)) → AllByRecursion (λ (o : Option NamespaceEntry). (e : NamespaceEntry) → o ≡ Some e → P e) os → AllByRecursion P (put_all os)
 unfolding put_all
 put_all_each P [] all = tt
 put_all_each P (None ∷ os) (one, rest) = put_all_each P os rest
@@ -201,14 +201,14 @@ put_all_each P (Some e ∷ os) (one, rest) = put_each P e (put_all os) (one e re
 entries_named : (sets : List (List Mapping)) (labels : List Placed) → AllByRecursion (λ p. HasNoZero p.label.name) labels → AllByRecursion IsNamed (entries_of sets labels)
 entries_named sets labels all =
     put_all_each IsNamed (map (λ p. entry_at sets labels (uuid_of p)) labels)
-    (all_map (λ (o : Option Entry). (e : Entry) → o ≡ Some e → IsNamed e) (λ p. entry_at sets labels (uuid_of p)) labels
-    (all_pass_to (λ (p : Placed). Unit {0}) (λ (p : Placed). (e : Entry) → entry_at sets labels (uuid_of p) ≡ Some e → IsNamed e)
+    (all_map (λ (o : Option NamespaceEntry). (e : NamespaceEntry) → o ≡ Some e → IsNamed e) (λ p. entry_at sets labels (uuid_of p)) labels
+    (all_pass_to (λ (p : Placed). Unit {0}) (λ (p : Placed). (e : NamespaceEntry) → entry_at sets labels (uuid_of p) ≡ Some e → IsNamed e)
     (λ p ok e is. at_named sets (labels_with (uuid_of p) labels) e
     (all_pass_to (λ q. HasNoZero q.label.name × (bytes_eq (uuid_of q) (uuid_of p) ≡ true)) (λ q. HasNoZero q.label.name) (λ q h. h.0) (labels_with (uuid_of p) labels)
     (filtered (λ q. HasNoZero q.label.name) (λ q. bytes_eq (uuid_of q) (uuid_of p)) labels all)) is)
     labels (any labels)))
 
-sound_each : (areas : List (Option SeenArea)) (e : Entry) → AllByRecursion (λ p. IsSound p.label) (placed_in_all areas) → IsNamed e → AllByRecursion PutsSound (settling_changes areas e)
+sound_each : (areas : List (Option SeenArea)) (e : NamespaceEntry) → AllByRecursion (λ p. IsSound p.label) (placed_in_all areas) → IsNamed e → AllByRecursion PutsSound (settling_changes areas e)
 sound_each areas e sound named = by e.status refl
   where
     become : Label → Option Label

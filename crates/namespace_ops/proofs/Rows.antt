@@ -3,13 +3,13 @@ use Rattle.std.proofs.Common.{◌≡◌, ℕ, List, [], ◌∷◌, Some, None, O
 use Rattle.nvd_words.specs.Checks.{first_fault}
 use Rattle.label_codec.specs.declared.mode.Mode.TheVariants as mode
 use Rattle.label_set.specs.declared.placed.SetStatus.TheVariants.{Complete, Unfinished}
-use Rattle.namespace_map.specs.Namespaces.{Entry as Namespace, Namespaces}
+use Rattle.namespace_map.specs.Namespaces.{NamespaceEntry as Namespace, Namespaces}
 use Rattle.namespace_map.specs.declared.commands.Command.{Command}
 use Rattle.namespace_map.specs.declared.commands.Command.TheVariants as command
 use Rattle.namespace_map.specs.declared.commands.Named.TheVariants as named
 use Rattle.namespace_map.specs.declared.refused.OpRefused.TheVariants.{Busy, NoSuch, NotComplete, OutOfMemory, ReadOnlyLabel}
 use Rattle.namespace_map.specs.Commands.{given_to, refusal_of}
-use Rattle.namespace_ops.specs.Entries.{Entry, Reply}
+use Rattle.namespace_ops.specs.Entries.{JournalEntry, Reply}
 use Rattle.namespace_ops.specs.Replay.{AreReplies, replayed}
 use Rattle.namespace_ops.specs.Room.{taken, with_room}
 
@@ -42,16 +42,16 @@ over entries free claims = record { sets = []; areas = record { ready = true; bl
 abbrev opening : Namespaces
 opening = over (entry_u ∷ []) 1 []
 
-abbrev entry : Command → Reply → Entry
+abbrev entry : Command → Reply → JournalEntry
 entry c reply = record { tag = record { session = 0; call = 0 }; command = c; reply = reply }
 
-abbrev claim : Entry
+abbrev claim : JournalEntry
 claim = entry (command.Claim u) (Ok tt)
 
-abbrev unclaim : Entry
+abbrev unclaim : JournalEntry
 unclaim = entry (command.Unclaim u) (Ok tt)
 
-abbrev busy : Entry
+abbrev busy : JournalEntry
 busy = entry (command.Delete u) (Err (Busy 1))
 
 -- ---- refusals with claims

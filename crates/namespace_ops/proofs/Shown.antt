@@ -7,7 +7,7 @@ use Rattle.nfit_reader.specs.declared.table.Mapping.{Mapping}
 use Rattle.label_set.specs.declared.placed.Placed.{Placed}
 use Rattle.namespace_areas.specs.declared.area.Area.{Area}
 use Rattle.namespace_areas.specs.Areas.{labels_of}
-use Rattle.namespace_map.specs.Namespaces.{Entry, entries_of, entry_at, entry_with, labels_with, lookup, put_all}
+use Rattle.namespace_map.specs.Namespaces.{NamespaceEntry, entries_of, entry_at, entry_with, labels_with, lookup, put_all}
 use Rattle.namespace_map.proofs.Entries.{lookup_entries}
 use Rattle.namespace_map.specs.Changes.{placed_in_all}
 use Rattle.namespace_areas.specs.Groups.{HasGroupsOf}
@@ -31,6 +31,6 @@ append_none [] = refl
 append_none (x ∷ xs) = ap (λ ys. x ∷ ys) (append_none xs)
 
 -- none is left
-pub listed_all : {X : Type 0} (sets : List (List Mapping)) (sorted : List Placed) (at : ℕ) (f : Entry → X) (now all : List X) → length sorted ≤ at → now ++ map f (entries_of sets (drop at sorted)) ≡ all → now ≡ all
+pub listed_all : {X : Type 0} (sets : List (List Mapping)) (sorted : List Placed) (at : ℕ) (f : NamespaceEntry → X) (now all : List X) → length sorted ≤ at → now ++ map f (entries_of sets (drop at sorted)) ≡ all → now ≡ all
 unfolding put_all
 listed_all sets sorted at f now all past is = sym (append_none now) ∙ ap (λ (xs : List Placed). now ++ map f (entries_of sets xs)) (sym (drop_all at sorted past)) ∙ is

@@ -10,7 +10,7 @@ use Rattle.namespace_map.specs.Commands.{refusal_of}
 use Rattle.namespace_map.specs.declared.refused.OpRefused.{OpRefused}
 use Rattle.namespace_areas.specs.Seen.{areas_seen}
 use Rattle.namespace_ops.specs.Carried.{is_cut}
-use Rattle.namespace_ops.specs.Entries.{Entry, Reply}
+use Rattle.namespace_ops.specs.Entries.{JournalEntry, Reply}
 use Rattle.namespace_ops.specs.Counted.{Answered, State, namespaces_in, steps_before}
 use Rattle.namespace_ops.specs.Replay.{is_memory, Kept, kept_after}
 use Rattle.namespace_ops.specs.Registered.{kept_of}
@@ -49,7 +49,7 @@ cut_fails (Err f) e = refl
 
 -- ---- one call, with power on before it
 
-module _ (old new : State) (fuse left : Option ℕ) (e : Entry) (is : Answered old new fuse left e.command e.reply) (running : old.stopped ≡ false) where
+module _ (old new : State) (fuse left : Option ℕ) (e : JournalEntry) (is : Answered old new fuse left e.command e.reply) (running : old.stopped ≡ false) where
   abbrev before : ℕ
   before = steps_before e.command
 
@@ -99,14 +99,14 @@ module _ (old new : State) (fuse left : Option ℕ) (e : Entry) (is : Answered o
       by (inr other) = rw other (cut_or other cut (refusal_of (namespaces_in old) e.command) refl)
 
   -- what follows begins with what the entry leaves
-  pub behind_same : (es : List Entry) → is_cut e.reply ≡ false → steps_of new.sets (kept_of new) es ≡ steps_of old.sets (kept_after old.sets (kept_of old) e) es
+  pub behind_same : (es : List JournalEntry) → is_cut e.reply ≡ false → steps_of new.sets (kept_of new) es ≡ steps_of old.sets (kept_after old.sets (kept_of old) e) es
   behind_same es uncut =
       let m = meets old new fuse left e.tag e.command e.reply is running (is.stopped running ∙ uncut) in
       ap (λ (sets : List (List Mapping)). steps_of sets (kept_of new) es) is.sets ∙ ap (λ (k : Kept). steps_of old.sets k es) (sym m.kept)
 
 -- ---- calls one after another
 
-spent_all : (es : List Entry) (s now : State) (fuse left : Option ℕ) → s.stopped ≡ false → Follow s fuse es now left → AreUncut es
+spent_all : (es : List JournalEntry) (s now : State) (fuse left : Option ℕ) → s.stopped ≡ false → Follow s fuse es now left → AreUncut es
     → (lasts fuse (steps_of s.sets (kept_of s) es) ≡ true) × (left ≡ burnt fuse (steps_of s.sets (kept_of s) es))
 unfolding steps_of Follow
 spent_all [] s now fuse left running follow uncut = (lasts_none fuse, follow.1 ∙ burnt_none fuse)
@@ -123,7 +123,7 @@ spent_all (e ∷ es) s now fuse left running (mid, rest, is, more) (one, others)
 pub spent : JournalsSpendTheirSteps
 spent s now fuse left es running follow uncut = spent_all es s now fuse left running follow uncut
 
-passed_all : (before later : List Entry) (e : Entry) (s now : State) (fuse left : Option ℕ) → s.stopped ≡ false → Follow s fuse (before ++ e ∷ later) now left → AreUncut before → is_cut e.reply ≡ true
+passed_all : (before later : List JournalEntry) (e : JournalEntry) (s now : State) (fuse left : Option ℕ) → s.stopped ≡ false → Follow s fuse (before ++ e ∷ later) now left → AreUncut before → is_cut e.reply ≡ true
     → (lasts fuse (steps_of s.sets (kept_of s) before) ≡ true) × (lasts fuse (steps_of s.sets (kept_of s) (before ++ e ∷ [])) ≡ false)
 unfolding steps_of Follow
 passed_all [] later e s now fuse left running (mid, rest, is, more) uncut cut =

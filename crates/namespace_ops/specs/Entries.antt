@@ -8,7 +8,7 @@ use Rattle.namespace_map.specs.declared.refused.OpRefused.{OpRefused}
 abbrev pub Reply : Type 0
 Reply = Result (Unit {0}) OpRefused
 
-pub record Entry : Type 0 where
+pub record JournalEntry : Type 0 where
   -- whose call it was
   pub tag : Tag
   pub command : Command

@@ -58,8 +58,8 @@ abbrev pub overlap_fault : List Placed → Option OpenFault
 overlap_fault labels = option_map overlap_as (overlap_of (map extent_of labels))
 
 -- a registry on the sets and the areas, or the first of these faults: a region that is no set; extents that meet
-unfoldable pub opening : Nfit → List Area → Result Registered OpenFault
-opening nfit areas = value_unless (opened_on (sets_of nfit) areas) (first_fault (set_fault_from 0 nfit.regions ∷ overlap_fault (labels_of areas) ∷ []))
+unfoldable pub registry_opening : Nfit → List Area → Result Registered OpenFault
+registry_opening nfit areas = value_unless (opened_on (sets_of nfit) areas) (first_fault (set_fault_from 0 nfit.regions ∷ overlap_fault (labels_of areas) ∷ []))
 
 -- the table was read from bytes
 abbrev pub WasRead : Nfit → Type 0

@@ -4,7 +4,7 @@ use Rattle.std.specs.List.{flat_map}
 use Rattle.nfit_reader.specs.declared.table.Mapping.{Mapping}
 use Rattle.label_codec.specs.declared.label.Label.{Label}
 use Rattle.label_set.specs.declared.placed.Placed.{Placed}
-use Rattle.namespace_map.specs.Namespaces.{Entry, labels_with, entries_of}
+use Rattle.namespace_map.specs.Namespaces.{NamespaceEntry, labels_with, entries_of}
 use Rattle.namespace_map.specs.Areas.{Area, Change}
 use Rattle.namespace_map.specs.Commands.{is_complete, is_unfinished}
 use Rattle.namespace_map.specs.Changes.{by_position, change_to, with_name, is_unsettled, namespaces_of, gone_changes, settling_changes}
@@ -22,17 +22,17 @@ abbrev pub settlings : List (Option Area) → List ℕ → List Placed → List 
 settlings areas name own = map (change_to (λ l. Some (with_name name (settled l)))) (filter (is_unsettled areas) (pairs_of own))
 
 -- the changes of one entry, whose labels are given
-abbrev pub gone_of : Entry → List Placed → List Change
+abbrev pub gone_of : NamespaceEntry → List Placed → List Change
 gone_of e own = if is_unfinished e.status then removals (by_position own) else []
 
-abbrev pub settling_of : List (Option Area) → Entry → List Placed → List Change
+abbrev pub settling_of : List (Option Area) → NamespaceEntry → List Placed → List Change
 settling_of areas e own = if is_complete e.status then settlings areas e.name (by_position own) else []
 
 -- of one entry, whose labels are among others
-abbrev pub gone_in : List Placed → Entry → List Change
+abbrev pub gone_in : List Placed → NamespaceEntry → List Change
 gone_in labels e = gone_of e (labels_with e.uuid labels)
 
-abbrev pub settling_in : List (Option Area) → List Placed → Entry → List Change
+abbrev pub settling_in : List (Option Area) → List Placed → NamespaceEntry → List Change
 settling_in areas labels e = settling_of areas e (labels_with e.uuid labels)
 
 -- of all entries that labels make, rising

@@ -10,7 +10,7 @@ use Rattle.namespace_map.specs.Changes.{changes_of, recovery_changes}
 use Rattle.namespace_map.specs.Commands.{refusal_of}
 use Rattle.namespace_areas.specs.declared.area.Area.{Area}
 use Rattle.namespace_areas.specs.Seen.{AreLeft, areas_seen, areas_shown}
-use Rattle.namespace_ops.specs.Entries.{Entry, Reply}
+use Rattle.namespace_ops.specs.Entries.{JournalEntry, Reply}
 use Rattle.namespace_ops.specs.Counted.{State, steps_before}
 use Rattle.namespace_ops.specs.Replay.{Gives, Kept, namespaces_with}
 use Rattle.namespace_ops.specs.Room.{taken}
@@ -25,7 +25,7 @@ pub record Registered : Type 0 where
   -- how often UUIDs are claimed
   pub claims : List (List ℕ × ℕ)
   -- the calls with a tag, in order
-  pub journal : List Entry
+  pub journal : List JournalEntry
   -- for how many more each session has room
   pub room : List ℕ
   -- the label areas from which the journal replays
@@ -36,7 +36,7 @@ abbrev pub state_of : Registered → State
 state_of r = record { sets = r.sets; areas = r.areas; stopped = r.stopped; claims = r.claims }
 
 -- a state, with a journal, its room, and what it replays from
-abbrev pub registered : State → List Entry → List ℕ → List Area → Registered
+abbrev pub registered : State → List JournalEntry → List ℕ → List Area → Registered
 registered s journal room opening = record { sets = s.sets; areas = s.areas; stopped = s.stopped; claims = s.claims; journal = journal; room = room; opening = opening }
 
 -- a registry that is opened on sets and areas: no namespace is claimed, and the journal is empty and without room
@@ -72,7 +72,7 @@ abbrev pub IsCutIn : List (Option SeenArea) → ℕ → List Change → List Are
 IsCutIn began before changes areas = (n : ℕ) × IsCutAfter began before changes areas n
 
 -- Power was cut in the command of an entry, the first whose reply says so. The entries before it gave the areas and claims that it began with.
-pub record WasCutIn (r : Registered) (before later : List Entry) (entry : Entry) (began : Kept) : Type 0 where
+pub record WasCutIn (r : Registered) (before later : List JournalEntry) (entry : JournalEntry) (began : Kept) : Type 0 where
   pub journal : r.journal ≡ before ++ entry ∷ later
   pub gives : Gives r.sets (opening_of r) before began
   pub reply : entry.reply ≡ Err PowerCut
@@ -83,7 +83,7 @@ pub record WasCutIn (r : Registered) (before later : List Entry) (entry : Entry)
   pub same : AllByRecursion (λ e. e.reply ≡ Err PowerCut) later
 
 abbrev pub WasCut : Registered → Type 0
-WasCut r = (before later : List Entry) × (entry : Entry) × (began : Kept) × WasCutIn r before later entry began
+WasCut r = (before later : List JournalEntry) × (entry : JournalEntry) × (began : Kept) × WasCutIn r before later entry began
 
 -- Power was cut in recovery, before any call; all calls since answer the same.
 pub record WasCutFirst (r : Registered) : Type 0 where

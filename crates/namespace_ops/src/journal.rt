@@ -3,7 +3,7 @@ ghost use Rattle.std.specs.Prelude.{◌≡◌, ◌+◌, ◌<◌, ◌≤◌, ◌^
 ghost use Rattle.std.specs.Vec.{vec_capacity};
 ghost use Rattle.namespace_ops.specs.Room.{room_of, taken, with_room};
 
-use crate::journal_room::Room;
+use crate::journal_room::JournalRoom;
 use namespace_map::{Command, OpRefused};
 use nvd_words::Tag;
 use std::alloc::{AllocError, Global};
@@ -11,7 +11,7 @@ use std::marker::Model;
 
 /// What was asked of a registry, and what it answered.
 ///
-/// Contracts see it as `Entry` of `specs/Entries.antt`.
+/// Contracts see it as `JournalEntry` of `specs/Entries.antt`.
 #[derive(Debug, Drop)]
 pub struct JournalEntry {
     /// Whose call it was.
@@ -23,9 +23,9 @@ pub struct JournalEntry {
 }
 
 impl Model for JournalEntry {
-    ghost use Rattle.namespace_ops.specs.Entries.{Entry};
+    ghost use Rattle.namespace_ops.specs.Entries as entries;
 
-    ghost Value = { Entry };
+    ghost Value = { entries.JournalEntry };
 
     ghost view = { λ e. record { tag = e.tag; command = e.command; reply = e.reply } };
 }
@@ -35,7 +35,7 @@ impl Model for JournalEntry {
 #[derive(Debug, Drop)]
 pub(crate) struct Journal {
     entries: Vec<JournalEntry>,
-    room: Room,
+    room: JournalRoom,
 }
 
 impl Model for Journal {
@@ -68,7 +68,7 @@ impl Journal {
     {
         Journal {
             entries: Vec::new(alloc),
-            room: Room::none(alloc),
+            room: JournalRoom::none(alloc),
         }
     }
 
@@ -88,7 +88,7 @@ impl Journal {
 
     /// Its room, and so many entries more for each session. The one error is out of memory, also if the journal would come
     /// to 2^32 entries.
-    pub(crate) fn room_with(&self, alloc: Global, calls: &[u32]) -> Result<Room, AllocError>
+    pub(crate) fn room_with(&self, alloc: Global, calls: &[u32]) -> Result<JournalRoom, AllocError>
         ensures room { IfOk result (λ room. room ≡ with_room self.now.room calls.now) }
         ensures few { IfOk result (λ room. length self.now.entries + sum room < 2 ^ 32) }
     {
@@ -100,7 +100,7 @@ impl Journal {
     }
 
     /// Takes other room in place of its own, and makes it.
-    pub(crate) fn give(&mut self, room: Room) -> Result<(), AllocError>
+    pub(crate) fn give(&mut self, room: JournalRoom) -> Result<(), AllocError>
         requires few { length self.old.entries + sum room < 2 ^ 32 }
         ensures entries { self.new.entries ≡ self.old.entries }
         ensures room { OnOk result (self.new.room ≡ room) }

@@ -7,12 +7,12 @@ use std::marker::Model;
 
 /// For how many more entries of the journal each session has room: together at most the greatest number of 32 bits.
 #[derive(Debug, Drop)]
-pub(crate) struct Room {
+pub(crate) struct JournalRoom {
     sessions: Vec<u32>,
     total: u32,
 }
 
-impl Model for Room {
+impl Model for JournalRoom {
     ghost use Rattle.std.specs.Prelude.{◌≡◌, ℕ, List, sum};
 
     ghost Value = { List ℕ };
@@ -33,7 +33,7 @@ fn at(numbers: &[u32], place: usize) -> u32
 }
 
 /// The room of sessions, and so many more for each.
-fn added(alloc: Global, room: &[u32], calls: &[u32]) -> Result<Room, AllocError>
+fn added(alloc: Global, room: &[u32], calls: &[u32]) -> Result<JournalRoom, AllocError>
     ensures { IfOk result (λ sum. sum ≡ with_room room.now calls.now) }
 {
     let count = room.len().max(calls.len());
@@ -49,15 +49,15 @@ fn added(alloc: Global, room: &[u32], calls: &[u32]) -> Result<Room, AllocError>
         total = sum;
         sessions.push(entries)?;
     }
-    Ok(Room { sessions, total })
+    Ok(JournalRoom { sessions, total })
 }
 
-impl Room {
+impl JournalRoom {
     /// No room.
-    pub(crate) fn none(alloc: Global) -> Room
+    pub(crate) fn none(alloc: Global) -> JournalRoom
         ensures { result ≡ [] }
     {
-        Room {
+        JournalRoom {
             sessions: Vec::new(alloc),
             total: 0,
         }
@@ -79,7 +79,7 @@ impl Room {
 
     /// This room, and so many entries more for each session. The one error is out of memory, also if together that is more
     /// than a number of 32 bits.
-    pub(crate) fn with(&self, alloc: Global, calls: &[u32]) -> Result<Room, AllocError>
+    pub(crate) fn with(&self, alloc: Global, calls: &[u32]) -> Result<JournalRoom, AllocError>
         ensures { IfOk result (λ room. room ≡ with_room self.now calls.now) }
     {
         added(alloc, &self.sessions, calls)

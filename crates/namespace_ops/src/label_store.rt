@@ -2,7 +2,7 @@
 ghost use Rattle.std.specs.Prelude.{◌≡◌, ◌<◌, ◌^◌, true, false, not, length, is_ok, IfOk, OnOk};
 ghost use Rattle.namespace_map.specs.Left.{AreRegions};
 ghost use Rattle.namespace_areas.specs.Areas.{labels_of};
-ghost use Rattle.namespace_map.specs.Commands.{recovered};
+ghost use Rattle.namespace_map.specs.Commands.{after_recovery};
 ghost use Rattle.namespace_map.specs.Changes.{namespaces_of, recovery_changes};
 ghost use Rattle.namespace_areas.specs.Groups.{HasGroupsOf};
 ghost use Rattle.namespace_areas.specs.Seen.{AreHeld, areas_seen};
@@ -76,11 +76,11 @@ impl LabelStore {
     /// the namespace's name and without it, on each module with a free slot. All else of a label is kept.
     ///
     /// It isn't stopped. It takes no memory. `PowerCut` comes exactly if the fuse has fewer steps left than these changes
-    /// take, and then it is stopped: what a crash leaves of the areas is what it leaves of the changes (`Went`). After `Ok` the namespaces are what recovery makes of the map (`recovered`).
+    /// take, and then it is stopped: what a crash leaves of the areas is what it leaves of the changes (`Went`). After `Ok` the namespaces are what recovery makes of the map (`after_recovery`).
     pub(crate) fn recover(&mut self, fuse: &mut Fuse) -> Result<(), PowerCut>
         requires running { self.old.stopped ≡ false }
         ensures went { Went self.old.areas self.new.areas fuse.old fuse.new (recovery_changes self.old.sets (areas_seen self.old.areas)) (is_ok result) }
-        ensures map { OnOk result (namespaces_of self.old.sets (areas_seen self.new.areas) ≡ recovered (namespaces_of self.old.sets (areas_seen self.old.areas))) }
+        ensures map { OnOk result (namespaces_of self.old.sets (areas_seen self.new.areas) ≡ after_recovery (namespaces_of self.old.sets (areas_seen self.old.areas))) }
         ensures sets { self.new.sets ≡ self.old.sets }
         ensures stopped { self.new.stopped ≡ not (is_ok result) }
     {

@@ -43,8 +43,8 @@
 //!
 //! | promise | call | definition |
 //! |---|---|---|
-//! | the sets and areas, or the first fault | [`Registry::open_all`] | `opening` of `specs/Opening.antt` |
-//! | recovery's changes are made, cut or not; the namespaces after it | [`Registry::recover`] | `recovery_changes`, `recovered` of `namespace_map`; `Went` of `namespace_areas` |
+//! | the sets and areas, or the first fault | [`Registry::open_all`] | `registry_opening` of `specs/Opening.antt` |
+//! | recovery's changes are made, cut or not; the namespaces after it | [`Registry::recover`] | `recovery_changes`, `after_recovery` of `namespace_map`; `Went` of `namespace_areas` |
 //! | the reply, and what becomes of namespaces, label areas and claims | the calls with a tag | `Answered` of `specs/Counted.antt`; `refusal_of`, `done` of `namespace_map` |
 //! | what becomes of the modules' contents | [`Registry::create`] | `Formats` of `specs/Counted.antt` |
 //! | the journal has this entry more, and the tag's session has room for one less | the calls with a tag | `Entered` of `specs/Registered.antt` |

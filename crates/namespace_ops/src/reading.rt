@@ -1,7 +1,7 @@
 //! What a registry tells without a change.
 ghost use Rattle.std.specs.Prelude.{◌≡◌, ◌<◌, false, IfOk, length};
 ghost use Rattle.namespace_map.specs.Namespaces.{listed, lookup};
-ghost use Rattle.namespace_areas.specs.Finding.{LiesIn, found_of, set_at};
+ghost use Rattle.namespace_areas.specs.Finding.{LiesInSet, found_of, set_at};
 ghost use Rattle.namespace_ops.specs.Claims.{count_of};
 ghost use Rattle.namespace_ops.specs.Counted.{namespaces_in};
 ghost use Rattle.namespace_ops.specs.Registered.{IsJournaled, state_of};
@@ -57,7 +57,7 @@ impl Registry {
     pub fn find(&self, uuid: &Uuid) -> Result<Found, OpRefused>
         requires running { self.now.stopped ≡ false }
         ensures found { result ≡ found_of self.now.sets (lookup uuid.now (namespaces_in (state_of self.now)).entries) }
-        ensures lies { IfOk result (LiesIn self.now.sets) }
+        ensures lies { IfOk result (LiesInSet self.now.sets) }
         ensures sector { IfOk result (λ found. found.mode ≡ Mode.Sector) }
     {
         let store = &self.namespaces.store;

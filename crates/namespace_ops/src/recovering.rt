@@ -2,7 +2,7 @@
 ghost use Rattle.std.specs.Prelude.{◌≡◌, ◌<◌, ◌^◌, length, is_ok, OnOk};
 ghost use Rattle.std.specs.Vec.{vec_capacity};
 ghost use Rattle.namespace_map.specs.Left.{AreRegions};
-ghost use Rattle.namespace_map.specs.Commands.{recovered};
+ghost use Rattle.namespace_map.specs.Commands.{after_recovery};
 ghost use Rattle.namespace_map.specs.Changes.{namespaces_of, recovery_changes};
 ghost use Rattle.namespace_areas.specs.Seen.{areas_seen};
 ghost use Rattle.namespace_areas.specs.Went.{Went};
@@ -68,7 +68,7 @@ pub(crate) fn recover(
     requires current { AreCurrent areas.old groups.old }
     requires room { HasRoomFor (slots_in areas.old) (vec_capacity room.old.own) (vec_capacity room.old.changes) }
     ensures went { Went areas.old areas.new fuse.old fuse.new (recovery_changes regions.now (areas_seen areas.old)) (is_ok result) }
-    ensures map { OnOk result (namespaces_of regions.now (areas_seen areas.new) ≡ recovered (namespaces_of regions.now (areas_seen areas.old))) }
+    ensures map { OnOk result (namespaces_of regions.now (areas_seen areas.new) ≡ after_recovery (namespaces_of regions.now (areas_seen areas.old))) }
     ensures current { OnOk result (AreCurrent areas.new groups.new) }
     ensures room { OnOk result (HasRoomFor (slots_in areas.new) (vec_capacity room.new.own) (vec_capacity room.new.changes)) }
 {

@@ -4,13 +4,13 @@ ghost use Rattle.nvd_words.specs.Checks.{Answers, value_unless};
 ghost use Rattle.nfit_reader.specs.declared.table.Region.{Region};
 ghost use Rattle.nfit_reader.specs.Counted.{AreCounted};
 ghost use Rattle.namespace_map.specs.Left.{AreRegions};
-ghost use Rattle.namespace_map.specs.Commands.{recovered};
+ghost use Rattle.namespace_map.specs.Commands.{after_recovery};
 ghost use Rattle.namespace_map.specs.Changes.{namespaces_of, recovery_changes};
 ghost use Rattle.namespace_areas.specs.Areas.{AreRunning, labels_of};
 ghost use Rattle.namespace_areas.specs.Seen.{AreHeld, areas_seen};
 ghost use Rattle.namespace_areas.specs.Went.{Went};
 ghost use Rattle.namespace_ops.specs.Held.{Held};
-ghost use Rattle.namespace_ops.specs.Opening.{WasRead, opening, overlap_as, overlap_fault, set_fault_as, set_fault_from, set_or_fault, sets_of};
+ghost use Rattle.namespace_ops.specs.Opening.{WasRead, registry_opening, overlap_as, overlap_fault, set_fault_as, set_fault_from, set_or_fault, sets_of};
 ghost use Rattle.namespace_ops.specs.Registered.{opened_on, state_of};
 ghost use Rattle.namespace_ops.specs.Room.{with_room};
 
@@ -189,7 +189,7 @@ impl Registry {
         requires regions { length nfit.regions < 2 ^ 32 }
         requires held { AreHeld areas }
         requires few { length areas < 2 ^ 32 }
-        ensures { Answers OpenFault.OutOfMemory result (opening nfit areas) }
+        ensures { Answers OpenFault.OutOfMemory result (registry_opening nfit areas) }
     {
         match sets_of(alloc, &nfit) {
             Ok(sets) => Registry::over(alloc, sets, areas),
@@ -223,7 +223,7 @@ impl Registry {
         requires running { self.old.stopped ≡ false }
         requires first { self.old.journal ≡ [] }
         ensures went { Went self.old.areas self.new.areas fuse.old fuse.new (recovery_changes self.old.sets (areas_seen self.old.areas)) (is_ok result) }
-        ensures map { OnOk result (namespaces_of self.old.sets (areas_seen self.new.areas) ≡ recovered (namespaces_of self.old.sets (areas_seen self.old.areas))) }
+        ensures map { OnOk result (namespaces_of self.old.sets (areas_seen self.new.areas) ≡ after_recovery (namespaces_of self.old.sets (areas_seen self.old.areas))) }
         ensures opening { OnOk result (self.new.opening ≡ self.new.areas) }
         ensures began { OnErr result (self.new.opening ≡ self.old.opening) }
         ensures stopped { self.new.stopped ≡ not (is_ok result) }

@@ -16,6 +16,8 @@
 //!   nothing of its bytes.
 //! - *The count of failures* (`faults`): it never falls. A call returns [`Failed`] only if the
 //!   count rose in that call (`specs/Causes.antt`, `HasCause`), so no caller can invent a failure.
+//!   The functions over these calls say the same in one record: `LeavesSource` of a source that was
+//!   read, `LeavesOutside` of a source and a sink between which bytes were copied.
 //!
 //! `specs/Images.antt` defines image sets as functions from objects to bytes, and relates what is
 //! revealed before and after a call (`Becomes`).

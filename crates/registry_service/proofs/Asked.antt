@@ -6,7 +6,7 @@ use Rattle.namespace_map.specs.declared.commands.Command.{Command}
 use Rattle.namespace_map.specs.declared.refused.OpRefused.{OpRefused}
 use Rattle.namespace_map.specs.declared.refused.OpRefused.TheVariants as op
 use Rattle.namespace_ops.specs.Carried as ops
-use Rattle.namespace_ops.specs.Entries.{Entry, Reply as Answer}
+use Rattle.namespace_ops.specs.Entries.{JournalEntry, Reply as Answer}
 use Rattle.namespace_ops.specs.Replay.{is_memory}
 use Rattle.session_account.specs.Made.{is_cut, made, on_after}
 use Rattle.session_account.specs.Orders.{answer_of, command_of, entry, entry_for}
@@ -157,11 +157,11 @@ module _ (tag : Tag) (o : Order) (m : OrdersPart) (room : HasRoom m) where
   command_ordered c a r m' asked is goes cause =
       let t = told_so a r is in
       let made_is = entry_is tag.session tag.call m.held o c a r asked.asks t.answer in
-      let entries : ordered tag.session tag.call o r m ≡ call_entry tag c a ∷ [] = ap (λ (x : Option Entry). option_to_list x) made_is in
-      let one : length (ordered tag.session tag.call o r m) ≡ 1 = ap (λ (es : List Entry). length es) entries in
+      let entries : ordered tag.session tag.call o r m ≡ call_entry tag c a ∷ [] = ap (λ (x : Option JournalEntry). option_to_list x) made_is in
+      let one : length (ordered tag.session tag.call o r m) ≡ 1 = ap (λ (es : List JournalEntry). length es) entries in
       let room_is : m'.room ≡ m.room - 1 = ap (λ (x : OrdersPart). x.room) goes in
       record {
-        entries = ap (λ (x : OrdersPart). x.entries) goes ∙ ap (λ (es : List Entry). m.entries ++ es) (one_answered (call_entry tag c a) t.answered ∙ sym entries);
+        entries = ap (λ (x : OrdersPart). x.entries) goes ∙ ap (λ (es : List JournalEntry). m.entries ++ es) (one_answered (call_entry tag c a) t.answered ∙ sym entries);
         room = omega (arith, one, room_is, room);
         held = ap (λ (x : OrdersPart). x.held) goes ∙ t.opens m.held c o asked.asks;
         began = ap (λ (x : OrdersPart). x.began) goes;

@@ -14,7 +14,7 @@ use Rattle.namespace_map.specs.Commands.{refusal_of}
 use Rattle.nvd_words.specs.Checks.{value_unless}
 use Rattle.namespace_ops.specs.Carried.{is_cut}
 use Rattle.namespace_ops.specs.Counted.{State, Answered, makes_sectors, namespaces_in}
-use Rattle.namespace_ops.specs.Entries.{Entry, Reply as Answer}
+use Rattle.namespace_ops.specs.Entries.{JournalEntry, Reply as Answer}
 use Rattle.namespace_ops.specs.Registered.{kept_of}
 use Rattle.namespace_ops.specs.Replay.{Kept, is_memory}
 use Rattle.namespace_ops.proofs.Journaled.{memory_is}
@@ -30,19 +30,19 @@ abbrev pub opening_on : List Area → Kept
 opening_on areas = record { areas = areas_seen areas; claims = [] }
 
 -- what the lock keeps of a journal, until power is cut and from then on
-pub record Keeps (sets : List (List Mapping)) (opening : List Area) (first : Option ℕ) (journal : List Entry) (s : State) (left : Option ℕ) : Type 0 where
+pub record Keeps (sets : List (List Mapping)) (opening : List Area) (first : Option ℕ) (journal : List JournalEntry) (s : State) (left : Option ℕ) : Type 0 where
   pub on : s.stopped ≡ false → IsOn sets (opening_on opening) first journal (kept_of s) left
   pub off : s.stopped ≡ true → WasCut sets (opening_on opening) first journal s.areas
 
 -- ---- an entry that was answered
 
-pub answered_more : (journal : List Entry) (e : Entry) → answered (journal ++ e ∷ []) ≡ answered journal ++ answered (e ∷ [])
-answered_more journal e = filter-append (λ (e : Entry). not (is_memory e.reply)) journal (e ∷ [])
+pub answered_more : (journal : List JournalEntry) (e : JournalEntry) → answered (journal ++ e ∷ []) ≡ answered journal ++ answered (e ∷ [])
+answered_more journal e = filter-append (λ (e : JournalEntry). not (is_memory e.reply)) journal (e ∷ [])
 
-pub one_answered : (e : Entry) → is_memory e.reply ≡ false → answered (e ∷ []) ≡ e ∷ []
+pub one_answered : (e : JournalEntry) → is_memory e.reply ≡ false → answered (e ∷ []) ≡ e ∷ []
 one_answered e h = ap (λ (b : Bool). cond (not b) (e ∷ []) []) h
 
-pub one_forgotten : (e : Entry) → is_memory e.reply ≡ true → answered (e ∷ []) ≡ []
+pub one_forgotten : (e : JournalEntry) → is_memory e.reply ≡ true → answered (e ∷ []) ≡ []
 one_forgotten e h = ap (λ (b : Bool). cond (not b) (e ∷ []) []) h
 
 pub not_memory : (a : Answer) → is_memory a ≡ false → a ≢ Err OutOfMemory
@@ -65,25 +65,25 @@ module _ (s s' : State) (left left' : Option ℕ) (tag : Tag) (c : Command) (a :
   went_off : s.stopped ≡ false → WentOff s.sets (kept_of s) left (call_entry tag c a) s'.areas → s'.stopped ≡ true
   went_off on w = is.stopped on ∙ ap is_cut w.off
 
-same_keeps : (sets : List (List Mapping)) (opening : List Area) (first : Option ℕ) (journal : List Entry) (s s' : State) (left left' : Option ℕ) → s' ≡ s → left' ≡ left → Keeps sets opening first journal s left → Keeps sets opening first journal s' left'
+same_keeps : (sets : List (List Mapping)) (opening : List Area) (first : Option ℕ) (journal : List JournalEntry) (s s' : State) (left left' : Option ℕ) → s' ≡ s → left' ≡ left → Keeps sets opening first journal s left → Keeps sets opening first journal s' left'
 same_keeps sets opening first journal s s' left left' same spent k =
     subst (λ (x : State). Keeps sets opening first journal x left') (sym same) (subst (λ (f : Option ℕ). Keeps sets opening first journal s f) (sym spent) k)
 
 -- power was cut before: one more says so
-off_more : (sets : List (List Mapping)) (from : Kept) (first : Option ℕ) (journal : List Entry) (areas : List Area) (e : Entry) → IsOff e → WasCut sets from first journal areas → WasCut sets from first (journal ++ e ∷ []) areas
+off_more : (sets : List (List Mapping)) (from : Kept) (first : Option ℕ) (journal : List JournalEntry) (areas : List Area) (e : JournalEntry) → IsOff e → WasCut sets from first journal areas → WasCut sets from first (journal ++ e ∷ []) areas
 off_more sets from first journal areas e off w = record {
   before = w.before;
   entry = w.entry;
   later = w.later ++ e ∷ [];
   began = w.began;
   left = w.left;
-  split = ap (λ (es : List Entry). es ++ e ∷ []) w.split ∙ append_assoc w.before (w.entry ∷ w.later) (e ∷ []);
+  split = ap (λ (es : List JournalEntry). es ++ e ∷ []) w.split ∙ append_assoc w.before (w.entry ∷ w.later) (e ∷ []);
   on = w.on;
   off = w.off;
   same = all_more IsOff w.later e w.same off;
 }
 
-module _ (opening : List Area) (first : Option ℕ) (journal : List Entry) (s s' : State) (left left' : Option ℕ) (tag : Tag) (c : Command) (a : Answer) (is : Answered s s' left left' c a) (plain : makes_sectors c ≡ false) where
+module _ (opening : List Area) (first : Option ℕ) (journal : List JournalEntry) (s s' : State) (left left' : Option ℕ) (tag : Tag) (c : Command) (a : Answer) (is : Answered s s' left left' c a) (plain : makes_sectors c ≡ false) where
   -- an answered call while power is on
   on_more : s.stopped ≡ false → is_memory a ≡ false → IsOn s.sets (opening_on opening) first journal (kept_of s) left
       → Keeps s.sets opening first (journal ++ call_entry tag c a ∷ []) s' left'
@@ -107,27 +107,27 @@ module _ (opening : List Area) (first : Option ℕ) (journal : List Entry) (s s'
       by : (m : Bool) → is_memory a ≡ m → (b : Bool) → s.stopped ≡ b → Keeps s.sets opening first (journal ++ answered (call_entry tag c a ∷ [])) s' left'
       by true memory b _ =
           let h = is.memory (memory_is a memory) in
-          let none : journal ++ answered (call_entry tag c a ∷ []) ≡ journal = ap (λ (es : List Entry). journal ++ es) (one_forgotten (call_entry tag c a) memory) ∙ append-nil journal in
-          subst (λ (es : List Entry). Keeps s.sets opening first es s' left') (sym none) (same_keeps s.sets opening first journal s s' left left' h.0 h.1 k)
+          let none : journal ++ answered (call_entry tag c a ∷ []) ≡ journal = ap (λ (es : List JournalEntry). journal ++ es) (one_forgotten (call_entry tag c a) memory) ∙ append-nil journal in
+          subst (λ (es : List JournalEntry). Keeps s.sets opening first es s' left') (sym none) (same_keeps s.sets opening first journal s s' left left' h.0 h.1 k)
       by false memory false on =
-          subst (λ (es : List Entry). Keeps s.sets opening first (journal ++ es) s' left') (sym (one_answered (call_entry tag c a) memory)) (on_more on memory (k.on on))
+          subst (λ (es : List JournalEntry). Keeps s.sets opening first (journal ++ es) s' left') (sym (one_answered (call_entry tag c a) memory)) (on_more on memory (k.on on))
       by false memory true off =
           let h = is.off off in
           let there : Keeps s.sets opening first (journal ++ call_entry tag c a ∷ []) s left = record {
             on = λ running. absurd (apart s.stopped off running);
             off = λ _. off_more s.sets (opening_on opening) first journal s.areas (call_entry tag c a) h.0 (k.off off);
           } in
-          subst (λ (es : List Entry). Keeps s.sets opening first (journal ++ es) s' left') (sym (one_answered (call_entry tag c a) memory))
+          subst (λ (es : List JournalEntry). Keeps s.sets opening first (journal ++ es) s' left') (sym (one_answered (call_entry tag c a) memory))
           (same_keeps s.sets opening first (journal ++ call_entry tag c a ∷ []) s s' left left' h.1 h.2 there)
 
 -- ---- a cut has a cause
 
-no_fuse : (sets : List (List Mapping)) (k : Kept) (es : List Entry) → end_fuse sets k None es ≡ None
+no_fuse : (sets : List (List Mapping)) (k : Kept) (es : List JournalEntry) → end_fuse sets k None es ≡ None
 no_fuse sets k [] = refl
 no_fuse sets k (e ∷ es) = no_fuse sets (kept_with sets k e) es
 
 -- power isn't cut if there was no fuse at first
-pub cut_has_fuse : (sets : List (List Mapping)) (from : Kept) (first : Option ℕ) (journal : List Entry) (areas : List Area) → WasCut sets from first journal areas → IsSome first
+pub cut_has_fuse : (sets : List (List Mapping)) (from : Kept) (first : Option ℕ) (journal : List JournalEntry) (areas : List Area) → WasCut sets from first journal areas → IsSome first
 cut_has_fuse sets from (Some n) journal areas w = refl
 cut_has_fuse sets from None journal areas w =
     let gone : w.left ≡ None = sym w.on.left_is ∙ no_fuse sets from w.before in

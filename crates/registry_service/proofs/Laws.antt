@@ -5,7 +5,7 @@ use Rattle.std.proofs.lemmas.List.FromFn.{get_or-map-range_with_len, length-map-
 use Rattle.std.proofs.lemmas.List.{get_or_past}
 use Rattle.namespace_map.specs.declared.refused.OpRefused.TheVariants.{PowerCut}
 use Rattle.namespace_ops.specs.Carried as ops
-use Rattle.namespace_ops.specs.Entries.{Entry}
+use Rattle.namespace_ops.specs.Entries.{JournalEntry}
 use Rattle.namespace_ops.specs.Room.{room_of, with_room}
 use Rattle.session_account.specs.declared.reply.Reply.{Reply}
 use Rattle.session_account.specs.declared.reply.Reply.TheVariants as reply
@@ -84,14 +84,14 @@ or_true : (b : Bool) → (b || true) ≡ true
 or_true true = refl
 or_true false = refl
 
-last_is_cut : (es : List Entry) (e : Entry) → ops.is_cut e.reply ≡ true → has_cut_entry (es ++ e ∷ []) ≡ true
+last_is_cut : (es : List JournalEntry) (e : JournalEntry) → ops.is_cut e.reply ≡ true → has_cut_entry (es ++ e ∷ []) ≡ true
 last_is_cut [] e h = ap (λ (b : Bool). b || false) h
 last_is_cut (x ∷ xs) e h = ap (λ (b : Bool). ops.is_cut x.reply || b) (last_is_cut xs e h) ∙ or_true (ops.is_cut x.reply)
 
 pub cuts_have_cause : CutsHaveCause
 cuts_have_cause q call o m m' is =
     let c = is.cause refl in
-    let es : m'.entries ≡ m.entries ++ call_entry (record { session = q; call = call }) c.1.0 (Err PowerCut) ∷ [] = is.entries ∙ ap (λ (x : Option Entry). m.entries ++ option_to_list x) c.1.1 in
+    let es : m'.entries ≡ m.entries ++ call_entry (record { session = q; call = call }) c.1.0 (Err PowerCut) ∷ [] = is.entries ∙ ap (λ (x : Option JournalEntry). m.entries ++ option_to_list x) c.1.1 in
     (c.0, ap has_cut_entry es ∙ last_is_cut m.entries (call_entry (record { session = q; call = call }) c.1.0 (Err PowerCut)) refl)
 
 -- ---- what is open
@@ -136,7 +136,7 @@ room_first calls q = by (lt_or q (length calls))
 
 pub begins_empty : BeginsEmpty
 begins_empty r fuse calls q empty roomless =
-    let entries : own_entries q (answered r.journal) ≡ [] = ap (λ (es : List Entry). own_entries q (answered es)) empty in
+    let entries : own_entries q (answered r.journal) ≡ [] = ap (λ (es : List JournalEntry). own_entries q (answered es)) empty in
     let room : room_of (with_room r.room calls) q ≡ get_or calls q 0 = ap (λ (room : List ℕ). room_of (with_room room calls) q) roomless ∙ room_first calls q in
     let held : get_or (replicate (length calls) None) q None ≡ None = all_same None (length calls) q in
     λ i. part_of_session (began_of (fresh r fuse calls)) (entries i) (room i) (held i)

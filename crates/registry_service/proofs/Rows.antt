@@ -3,7 +3,7 @@ use Rattle.std.proofs.Common.{◌≡◌, inr, ℕ, List, [], ◌∷◌, Option, 
 use Rattle.namespace_map.specs.Commands.{named_of}
 use Rattle.namespace_map.specs.declared.commands.Command.TheVariants as command
 use Rattle.namespace_map.specs.declared.refused.OpRefused.TheVariants.{NoSuch, OutOfMemory, PowerCut}
-use Rattle.namespace_ops.specs.Entries.{Entry}
+use Rattle.namespace_ops.specs.Entries.{JournalEntry}
 use Rattle.session_account.specs.Claims.{AreOpen}
 use Rattle.session_account.specs.Orders.{entry}
 use Rattle.session_account.specs.declared.reply.Reply.TheVariants as reply
@@ -20,7 +20,7 @@ u = replicate 16 0x11
 abbrev began : Began
 began = record { sets = []; areas = []; labelcut = Some 519 }
 
-abbrev part : List Entry → ℕ → Option (List ℕ) → OrdersPart
+abbrev part : List JournalEntry → ℕ → Option (List ℕ) → OrdersPart
 part entries room held = part_of_session began entries room held
 
 -- session 3 opens a namespace by its call 0
@@ -51,11 +51,11 @@ forgotten = refl
 
 -- it isn't done without an entry
 pub not_unwritten : IsOrdered 3 0 (order.Open u) reply.Done (part [] 2 None) (part [] 2 (Some u)) → ⊥
-not_unwritten h = let e : 0 ≡ 1 = ap (λ (es : List Entry). length es) h.entries in absurd (omega (arith, e))
+not_unwritten h = let e : 0 ≡ 1 = ap (λ (es : List JournalEntry). length es) h.entries in absurd (omega (arith, e))
 
 -- nor with two
 pub not_twice : IsOrdered 3 0 (order.Open u) reply.Done (part [] 2 None) (part (entry 3 0 (command.Claim u) (Ok tt) ∷ entry 3 0 (command.Claim u) (Ok tt) ∷ []) 0 (Some u)) → ⊥
-not_twice h = let e : 2 ≡ 1 = ap (λ (es : List Entry). length es) h.entries in absurd (omega (arith, e))
+not_twice h = let e : 2 ≡ 1 = ap (λ (es : List JournalEntry). length es) h.entries in absurd (omega (arith, e))
 
 -- a second `open` isn't done while one is open
 pub not_open_twice : (m : OrdersPart) → IsOrdered 3 1 (order.Open u) reply.Done (part [] 2 (Some u)) m → ⊥

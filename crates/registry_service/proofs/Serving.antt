@@ -6,14 +6,14 @@ use Rattle.std.proofs.lemmas.List.FromFn.{length-map-range_with_len}
 use Rattle.std.proofs.lemmas.List.Elements.{filter-append}
 use Rattle.nvd_words.specs.declared.tag.Tag.{Tag}
 use Rattle.namespace_map.specs.Commands.{deleted_entry, done, name_in, renamed_entry}
-use Rattle.namespace_map.specs.Namespaces.{Entry as NamespaceEntry, Namespaces, lookup}
+use Rattle.namespace_map.specs.Namespaces.{NamespaceEntry, Namespaces, lookup}
 use Rattle.namespace_map.specs.declared.commands.Command.{Command}
 use Rattle.namespace_map.specs.declared.commands.Command.TheVariants as command
 use Rattle.namespace_areas.specs.declared.area.Area.{Area}
 use Rattle.namespace_ops.specs.Carried.{is_cut}
 use Rattle.namespace_ops.specs.Claims.{count_of, with_count}
 use Rattle.namespace_ops.specs.Counted.{State, Answered, makes_sectors, namespaces_in}
-use Rattle.namespace_ops.specs.Entries.{Entry, Reply as Answer}
+use Rattle.namespace_ops.specs.Entries.{JournalEntry, Reply as Answer}
 use Rattle.namespace_ops.specs.Registered.{Entered, IsJournaled, Registered, kept_of, opening_of, state_of}
 use Rattle.namespace_ops.specs.Replay.{Kept, is_memory, remade}
 use Rattle.namespace_ops.specs.Room.{room_of, with_room}
@@ -69,15 +69,15 @@ claims_go s s' left left' c (Err f) opens q is inside suits are =
 
 -- ---- entries
 
-own_one : (e : Entry) (q : ℕ) → e.tag.session ≡ q → own_entries q (answered (e ∷ [])) ≡ answered (e ∷ [])
+own_one : (e : JournalEntry) (q : ℕ) → e.tag.session ≡ q → own_entries q (answered (e ∷ [])) ≡ answered (e ∷ [])
 own_one e q is = by (is_memory e.reply)
   where
     by : (b : Bool) → own_entries q (cond (not b) (e ∷ []) []) ≡ cond (not b) (e ∷ []) []
     by true = refl
     by false = ap (λ (b : Bool). cond b (e ∷ []) []) (eq-eqb e.tag.session q is)
 
-own_more : (journal : List Entry) (e : Entry) (q : ℕ) → own_entries q (answered (journal ++ e ∷ [])) ≡ own_entries q (answered journal) ++ own_entries q (answered (e ∷ []))
-own_more journal e q = ap (own_entries q) (answered_more journal e) ∙ filter-append (λ (e : Entry). e.tag.session == q) (answered journal) (answered (e ∷ []))
+own_more : (journal : List JournalEntry) (e : JournalEntry) (q : ℕ) → own_entries q (answered (journal ++ e ∷ [])) ≡ own_entries q (answered journal) ++ own_entries q (answered (e ∷ []))
+own_more journal e q = ap (own_entries q) (answered_more journal e) ∙ filter-append (λ (e : JournalEntry). e.tag.session == q) (answered journal) (answered (e ∷ []))
 
 -- ---- a call
 
@@ -99,7 +99,7 @@ module _ (old : Served) (r : Registered) (left : Option ℕ) (tag : Tag) (c : Co
         let went = keeps_more old.registry.opening old.first (answered old.registry.journal) (state_of old.registry) (state_of r) old.left left tag c a is plain was in
         let journal : answered r.journal ≡ answered old.registry.journal ++ answered (call_entry tag c a ∷ []) = ap answered entered.entry ∙ answered_more old.registry.journal (call_entry tag c a) in
         let k : Keeps r.sets r.opening old.first (answered r.journal) (state_of r) left =
-        subst (λ (es : List Entry). Keeps r.sets r.opening old.first es (state_of r) left) (sym journal)
+        subst (λ (es : List JournalEntry). Keeps r.sets r.opening old.first es (state_of r) left) (sym journal)
         (subst (λ (o : List Area). Keeps r.sets o old.first (answered old.registry.journal ++ answered (call_entry tag c a ∷ [])) (state_of r) left) (sym entered.opening)
         (subst (λ sets. Keeps sets old.registry.opening old.first (answered old.registry.journal ++ answered (call_entry tag c a ∷ [])) (state_of r) left) (sym is.sets) went)) in
         record {
@@ -116,8 +116,8 @@ module _ (old : Served) (r : Registered) (left : Option ℕ) (tag : Tag) (c : Co
     pub own_goes : part_at after tag.session ≡ carried tag c a (part_at old tag.session)
     own_goes =
         let entries : own_entries tag.session (answered r.journal) ≡ own_entries tag.session (answered old.registry.journal) ++ answered (call_entry tag c a ∷ []) =
-        ap (λ (es : List Entry). own_entries tag.session (answered es)) entered.entry ∙ own_more old.registry.journal (call_entry tag c a) tag.session
-        ∙ ap (λ (es : List Entry). own_entries tag.session (answered old.registry.journal) ++ es) (own_one (call_entry tag c a) tag.session refl) in
+        ap (λ (es : List JournalEntry). own_entries tag.session (answered es)) entered.entry ∙ own_more old.registry.journal (call_entry tag c a) tag.session
+        ∙ ap (λ (es : List JournalEntry). own_entries tag.session (answered old.registry.journal) ++ es) (own_one (call_entry tag c a) tag.session refl) in
         let room : room_of r.room tag.session ≡ room_of old.registry.room tag.session - 1 =
         ap (λ (ns : List ℕ). room_of ns tag.session) entered.room ∙ get_or-set_same old.registry.room tag.session (room_of old.registry.room tag.session - 1) 0 (has_place old.registry.room tag.session some) in
         let held : get_or after.opens tag.session None ≡ open_with (get_or old.opens tag.session None) c a = get_or-set_same old.opens tag.session (open_with (get_or old.opens tag.session None) c a) None placed in
@@ -174,7 +174,7 @@ none_open uuid (suc n) = none_open uuid n
 module _ (r : Registered) (fuse : Option ℕ) (calls : List ℕ) (on : r.stopped ≡ false) (empty : r.journal ≡ []) (none : r.room ≡ with_room [] calls) (says : IsJournaled r) (opened : r.opening ≡ r.areas) where
   began_so : opening_of r ≡ kept_of (state_of r)
   unfolding remade
-  began_so = subst (λ (es : List Entry). remade r.sets (opening_of r) es ≡ kept_of (state_of r)) empty (says.on on).changes
+  began_so = subst (λ (es : List JournalEntry). remade r.sets (opening_of r) es ≡ kept_of (state_of r)) empty (says.on on).changes
 
   first_on : IsOn r.sets (opening_of r) fuse [] (kept_of (state_of r)) fuse
   unfolding AllOn
@@ -182,7 +182,7 @@ module _ (r : Registered) (fuse : Option ℕ) (calls : List ℕ) (on : r.stopped
 
   first_serving : IsServing (record { registry = r; left = fuse; first = fuse; opens = replicate (length calls) None })
   first_serving = record {
-    on = λ _. subst (λ (es : List Entry). IsOn r.sets (opening_of r) fuse (answered es) (kept_of (state_of r)) fuse) (sym empty) first_on;
+    on = λ _. subst (λ (es : List JournalEntry). IsOn r.sets (opening_of r) fuse (answered es) (kept_of (state_of r)) fuse) (sym empty) first_on;
     off = λ stopped. let e : true ≡ false = sym stopped ∙ on in absurd (cc);
     claims = λ uuid. ap (λ (cs : List (List ℕ × ℕ)). count_of cs uuid) (sym (ap (λ (k : Kept). k.claims) began_so)) ∙ sym (none_open uuid (length calls));
     places =
@@ -214,5 +214,5 @@ pub served_left : (s : Served) → IsServing s → s.registry.stopped ≡ true �
     → AreLeft s.registry.sets (opening_of s.registry) s.first (answered s.registry.journal) (areas_shown rows)
 served_left s h off rows left =
     let w = h.off off in
-    subst (λ (es : List Entry). AreLeft s.registry.sets (opening_of s.registry) s.first es (areas_shown rows)) (sym w.split)
+    subst (λ (es : List JournalEntry). AreLeft s.registry.sets (opening_of s.registry) s.first es (areas_shown rows)) (sym w.split)
     ((off_is_journal s.registry.sets (opening_of s.registry) w.began s.first w.left w.before w.later w.entry s.registry.areas w.on w.off w.same).1 rows left)

@@ -3,3 +3,4 @@ pub mod Asking
 pub mod Parts
 pub mod Switch
 pub mod Laws
+pub mod Closed

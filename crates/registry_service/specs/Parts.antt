@@ -7,7 +7,7 @@ use Rattle.turn_lock.specs.declared.pass.TurnPass.{TurnPass}
 use Rattle.turn_lock.specs.Passes.{number_of, part_of, IsOutside}
 use Rattle.nvd_words.specs.declared.tag.Tag.{Tag}
 use Rattle.namespace_map.specs.declared.commands.Command.{Command}
-use Rattle.namespace_ops.specs.Entries.{Entry, Reply as Answer}
+use Rattle.namespace_ops.specs.Entries.{JournalEntry, Reply as Answer}
 use Rattle.namespace_ops.specs.Registered.{Registered}
 use Rattle.session_account.specs.Made.{is_cut, made, on_after}
 use Rattle.session_account.specs.Orders.{IsGivenBack, entry_for}
@@ -27,7 +27,7 @@ HasRoom m = 1 ≤ m.room
 
 -- ---- a call of the registry
 
-abbrev pub call_entry : Tag → Command → Answer → Entry
+abbrev pub call_entry : Tag → Command → Answer → JournalEntry
 call_entry tag c a = record { tag = tag; command = c; reply = a }
 
 -- the call has its entry if it was answered, takes one from the room, and opens or closes what it says
@@ -41,7 +41,7 @@ forgotten m = part_of_session m.began m.entries (m.room - 1) m.held
 -- ---- an order
 
 -- the entries that an order with its reply makes
-abbrev pub ordered : ℕ → ℕ → Order → Reply → OrdersPart → List Entry
+abbrev pub ordered : ℕ → ℕ → Order → Reply → OrdersPart → List JournalEntry
 ordered q call o r m = option_to_list (entry_for q (made call m.held (line.Order o) r))
 
 -- an order of session q was answered, or cut in its command: its entry stands
@@ -60,7 +60,7 @@ pub record IsOrdered (q call : ℕ) (o : Order) (r : Reply) (m m' : OrdersPart) 
 
 -- what it has open is given back, and its entry stands; its reply may be that power was cut
 pub record GivesBack (q call : ℕ) (m m' : OrdersPart) : Type 0 where
-  pub last : List Entry
+  pub last : List JournalEntry
   pub entries : m'.entries ≡ m.entries ++ last
   pub given : IsGivenBack q call m.held last
   pub room : m'.room + length last ≡ m.room

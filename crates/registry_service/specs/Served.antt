@@ -5,7 +5,7 @@ use Rattle.nfit_reader.specs.declared.table.Mapping.{Mapping}
 use Rattle.namespace_areas.specs.declared.area.Area.{Area}
 use Rattle.namespace_areas.specs.Seen.{AreHeld}
 use Rattle.namespace_areas.specs.Went.{size_of, unready}
-use Rattle.namespace_ops.specs.Entries.{Entry}
+use Rattle.namespace_ops.specs.Entries.{JournalEntry}
 use Rattle.namespace_ops.specs.Registered.{Registered, kept_of, opening_of, state_of}
 use Rattle.namespace_ops.specs.Replay.{Kept, is_memory}
 use Rattle.namespace_ops.specs.Room.{room_of, with_room}
@@ -27,14 +27,14 @@ pub record Served : Type 0 where
   pub opens : List (Option (List ℕ))
 
 -- the entries of calls that were answered: a call for which memory ran out changed nothing and has no answer
-abbrev pub answered : List Entry → List Entry
+abbrev pub answered : List JournalEntry → List JournalEntry
 answered journal = filter (λ e. not (is_memory e.reply)) journal
 
 -- Power was cut in the command of an entry. It lasted for all entries before, and all later ones reply that it was cut.
-pub record WasCut (sets : List (List Mapping)) (from : Kept) (first : Option ℕ) (journal : List Entry) (areas : List Area) : Type 0 where
-  pub before : List Entry
-  pub entry : Entry
-  pub later : List Entry
+pub record WasCut (sets : List (List Mapping)) (from : Kept) (first : Option ℕ) (journal : List JournalEntry) (areas : List Area) : Type 0 where
+  pub before : List JournalEntry
+  pub entry : JournalEntry
+  pub later : List JournalEntry
   pub began : Kept
   pub left : Option ℕ
   pub split : journal ≡ before ++ entry ∷ later
@@ -73,7 +73,7 @@ fresh r fuse calls = record { registry = record r { room = with_room r.room call
 abbrev pub began_of : Served → Began
 began_of s = record { sets = s.registry.sets; areas = s.registry.opening; labelcut = s.first }
 
-abbrev pub part_of_session : Began → List Entry → ℕ → Option (List ℕ) → OrdersPart
+abbrev pub part_of_session : Began → List JournalEntry → ℕ → Option (List ℕ) → OrdersPart
 part_of_session began entries room held = record { began = began; entries = entries; room = room; held = held }
 
 abbrev pub part_at : Served → ℕ → OrdersPart

@@ -6,6 +6,7 @@ ghost use Rattle.namespace_ops.specs.Registered.{kept_of, opening_of, state_of};
 ghost use Rattle.session_account.specs.Journal.{AreLeft, IsJournal};
 ghost use Rattle.session_account.specs.Orders.{own_entries};
 ghost use Rattle.session_account.specs.Registering.{IsOn};
+ghost use Rattle.registry_service.specs.Closed.{AreAllPasses};
 ghost use Rattle.registry_service.specs.Parts.{KnowsOwn};
 ghost use Rattle.registry_service.specs.Served.{AreKept, answered, fresh};
 
@@ -56,8 +57,7 @@ pub fn close_registry(
     turn: Turn<ServedRegistry>,
     passes: Vec<TurnPass<ServedRegistry>>,
 ) -> (Registry, Fuse)
-    requires passes { All (λ p. IsOutside (lock_id turn) p) passes.items }
-    requires every { HasEach (callers_of turn) passes.items }
+    requires all { AreAllPasses turn passes.items }
     requires first { (first_of turn).registry.journal ≡ [] }
     ensures callers { All (λ p. KnowsOwn result.0 p) passes.items }
     ensures strangers { (q : ℕ) → callers_of turn ≤ q → own_entries q (answered result.0.journal) ≡ [] }

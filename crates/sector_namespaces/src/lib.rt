@@ -10,7 +10,7 @@
 //! ```
 //!
 //! `view_words` of `specs/View.antt` defines these words, and `opened_view` the arenas in them. [`open_sectors`] opens the
-//! arenas in place, without a copy. [`open_arenas`] opens them to change one, and [`put_words`] puts its words back
+//! arenas in place, without a copy. `served_namespaces` opens them to change some, and [`put_words`] puts their words back
 //! (`specs/Changing.antt`).
 //!
 //! [`format_sectors`] writes the arena of a new namespace into its words, before any label names it. It stores and flushes
@@ -32,7 +32,7 @@ mod formatting;
 mod law;
 mod view;
 
-pub use changing::{OpenArenas, one_arena_changes, open_arenas, put_words, start_of};
+pub use changing::{OpenArenas, one_arena_changes, put_words, start_of};
 pub use formatting::format_sectors;
 pub use law::loaded_sets_are_usable;
 pub use view::open_sectors;

@@ -15,6 +15,7 @@ use Rattle.session_parts.specs.Parts.{part, stand_at}
 use Rattle.session_parts.specs.Steps.{Enters, GoesOn, IsLater, read_call, stand_by, write_call}
 use Rattle.sector_service.specs.declared.calls.Heard.{Heard}
 use Rattle.sector_service.specs.declared.calls.Heard.TheVariants as heard
+use Rattle.lane_core.specs.declared.stepped.Step.{Step}
 use Rattle.sector_service.specs.declared.served.OneStep.TheVariants as one
 use Rattle.sector_service.specs.declared.served.ServedPart.{ServedPart}
 use Rattle.sector_service.specs.Served.{Served, begun, shape_of, with_mine}
@@ -61,8 +62,8 @@ module _ {g : Ghosts Served ServedPart} (q call lane sector : ℕ) (words : List
   pub write_lane : Loop l1 p → IsInLane lane p
   write_lane i = (i.0, within m s i.0, i.2, refl, i.1.call_is.lane_is)
 
-  pub write_went : Loop l1 p → Paid 1 l1 l2 → StepTells one.Went p p' → Loop l2 p'
-  write_went i paid step =
+  pub write_went : (kind : Step) → Loop l1 p → Paid 1 l1 l2 → StepTells (one.Went kind) p p' → Loop l2 p'
+  write_went kind i paid step =
       let c = i.0 in
       let t = step c (within m s c) i.2 refl in
       elim t.2.1 [
@@ -136,8 +137,8 @@ module _ {g : Ghosts Served ServedPart} (q call lane sector : ℕ) (m : ServedPa
   pub read_lane : IsReading q call lane sector m l0 l1 p → IsInLane lane p
   read_lane i = (i.0, reading m i.0, i.2, refl, i.1.call_is.lane_is)
 
-  pub read_went : IsReading q call lane sector m l0 l1 p → Paid 1 l1 l2 → StepTells one.Went p p' → IsReading q call lane sector m l0 l2 p'
-  read_went i paid step =
+  pub read_went : (kind : Step) → IsReading q call lane sector m l0 l1 p → Paid 1 l1 l2 → StepTells (one.Went kind) p p' → IsReading q call lane sector m l0 l2 p'
+  read_went kind i paid step =
       let c = i.0 in
       let t = step c (reading m c) i.2 refl in
       elim t.2.1 [

@@ -78,7 +78,7 @@ IsLeft q call sector m m' = (m' ≡ m) ⊎ ((lane : ℕ) × (c : InCall) × IsRe
 
 -- what a step tells of the part
 abbrev pub OneGoes : Shape → InCall → OneStep → CorePart → CorePart → Type 0
-OneGoes x c one.Went m m' = (c' : InCall) × (GoesOn c c' m m' ⊎ Enters c c' m m')
+OneGoes x c (one.Went step) m m' = (c' : InCall) × (GoesOn c c' m m' ⊎ Enters c c' m m')
 OneGoes x c one.Wrote m m' = (c.entered ≡ true) × (write_steps x ≤ c.steps + 1) × (m' ≡ part m.stands [])
 OneGoes x c (one.Got seen) m m' = (c.act ≡ None) × (c.entered ≡ false) × (m' ≡ part (m.stands ++ stand_by c (act.Read seen) ∷ []) [])
 

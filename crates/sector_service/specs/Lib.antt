@@ -3,3 +3,4 @@ pub mod Steps
 pub mod Calls
 pub mod Switch
 pub mod Rows
+pub mod Asking

@@ -8,6 +8,6 @@ use Rattle.sector_service.specs.declared.served.OneStep.TheVariants as one
 
 abbrev pub IsOneStep : Stepped → OneStep → Type 0
 IsOneStep stepped.Nothing told = ⊥
-IsOneStep (stepped.Went step) told = told ≡ one.Went
+IsOneStep (stepped.Went step) told = told ≡ one.Went step
 IsOneStep (stepped.Done tag answer.Wrote) told = told ≡ one.Wrote
 IsOneStep (stepped.Done tag (answer.Got seen)) told = told ≡ one.Got seen

@@ -1,7 +1,7 @@
 //! A session's calls on the sectors of one core: a turn a step.
 ghost use Rattle.std.specs.Prelude.{◌≡◌, ◌≢◌, Ok, None, IfOk, IfSome, OnErr};
 ghost use Rattle.turn_lock.specs.Passes.{lock_id, number_of, part_of, out_of};
-ghost use Rattle.turn_lock.specs.Passes.{IsSamePass, IsOutside, PartBecomes};
+ghost use Rattle.turn_lock.specs.Passes.{IsSamePass, PartBecomes};
 ghost use Rattle.arena_open.specs.declared.cell.Cell.{Cell};
 ghost use Rattle.lane_core.specs.declared.history.Act.TheVariants as act;
 ghost use Rattle.lane_core.specs.Sessions.{write_steps};
@@ -10,14 +10,19 @@ ghost use Rattle.session_parts.specs.Steps.{read_call, write_call};
 ghost use Rattle.sector_service.specs.declared.calls.Heard.TheVariants as heard;
 ghost use Rattle.sector_service.specs.declared.calls.Wrote.TheVariants as wrote;
 ghost use Rattle.sector_service.specs.Served.{begun};
-ghost use Rattle.sector_service.specs.Calls.{HasPart, IsLeft, IsStopped, MayRead, MayWrite, Paid, PartGoes, PaidFor, answered, tag_by};
-ghost use Rattle.turn_callers.specs.Switch.{CanAsk, IsTold, KeepsStopped};
+ghost use Rattle.sector_service.specs.Calls.{IsLeft, IsStopped, MayRead, MayWrite, Paid, PartGoes, PaidFor, answered, tag_by};
+ghost use Rattle.sector_service.specs.Asking.{IsSameCall, MayCall};
+ghost use Rattle.turn_callers.specs.Switch.{IsTold, KeepsStopped};
 ghost use Rattle.sector_service.specs.Switch.{IsSameCaller, StopsWhenSpent};
 
 use crate::power::{Caller, may_step};
 use crate::served::{OneStep, ServedCore};
 use crate::turns::{begin_read_in_turn, begin_write_in_turn, step_in_turn};
+use crate::waiting::Waiting;
 use arena_open::Cell;
+use lane_core::Step;
+use nvd_media::Gate;
+use nvd_words::Tag;
 use std::alloc::AllocError;
 use std::sync::Wait;
 use std::thread;
@@ -56,9 +61,7 @@ fn begin_write<R: Wait>(
     sector: u32,
     words: &[u64],
 ) -> Result<Option<u32>, AllocError>
-    requires outside { IsOutside (lock_id turn.now) pass.old }
-    requires may { HasPart (MayWrite caller.old.call sector words.now) pass.old }
-    requires can_ask { CanAsk (lock_id power.now) caller.old.switch }
+    requires { MayCall (lock_id turn.now) (lock_id power.now) (MayWrite caller.old.call sector words.now) pass.old caller.old }
     ensures pass { IsSamePass pass.old pass.new × (out_of pass.new ≡ None) }
     ensures begun { IfOk result (λ o. IfSome o (λ l. PartBecomes (begun (write_call l (tag_by (number_of pass.old) caller.old.call) sector words.now)) pass.old pass.new)) }
     ensures none { result ≡ Ok None → part_of pass.new ≡ part_of pass.old }
@@ -87,9 +90,7 @@ fn begin_read<R: Wait>(
     caller: &mut Caller,
     sector: u32,
 ) -> Result<Option<u32>, AllocError>
-    requires outside { IsOutside (lock_id turn.now) pass.old }
-    requires may { HasPart (MayRead caller.old.call sector) pass.old }
-    requires can_ask { CanAsk (lock_id power.now) caller.old.switch }
+    requires { MayCall (lock_id turn.now) (lock_id power.now) (MayRead caller.old.call sector) pass.old caller.old }
     ensures pass { IsSamePass pass.old pass.new × (out_of pass.new ≡ None) }
     ensures begun { IfOk result (λ o. IfSome o (λ l. PartBecomes (begun (read_call l (tag_by (number_of pass.old) caller.old.call) sector)) pass.old pass.new)) }
     ensures none { result ≡ Ok None → part_of pass.new ≡ part_of pass.old }
@@ -109,12 +110,24 @@ fn begin_read<R: Wait>(
     unreachable!()
 }
 
+/// Tells the gate that a write has staged its block, if this step kept the last of its words. Returns how many are kept.
+fn tell_staged<G: Gate>(gate: &G, tag: Tag, step: Step, kept: usize, words: usize) -> usize {
+    if step != Step::DataKeep {
+        return kept;
+    }
+    let kept = kept.wrapping_add(1);
+    if kept == words {
+        gate.staged(tag.session, tag.call);
+    }
+    kept
+}
+
 /// Writes a sector of a core: waits for an idle lane, and makes one step a turn.
 ///
 /// The number of the call is `caller.call`, and stays. Conditions: the session is in no call of this core, all its entries there have
 /// smaller numbers, and the core has the sector, which has as many words.
-pub fn write_at<R: Wait>(
-    rt: &R,
+pub fn write_at<R: Wait, G: Gate>(
+    waiting: &Waiting<R, G>,
     turn: &Turn<ServedCore>,
     pass: &mut TurnPass<ServedCore>,
     power: &Turn<Power>,
@@ -122,11 +135,8 @@ pub fn write_at<R: Wait>(
     sector: u32,
     words: &[u64],
 ) -> Wrote
-    requires outside { IsOutside (lock_id turn.now) pass.old }
-    requires may { HasPart (MayWrite caller.old.call sector words.now) pass.old }
-    requires can_ask { CanAsk (lock_id power.now) caller.old.switch }
-    ensures pass { IsSamePass pass.old pass.new × (out_of pass.new ≡ None) }
-    ensures caller { IsSameCaller (lock_id power.now) caller.old caller.new }
+    requires { MayCall (lock_id turn.now) (lock_id power.now) (MayWrite caller.old.call sector words.now) pass.old caller.old }
+    ensures same { IsSameCall (lock_id power.now) pass.old pass.new caller.old caller.new }
     ensures done { result ≡ wrote.Done → PartBecomes (answered (stand_at caller.old.call sector (act.Write words.now))) pass.old pass.new }
     ensures paid { result ≡ wrote.Done → PaidFor write_steps pass.old caller.old.left caller.new.left }
     ensures cut { result ≡ wrote.Cut → PartGoes (IsStopped (number_of pass.old) caller.old.call sector words.now) pass.old pass.new }
@@ -134,17 +144,28 @@ pub fn write_at<R: Wait>(
     ensures goes_on { result ≢ wrote.Cut → KeepsStopped caller.old.switch caller.new.switch }
     ensures refused { result ≡ wrote.OutOfMemory → part_of pass.new ≡ part_of pass.old }
 {
+    let rt = waiting.rt;
+    let gate = waiting.gate;
     let lane = match begin_write(rt, turn, pass, power, caller, sector, words) {
         Ok(Some(lane)) => lane,
         Ok(None) => return Wrote::Cut,
         Err(_) => return Wrote::OutOfMemory,
     };
+    let mut made: u64 = 0;
+    let mut kept: usize = 0;
     for _ in rt.forever() {
-        if !may_step(rt, power, caller) {
+        if !may_step(rt, power, caller, made) {
             return Wrote::Cut;
         }
+        made = made.wrapping_add(1);
         match step_in_turn(rt, turn, pass, lane) {
-            OneStep::Went => {}
+            OneStep::Went(step) => {
+                let tag = Tag {
+                    session: pass.number(),
+                    call: caller.call,
+                };
+                kept = tell_staged(gate, tag, step, kept, words.len());
+            }
             OneStep::Wrote => return Wrote::Done,
             OneStep::Got(_) => unreachable!(),
         }
@@ -161,11 +182,8 @@ pub fn read_at<R: Wait>(
     caller: &mut Caller,
     sector: u32,
 ) -> Heard
-    requires outside { IsOutside (lock_id turn.now) pass.old }
-    requires may { HasPart (MayRead caller.old.call sector) pass.old }
-    requires can_ask { CanAsk (lock_id power.now) caller.old.switch }
-    ensures pass { IsSamePass pass.old pass.new × (out_of pass.new ≡ None) }
-    ensures caller { IsSameCaller (lock_id power.now) caller.old caller.new }
+    requires { MayCall (lock_id turn.now) (lock_id power.now) (MayRead caller.old.call sector) pass.old caller.old }
+    ensures same { IsSameCall (lock_id power.now) pass.old pass.new caller.old caller.new }
     ensures done { (found : Cell) → result ≡ heard.Got found → PartBecomes (answered (stand_at caller.old.call sector (act.Read found))) pass.old pass.new }
     ensures paid { (found : Cell) → result ≡ heard.Got found → Paid 1 caller.old.left caller.new.left }
     ensures cut { result ≡ heard.Cut → PartGoes (IsLeft (number_of pass.old) caller.old.call sector) pass.old pass.new }
@@ -178,12 +196,14 @@ pub fn read_at<R: Wait>(
         Ok(None) => return Heard::Cut,
         Err(_) => return Heard::OutOfMemory,
     };
+    let mut made: u64 = 0;
     for _ in rt.forever() {
-        if !may_step(rt, power, caller) {
+        if !may_step(rt, power, caller, made) {
             return Heard::Cut;
         }
+        made = made.wrapping_add(1);
         match step_in_turn(rt, turn, pass, lane) {
-            OneStep::Went => {}
+            OneStep::Went(_) => {}
             OneStep::Got(found) => return Heard::Got(found),
             OneStep::Wrote => unreachable!(),
         }

@@ -13,7 +13,7 @@
 //! - Each call of a session has a number of its own. The number is the session's count of calls, and [`Session`] never makes
 //!   one call under two numbers or two calls under one.
 //! - If no lane is idle the session waits: it looks again, turn after turn, until a lane is idle or power is off.
-//! - Before each step a session asks whether **power** is off. A session that may make only so many steps more pays for each
+//! - Before a call and at each 64th step of it a session asks whether **power** is off. A session that may make only so many steps more pays for each
 //!   (its **fuse**), and switches power off when none is left. Its call is then cut.
 //!
 //! | call | promise | clause |
@@ -31,8 +31,10 @@ mod power;
 mod served;
 mod session;
 mod turns;
+mod waiting;
 
 pub use calls::{Heard, Wrote, read_at, write_at};
 pub use power::Caller;
 pub use served::{OneStep, ServedCore, ServedPart};
 pub use session::{Session, read, write};
+pub use waiting::Waiting;

@@ -21,9 +21,13 @@ pub struct Caller {
     pub call: u32,
 }
 
-/// Whether a session may make one step more, and pays for it. If not, power is off: it was, or no step is left and the session
-/// switched it off.
-pub(crate) fn may_step<R: Wait>(rt: &R, power: &Turn<Power>, caller: &mut Caller) -> bool
+/// How many steps of a call a session makes until it asks again whether power is off. Each question is a turn that all
+/// sessions share.
+const STEPS_UNASKED: u64 = 64;
+
+/// Whether a session that has made `made` steps of a call may make one more, and pays for it. If not, power is off: it was when the
+/// session asked, or no step is left and the session switched it off.
+pub(crate) fn may_step<R: Wait>(rt: &R, power: &Turn<Power>, caller: &mut Caller, made: u64) -> bool
     requires { CanAsk (lock_id power.now) caller.old.switch }
     ensures same { IsSamePass caller.old.switch caller.new.switch }
     ensures can_ask { CanAsk (lock_id power.now) caller.new.switch }
@@ -33,7 +37,8 @@ pub(crate) fn may_step<R: Wait>(rt: &R, power: &Turn<Power>, caller: &mut Caller
     ensures told { result ≡ false → IsTold caller.new.switch }
     ensures stopped { result ≡ false → StopsWhenSpent caller.old caller.new }
 {
-    if is_off(rt, power, &mut caller.switch) {
+    let asks = made % STEPS_UNASKED == STEPS_UNASKED - 1;
+    if asks && is_off(rt, power, &mut caller.switch) {
         return false;
     }
     if !pay(&mut caller.left) {

@@ -5,7 +5,7 @@ ghost use Rattle.sector_service.specs.Steps.{IsOneStep};
 
 use crate::lanes::{begin_in, idle_lane};
 use arena_open::{ArenaState, Cell};
-use lane_core::{Answer, Call, Core, Stepped};
+use lane_core::{Answer, Call, Core, Step, Stepped};
 use nvd_words::Tag;
 use session_parts::CorePart;
 use std::alloc::{AllocError, Global};
@@ -25,7 +25,7 @@ pub struct ServedPart {
 #[derive(Debug, Drop)]
 pub enum OneStep {
     /// The call isn't answered yet.
-    Went,
+    Went(Step),
     /// A write is answered.
     Wrote,
     /// A read is answered with the sector's cell.
@@ -39,7 +39,7 @@ fn one_step(stepped: Stepped) -> OneStep
 {
     match stepped {
         Stepped::Nothing => unreachable!(),
-        Stepped::Went(_) => OneStep::Went,
+        Stepped::Went(step) => OneStep::Went(step),
         Stepped::Done(_, Answer::Wrote) => OneStep::Wrote,
         Stepped::Done(_, Answer::Got(cell)) => OneStep::Got(cell),
     }
@@ -49,7 +49,8 @@ fn one_step(stepped: Stepped) -> OneStep
 #[derive(Drop)]
 pub struct ServedCore {
     alloc: Global,
-    core: Core,
+    /// In a box, so that few bytes move in a turn.
+    core: Box<Core>,
     first: Snapshot<ArenaState>,
 }
 
@@ -58,9 +59,9 @@ impl Model for ServedCore {
 
     ghost Value = { Served };
 
-    ghost view = { λ s. served s.first.value s.core };
+    ghost view = { λ s. served s.first.value s.core.value };
 
-    ghost invariant = { λ s. IsServing s.first.value s.core };
+    ghost invariant = { λ s. IsServing s.first.value s.core.value };
 }
 
 impl Parted for ServedCore {
@@ -93,7 +94,8 @@ impl ServedCore {
         ensures { IfOk result (λ s. s ≡ fresh state) }
     {
         let first = Snapshot::of(&state);
-        let core = Core::of(alloc, state)?;
+        let opened = Core::of(alloc, state)?;
+        let core = Box::new(alloc, opened)?;
         Ok(ServedCore { alloc, core, first })
     }
 
@@ -115,17 +117,12 @@ impl ServedCore {
         ensures begun { IfOk result (λ o. IfSome o (λ l. part_at self.new tag.session ≡ begun (write_call l tag sector words.now) (part_at self.old tag.session))) }
         ensures others { KeepsOthers part_at tag.session self.old self.new }
     {
-        let Some(lane) = idle_lane(&self.core) else {
+        let core = &mut *self.core;
+        let Some(lane) = idle_lane(core) else {
             return Ok(None);
         };
         let words = Vec::from_slice(self.alloc, words)?;
-        begin_in(
-            &mut self.core,
-            self.alloc,
-            lane,
-            tag,
-            Call::Write { sector, words },
-        )?;
+        begin_in(core, self.alloc, lane, tag, Call::Write { sector, words })?;
         Ok(Some(lane))
     }
 
@@ -138,10 +135,11 @@ impl ServedCore {
         ensures begun { IfOk result (λ o. IfSome o (λ l. part_at self.new tag.session ≡ begun (read_call l tag sector) (part_at self.old tag.session))) }
         ensures others { KeepsOthers part_at tag.session self.old self.new }
     {
-        let Some(lane) = idle_lane(&self.core) else {
+        let core = &mut *self.core;
+        let Some(lane) = idle_lane(core) else {
             return Ok(None);
         };
-        begin_in(&mut self.core, self.alloc, lane, tag, Call::Read { sector })?;
+        begin_in(core, self.alloc, lane, tag, Call::Read { sector })?;
         Ok(Some(lane))
     }
 
@@ -168,6 +166,6 @@ impl ServedCore {
             core,
             first: _,
         } = self;
-        core
+        Box::into_inner(core)
     }
 }

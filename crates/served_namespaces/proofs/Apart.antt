@@ -13,12 +13,12 @@ use Rattle.power_cut.specs.Namespace.{HasBytes, IsLaid, Namespace, beside_of, by
 use Rattle.power_cut.proofs.Beside.{are_same_outside, row_at, rows_beside, same_count}
 use Rattle.power_cut.proofs.Spread.{blank, count_is, eighth, kept_is, length_range, stored_is}
 use Rattle.namespace_areas.specs.declared.found.Found.{Found}
-use Rattle.namespace_areas.specs.Finding.{LiesIn, set_at}
+use Rattle.namespace_areas.specs.Finding.{LiesInSet, set_at}
 use Rattle.sector_namespaces.specs.Creation.{AreSettled}
 use Rattle.sector_namespaces.specs.View.{AreUsable, IsUsable}
 use Rattle.sector_namespaces.proofs.Formats.{same_counts}
 use Rattle.served_namespaces.proofs.Extents.{HasWord, has_place, place_inside, place_whole, word_inside}
-use Rattle.served_namespaces.specs.Places.{AreApart, PlaceBytes, PlacesBytes, has_address, place_in, words_at}
+use Rattle.served_namespaces.specs.Places.{ShareNoAddress, PlaceBytes, PlacesBytes, has_address, place_in, words_at}
 
 -- ---- lists
 
@@ -40,7 +40,7 @@ stored_count n = length_range (λ i. stored_by n.modules (place_of n.set (byte_a
 
 -- ---- a namespace in its set
 
-pub laid_in : (sets : List (List Mapping)) → PlaceBytes sets → (found : Found) → LiesIn sets found → (rows : List Words) → IsLaid (place_in sets found rows)
+pub laid_in : (sets : List (List Mapping)) → PlaceBytes sets → (found : Found) → LiesInSet sets found → (rows : List Words) → IsLaid (place_in sets found rows)
 laid_in sets sound found lies rows =
     let s : PlacesBytes (set_at sets found.region) = sound found.region lies.region in
     record {
@@ -56,7 +56,7 @@ laid_in sets sound found lies rows =
       inside = lies.inside;
     }
 
-module _ (sets : List (List Mapping)) (sound : PlaceBytes sets) (found : Found) (lies : LiesIn sets found) where
+module _ (sets : List (List Mapping)) (sound : PlaceBytes sets) (found : Found) (lies : LiesInSet sets found) where
   -- where one of its words lies
   pub record IsPlaced (i : ℕ) : Type 0 where
     pub which : ℕ
@@ -164,7 +164,7 @@ module _ (sets : List (List Mapping)) (sound : PlaceBytes sets) (found : Found) 
           subst (λ (w : Words). w ≡ settled w.kept) (any_default now k blank d lt) (row_settled k lt)
 
 -- a namespace that shares no address with another keeps its words if only the other's change
-pub others_stay : (sets : List (List Mapping)) → PlaceBytes sets → (found other : Found) → LiesIn sets found → LiesIn sets other → AreApart sets other found → (rows now : List Words)
+pub others_stay : (sets : List (List Mapping)) → PlaceBytes sets → (found other : Found) → LiesInSet sets found → LiesInSet sets other → ShareNoAddress sets other found → (rows now : List Words)
     → beside_of (place_in sets found now) ≡ beside_of (place_in sets found rows) → words_of (place_in sets other now) ≡ words_of (place_in sets other rows)
 others_stay sets sound found other lies in_set apart rows now beside =
     same_words sets sound other in_set rows now (λ which k inside. outside sets sound found lies rows now beside which k (apart which (8 * k) inside))

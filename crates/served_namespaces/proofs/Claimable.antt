@@ -16,7 +16,7 @@ use Rattle.namespace_map.specs.Changes.{namespaces_of, placed_in_all}
 use Rattle.namespace_map.specs.Commands.{entry_refusal, is_complete, is_sector}
 use Rattle.namespace_map.specs.declared.refused.OpRefused.{OpRefused}
 use Rattle.namespace_map.specs.declared.refused.OpRefused.TheVariants.{NoSuch, NotComplete, NotSector}
-use Rattle.namespace_map.specs.Namespaces.{Entry, entry_at, entry_with, labels_with, lookup, region_of, status_in}
+use Rattle.namespace_map.specs.Namespaces.{NamespaceEntry, entry_at, entry_with, labels_with, lookup, region_of, status_in}
 use Rattle.namespace_map.proofs.Entries.{lookup_entries}
 use Rattle.namespace_areas.specs.declared.found.Found.{Found}
 use Rattle.namespace_areas.specs.Finding.{found_at, found_by, found_of}
@@ -46,11 +46,11 @@ unfolding first_fault
 passed true fault os e = (refl, e)
 passed false fault os e = absurd (none-some fault (sym e))
 
-pub record MayClaim (e : Entry) : Type 0 where
+pub record MayClaim (e : NamespaceEntry) : Type 0 where
   pub complete : is_complete e.status ≡ true
   pub sector : is_sector e.mode ≡ true
 
-pub may_claim : (e : Entry) → entry_refusal (Some e) (λ e. fault_if (not (is_sector e.mode)) NotSector ∷ []) ≡ None → MayClaim e
+pub may_claim : (e : NamespaceEntry) → entry_refusal (Some e) (λ e. fault_if (not (is_sector e.mode)) NotSector ∷ []) ≡ None → MayClaim e
 may_claim e f =
     let first = passed (is_complete e.status) NotComplete (fault_if (not (is_sector e.mode)) NotSector ∷ []) f in
     let second = passed (is_sector e.mode) NotSector [] first.1 in
@@ -63,7 +63,7 @@ by_labels sets [] f = absurd (none-some NoSuch (sym f))
 by_labels sets (p ∷ rest) f =
     let may : MayClaim (entry_with sets (p ∷ rest) p) = may_claim (entry_with sets (p ∷ rest) p) f in
     let r : HasRegion sets p rest = has_region sets p rest may.complete in
-    let e : Entry = entry_with sets (p ∷ rest) p in
+    let e : NamespaceEntry = entry_with sets (p ∷ rest) p in
     let region : (entry_with sets (p ∷ rest) p).region ≡ Some r.number = ap (λ (o : Option (ℕ × List Mapping)). option_map (λ (x : ℕ × List Mapping). x.0) o) r.here in (
       found_at sets (entry_with sets (p ∷ rest) p).mode r.number (record { owner = p.label.uuid; «module» = p.«module»; start = p.label.dpa; length = p.label.raw }),
       rw (may.complete, may.sector) (ap (λ (o : Option ℕ). found_by sets (entry_with sets (p ∷ rest) p).mode o (entry_with sets (p ∷ rest) p).parts) region),
@@ -72,5 +72,5 @@ by_labels sets (p ∷ rest) f =
 pub claimable_is_found : ClaimableIsFound
 claimable_is_found sets areas uuid f =
     let is : lookup uuid (namespaces_of sets areas).entries ≡ entry_at sets (placed_in_all areas) uuid = lookup_entries sets (placed_in_all areas) uuid in
-    let r = by_labels sets (labels_with uuid (placed_in_all areas)) (ap (λ (o : Option Entry). entry_refusal o (λ e. fault_if (not (is_sector e.mode)) NotSector ∷ [])) (sym is) ∙ f) in
+    let r = by_labels sets (labels_with uuid (placed_in_all areas)) (ap (λ (o : Option NamespaceEntry). entry_refusal o (λ e. fault_if (not (is_sector e.mode)) NotSector ∷ [])) (sym is) ∙ f) in
     (r.0, ap (found_of sets) is ∙ r.1)

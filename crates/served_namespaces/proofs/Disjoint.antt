@@ -21,7 +21,7 @@ use Rattle.namespace_map.specs.Areas.{Area}
 use Rattle.namespace_map.specs.Changes.{namespaces_of, placed_in_all}
 use Rattle.namespace_map.specs.Commands.{is_complete, is_sector}
 use Rattle.namespace_map.specs.declared.refused.OpRefused.{OpRefused}
-use Rattle.namespace_map.specs.Namespaces.{Entry, Namespaces, Part, entry_with, labels_with, lookup, part_of}
+use Rattle.namespace_map.specs.Namespaces.{NamespaceEntry, Namespaces, Part, entry_with, labels_with, lookup, part_of}
 use Rattle.namespace_map.proofs.Entries.{lookup_entries}
 use Rattle.namespace_laws.specs.Apart as EntryApart
 use Rattle.namespace_laws.specs.Apart.{EntriesApart}
@@ -37,7 +37,7 @@ use Rattle.namespace_areas.specs.Finding.{found_of, set_at}
 use Rattle.namespace_areas.proofs.Finding.{IsRegion, is_found, region_is}
 use Rattle.power_cut.specs.Namespace.{is_inside, over}
 use Rattle.served_namespaces.specs.declared.places.FoundNamespace.{FoundNamespace}
-use Rattle.served_namespaces.specs.Places.{AreApart, AreDifferent, AreDisjoint, PlaceBytes, PlacesBytes, has_address}
+use Rattle.served_namespaces.specs.Places.{ShareNoAddress, AreDifferent, AreDisjoint, PlaceBytes, PlacesBytes, has_address}
 use Rattle.served_namespaces.specs.Opening.{found_as, found_each}
 use Rattle.served_namespaces.proofs.Claimable.{HasRegion, has_region}
 use Rattle.served_namespaces.proofs.Extents.{passing}
@@ -127,7 +127,7 @@ label_on (p ∷ ps) n e = elim (cases_Bool (on_module n p)) [
 -- ---- its extents are those of its entry
 
 -- the entry has an extent like this
-pub record HasExtent (e : Entry) (number start bytes : ℕ) : Type 0 where
+pub record HasExtent (e : NamespaceEntry) (number start bytes : ℕ) : Type 0 where
   pub part : Part
   pub among : Contains e.parts part
   pub of : part.extent.«module» ≡ number
@@ -140,7 +140,7 @@ contains_map f (z ∷ zs) x (zero, below, is) = (0, omega arith, ap f is)
 contains_map f (z ∷ zs) x (suc k, below, is) = let c = contains_map f zs x (k, omega arith, is) in (suc c.0, omega (arith, c.1), c.2)
 
 -- an extent of the entry has an address
-pub record Covers (e : Entry) (which address : ℕ) : Type 0 where
+pub record Covers (e : NamespaceEntry) (which address : ℕ) : Type 0 where
   pub part : Part
   pub among : Contains e.parts part
   pub of : part.extent.«module» ≡ which
@@ -155,7 +155,7 @@ module _ (sets : List (List Mapping)) (sound : PlaceBytes sets) (p : Placed) (re
   abbrev own : List Placed
   own = p ∷ rest
 
-  abbrev entry : Entry
+  abbrev entry : NamespaceEntry
   entry = entry_with sets (p ∷ rest) p
 
   complete : is_complete (entry_with sets (p ∷ rest) p).status ≡ true
@@ -224,17 +224,17 @@ module _ (sets : List (List Mapping)) (sound : PlaceBytes sets) (p : Placed) (re
       }
 
 -- by its entry
-covered_by : (sets : List (List Mapping)) (sound : PlaceBytes sets) (labels : List Placed) (own : List Placed) (e : Entry) (found : Found) → option_map (entry_with sets own) (slice_get own 0) ≡ Some e
+covered_by : (sets : List (List Mapping)) (sound : PlaceBytes sets) (labels : List Placed) (own : List Placed) (e : NamespaceEntry) (found : Found) → option_map (entry_with sets own) (slice_get own 0) ≡ Some e
     → found_of sets (Some e) ≡ Ok found → (which address : ℕ) → has_address sets found which address ≡ true → Covers e which address
 covered_by sets sound labels [] e found at is which address inside = absurd (none-some e at)
 covered_by sets sound labels (p ∷ rest) e found at is which address inside =
     let same : entry_with sets (p ∷ rest) p ≡ e = same_Some (entry_with sets (p ∷ rest) p) e at in
-    subst (λ (x : Entry). Covers x which address) same
-    (covered sets sound p rest found (ap (λ (x : Entry). found_of sets (Some x)) same ∙ is) which address inside)
+    subst (λ (x : NamespaceEntry). Covers x which address) same
+    (covered sets sound p rest found (ap (λ (x : NamespaceEntry). found_of sets (Some x)) same ∙ is) which address inside)
 
 -- ---- two of them
 
-no_clash : (e f : Entry) (which address : ℕ) → EntryApart.AreApart e f → Covers e which address → Covers f which address → ⊥
+no_clash : (e f : NamespaceEntry) (which address : ℕ) → EntryApart.AreApart e f → Covers e which address → Covers f which address → ⊥
 no_clash e f which address apart a b =
     false≢true (sym (apart a.part b.part a.among b.among)
     ∙ meets a.part.extent.«module» b.part.extent.«module» a.part.extent.start a.part.extent.length b.part.extent.start b.part.extent.length address (a.of ∙ sym b.of) a.low a.high b.low b.high)
@@ -244,18 +244,18 @@ no_clash e f which address apart a b =
 
 -- by the entries of labels
 module _ (sets : List (List Mapping)) (sound : PlaceBytes sets) (areas : List (Option Area)) (ns : Namespaces) (entries : ns.entries ≡ (namespaces_of sets areas).entries) where
-  covered_at : (uuid : List ℕ) (e : Entry) (found : Found) → lookup uuid ns.entries ≡ Some e → found_of sets (Some e) ≡ Ok found → (which address : ℕ) → has_address sets found which address ≡ true
+  covered_at : (uuid : List ℕ) (e : NamespaceEntry) (found : Found) → lookup uuid ns.entries ≡ Some e → found_of sets (Some e) ≡ Ok found → (which address : ℕ) → has_address sets found which address ≡ true
       → Covers e which address
   covered_at uuid e found at is which address inside =
       covered_by sets sound (placed_in_all areas) (labels_with uuid (placed_in_all areas)) e found
       (sym (lookup_entries sets (placed_in_all areas) uuid) ∙ ap (lookup uuid) (sym entries) ∙ at) is which address inside
 
   -- which entry a namespace was found by
-  entry_of : (uuid : List ℕ) (found : Found) (o : Option Entry) → lookup uuid ns.entries ≡ o → found_of sets o ≡ Ok found → (e : Entry) × (lookup uuid ns.entries ≡ Some e) × (found_of sets (Some e) ≡ Ok found)
+  entry_of : (uuid : List ℕ) (found : Found) (o : Option NamespaceEntry) → lookup uuid ns.entries ≡ o → found_of sets o ≡ Ok found → (e : NamespaceEntry) × (lookup uuid ns.entries ≡ Some e) × (found_of sets (Some e) ≡ Ok found)
   entry_of uuid found None at is = absurd (let f = is in cc)
   entry_of uuid found (Some e) at is = (e, at, is)
 
-  pub are_apart : EntriesApart ns → (u v : List ℕ) (a b : Found) → u ≢ v → found_of sets (lookup u ns.entries) ≡ Ok a → found_of sets (lookup v ns.entries) ≡ Ok b → AreApart sets a b
+  pub are_apart : EntriesApart ns → (u v : List ℕ) (a b : Found) → u ≢ v → found_of sets (lookup u ns.entries) ≡ Ok a → found_of sets (lookup v ns.entries) ≡ Ok b → ShareNoAddress sets a b
   are_apart apart u v a b ne is_a is_b which address inside =
       let e = entry_of u a (lookup u ns.entries) refl is_a in
       let f = entry_of v b (lookup v ns.entries) refl is_b in
@@ -322,7 +322,7 @@ module _ (sets : List (List Mapping)) (sound : PlaceBytes sets) (areas : List (O
       by (Ok found) is (suc i) (suc j) lt at_a at_b both one = pass (both i j (omega (arith, lt)) at_a at_b)
 
   ordered : EntriesApart ns → (uuids : List (List ℕ)) → AreDifferent uuids → (i j : ℕ) (a b : FoundNamespace) → i < j → slice_get (found_each sets ns uuids) i ≡ Some a
-      → slice_get (found_each sets ns uuids) j ≡ Some b → AreApart sets a.found b.found × AreApart sets b.found a.found
+      → slice_get (found_each sets ns uuids) j ≡ Some b → ShareNoAddress sets a.found b.found × ShareNoAddress sets b.found a.found
   ordered apart uuids different i j a b lt e f =
       let o : Origins uuids a b = origins uuids i j a b lt e f in
       let ne : a.uuid ≢ b.uuid = different o.first.at o.second.at a.uuid b.uuid (λ same. omega (arith, o.less, same)) o.first.uuid o.second.uuid in (

@@ -19,7 +19,7 @@ use Rattle.lane_core.specs.Held.{Held}
 use Rattle.lane_core.specs.Reopening.{IsFoundAgain, MaySurvive, first_cells}
 use Rattle.sector_namespaces.proofs.Chains.{Walk}
 use Rattle.served_namespaces.specs.Putting.{put_parts, total_of}
-use Rattle.served_namespaces.specs.Serving.{IsCut, Survives}
+use Rattle.served_namespaces.specs.Serving.{ArenaCut, SectorsSurvive}
 
 -- ---- the words that are put
 
@@ -92,7 +92,7 @@ has_parts at (part ∷ parts) words room =
 abbrev pub AreCuts : List ArenaState → List (List ℕ) → Type 0
 AreCuts [] parts = parts ≡ []
 AreCuts (state ∷ states) [] = ⊥
-AreCuts (state ∷ states) (part ∷ parts) = ((held : Held) × IsCut state held part) × AreCuts states parts
+AreCuts (state ∷ states) (part ∷ parts) = ((held : Held) × ArenaCut state held part) × AreCuts states parts
 
 abbrev pub AreOpenStates : List ArenaState → Type 0
 AreOpenStates [] = Unit {0}
@@ -102,13 +102,13 @@ abbrev pub AllSurvive : List ArenaState → List ArenaState → List (List ℕ) 
 AllSurvive [] news parts = Unit {0}
 AllSurvive (state ∷ states) [] parts = ⊥
 AllSurvive (state ∷ states) (new ∷ news) [] = ⊥
-AllSurvive (state ∷ states) (new ∷ news) (part ∷ parts) = Survives state new part × AllSurvive states news parts
+AllSurvive (state ∷ states) (new ∷ news) (part ∷ parts) = SectorsSurvive state new part × AllSurvive states news parts
 
 same_opened : (a b : Opened) → ◌≡◌ {A = Result Opened OpenRefused} (Ok a) (Ok b) → a ≡ b
 same_opened a b e = cc
 
 module _ (was now parent : List ℕ) (long : length now ≡ length was) (at : ℕ) (state : ArenaState) (is_open : IsOpenState state) (opened : Opened) (opens : opening (drop at was) parent ≡ Ok opened)
-    (is : found_again state ≡ state_of (drop at was) opened) (inside : at ≤ length was) (part : List ℕ) (there : take (length part) (drop at now) ≡ part) (held : Held) (cut : IsCut state held part) where
+    (is : found_again state ≡ state_of (drop at was) opened) (inside : at ≤ length was) (part : List ℕ) (there : take (length part) (drop at now) ≡ part) (held : Held) (cut : ArenaCut state held part) where
   none : opened.moves ≡ []
   none = nil_from_length opened.moves (sym (ap (λ (s : ArenaState). moves_made s) is))
 
@@ -142,7 +142,7 @@ module _ (was now parent : List ℕ) (long : length now ≡ length was) (at : �
       (omega (arith, length-append state.words behind, length-drop (at + length part) now, length-drop at was, long, state_long, part_long, l.inside))
       (sym own ∙ sym (take_at state.words behind (opened.info.layout.size / 8) state_long))
 
-  pub again : (h : Held) → IsCut state h part → IsFoundAgain state h (part ++ behind) parent
+  pub again : (h : Held) → ArenaCut state h part → IsFoundAgain state h (part ++ behind) parent
   again h c = c.reopens.opens behind parent opened old
 
   abbrev pub arena : Opened
@@ -157,7 +157,7 @@ module _ (was now parent : List ℕ) (long : length now ≡ length was) (at : �
   pub new_info : (again held cut).arena.info ≡ state.info
   new_info = (again held cut).info
 
-  pub survives : Survives state (state_of (drop at now) (again held cut).arena) part
+  pub survives : SectorsSurvive state (state_of (drop at now) (again held cut).arena) part
   survives h c sector lt =
       let f : IsFoundAgain state h (part ++ behind) parent = again h c in
       let same : f.arena ≡ (again held cut).arena = same_opened f.arena (again held cut).arena (sym f.opens ∙ (again held cut).opens) in

@@ -15,7 +15,7 @@ use Rattle.arena_open.specs.Writes.{IsSettled}
 use Rattle.arena_open.proofs.Own.{Lies, lies}
 use Rattle.lane_core.specs.Held.{Held}
 use Rattle.power_cut.specs.Namespace.{beside_of, words_of}
-use Rattle.namespace_areas.specs.Finding.{LiesIn, set_at}
+use Rattle.namespace_areas.specs.Finding.{LiesInSet, set_at}
 use Rattle.sector_namespaces.specs.Creation.{AreSettled}
 use Rattle.sector_namespaces.specs.View.{AreUsable, IsUsable, opened_view}
 use Rattle.sector_namespaces.proofs.Chains.{Walk, back, view_walk}
@@ -23,9 +23,9 @@ use Rattle.sector_namespaces.proofs.Formats.{settled_at}
 use Rattle.sector_namespaces.proofs.Views.{some_words}
 use Rattle.served_namespaces.specs.declared.places.FoundNamespace.{FoundNamespace}
 use Rattle.served_namespaces.specs.declared.places.OpenedNamespace.{OpenedNamespace}
-use Rattle.served_namespaces.specs.Places.{AreApart, KeepsBeside, PlaceBytes, arena_words, place_in, words_at}
+use Rattle.served_namespaces.specs.Places.{ShareNoAddress, KeepsBeside, PlaceBytes, arena_words, place_in, words_at}
 use Rattle.served_namespaces.specs.Putting.{put_parts, total_of}
-use Rattle.served_namespaces.specs.Serving.{AreLeft, ArenasCut, IsCut, IsHeld, IsLeft, Survives}
+use Rattle.served_namespaces.specs.Serving.{AreLeft, ArenasCut, ArenaCut, IsHeld, IsLeft, SectorsSurvive}
 use Rattle.served_namespaces.specs.Steps.{IsReady}
 use Rattle.served_namespaces.proofs.Apart.{counts, others_stay, settled_now, usable_same}
 use Rattle.served_namespaces.proofs.Arenas.{again_words, all_inside, words_cons}
@@ -39,7 +39,7 @@ open_states [] all = tt
 open_states (state ∷ states) all = (All-head IsOpenState state states all, open_states states (All-tail IsOpenState state states all))
 
 abbrev CutAt : List ArenaState → List (List ℕ) → Type 0
-CutAt states parts = (k : ℕ) (state : ArenaState) (words : List ℕ) → slice_get states k ≡ Some state → slice_get parts k ≡ Some words → (held : Held) × IsCut state held words
+CutAt states parts = (k : ℕ) (state : ArenaState) (words : List ℕ) → slice_get states k ≡ Some state → slice_get parts k ≡ Some words → (held : Held) × ArenaCut state held words
 
 pub are_cuts : (states : List ArenaState) (parts : List (List ℕ)) → length parts ≡ length states → CutAt states parts → AreCuts states parts
 are_cuts [] [] count each = refl
@@ -54,12 +54,12 @@ parts_total (state ∷ states) (part ∷ parts) are_open cuts =
     omega (arith, total_cons part parts, words_cons state states, cuts.0.1.size, are_open.0.count, parts_total states parts are_open.1 cuts.1)
 
 pub by_place : (states news : List ArenaState) (parts : List (List ℕ)) → AllSurvive states news parts → (k : ℕ) (state new : ArenaState) (words : List ℕ) → slice_get states k ≡ Some state → slice_get news k ≡ Some new
-    → slice_get parts k ≡ Some words → Survives state new words
+    → slice_get parts k ≡ Some words → SectorsSurvive state new words
 by_place [] news parts all k state new words at_s at_n at_w = absurd (none-some state at_s)
 by_place (s ∷ ss) [] parts all k state new words at_s at_n at_w = absurd all
 by_place (s ∷ ss) (n ∷ ns) [] all k state new words at_s at_n at_w = absurd all
 by_place (s ∷ ss) (n ∷ ns) (p ∷ ps) all zero state new words at_s at_n at_w =
-    subst (λ (x : ArenaState). Survives x new words) (same_Some s state at_s) (subst (λ (x : ArenaState). Survives s x words) (same_Some n new at_n) (subst (λ (x : List ℕ). Survives s n x) (same_Some p words at_w) all.0))
+    subst (λ (x : ArenaState). SectorsSurvive x new words) (same_Some s state at_s) (subst (λ (x : ArenaState). SectorsSurvive s x words) (same_Some n new at_n) (subst (λ (x : List ℕ). SectorsSurvive s n x) (same_Some p words at_w) all.0))
 by_place (s ∷ ss) (n ∷ ns) (p ∷ ps) all (suc k) state new words at_s at_n at_w = by_place ss ns ps all.1 k state new words at_s at_n at_w
 
 some_in : (words parent : List ℕ) (states : List ArenaState) → Walk words parent 0 states → length words ≢ 0
@@ -176,7 +176,7 @@ next_of sets loaded places opened words first rows i place parts ready so_far lt
 
 -- what the next one asks of its set and its words
 pub record CanPut (sets : List (List Mapping)) (rows : List Words) (place : FoundNamespace) (parts : List (List ℕ)) : Type 0 where
-  pub lies : LiesIn sets place.found
+  pub lies : LiesInSet sets place.found
   pub usable : IsUsable (set_at sets place.found.region) rows
   pub room : total_of parts ≤ length (words_at sets place.found rows)
 
@@ -198,17 +198,17 @@ module _ (sets : List (List Mapping)) (sound : PlaceBytes sets) (loaded : List W
   own_same : beside_of (place_in sets next.o.place.found now) ≡ beside_of (place_in sets next.o.place.found rows)
   own_same = subst (λ (p : FoundNamespace). beside_of (place_in sets p.found now) ≡ beside_of (place_in sets p.found rows)) (sym next.is) same
 
-  apart : (k : ℕ) (o : OpenedNamespace) → k ≢ i → slice_get opened k ≡ Some o → AreApart sets o.place.found next.o.place.found
+  apart : (k : ℕ) (o : OpenedNamespace) → k ≢ i → slice_get opened k ≡ Some o → ShareNoAddress sets o.place.found next.o.place.found
   apart k o ne at = ready.serving.disjoint k i o.place next.o.place ne (place_at opened k o at) (place_at opened i next.o next.at)
 
-  stay : (k : ℕ) (o : OpenedNamespace) → k ≢ i → slice_get opened k ≡ Some o → LiesIn sets o.place.found → words_at sets o.place.found now ≡ words_at sets o.place.found rows
+  stay : (k : ℕ) (o : OpenedNamespace) → k ≢ i → slice_get opened k ≡ Some o → LiesInSet sets o.place.found → words_at sets o.place.found now ≡ words_at sets o.place.found rows
   stay k o ne at lies_there =
       ap (λ (w : Words). w.kept) (others_stay sets sound next.o.place.found o.place.found next.held.can.lies lies_there (apart k o ne at) rows now own_same)
 
   left_before : (k : ℕ) (o : OpenedNamespace) (ps : List (List ℕ)) → k < i → slice_get opened k ≡ Some o → slice_get words k ≡ Some ps → IsLeft sets now o ps
   left_before k o ps lt at_o at_p =
       let l : IsLeft sets rows o ps = so_far.left k o ps lt at_o at_p in
-      let there : LiesIn sets o.place.found = (ready.serving.held o (got_contains opened k o at_o)).can.lies in
+      let there : LiesInSet sets o.place.found = (ready.serving.held o (got_contains opened k o at_o)).can.lies in
       record {
         news = l.news;
         opens = ap (λ (ws : List ℕ). opened_view ws o.place.uuid) (stay k o (λ e. omega (arith, lt, e)) at_o there) ∙ l.opens;

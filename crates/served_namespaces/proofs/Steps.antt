@@ -12,13 +12,13 @@ use Rattle.arena_open.specs.declared.state.ArenaState.{ArenaState}
 use Rattle.power_cut.specs.Namespace.{beside_of, row_of}
 use Rattle.power_cut.proofs.Spread.{eighth}
 use Rattle.namespace_areas.specs.declared.found.Found.{Found}
-use Rattle.namespace_areas.specs.Finding.{LiesIn}
+use Rattle.namespace_areas.specs.Finding.{LiesInSet}
 use Rattle.sector_namespaces.specs.Creation.{AreSettled}
 use Rattle.sector_namespaces.specs.View.{AreUsable, opened_view}
 use Rattle.served_namespaces.specs.declared.places.FoundNamespace.{FoundNamespace}
 use Rattle.served_namespaces.specs.declared.places.OpenedNamespace.{OpenedNamespace}
 use Rattle.served_namespaces.specs.Opening.{Broken, and_opened, on_states, opened_each}
-use Rattle.served_namespaces.specs.Places.{AreApart, AreDisjoint, CanOpen, KeepsBeside, PlaceBytes, arena_words, place_in, words_at}
+use Rattle.served_namespaces.specs.Places.{ShareNoAddress, AreDisjoint, CanOpen, KeepsBeside, PlaceBytes, arena_words, place_in, words_at}
 use Rattle.served_namespaces.specs.Serving.{AreServing, IsHeld}
 use Rattle.served_namespaces.specs.Steps.{CanFollow, Follows, IsOpenedIn}
 use Rattle.served_namespaces.proofs.Apart.{counts, else_same, others_stay, settled_now, usable_same}
@@ -26,7 +26,7 @@ use Rattle.served_namespaces.proofs.Apart.{counts, else_same, others_stay, settl
 -- ---- words beside
 
 -- an arena of these namespaces changes
-pub keeps_beside : (sets : List (List Mapping)) → PlaceBytes sets → (opened : List OpenedNamespace) (o : OpenedNamespace) → Contains opened o → LiesIn sets o.place.found → (loaded rows now : List Words)
+pub keeps_beside : (sets : List (List Mapping)) → PlaceBytes sets → (opened : List OpenedNamespace) (o : OpenedNamespace) → Contains opened o → LiesInSet sets o.place.found → (loaded rows now : List Words)
     → KeepsBeside sets opened loaded rows → beside_of (place_in sets o.place.found now) ≡ beside_of (place_in sets o.place.found rows)
     → drop (arena_words o.states) (words_at sets o.place.found now) ≡ drop (arena_words o.states) (words_at sets o.place.found rows) → KeepsBeside sets opened loaded now
 keeps_beside sets sound opened o among lies loaded rows now kept beside behind = record {
@@ -76,7 +76,7 @@ unmapped_in (o ∷ os) p (zero, below, is) = (o, (0, omega arith, refl), is)
 unmapped_in (o ∷ os) p (suc k, below, is) = let r = unmapped_in os p (k, omega arith, is) in (r.0, (suc r.1.0, omega (arith, r.1.1), r.1.2), r.2)
 
 pub disjoint_more : (sets : List (List Mapping)) (opened : List OpenedNamespace) (o : OpenedNamespace) → AreDisjoint sets (map place_of opened)
-    → ((x : OpenedNamespace) → Contains opened x → AreApart sets o.place.found x.place.found) → ((x : OpenedNamespace) → Contains opened x → AreApart sets x.place.found o.place.found)
+    → ((x : OpenedNamespace) → Contains opened x → ShareNoAddress sets o.place.found x.place.found) → ((x : OpenedNamespace) → Contains opened x → ShareNoAddress sets x.place.found o.place.found)
     → AreDisjoint sets (map place_of (opened ++ o ∷ []))
 disjoint_more sets opened o disjoint apart turned i j a b ne is_a is_b =
     let list : map place_of (opened ++ o ∷ []) ≡ map place_of opened ++ o.place ∷ [] = map-append place_of opened (o ∷ []) in
@@ -85,12 +85,12 @@ disjoint_more sets opened o disjoint apart turned i j a b ne is_a is_b =
         | inl in_b ↦ disjoint i j a b ne in_a in_b
         | inr last_b ↦
             let x = unmapped_in opened a (got_contains (map place_of opened) i a in_a) in
-            subst (λ (p : FoundNamespace). AreApart sets a.found p.found) last_b.1 (subst (λ (p : FoundNamespace). AreApart sets p.found o.place.found) x.2 (turned x.0 x.1))
+            subst (λ (p : FoundNamespace). ShareNoAddress sets a.found p.found) last_b.1 (subst (λ (p : FoundNamespace). ShareNoAddress sets p.found o.place.found) x.2 (turned x.0 x.1))
       ]
       | inr last_a ↦ elim (at_push (map place_of opened) o.place b j (ap (λ xs. slice_get xs j) (sym list) ∙ is_b)) [
         | inl in_b ↦
             let x = unmapped_in opened b (got_contains (map place_of opened) j b in_b) in
-            subst (λ (p : FoundNamespace). AreApart sets p.found b.found) last_a.1 (subst (λ (p : FoundNamespace). AreApart sets o.place.found p.found) x.2 (apart x.0 x.1))
+            subst (λ (p : FoundNamespace). ShareNoAddress sets p.found b.found) last_a.1 (subst (λ (p : FoundNamespace). ShareNoAddress sets o.place.found p.found) x.2 (apart x.0 x.1))
         | inr last_b ↦ absurd (ne (last_a.0 ∙ sym last_b.0))
       ]
     ]
@@ -106,7 +106,7 @@ module _ (sets : List (List Mapping)) (sound : PlaceBytes sets) (loaded : List W
   after = opened ++ record { place = place; states = states } ∷ []
 
   -- the words of another namespace stay
-  stay : (other : Found) → LiesIn sets other → AreApart sets other place.found → words_at sets other now ≡ words_at sets other rows
+  stay : (other : Found) → LiesInSet sets other → ShareNoAddress sets other place.found → words_at sets other now ≡ words_at sets other rows
   stay other lies apart = ap (λ (w : Words). w.kept) (others_stay sets sound place.found other can.can.lies lies apart rows now step.beside)
 
   held_before : (o : OpenedNamespace) → Contains opened o → IsHeld sets now o

@@ -10,7 +10,7 @@ use Rattle.label_codec.specs.declared.mode.Mode.TheVariants as mode
 use Rattle.arena_open.specs.declared.state.ArenaState.{ArenaState}
 use Rattle.power_cut.specs.Namespace.{Namespace, byte_at, is_inside, over, row_of, words_of}
 use Rattle.namespace_areas.specs.declared.found.Found.{Found}
-use Rattle.namespace_areas.specs.Finding.{LiesIn, set_at}
+use Rattle.namespace_areas.specs.Finding.{LiesInSet, set_at}
 use Rattle.served_namespaces.specs.declared.places.FoundNamespace.{FoundNamespace}
 use Rattle.served_namespaces.specs.declared.places.OpenedNamespace.{OpenedNamespace}
 
@@ -30,18 +30,18 @@ has_address sets found which address = is_inside (place_in sets found []) which 
 
 -- it is one of sectors, and lies in its region's set in whole units
 pub record CanOpen (sets : List (List Mapping)) (place : FoundNamespace) : Type 0 where
-  pub lies : LiesIn sets place.found
+  pub lies : LiesInSet sets place.found
   pub sector : place.found.mode ≡ mode.Sector
 
 -- ---- several
 
 -- no address of a module lies in extents of both
-abbrev pub AreApart : List (List Mapping) → Found → Found → Type 0
-AreApart sets a b = (which address : ℕ) → has_address sets a which address ≡ true → has_address sets b which address ≡ false
+abbrev pub ShareNoAddress : List (List Mapping) → Found → Found → Type 0
+ShareNoAddress sets a b = (which address : ℕ) → has_address sets a which address ≡ true → has_address sets b which address ≡ false
 
 -- the same for any two of a list
 abbrev pub AreDisjoint : List (List Mapping) → List FoundNamespace → Type 0
-AreDisjoint sets places = (i j : ℕ) (a b : FoundNamespace) → i ≢ j → slice_get places i ≡ Some a → slice_get places j ≡ Some b → AreApart sets a.found b.found
+AreDisjoint sets places = (i j : ℕ) (a b : FoundNamespace) → i ≢ j → slice_get places i ≡ Some a → slice_get places j ≡ Some b → ShareNoAddress sets a.found b.found
 
 -- no two UUIDs of a list are the same
 abbrev pub AreDifferent : List (List ℕ) → Type 0

@@ -9,11 +9,11 @@ use Rattle.lane_core.specs.Arenas.{shape_in}
 use Rattle.lane_core.specs.Held.{Held}
 use Rattle.lane_core.specs.Reopening.{MaySurvive, Reopens, first_cells}
 use Rattle.namespace_areas.specs.declared.found.Found.{Found}
-use Rattle.namespace_areas.specs.Finding.{LiesIn}
+use Rattle.namespace_areas.specs.Finding.{LiesInSet}
 use Rattle.sector_namespaces.specs.Creation.{AreSettled}
 use Rattle.sector_namespaces.specs.View.{AreUsable, opened_view}
 use Rattle.served_namespaces.specs.declared.places.OpenedNamespace.{OpenedNamespace}
-use Rattle.served_namespaces.specs.Places.{AreApart, AreDisjoint, CanOpen, KeepsBeside, words_at}
+use Rattle.served_namespaces.specs.Places.{ShareNoAddress, AreDisjoint, CanOpen, KeepsBeside, words_at}
 
 -- ---- while they are open
 
@@ -33,12 +33,12 @@ pub record AreServing (sets : List (List Mapping)) (loaded : List Words) (opened
   -- their arenas' pending moves are all that has changed
   pub beside : KeepsBeside sets opened loaded now
   -- a namespace that shares no address with any of them has the words that were loaded
-  pub others : (found : Found) → LiesIn sets found → ((o : OpenedNamespace) → Contains opened o → AreApart sets found o.place.found) → words_at sets found now ≡ words_at sets found loaded
+  pub others : (found : Found) → LiesInSet sets found → ((o : OpenedNamespace) → Contains opened o → ShareNoAddress sets found o.place.found) → words_at sets found now ≡ words_at sets found loaded
 
 -- ---- what is put back
 
 -- These may be the words of an arena after a power cut of a core that held this, and that began with the arena.
-pub record IsCut (state : ArenaState) (held : Held) (words : List ℕ) : Type 0 where
+pub record ArenaCut (state : ArenaState) (held : Held) (words : List ℕ) : Type 0 where
   pub shape : held.shape ≡ shape_in state
   pub size : length words ≡ length state.words
   pub reopens : Reopens state held words
@@ -46,7 +46,7 @@ pub record IsCut (state : ArenaState) (held : Held) (words : List ℕ) : Type 0 
 -- each arena of a namespace has such words
 pub record ArenasCut (o : OpenedNamespace) (parts : List (List ℕ)) : Type 0 where
   pub count : length parts ≡ length o.states
-  pub each : (k : ℕ) (state : ArenaState) (words : List ℕ) → slice_get o.states k ≡ Some state → slice_get parts k ≡ Some words → (held : Held) × IsCut state held words
+  pub each : (k : ℕ) (state : ArenaState) (words : List ℕ) → slice_get o.states k ≡ Some state → slice_get parts k ≡ Some words → (held : Held) × ArenaCut state held words
 
 -- so has each arena of each namespace
 pub record AreCut (opened : List OpenedNamespace) (words : List (List (List ℕ))) : Type 0 where
@@ -54,15 +54,15 @@ pub record AreCut (opened : List OpenedNamespace) (words : List (List (List ℕ)
   pub each : (k : ℕ) (o : OpenedNamespace) (parts : List (List ℕ)) → slice_get opened k ≡ Some o → slice_get words k ≡ Some parts → ArenasCut o parts
 
 -- whatever a core held of which the cut left these words: each sector has a cell that may survive
-abbrev pub Survives : ArenaState → ArenaState → List ℕ → Type 0
-Survives state new words = (held : Held) → IsCut state held words → (sector : ℕ) → sector < state.info.layout.external → MaySurvive (first_cells state) held sector (first_cells new sector)
+abbrev pub SectorsSurvive : ArenaState → ArenaState → List ℕ → Type 0
+SectorsSurvive state new words = (held : Held) → ArenaCut state held words → (sector : ℕ) → sector < state.info.layout.external → MaySurvive (first_cells state) held sector (first_cells new sector)
 
 -- In its place a namespace opens as arenas with the same info, each with the words that were put.
 pub record IsLeft (sets : List (List Mapping)) (now : List Words) (o : OpenedNamespace) (parts : List (List ℕ)) : Type 0 where
   pub news : List ArenaState
   pub opens : opened_view (words_at sets o.place.found now) o.place.uuid ≡ Ok news
   pub infos : map (λ (s : ArenaState). s.info) news ≡ map (λ (s : ArenaState). s.info) o.states
-  pub sectors : (k : ℕ) (state new : ArenaState) (words : List ℕ) → slice_get o.states k ≡ Some state → slice_get news k ≡ Some new → slice_get parts k ≡ Some words → Survives state new words
+  pub sectors : (k : ℕ) (state new : ArenaState) (words : List ℕ) → slice_get o.states k ≡ Some state → slice_get news k ≡ Some new → slice_get parts k ≡ Some words → SectorsSurvive state new words
 
 -- The words of all modules after the arenas of all these namespaces were put back.
 pub record AreLeft (sets : List (List Mapping)) (loaded : List Words) (opened : List OpenedNamespace) (words : List (List (List ℕ))) (now : List Words) : Type 0 where

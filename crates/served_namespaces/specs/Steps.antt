@@ -16,7 +16,7 @@ use Rattle.served_namespaces.specs.declared.places.FoundNamespace.{FoundNamespac
 use Rattle.served_namespaces.specs.declared.places.NotOpened.{NotOpened}
 use Rattle.served_namespaces.specs.declared.places.NotOpened.TheVariants.{Broken, OutOfMemory}
 use Rattle.served_namespaces.specs.declared.places.OpenedNamespace.{OpenedNamespace}
-use Rattle.served_namespaces.specs.Places.{AreApart, CanOpen, KeepsBehind, words_at}
+use Rattle.served_namespaces.specs.Places.{ShareNoAddress, CanOpen, KeepsBehind, words_at}
 use Rattle.served_namespaces.specs.Serving.{AreCut, AreServing}
 
 -- ---- finding
@@ -48,8 +48,8 @@ IsRefused place refused OutOfMemory = Unit {0}
 pub record CanFollow (sets : List (List Mapping)) (loaded : List Words) (place : FoundNamespace) (opened : List OpenedNamespace) (now : List Words) : Type 0 where
   pub serving : AreServing sets loaded opened now
   pub can : CanOpen sets place
-  pub apart : (o : OpenedNamespace) → Contains opened o → AreApart sets place.found o.place.found
-  pub turned : (o : OpenedNamespace) → Contains opened o → AreApart sets o.place.found place.found
+  pub apart : (o : OpenedNamespace) → Contains opened o → ShareNoAddress sets place.found o.place.found
+  pub turned : (o : OpenedNamespace) → Contains opened o → ShareNoAddress sets o.place.found place.found
 
 -- it was opened, with the arenas that it had when the words were loaded
 pub record Follows (sets : List (List Mapping)) (loaded : List Words) (place : FoundNamespace) (before after : List OpenedNamespace) (now : List Words) : Type 0 where

@@ -43,8 +43,16 @@ fn no_block() -> ChainRefused
     }
 }
 
-/// Opens the arenas of a namespace as `sector_namespaces::open_arenas` does. In addition it promises
-/// that of the namespace's words only those of its arenas change (`behind`).
+/// Opens the arenas of a sector namespace to change them. It completes their pending moves in the
+/// namespace's words, and copies the words of all arenas into memory. Of the namespace's words only
+/// those of its arenas change (`behind`).
+///
+/// `set` is the interleave set of the namespace's region, and the namespace lies in it in whole
+/// units. `modules` has the contents of all modules by number, those of the set's modules up to the
+/// ends of the mappings, and none of their words is pending. The UUID is the namespace's.
+///
+/// After a refusal the words are dropped. It names the first arena that isn't opened, or says that
+/// memory ran out.
 pub fn open_kept<'a>(
     alloc: Global,
     set: &'a InterleaveSet,

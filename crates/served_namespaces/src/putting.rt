@@ -59,7 +59,7 @@ fn put_arenas(
 ///
 /// `places` are those with which `open_each` opened them, and `modules` the words that it returned. `words` has for each namespace, in
 /// order, the words of each of its arenas, in order: what a power cut of the arena's core may
-/// leave (`IsCut`).
+/// leave (`ArenaCut`).
 ///
 /// Each namespace opens in its place as arenas with the same info and with these words. No word
 /// is pending, and no word that isn't an arena's has changed since the words were loaded

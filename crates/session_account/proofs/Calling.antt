@@ -1,7 +1,7 @@
 -- A sector call adds its entry to the arena of its sector, and nothing elsewhere.
 use Rattle.std.proofs.Common.{◌≡◌, ◌≢◌, ◌⊎◌, inl, inr, ℕ, zero, suc, Bool, true, false, ◌&&◌, ◌++◌, Option, Some, None, refl, sym, ap, ◌∙◌, subst, arith, ne_eqb, append-nil}
 use Rattle.std.specs.Prelude.{◌==◌, if◌then◌else◌, option_to_list}
-use Rattle.namespace_ops.specs.Entries.{Entry}
+use Rattle.namespace_ops.specs.Entries.{JournalEntry}
 use Rattle.lane_core.specs.declared.history.Act.{Act}
 use Rattle.lane_core.specs.declared.history.Act.TheVariants as act
 use Rattle.session_script.specs.declared.script.Line.TheVariants as line
@@ -50,7 +50,7 @@ call_ends all q m spot entries before now left left' is none uncut checked kind 
   uncut = uncut;
   checked = checked;
   kind = kind;
-  commands = sym (ap (λ (o : Option Entry). entries ++ option_to_list o) none ∙ append-nil entries);
+  commands = sym (ap (λ (o : Option JournalEntry). entries ++ option_to_list o) none ∙ append-nil entries);
   arenas = λ p n there. by p n there (where_is p n spot.place spot.arena);
   paid = paid;
 }

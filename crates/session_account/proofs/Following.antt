@@ -2,7 +2,7 @@
 use Rattle.std.proofs.Common.{◌≡◌, ◌⊎◌, inl, inr, ℕ, zero, suc, ◌<◌, ◌≤◌, Bool, true, false, List, [], ◌∷◌, length, Option, Some, None, refl, sym, ap, ◌∙◌, arith}
 use Rattle.std.specs.Prelude.{◌==◌, ◌||◌, IsTrue, IsSome, cond, filter, map}
 use Rattle.std.specs.List.{list_any, AllByRecursion}
-use Rattle.namespace_ops.specs.Entries.{Entry}
+use Rattle.namespace_ops.specs.Entries.{JournalEntry}
 use Rattle.session_account.specs.declared.reply.Reply.{Reply}
 use Rattle.session_script.specs.declared.script.Script.{Script}
 use Rattle.session_script.specs.declared.script.SessionLines.{SessionLines}
@@ -67,7 +67,7 @@ any_kept keeps test (x ∷ xs) h = on_head (keeps x) (test x) (list_any test (fi
     on_head false false a b f h = f h
 
 -- a session's cause is one of the accounts
-cause_of : (script : Script) (session : SessionLines) (replies : List Reply) (own : List Entry) (who : Option Who) → IsSome who → HasCause script session replies own who
+cause_of : (script : Script) (session : SessionLines) (replies : List Reply) (own : List JournalEntry) (who : Option Who) → IsSome who → HasCause script session replies own who
     → (IsSome session.cut × IsTrue (has_cut replies)) ⊎ (IsSome script.labelcut × IsTrue (has_cut_entry own))
 cause_of script session replies own None some c = absurd (cc)
 cause_of script session replies own (Some itself) some c = inl c

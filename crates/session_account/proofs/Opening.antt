@@ -6,7 +6,7 @@ use Rattle.namespace_map.specs.declared.commands.Command.{Command}
 use Rattle.namespace_map.specs.declared.commands.Command.TheVariants as command
 use Rattle.namespace_map.specs.declared.refused.OpRefused.{OpRefused}
 use Rattle.namespace_map.specs.declared.refused.OpRefused.TheVariants as op
-use Rattle.namespace_ops.specs.Entries.{Entry}
+use Rattle.namespace_ops.specs.Entries.{JournalEntry}
 use Rattle.session_script.specs.declared.script.Line.{Line}
 use Rattle.session_script.specs.declared.script.Line.TheVariants as line
 use Rattle.session_script.specs.declared.script.Order.TheVariants as order
@@ -113,7 +113,7 @@ one all q call on (line.Order (order.Create u region size name)) r h = effect q 
 one all q call on (line.Order (order.Delete u)) r h = effect q call on _ r ∙ done_same r on
 one all q call on (line.Order (order.Rename u name)) r h = effect q call on _ r ∙ done_same r on
 
-open_cons : (on : Option (List ℕ)) (o : Option Entry) (es : List Entry) → open_after on (cons_option o es) ≡ open_after (open_after on (option_to_list o)) es
+open_cons : (on : Option (List ℕ)) (o : Option JournalEntry) (es : List JournalEntry) → open_after on (cons_option o es) ≡ open_after (open_after on (option_to_list o)) es
 open_cons on None es = refl
 open_cons on (Some e) es = refl
 

@@ -11,7 +11,7 @@ use Rattle.namespace_map.specs.Areas.{steps_of_all}
 use Rattle.namespace_map.specs.Changes.{changes_of}
 use Rattle.namespace_map.specs.Commands.{refusal_of, done}
 use Rattle.namespace_areas.specs.Seen.{AreLeft as AreasLeft, areas_shown, areas_seen}
-use Rattle.namespace_ops.specs.Entries.{Entry, Reply}
+use Rattle.namespace_ops.specs.Entries.{JournalEntry, Reply}
 use Rattle.namespace_map.specs.declared.commands.Command.{Command}
 use Rattle.namespace_map.specs.declared.commands.Command.TheVariants as command
 use Rattle.namespace_map.specs.declared.commands.Make.{Make}
@@ -54,7 +54,7 @@ answers_make_entries old new fuse left tag c reply a plain on memory = by (refus
     sets : List (List Mapping)
     sets = old.sets
 
-    e : Entry
+    e : JournalEntry
     e = record { tag = tag; command = c; reply = reply }
 
     -- no step comes before those of the label changes
@@ -113,7 +113,7 @@ match_false : (b : Bool) (P Q : Type 0) → b ≡ false → Q → MatchBool b P 
 match_false true P Q e q = absurd (cc)
 match_false false P Q e q = q
 
-all_grows : (sets : List (List Mapping)) (k : Kept) (fuse : Option ℕ) (journal : List Entry) (e : Entry) (now : Kept) (left : Option ℕ) → AllOn sets k fuse journal
+all_grows : (sets : List (List Mapping)) (k : Kept) (fuse : Option ℕ) (journal : List JournalEntry) (e : JournalEntry) (now : Kept) (left : Option ℕ) → AllOn sets k fuse journal
     → WentOn sets (end_kept sets k journal) now (end_fuse sets k fuse journal) left e
     → AllOn sets k fuse (journal ++ e ∷ []) × (end_kept sets k (journal ++ e ∷ []) ≡ now) × (end_fuse sets k fuse (journal ++ e ∷ []) ≡ left)
 unfolding AllOn
@@ -129,7 +129,7 @@ on_grows sets from now now' fuse left left' journal e on w =
     let h = all_grows sets from fuse journal e now' left' on.all w' in
     record { all = h.0; kept = h.1; left_is = h.2 }
 
-journal_of : (sets : List (List Mapping)) (k : Kept) (fuse : Option ℕ) (journal : List Entry) → AllOn sets k fuse journal
+journal_of : (sets : List (List Mapping)) (k : Kept) (fuse : Option ℕ) (journal : List JournalEntry) → AllOn sets k fuse journal
     → IsJournal sets k fuse journal × AreLeft sets k fuse journal (end_kept sets k journal).areas
 unfolding AllOn IsJournal AreLeft
 journal_of sets k fuse [] all = (tt, refl)
@@ -142,7 +142,7 @@ on_is_journal sets from now fuse left journal on =
     let h = journal_of sets from fuse journal on.all in
     (h.0, subst (λ (k : Kept). AreLeft sets from fuse journal k.areas) on.kept h.1)
 
-off_journal : (sets : List (List Mapping)) (k : Kept) (fuse : Option ℕ) (journal later : List Entry) (e : Entry) (areas : List Area) → AllOn sets k fuse journal
+off_journal : (sets : List (List Mapping)) (k : Kept) (fuse : Option ℕ) (journal later : List JournalEntry) (e : JournalEntry) (areas : List Area) → AllOn sets k fuse journal
     → WentOff sets (end_kept sets k journal) (end_fuse sets k fuse journal) e areas → AllByRecursion IsOff later
     → IsJournal sets k fuse (journal ++ e ∷ later) × ((rows : List (Option (List ℕ))) → AreasLeft areas rows → AreLeft sets k fuse (journal ++ e ∷ later) (areas_shown rows))
 unfolding AllOn IsJournal AreLeft

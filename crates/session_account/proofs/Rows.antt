@@ -1,6 +1,6 @@
 -- Worked rows, computed: what two or three sessions were told, with a journal and a history in which it stands.
 use Rattle.std.proofs.Common.{◌≡◌, inl, inr, ℕ, zero, suc, ◌<◌, List, [], ◌∷◌, Some, None, refl, arith}
-use Rattle.namespace_ops.specs.Entries.{Entry}
+use Rattle.namespace_ops.specs.Entries.{JournalEntry}
 use Rattle.lane_core.specs.declared.history.Entry.{Entry as HistoryEntry}
 use Rattle.session_script.specs.declared.script.Line.TheVariants as line
 use Rattle.session_script.specs.declared.payload.Payload.TheVariants as payload
@@ -32,7 +32,7 @@ abbrev two_replies : List (List Reply)
 two_replies = (reply.Done ∷ reply.Done ∷ reply.Done ∷ []) ∷ (reply.Done ∷ reply.Value zeros ∷ reply.Done ∷ []) ∷ []
 
 -- the sessions' calls come between one another
-abbrev two_journal : List Entry
+abbrev two_journal : List JournalEntry
 two_journal = claim 0 0 ∷ claim 1 0 ∷ unclaim 1 2 ∷ unclaim 0 2 ∷ []
 
 abbrev two_history : List HistoryEntry
@@ -85,7 +85,7 @@ abbrev three_replies : List (List Reply)
 three_replies = (reply.Done ∷ reply.Done ∷ []) ∷ (reply.Done ∷ reply.Cut ∷ []) ∷ (reply.Cut ∷ []) ∷ []
 
 -- the first gives its claim back; the second keeps its own; nothing stands of the third
-abbrev three_journal : List Entry
+abbrev three_journal : List JournalEntry
 three_journal = claim 0 0 ∷ unclaim 0 2 ∷ claim 1 0 ∷ []
 
 abbrev three_history : List HistoryEntry

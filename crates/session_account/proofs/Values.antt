@@ -4,7 +4,7 @@ use Rattle.std.specs.Prelude.{◌==◌, ◌&&◌, ◌*◌, if◌then◌else◌}
 use Rattle.arena_open.specs.declared.cell.Cell.{Cell}
 use Rattle.arena_open.specs.declared.cell.Cell.TheVariants as cell
 use Rattle.namespace_map.specs.declared.commands.Command.TheVariants as command
-use Rattle.namespace_ops.specs.Entries.{Entry}
+use Rattle.namespace_ops.specs.Entries.{JournalEntry}
 use Rattle.lane_core.specs.declared.history.Act.TheVariants as act
 use Rattle.lane_core.specs.declared.history.Entry.{Entry as HistoryEntry}
 use Rattle.session_script.specs.declared.script.Line.{Line}
@@ -44,10 +44,10 @@ close = line.Order order.Close
 abbrev pub write : ℕ → ℕ → Line
 write sector byte = line.Write sector (payload.Fill byte)
 
-abbrev pub claim : ℕ → ℕ → Entry
+abbrev pub claim : ℕ → ℕ → JournalEntry
 claim q call = entry q call (command.Claim u) (Ok tt)
 
-abbrev pub unclaim : ℕ → ℕ → Entry
+abbrev pub unclaim : ℕ → ℕ → JournalEntry
 unclaim q call = entry q call (command.Unclaim u) (Ok tt)
 
 abbrev pub wrote : ℕ → ℕ → ℕ → ℕ → HistoryEntry

@@ -5,7 +5,7 @@ use Rattle.arena_open.specs.declared.cell.Cell.TheVariants as cell
 use Rattle.namespace_map.specs.Namespaces.{put_all}
 use Rattle.namespace_map.specs.declared.commands.Command.TheVariants as command
 use Rattle.namespace_map.specs.declared.refused.OpRefused.TheVariants.{NoSuch}
-use Rattle.namespace_ops.specs.Entries.{Entry}
+use Rattle.namespace_ops.specs.Entries.{JournalEntry}
 use Rattle.session_script.specs.declared.script.Line.TheVariants as line
 use Rattle.session_script.specs.declared.script.Order.TheVariants as order
 use Rattle.session_account.specs.declared.reply.Reply.TheVariants as reply
@@ -70,9 +70,9 @@ unanswered h = let e : 1 ≡ 2 = h.all refl in absurd (omega (arith, e))
 
 -- the reply to an order isn't that of the journal
 pub invented : InJournal 0 (line.Order (order.Delete u) ∷ []) (reply.Done ∷ []) (entry 0 0 (command.Delete u) (Err NoSuch) ∷ []) → ⊥
-invented h = let last : h.last ≡ [] = h.is_last in let e : Some false ≡ Some true = ap says (h.entries ∙ ap (λ (es : List Entry). entry 0 0 (command.Delete u) (Ok tt) ∷ es) last) in absurd (cc)
+invented h = let last : h.last ≡ [] = h.is_last in let e : Some false ≡ Some true = ap says (h.entries ∙ ap (λ (es : List JournalEntry). entry 0 0 (command.Delete u) (Ok tt) ∷ es) last) in absurd (cc)
   where
-    says : List Entry → Option Bool
+    says : List JournalEntry → Option Bool
     says [] = None
     says (e ∷ es) = Some (is_ok e.reply)
 

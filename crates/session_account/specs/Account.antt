@@ -1,7 +1,7 @@
 -- The account of a script's sessions: its lines, their replies, the journal and the histories, held against one another.
 use Rattle.std.specs.Prelude.{◌≡◌, ◌⊎◌, ℕ, ◌+◌, ◌<◌, ◌≤◌, Bool, true, false, IsTrue, List, [], ◌∷◌, ◌++◌, length, slice_index_or, Some, None, IsSome}
 use Rattle.std.specs.List.{list_any, AllByRecursion}
-use Rattle.namespace_ops.specs.Entries.{Entry}
+use Rattle.namespace_ops.specs.Entries.{JournalEntry}
 use Rattle.namespace_ops.specs.Carried as answer
 use Rattle.lane_core.specs.declared.history.Entry.{Entry as HistoryEntry}
 use Rattle.session_script.specs.declared.script.Line.{Line}
@@ -33,7 +33,7 @@ abbrev pub IsInTime : List Serving → SessionLines → List Reply → Type 0
 IsInTime all session replies = (n : ℕ) → session.cut ≡ Some n → steps_in all (made_by session.calls replies) ≤ n
 
 -- the account of session q
-pub record Account (all : List Serving) (q : ℕ) (session : SessionLines) (replies : List Reply) (journal : List Entry) (histories : Histories) : Type 0 where
+pub record Account (all : List Serving) (q : ℕ) (session : SessionLines) (replies : List Reply) (journal : List JournalEntry) (histories : Histories) : Type 0 where
   pub cut_last : IsCutLast session.calls replies
   pub in_time : IsInTime all session replies
   pub checked : AllByRecursion (ChecksExactly all) (made_by session.calls replies)
@@ -56,19 +56,19 @@ replies_at replies q = slice_index_or replies q []
 abbrev pub CutItself : Script → List (List Reply) → ℕ → Type 0
 CutItself script replies q = (q < length script.sessions) × IsSome (session_at script q).cut × IsTrue (has_cut (replies_at replies q))
 
-abbrev pub has_cut_entry : List Entry → Bool
+abbrev pub has_cut_entry : List JournalEntry → Bool
 has_cut_entry journal = list_any (λ e. answer.is_cut e.reply) journal
 
 -- power was cut in a command
-abbrev pub CutInCommand : Script → List Entry → Type 0
+abbrev pub CutInCommand : Script → List JournalEntry → Type 0
 CutInCommand script journal = IsSome script.labelcut × IsTrue (has_cut_entry journal)
 
 -- a reply is a cut only if a session that cuts power was cut itself, or power was cut in a command
-abbrev pub CutHasCause : Script → List (List Reply) → List Entry → Type 0
+abbrev pub CutHasCause : Script → List (List Reply) → List JournalEntry → Type 0
 CutHasCause script replies journal =
     (q : ℕ) → IsTrue (has_cut (replies_at replies q)) → ((r : ℕ) × CutItself script replies r) ⊎ CutInCommand script journal
 
-pub record Accounts (all : List Serving) (script : Script) (replies : List (List Reply)) (journal : List Entry) (histories : Histories) : Type 0 where
+pub record Accounts (all : List Serving) (script : Script) (replies : List (List Reply)) (journal : List JournalEntry) (histories : Histories) : Type 0 where
   pub count : length replies ≡ length script.sessions
   pub each : (q : ℕ) → q < length script.sessions → Account all q (session_at script q) (replies_at replies q) journal histories
   pub cause : CutHasCause script replies journal

@@ -1,7 +1,7 @@
 -- A session between two of its calls: what it keeps and knows, and how one call more changes it.
 use Rattle.std.specs.Prelude.{◌≡◌, ◌≢◌, ◌⊎◌, ℕ, ◌+◌, ◌<◌, ◌≤◌, Bool, true, false, IsTrue, List, [], ◌∷◌, ◌++◌, length, if◌then◌else◌, slice_index_or, option_to_list, Option, Some, None}
 use Rattle.std.specs.List.{AllByRecursion}
-use Rattle.namespace_ops.specs.Entries.{Entry}
+use Rattle.namespace_ops.specs.Entries.{JournalEntry}
 use Rattle.session_script.specs.declared.script.Line.{Line}
 use Rattle.session_script.specs.declared.script.Line.TheVariants as line
 use Rattle.session_script.specs.declared.payload.Payload.{Payload}
@@ -25,7 +25,7 @@ abbrev pub HasLeft : SessionLines → ℕ → Option ℕ → Type 0
 HasLeft session spent left = (n : ℕ) → session.cut ≡ Some n → (m : ℕ) × (left ≡ Some m) × (spent + m ≤ n)
 
 -- session q after some of its calls, none of which was cut
-pub record IsAt (all : List Serving) (q : ℕ) (session : SessionLines) (replies : List Reply) (entries : List Entry) (stands : Stands) (left : Option ℕ) : Type 0 where
+pub record IsAt (all : List Serving) (q : ℕ) (session : SessionLines) (replies : List Reply) (entries : List JournalEntry) (stands : Stands) (left : Option ℕ) : Type 0 where
   pub few : length replies ≤ length session.calls
   pub goes_on : has_cut replies ≡ false
   pub has_left : HasLeft session (steps_in all (made_by session.calls replies)) left
@@ -35,7 +35,7 @@ pub record IsAt (all : List Serving) (q : ℕ) (session : SessionLines) (replies
   pub arenas : (place k : ℕ) → IsArena all place k → stands place k ≡ stands_of all place k (made_by session.calls replies)
 
 -- a call more was answered by its checks or by its kind: its entries stand, and its steps are paid
-pub record IsAnswered (all : List Serving) (q : ℕ) (m : Made) (entries entries' : List Entry) (stands stands' : Stands) (left left' : Option ℕ) : Type 0 where
+pub record IsAnswered (all : List Serving) (q : ℕ) (m : Made) (entries entries' : List JournalEntry) (stands stands' : Stands) (left left' : Option ℕ) : Type 0 where
   pub uncut : is_cut m.reply ≡ false
   pub checked : ChecksExactly all m
   pub kind : IsOfKind m
@@ -44,7 +44,7 @@ pub record IsAnswered (all : List Serving) (q : ℕ) (m : Made) (entries entries
   pub paid : (n : ℕ) → left ≡ Some n → (m' : ℕ) × (left' ≡ Some m') × (steps_of all m + m' ≤ n)
 
 -- a call more was cut: its entry stands or doesn't
-pub record IsStopped (all : List Serving) (q : ℕ) (m : Made) (entries entries' : List Entry) (stands stands' : Stands) : Type 0 where
+pub record IsStopped (all : List Serving) (q : ℕ) (m : Made) (entries entries' : List JournalEntry) (stands stands' : Stands) : Type 0 where
   pub cut : is_cut m.reply ≡ true
   pub commands : (entries' ≡ entries) ⊎ (entries' ≡ entries ++ option_to_list (entry_for q m))
   pub arenas : (place k : ℕ) → IsArena all place k → (stands' place k ≡ stands place k) ⊎ (stands' place k ≡ stands place k ++ option_to_list (stand_of all place k m))
@@ -52,7 +52,7 @@ pub record IsStopped (all : List Serving) (q : ℕ) (m : Made) (entries entries'
 -- Session q within a sector call m (as if it were cut), in a lane of one arena: its entry there stands or doesn't yet, and its passes of the other locks know
 -- what they knew. A write's entry stands from its map store on, a read's from its answer on: the history of a core's part is without the
 -- reads whose words a lane still loads.
-pub record IsCalling (all : List Serving) (q : ℕ) (session : SessionLines) (replies : List Reply) (m : Made) (place k : ℕ) (call : InCall) (entries : List Entry) (cores : ℕ → ℕ → CorePart) (left : Option ℕ) : Type 0 where
+pub record IsCalling (all : List Serving) (q : ℕ) (session : SessionLines) (replies : List Reply) (m : Made) (place k : ℕ) (call : InCall) (entries : List JournalEntry) (cores : ℕ → ℕ → CorePart) (left : Option ℕ) : Type 0 where
   pub before : Stands
   pub began : Option ℕ
   pub at : IsAt all q session replies entries before began
@@ -79,7 +79,7 @@ WritesSame =
 -- a law: a sector call that was answered adds its entry to its arena, and nothing elsewhere
 abbrev pub CallEnds : Type 0
 CallEnds =
-    (all : List Serving) (q : ℕ) (m : Made) (spot : Spot) (entries : List Entry) (before now : Stands) (left left' : Option ℕ)
+    (all : List Serving) (q : ℕ) (m : Made) (spot : Spot) (entries : List JournalEntry) (before now : Stands) (left left' : Option ℕ)
     → spot_of all m ≡ Some spot → entry_for q m ≡ None → is_cut m.reply ≡ false → ChecksExactly all m → IsOfKind m
     → now spot.place spot.arena ≡ before spot.place spot.arena ++ option_to_list (stand_of all spot.place spot.arena m)
     → ((p n : ℕ) → IsArena all p n → (p ≢ spot.place) ⊎ (n ≢ spot.arena) → now p n ≡ before p n)
@@ -89,7 +89,7 @@ CallEnds =
 -- a law: one that was cut does so or doesn't
 abbrev pub CallStops : Type 0
 CallStops =
-    (all : List Serving) (q : ℕ) (m : Made) (spot : Spot) (entries : List Entry) (before now : Stands)
+    (all : List Serving) (q : ℕ) (m : Made) (spot : Spot) (entries : List JournalEntry) (before now : Stands)
     → spot_of all m ≡ Some spot → entry_for q m ≡ None → is_cut m.reply ≡ true
     → (now spot.place spot.arena ≡ before spot.place spot.arena) ⊎ (now spot.place spot.arena ≡ before spot.place spot.arena ++ option_to_list (stand_of all spot.place spot.arena m))
     → ((p n : ℕ) → IsArena all p n → (p ≢ spot.place) ⊎ (n ≢ spot.arena) → now p n ≡ before p n)
@@ -107,13 +107,13 @@ NextIs session replies line = (length replies < length session.calls) × (slice_
 -- one more answered call
 abbrev pub GoesOn : Type 0
 GoesOn =
-    (all : List Serving) (q : ℕ) (session : SessionLines) (replies : List Reply) (entries entries' : List Entry) (stands stands' : Stands) (left left' : Option ℕ) (line : Line) (answer : Reply)
+    (all : List Serving) (q : ℕ) (session : SessionLines) (replies : List Reply) (entries entries' : List JournalEntry) (stands stands' : Stands) (left left' : Option ℕ) (line : Line) (answer : Reply)
     → IsAt all q session replies entries stands left → NextIs session replies line
     → IsAnswered all q (next_made session.calls replies line answer) entries entries' stands stands' left left'
     → IsAt all q session (more replies answer) entries' stands' left'
 
 -- what the locks of registry and cores let a session know
-abbrev pub known_registry : List Entry → ℕ → RegistryPart
+abbrev pub known_registry : List JournalEntry → ℕ → RegistryPart
 known_registry entries room = record { entries = entries; room = room }
 
 abbrev pub known_cores : Stands → Calls → ℕ → ℕ → CorePart
@@ -122,7 +122,7 @@ known_cores stands calls place k = record { stands = stands place k; calls = cal
 -- a call that was cut ends the session
 abbrev pub StopsSo : Type 0
 StopsSo =
-    (all : List Serving) (script : Script) (q : ℕ) (replies : List Reply) (entries entries' : List Entry) (stands stands' : Stands) (left : Option ℕ) (line : Line) (answer : Reply) (room : ℕ) (calls : Calls) (power : PowerPart)
+    (all : List Serving) (script : Script) (q : ℕ) (replies : List Reply) (entries entries' : List JournalEntry) (stands stands' : Stands) (left : Option ℕ) (line : Line) (answer : Reply) (room : ℕ) (calls : Calls) (power : PowerPart)
     → IsAt all q (session_at script q) replies entries stands left → NextIs (session_at script q) replies line
     → IsStopped all q (next_made (session_at script q).calls replies line answer) entries entries' stands stands'
     → ((place k : ℕ) → IsArena all place k → AllByRecursion (IsOfCut all place k (made_by (session_at script q).calls (more replies answer)) (stands' place k)) (calls place k))
@@ -132,7 +132,7 @@ StopsSo =
 -- behind the last call a claim is given back
 abbrev pub EndsSo : Type 0
 EndsSo =
-    (all : List Serving) (script : Script) (q : ℕ) (replies : List Reply) (entries last : List Entry) (stands : Stands) (left : Option ℕ) (room : ℕ) (calls : Calls) (power : PowerPart)
+    (all : List Serving) (script : Script) (q : ℕ) (replies : List Reply) (entries last : List JournalEntry) (stands : Stands) (left : Option ℕ) (room : ℕ) (calls : Calls) (power : PowerPart)
     → IsAt all q (session_at script q) replies entries stands left → length replies ≡ length (session_at script q).calls
     → IsGivenBack q (length (session_at script q).calls) (on_end (session_at script q).calls replies) last
     → ((place k : ℕ) → IsArena all place k → calls place k ≡ []) → HasCause script (session_at script q) replies (entries ++ last) power.stopped

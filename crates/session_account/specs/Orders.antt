@@ -7,7 +7,7 @@ use Rattle.namespace_map.specs.declared.commands.Command.TheVariants as command
 use Rattle.namespace_map.specs.declared.commands.Make.TheVariants.{Raw}
 use Rattle.namespace_map.specs.declared.refused.OpRefused.TheVariants.{PowerCut, OutOfMemory}
 use Rattle.namespace_map.specs.Commands.{named_of}
-use Rattle.namespace_ops.specs.Entries.{Entry, Reply as Answer}
+use Rattle.namespace_ops.specs.Entries.{JournalEntry, Reply as Answer}
 use Rattle.session_script.specs.declared.script.Line.{Line}
 use Rattle.session_script.specs.declared.script.Line.TheVariants as line
 use Rattle.session_script.specs.declared.script.Order.{Order}
@@ -48,38 +48,38 @@ answer_of other = None
 abbrev pub tag_of : ℕ → ℕ → Tag
 tag_of session call = record { session = session; call = call }
 
-abbrev pub entry : ℕ → ℕ → Command → Answer → Entry
+abbrev pub entry : ℕ → ℕ → Command → Answer → JournalEntry
 entry session call c answer = record { tag = tag_of session call; command = c; reply = answer }
 
 -- the entry of a call, if it asks something
-abbrev pub entry_for : ℕ → Made → Option Entry
+abbrev pub entry_for : ℕ → Made → Option JournalEntry
 entry_for q m = option_and_then (λ c. option_map (entry q m.call c) (answer_of m.reply)) (asked m.on m.line)
 
-abbrev pub entries_for : ℕ → List Made → List Entry
+abbrev pub entries_for : ℕ → List Made → List JournalEntry
 entries_for q calls = filter_map (entry_for q) calls
 
 -- a session's entries, in their order
-abbrev pub own_entries : ℕ → List Entry → List Entry
+abbrev pub own_entries : ℕ → List JournalEntry → List JournalEntry
 own_entries q journal = filter (λ e. e.tag.session == q) journal
 
 -- a claim that a session has at its end is given back; if power is off, it isn't
-abbrev pub IsGivenBack : ℕ → ℕ → Option (List ℕ) → List Entry → Type 0
+abbrev pub IsGivenBack : ℕ → ℕ → Option (List ℕ) → List JournalEntry → Type 0
 IsGivenBack q calls None last = last ≡ []
 IsGivenBack q calls (Some uuid) last = (last ≡ entry q calls (command.Unclaim uuid) (Ok tt) ∷ []) ⊎ (last ≡ entry q calls (command.Unclaim uuid) (Err PowerCut) ∷ [])
 
 -- what stands behind the entries of the calls that weren't cut: nothing, or that of the call that was; or the claim is given back
-abbrev pub IsLastEntry : ℕ → List Line → List Reply → List Entry → Type 0
+abbrev pub IsLastEntry : ℕ → List Line → List Reply → List JournalEntry → Type 0
 IsLastEntry q lines replies last =
     MatchBool (has_cut replies)
     ((last ≡ []) ⊎ (last ≡ entries_for q (cut_of (made_by lines replies))))
     (IsGivenBack q (length lines) (on_end lines replies) last)
 
 -- the part on the journal
-pub record InJournal (q : ℕ) (lines : List Line) (replies : List Reply) (own : List Entry) : Type 0 where
-  pub last : List Entry
+pub record InJournal (q : ℕ) (lines : List Line) (replies : List Reply) (own : List JournalEntry) : Type 0 where
+  pub last : List JournalEntry
   pub entries : own ≡ entries_for q (uncut (made_by lines replies)) ++ last
   pub is_last : IsLastEntry q lines replies last
 
 -- no entry is of a session that there isn't
-abbrev pub IsOfSessions : ℕ → List Entry → Type 0
+abbrev pub IsOfSessions : ℕ → List JournalEntry → Type 0
 IsOfSessions count journal = AllByRecursion (λ e. e.tag.session < count) journal

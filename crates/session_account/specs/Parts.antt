@@ -5,7 +5,7 @@ use Rattle.arena_open.specs.declared.cell.Cell.{Cell}
 use Rattle.nvd_words.specs.declared.tag.Tag.{Tag}
 use Rattle.namespace_map.specs.declared.commands.Command.{Command}
 use Rattle.namespace_map.specs.declared.commands.Command.TheVariants as command
-use Rattle.namespace_ops.specs.Entries.{Entry, Reply as Answer}
+use Rattle.namespace_ops.specs.Entries.{JournalEntry, Reply as Answer}
 use Rattle.namespace_ops.specs.Room.{room_of}
 use Rattle.lane_core.specs.declared.history.Act.{Act}
 pub use Rattle.lane_core.specs.declared.in_call.InCall.{InCall}
@@ -29,10 +29,10 @@ use Rattle.session_account.specs.Account.{has_cut_entry, IsCutLast, IsInTime, Hi
 
 -- a session's entries of the journal, and for how many more it has room. Which namespace it has open follows from its entries (`open_after`).
 pub record RegistryPart : Type 0 where
-  pub entries : List Entry
+  pub entries : List JournalEntry
   pub room : ℕ
 
-abbrev pub registry_part : List Entry → List ℕ → ℕ → RegistryPart
+abbrev pub registry_part : List JournalEntry → List ℕ → ℕ → RegistryPart
 registry_part journal room q = record { entries = own_entries q journal; room = room_of room q }
 
 -- the namespace that entries leave open
@@ -45,7 +45,7 @@ abbrev pub open_with : Option (List ℕ) → Command → Answer → Option (List
 open_with held c (Ok done) = open_done held c
 open_with held c (Err refused) = held
 
-abbrev pub open_after : Option (List ℕ) → List Entry → Option (List ℕ)
+abbrev pub open_after : Option (List ℕ) → List JournalEntry → Option (List ℕ)
 open_after held [] = held
 open_after held (e ∷ es) = open_after (open_with held e.command e.reply) es
 
@@ -78,7 +78,7 @@ abbrev pub ToldOfOne : ℕ → (ℕ → PowerPart) → Type 0
 ToldOfOne count parts = (q : ℕ) → IsTrue (parts q).told → (r : ℕ) × (r < count) × IsSome (parts r).stopped
 
 -- a session switches power off itself where it has a cut of its own, and is cut then; for the label side where a command of its own was cut
-abbrev pub HasCause : Script → SessionLines → List Reply → List Entry → Option Who → Type 0
+abbrev pub HasCause : Script → SessionLines → List Reply → List JournalEntry → Option Who → Type 0
 HasCause script session replies own None = Unit {0}
 HasCause script session replies own (Some itself) = IsSome session.cut × IsTrue (has_cut replies)
 HasCause script session replies own (Some labels) = IsSome script.labelcut × IsTrue (has_cut_entry own)
@@ -104,7 +104,7 @@ pub record IsDone (all : List Serving) (script : Script) (q : ℕ) (replies : Li
   pub stopped : HasCause script (session_at script q) replies registry.entries power.stopped
 
 -- what the locks give when they are closed: each session's passes know its parts, and nothing is of another
-pub record AreClosed (all : List Serving) (count : ℕ) (journal : List Entry) (room : List ℕ) (histories : Histories) (calls : Calls) (power : ℕ → PowerPart) : Type 0 where
+pub record AreClosed (all : List Serving) (count : ℕ) (journal : List JournalEntry) (room : List ℕ) (histories : Histories) (calls : Calls) (power : ℕ → PowerPart) : Type 0 where
   pub no_entry : (q : ℕ) → count ≤ q → own_entries q journal ≡ []
   pub no_stand : (place k q : ℕ) → IsArena all place k → count ≤ q → own_stands q (histories place k) ≡ []
   pub no_call : (place k : ℕ) → IsArena all place k → AllByRecursion (λ l. l.tag.session < count) (calls place k)
@@ -113,7 +113,7 @@ pub record AreClosed (all : List Serving) (count : ℕ) (journal : List Entry) (
 -- the theorem of the tie: closed locks and sessions that are done give the accounts
 abbrev pub AccountsFollow : Type 0
 AccountsFollow =
-    (all : List Serving) (script : Script) (replies : List (List Reply)) (journal : List Entry) (room : List ℕ) (histories : Histories) (calls : Calls) (power : ℕ → PowerPart)
+    (all : List Serving) (script : Script) (replies : List (List Reply)) (journal : List JournalEntry) (room : List ℕ) (histories : Histories) (calls : Calls) (power : ℕ → PowerPart)
     → length replies ≡ length script.sessions → AreClosed all (length script.sessions) journal room histories calls power
     → ((q : ℕ) → q < length script.sessions → IsDone all script q (replies_at replies q) (registry_part journal room q) (λ place k. part_by (histories place k) (calls place k) q) (power q))
     → Accounts all script replies journal histories
@@ -123,7 +123,7 @@ AccountsFollow =
 -- the theorem of the tie, of what is left: where the sessions are done, the contents survive by their accounts
 abbrev pub SurvivalFollows : Type 0
 SurvivalFollows =
-    (all : List Serving) (script : Script) (replies : List (List Reply)) (journal : List Entry) (room : List ℕ) (histories : Histories) (calls : Calls) (power : ℕ → PowerPart)
+    (all : List Serving) (script : Script) (replies : List (List Reply)) (journal : List JournalEntry) (room : List ℕ) (histories : Histories) (calls : Calls) (power : ℕ → PowerPart)
     → length replies ≡ length script.sessions → AreClosed all (length script.sessions) journal room histories calls power
     → ((q : ℕ) → q < length script.sessions → IsDone all script q (replies_at replies q) (registry_part journal room q) (λ place k. part_by (histories place k) (calls place k) q) (power q))
     → (place k : ℕ) → IsArena all place k → (opening left : Cells) (count : ℕ) → CoreSurvives opening (histories place k) (calls place k) count left
@@ -133,7 +133,7 @@ SurvivalFollows =
 
 -- a law: an entry of the journal leaves the parts of all sessions but its own, and adds itself to that
 abbrev pub EntriesKeep : Type 0
-EntriesKeep = (journal : List Entry) (e : Entry) (q : ℕ) → (e.tag.session ≢ q → own_entries q (journal ++ e ∷ []) ≡ own_entries q journal) × (e.tag.session ≡ q → own_entries q (journal ++ e ∷ []) ≡ own_entries q journal ++ e ∷ [])
+EntriesKeep = (journal : List JournalEntry) (e : JournalEntry) (q : ℕ) → (e.tag.session ≢ q → own_entries q (journal ++ e ∷ []) ≡ own_entries q journal) × (e.tag.session ≡ q → own_entries q (journal ++ e ∷ []) ≡ own_entries q journal ++ e ∷ [])
 
 -- ---- one call more
 

@@ -1,14 +1,13 @@
 -- Closed locks, and sessions that have come to their end, give the accounts.
-use Rattle.std.proofs.Common.{◌≡◌, ◌≢◌, ◌⊎◌, inl, inr, ℕ, zero, suc, ◌+◌, ◌<◌, ◌≤◌, Bool, true, false, cond, List, [], ◌∷◌, ◌++◌, length, get_or, map, filter, slice_get, replicate, take, drop, append-nil, Option, Some, None, refl, sym, ap, ◌∙◌, subst, arith, eq-eqb}
-use Rattle.std.specs.Prelude.{◌==◌, All, IsSome, IsTrue, Vec}
+use Rattle.std.proofs.Common.{◌≡◌, ◌⊎◌, inl, inr, ℕ, zero, suc, ◌+◌, ◌<◌, ◌≤◌, Bool, true, false, cond, List, [], ◌∷◌, ◌++◌, length, get_or, map, slice_get, replicate, take, drop, append-nil, Option, Some, None, refl, sym, ap, ◌∙◌, subst, arith, eq-eqb}
+use Rattle.std.specs.Prelude.{◌==◌, All, IsSome, Vec}
 use Rattle.std.specs.List.{AllByRecursion}
 use Rattle.std.proofs.lemmas.List.{drop_all, get_or-map, length-map, take_all}
 use Rattle.std.proofs.Math.ListN.{get_or-append}
 use Rattle.atomic_table.specs.Seated.{TableId}
-use Rattle.turn_lock.specs.declared.turn.Turn.{Turn}
 use Rattle.turn_lock.specs.declared.parted.Parted.{Ghosts}
 use Rattle.turn_lock.specs.declared.pass.TurnPass.{TurnPass}
-use Rattle.turn_lock.specs.Passes.{lock_id, callers_of, first_of, number_of, part_of, IsOutside, HasEach, Knows as PassKnows}
+use Rattle.turn_lock.specs.Passes.{lock_id, first_of, number_of, IsOutside, HasEach, Knows as PassKnows}
 use Rattle.turn_lock.specs.Rows.{items_at}
 use Rattle.turn_lock.proofs.Places.{there}
 use Rattle.turn_callers.specs.declared.desk.Desk.{Desk}
@@ -16,20 +15,19 @@ use Rattle.turn_callers.specs.declared.desk.Mine.{Mine}
 use Rattle.turn_callers.specs.Power.{mine_at}
 use Rattle.turn_callers.proofs.Any.{off_if_told, some_of}
 use Rattle.arena_open.specs.declared.state.ArenaState.{ArenaState}
-use Rattle.lane_core.specs.declared.history.Entry.{Entry as HistoryEntry}
 use Rattle.lane_core.specs.declared.in_call.InCall.{InCall}
 use Rattle.lane_core.specs.declared.machine.Core.{Core}
 use Rattle.lane_core.specs.Held.{held_by}
-use Rattle.lane_core.specs.History.{Cells, IsLegal, end_of}
-use Rattle.lane_core.specs.Reopening.{IsCoreOf, MaySurvive, first_cells}
-use Rattle.lane_core.specs.Sessions.{CoreSurvives, IsFlying, answered_in, calls_in}
+use Rattle.lane_core.specs.History.{Cells, IsLegal}
+use Rattle.lane_core.specs.Reopening.{first_cells}
+use Rattle.lane_core.specs.Sessions.{CoreSurvives, answered_in, calls_in}
 use Rattle.lane_core.proofs.Flying.{survivors_are_calls}
 use Rattle.namespace_areas.specs.declared.area.Area.{Area}
 use Rattle.namespace_areas.specs.Seen.{AreLeft as AreasLeft, areas_seen, areas_shown}
-use Rattle.namespace_ops.specs.Entries.{Entry}
-use Rattle.namespace_ops.specs.Registered.{Registered, kept_of, opening_of, state_of}
+use Rattle.namespace_ops.specs.Entries.{JournalEntry}
+use Rattle.namespace_ops.specs.Registered.{Registered, opening_of}
 use Rattle.session_parts.specs.declared.parts.CorePart.{CorePart}
-use Rattle.session_parts.specs.Parts.{calls_by as calls_of, core_part, own_stands, part, part_by}
+use Rattle.session_parts.specs.Parts.{calls_by as calls_of, core_part, own_stands, part_by}
 use Rattle.session_script.specs.declared.script.Script.{Script}
 use Rattle.session_account.specs.declared.reply.Reply.{Reply}
 use Rattle.session_account.specs.Account.{Accounts, Histories, flights_on, has_cut_entry, replies_at, session_at}
@@ -39,16 +37,13 @@ use Rattle.session_account.specs.Made.{made_by}
 use Rattle.session_account.specs.Orders.{own_entries}
 use Rattle.session_account.specs.Sectors.{InHistory}
 use Rattle.session_account.specs.Parts as parts
-use Rattle.session_account.specs.Parts.{AreClosed, Calls, IsOfCut, PowerPart, RegistryPart, Who, itself, labels, registry_part, ToldOfOne}
+use Rattle.session_account.specs.Parts.{AreClosed, Calls, IsOfCut, PowerPart, RegistryPart, registry_part, ToldOfOne}
 use Rattle.session_account.specs.Serving.{Serving, Shape, IsArena, no_serving}
-use Rattle.session_account.specs.Survival.{Survives}
 use Rattle.session_account.proofs.Following.{accounts_follow, either}
 use Rattle.session_account.proofs.Surviving.{survival_follows}
-use Rattle.registry_service.specs.declared.served.OrdersPart.{OrdersPart}
 use Rattle.registry_service.specs.Parts.{KnowsOwn}
-use Rattle.registry_service.specs.Served.{AreKept, answered}
-use Rattle.sector_service.specs.Rows.{Know, Parts}
-use Rattle.sector_service.specs.Served.{part_at, served}
+use Rattle.registry_service.specs.Served.{AreKept}
+use Rattle.sector_service.specs.Served.{served}
 use Rattle.session_service.specs.declared.ending.Ran.{Ran}
 use Rattle.session_service.specs.declared.namespaces.ServedNamespace.{ServedNamespace}
 use Rattle.session_service.specs.declared.runner.Runner.{Runner}
@@ -58,7 +53,7 @@ use Rattle.session_service.specs.Made.{IsMade, states_in}
 use Rattle.session_service.specs.Namespaces.{arenas_in, core_at, serving_of, servings_of, shape_by}
 use Rattle.session_service.specs.Ran.{HasServed, IsRunCore, histories_of, history_in, in_row, journal_of, replies_of}
 use Rattle.session_service.specs.Runners.{AreEnded, IsDone, calls_by, power_by, stands_by, who_by, who_if}
-use Rattle.session_service.specs.Seated.{IsQuiet, KeepRest}
+use Rattle.session_service.specs.Seated.{IsQuiet, KeepAllButCores}
 use Rattle.session_service.specs.Services.{all_of, arena_at, arena_of, arenas_of, locks_of, orders_of, power_of}
 use Rattle.session_service.proofs.Cores.{behind, core_there}
 
@@ -144,7 +139,7 @@ lanes_of vs place k = calls_in_core (slice_get (items_at vs place) k)
 
 -- ---- the switch
 
-module _ (desk first : Desk) (count : ℕ) (quiet : IsQuiet count first) (strangers : (q : ℕ) → count ≤ q → mine_at desk.stopped.items desk.told.items q ≡ mine_at first.stopped.items first.told.items q) (journal : List Entry) where
+module _ (desk first : Desk) (count : ℕ) (quiet : IsQuiet count first) (strangers : (q : ℕ) → count ≤ q → mine_at desk.stopped.items desk.told.items q ≡ mine_at first.stopped.items first.told.items q) (journal : List JournalEntry) where
   abbrev pub powers : ℕ → PowerPart
   powers q = power_by (mine_at desk.stopped.items desk.told.items q) (own_entries q journal)
 
@@ -153,7 +148,7 @@ module _ (desk first : Desk) (count : ℕ) (quiet : IsQuiet count first) (strang
   quiet_at (suc n) zero = refl
   quiet_at (suc n) (suc q) = quiet_at n q
 
-  who_some : (stopped : Bool) (entries : List Entry) → stopped ≡ true → IsSome (who_by stopped entries)
+  who_some : (stopped : Bool) (entries : List JournalEntry) → stopped ≡ true → IsSome (who_by stopped entries)
   who_some true entries e = by (has_cut_entry entries)
     where
       by : (b : Bool) → IsSome (who_if b)
@@ -214,7 +209,7 @@ module _ {T D : Type 0} {g : Ghosts T D} (f : Runner → TurnPass T D g) (lock :
       let d = (there rs q inside).0 in
       (q, f (get_or rs q d), omega (arith, inside, l), get_or-map f rs q d (f (get_or rs q d)) inside, (facts q d inside).1)
 
-module _ (script : Script) (service : Service) (rs rs' : List Runner) (ended : AreEnded service script rs) (lasted : All (λ r. r.refused ≡ false) rs) (same : length rs' ≡ length rs) (rest : KeepRest rs rs') where
+module _ (script : Script) (service : Service) (rs rs' : List Runner) (ended : AreEnded service script rs) (lasted : All (λ r. r.refused ≡ false) rs) (same : length rs' ≡ length rs) (rest : KeepAllButCores rs rs') where
   pub order_facts : (q : ℕ) (d : Runner) → q < length rs' → IsOutside (orders_of service) (get_or rs' q d).orders × (number_of (get_or rs' q d).orders ≡ q)
   order_facts q d h =
       let inside : q < length rs = omega (arith, h, same) in
@@ -239,7 +234,7 @@ many_cores registry served_all script service made =
 -- ---- all of them
 
 module _ (registry : Registered) (served_all : List ServedNamespace) (script : Script) (service : Service) (made : IsMade registry served_all script service) (rs rs' : List Runner) (count : length rs ≡ length script.sessions) (ended : AreEnded service script rs) (lasted : All (λ r. r.refused ≡ false) rs)
-    (same : length rs' ≡ length rs) (rest : KeepRest rs rs') (row : List Core) (shared : AreShared (length script.sessions) (arenas_of service) row) (row_count : length row ≡ length service.turns.items) (known : PartsAreKnown (locks_of service) (arenas_of service) rs row)
+    (same : length rs' ≡ length rs) (rest : KeepAllButCores rs rs') (row : List Core) (shared : AreShared (length script.sessions) (arenas_of service) row) (row_count : length row ≡ length service.turns.items) (known : PartsAreKnown (locks_of service) (arenas_of service) rs row)
     (ran : Ran) (in_row_is : in_row ran.cores.items ≡ row) (counts : map (λ c. length c.items) ran.cores.items ≡ map (λ s. length s.arenas) (all_of service)) (replies_is : ran.replies.items ≡ map (λ r. r.replies) rs')
     (owns : All (λ p. KnowsOwn ran.registry p) (map (λ r. r.orders) rs')) (strangers : (q : ℕ) → length script.sessions ≤ q → own_entries q (journal_of ran) ≡ [])
     (desk : Desk) (desk_knows : All (λ p. PassKnows desk p) (map (λ r. r.session.caller.switch) rs'))
@@ -250,7 +245,7 @@ module _ (registry : Registered) (served_all : List ServedNamespace) (script : S
   abbrev n : ℕ
   n = length script.sessions
 
-  abbrev journal : List Entry
+  abbrev journal : List JournalEntry
   journal = journal_of ran
 
   abbrev all_replies : List (List Reply)

@@ -1,5 +1,5 @@
 -- A session's call on a sector, as a step of its account.
-use Rattle.std.proofs.Common.{◌≡◌, ◌≢◌, ◌⊎◌, inl, inr, ℕ, ◌+◌, ◌-◌, ◌*◌, ◌/◌, ◌<◌, ◌≤◌, Bool, true, false, ◌&&◌, cond, List, [], ◌∷◌, ◌++◌, length, get_or, filter_map, Option, Some, None, refl, sym, ap, ◌∙◌, subst, arith, append-nil, eq-eqb}
+use Rattle.std.proofs.Common.{◌≡◌, ◌≢◌, ◌⊎◌, inl, inr, ℕ, ◌+◌, ◌-◌, ◌*◌, ◌/◌, Bool, true, false, ◌&&◌, cond, List, [], ◌∷◌, ◌++◌, length, Option, Some, None, refl, sym, ap, ◌∙◌, subst, arith, append-nil, eq-eqb}
 use Rattle.std.specs.Prelude.{◌==◌, if◌then◌else◌, option_to_list}
 use Rattle.std.specs.List.{AllByRecursion}
 use mathlib.Core.Logic.{dite}
@@ -9,8 +9,8 @@ use Rattle.lane_core.specs.declared.history.Act.{Act}
 use Rattle.lane_core.specs.declared.history.Act.TheVariants as act
 use Rattle.lane_core.specs.declared.in_call.InCall.{InCall}
 use Rattle.lane_core.specs.Sessions.{write_steps}
-use Rattle.namespace_ops.specs.Entries.{Entry}
-use Rattle.session_parts.specs.Parts.{part, stand_at}
+use Rattle.namespace_ops.specs.Entries.{JournalEntry}
+use Rattle.session_parts.specs.Parts.{stand_at}
 use Rattle.session_script.specs.declared.payload.Payload.{Payload}
 use Rattle.session_script.specs.declared.script.Line.{Line}
 use Rattle.session_script.specs.declared.script.Line.TheVariants as line
@@ -19,10 +19,10 @@ use Rattle.session_account.specs.declared.reply.Reply.{Reply}
 use Rattle.session_account.specs.declared.reply.Reply.TheVariants as reply
 use Rattle.session_account.specs.Account.{session_at}
 use Rattle.session_account.specs.Going.{IsAnswered, IsStopped, NextIs}
-use Rattle.session_account.specs.Made.{Made, cut_of, is_cut, made, made_by, uncut}
+use Rattle.session_account.specs.Made.{Made, cut_of, made, made_by, uncut}
 use Rattle.session_account.specs.Orders.{entry_for}
 use Rattle.session_account.specs.Parts.{IsOfCut, more}
-use Rattle.session_account.specs.Sectors.{Stand, act_for, check_of, is_check, IsChecked, least_steps, on_spot, size_of, spot_of, stand_as, stand_by, stand_of, stands_of, steps_at, steps_of, words_of, wrong_length}
+use Rattle.session_account.specs.Sectors.{Stand, act_for, check_of, IsChecked, on_spot, size_of, spot_of, stand_as, stand_by, stand_of, stands_of, steps_at, words_of, wrong_length}
 use Rattle.session_account.specs.Serving.{Serving, Shape, Spot, IsArena, arenas_of}
 use Rattle.session_account.proofs.Calling.{call_ends, call_stops}
 use Rattle.session_account.proofs.Going.{map_more, stopped_cut, stopped_uncut}
@@ -30,7 +30,7 @@ use Rattle.registry_service.specs.declared.served.OrdersPart.{OrdersPart}
 use Rattle.turn_callers.specs.declared.desk.Mine.{Mine}
 use Rattle.sector_service.specs.declared.served.ServedPart.{ServedPart}
 use Rattle.sector_service.specs.Calls as core
-use Rattle.sector_service.specs.Calls.{IsLeft, IsRead, IsWrite, Paid, answered, reading, within}
+use Rattle.sector_service.specs.Calls.{IsLeft, IsWrite, Paid, answered, within}
 use Rattle.sector_service.specs.Rows.{Parts, with_part}
 use Rattle.sector_service.specs.Served.{shape_of}
 use Rattle.sector_service.proofs.Sessions.{with_other, with_same}
@@ -78,7 +78,7 @@ module _ (all : List Serving) (held : Option (List ℕ)) (sector : ℕ) (f : Fou
       ap (λ (o : Option (List ℕ)). check_of all o (line.Read sector)) found.is_open
       ∙ ap (λ (s : Option Spot). on_spot (arenas_of all found.uuid) s (λ (shape : Shape). None)) found.spot_is
 
-  pub read_answered : (q n : ℕ) (cell : Cell) (entries : List Entry) (left left' : Option ℕ) (m : ServedPart) → m ≡ answered (stand_at n f.sector (act.Read cell)) (known j) → Paid 1 left left'
+  pub read_answered : (q n : ℕ) (cell : Cell) (entries : List JournalEntry) (left left' : Option ℕ) (m : ServedPart) → m ≡ answered (stand_at n f.sector (act.Read cell)) (known j) → Paid 1 left left'
       → IsAnswered all q (made n held (line.Read sector) (reply.Value cell)) entries entries (stands_by all known) (stands_by all (with_part known j m)) left left'
   read_answered q n cell entries left left' m is paid =
       call_ends all q (made n held (line.Read sector) (reply.Value cell)) found.spot entries (stands_by all known) (stands_by all (with_part known j m)) left left'
@@ -122,7 +122,7 @@ module _ (all : List Serving) (held : Option (List ℕ)) (sector : ℕ) (f : Fou
         ap (λ (b : ℕ). if size_of value b == b then Some (act.Write (words_of value b)) else None) (sym found.bytes_is)
         ∙ ap (λ (b : Bool). if b then Some (act.Write words) else None) (fits_is (size_of value f.bytes) f.bytes fits)
 
-    pub write_answered : (q n : ℕ) (entries : List Entry) (left left' : Option ℕ) (m : ServedPart) → shape_by (known j).first ≡ found.spot.shape → m ≡ answered (stand_at n f.sector (act.Write words)) (known j) → Paid (write_steps (shape_of (known j))) left left'
+    pub write_answered : (q n : ℕ) (entries : List JournalEntry) (left left' : Option ℕ) (m : ServedPart) → shape_by (known j).first ≡ found.spot.shape → m ≡ answered (stand_at n f.sector (act.Write words)) (known j) → Paid (write_steps (shape_of (known j))) left left'
         → IsAnswered all q (made n held (line.Write sector value) reply.Done) entries entries (stands_by all known) (stands_by all (with_part known j m)) left left'
     write_answered q n entries left left' m layout is paid =
         call_ends all q (made n held (line.Write sector value) reply.Done) found.spot entries (stands_by all known) (stands_by all (with_part known j m)) left left'
@@ -189,7 +189,7 @@ module _ (all : List Serving) (held : Option (List ℕ)) (sector : ℕ) (f : Fou
           by (inl is) = ap (λ (x : ServedPart). x.mine.stands) is
           by (inr h) = ap (λ (x : ServedPart). x.mine.stands) h.3
 
-      pub read_stops : (entries : List Entry) → IsStopped all q at_cut entries entries (stands_by all known) (stands_by all (with_part known j m))
+      pub read_stops : (entries : List JournalEntry) → IsStopped all q at_cut entries entries (stands_by all known) (stands_by all (with_part known j m))
       read_stops entries =
           call_stops all q at_cut found.spot entries (stands_by all known) (stands_by all (with_part known j m))
           (ap (λ (x : Line). spot_of all (made (length replies) held x reply.Cut)) at ∙ read_spot (length replies) reply.Cut)
@@ -223,7 +223,7 @@ module _ (all : List Serving) (held : Option (List ℕ)) (sector : ℕ) (f : Fou
       flies : stand_of all found.spot.place found.spot.arena at_cut ≡ Some (stand_at (length replies) f.sector its)
       flies = stand_is (length replies) l reply.Cut its spot_here (ap (λ (x : Line). act_for x reply.Cut found.spot.shape) at ∙ cut_act value fits)
 
-      pub write_stops : (entries : List Entry) → IsStopped all q at_cut entries entries (stands_by all known) (stands_by all (with_part known j m))
+      pub write_stops : (entries : List JournalEntry) → IsStopped all q at_cut entries entries (stands_by all known) (stands_by all (with_part known j m))
       write_stops entries =
           call_stops all q at_cut found.spot entries (stands_by all known) (stands_by all (with_part known j m)) spot_here
           (ap (λ (x : Line). entry_for q (made (length replies) held x reply.Cut)) at) refl (by goes) (others m)

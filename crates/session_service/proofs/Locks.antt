@@ -21,9 +21,9 @@ use Rattle.session_parts.specs.Parts.{core_part, part}
 use Rattle.sector_service.specs.contracts.served.ServedCoreParted.TheImpl.{ghosts}
 use Rattle.session_service.specs.declared.runner.Runner.{Runner}
 use Rattle.sector_service.specs.declared.served.ServedPart.{ServedPart}
-use Rattle.session_service.specs.Closed.{AreShared, HadOneMore, IsShared, KnowAll}
+use Rattle.session_service.specs.Closed.{AreShared, LoseCorePass, IsShared, KnowAll}
 use Rattle.sector_service.specs.Rows.{Know, Parts}
-use Rattle.session_service.specs.Seated.{KeepRest}
+use Rattle.session_service.specs.Seated.{KeepAllButCores}
 use Rattle.sector_service.specs.Served.{Served, fresh, part_at, served, served_part}
 use Rattle.session_service.specs.Services.{arena_at}
 use Rattle.session_service.proofs.Seating.{fresh_part}
@@ -31,7 +31,7 @@ use Rattle.session_service.proofs.Seating.{fresh_part}
 -- ---- the last lock, and those before it
 
 module _ (locks : List TableId) (lock : TableId) (rs rs' : List Runner) (ps : List (TurnPass Served ServedPart ghosts)) (known : KnowAll (locks ++ lock ∷ []) rs) (same : length rs' ≡ length rs) (count : length ps ≡ length rs)
-    (taken : HadOneMore rs ps rs') (rest : KeepRest rs rs') where
+    (taken : LoseCorePass rs ps rs') (rest : KeepAllButCores rs rs') where
   -- what a session knows of the locks before, and of the last one
   pub both : (q : ℕ) (d : Runner) (e : TurnPass Served ServedPart ghosts) (parts : Parts) → q < length rs → Know (locks ++ lock ∷ []) q parts (get_or rs q d).session.passes.items
       → Know locks q parts (get_or rs' q d).session.passes.items × IsPassOf lock q (λ m. m ≡ parts (length locks)) (get_or ps q e)

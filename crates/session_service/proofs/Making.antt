@@ -1,5 +1,5 @@
 -- What the locks are made around.
-use Rattle.std.proofs.Common.{◌≡◌, ◌⊎◌, inl, inr, ℕ, zero, suc, ◌+◌, ◌-◌, ◌%◌, ◌^◌, ◌<◌, ◌≤◌, List, [], ◌∷◌, ◌++◌, length, length-append, get_or, map, refl, sym, ap, ◌∙◌, subst, arith, append_assoc, append-nil}
+use Rattle.std.proofs.Common.{◌≡◌, ◌⊎◌, inl, inr, ℕ, suc, ◌+◌, ◌-◌, ◌%◌, ◌<◌, ◌≤◌, List, [], ◌∷◌, ◌++◌, length, length-append, get_or, map, refl, sym, ap, ◌∙◌, subst, arith, append_assoc, append-nil}
 use Rattle.std.specs.Prelude.{All, IsTrue}
 use mathlib.Core.List.{map-append}
 use Rattle.std.proofs.lemmas.List.{length-map, get_or-map}
@@ -8,8 +8,7 @@ use Rattle.turn_lock.proofs.Places.{there}
 use Rattle.arena_layout.specs.declared.layout.Layout.{Layout}
 use Rattle.arena_layout.specs.Layout.{is_sector}
 use Rattle.arena_open.specs.declared.state.ArenaState.{ArenaState}
-use Rattle.arena_open.specs.Moves.{IsOpenState}
-use Rattle.session_account.specs.Serving.{Serving, Shape}
+use Rattle.session_account.specs.Serving.{Serving}
 use Rattle.session_account.proofs.Following.{either}
 use Rattle.sector_service.specs.Served.{Served, fresh}
 use Rattle.session_service.specs.declared.namespaces.Place.{Place}
@@ -18,7 +17,7 @@ use Rattle.session_service.specs.declared.service.Service.{Service}
 use Rattle.session_script.specs.declared.script.SessionLines.{SessionLines}
 use Rattle.session_service.specs.Made.{rooms_of, states_in}
 use Rattle.session_service.specs.Namespaces.{AreLaid, AreOpened, FirstsFrom, arenas_in, serving_at, serving_of, servings_at, servings_of, shape_as, shape_by}
-use Rattle.session_service.specs.Services.{IsLaid, all_of, arenas_of}
+use Rattle.session_service.specs.Services.{IsLaid, arenas_of}
 use Rattle.session_service.proofs.Cores.{behind}
 
 -- ---- cores in which nothing was called

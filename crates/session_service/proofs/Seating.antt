@@ -43,11 +43,11 @@ use Rattle.sector_service.specs.Rows.{Know, Parts}
 use Rattle.sector_service.specs.Served.{Served, fresh, part_at, served_part}
 use Rattle.session_service.specs.declared.runner.Runner.{Runner}
 use Rattle.session_service.specs.declared.service.Service.{Service}
-use Rattle.session_service.specs.Made.{IsMade, rooms_of}
-use Rattle.session_script.specs.Names.{LineHasText, ScriptHasText}
-use Rattle.session_service.specs.Runners.{AreReady, IsAt, IsReady, Standing}
-use Rattle.session_service.specs.Seated.{AreBare, HaveNone, HaveOneMore, IsNewSession, IsQuiet, IsSameRest, KeepRest, KnowCores, first_caller, fresh_parts}
-use Rattle.session_service.specs.Services.{IsLaid, IsNew, all_of, arena_at, arena_of, arenas_of, locks_of, orders_of, power_of}
+use Rattle.session_service.specs.Made.{rooms_of}
+use Rattle.session_script.specs.Names.{ScriptHasText}
+use Rattle.session_service.specs.Runners.{AreRunnersReady, IsAt, Standing}
+use Rattle.session_service.specs.Seated.{AreBare, HaveNone, GainCorePass, IsNewSession, IsQuiet, IsSameRest, KeepAllButCores, KnowCores, first_caller, fresh_parts}
+use Rattle.session_service.specs.Services.{IsLaid, IsNewCore, all_of, arena_at, arena_of, arenas_of, locks_of}
 
 -- ---- a core in which nothing was called
 
@@ -78,7 +78,7 @@ module _ (service service' : Service) (t : Turn Served ServedPart) (state : Aren
   pub arenas_more : arenas_of service' ≡ arenas_of service ++ state ∷ []
   arenas_more = ap (map arena_of) turns ∙ map-append arena_of service.turns.items (t ∷ []) ∙ ap (λ (s : Served). arenas_of service ++ s.first ∷ []) first
 
-  pub know_more : (rs rs' : List Runner) (ps : List (TurnPass Served ServedPart ghosts)) → KnowCores service rs → length rs' ≡ length rs → length ps ≡ length rs → HaveOneMore rs ps rs' → AreFresh (lock_id t) (first_of t) ps → KnowCores service' rs'
+  pub know_more : (rs rs' : List Runner) (ps : List (TurnPass Served ServedPart ghosts)) → KnowCores service rs → length rs' ≡ length rs → length ps ≡ length rs → GainCorePass rs ps rs' → AreFresh (lock_id t) (first_of t) ps → KnowCores service' rs'
   know_more rs rs' ps know same count handed new q d h =
       let inside : q < length rs = omega (arith, h, same) in
       let p = there ps q (omega (arith, inside, count)) in
@@ -98,13 +98,13 @@ module _ (service service' : Service) (t : Turn Served ServedPart) (state : Aren
       (subst (λ (places : List ArenaState). Know (locks_of service') q (λ i. served_part (arena_at places i) (part [] [])) ((get_or rs q d).session.passes.items ++ get_or ps q p.0 ∷ [])) (sym arenas_more)
       (subst (λ ls. Know ls q parts' ((get_or rs q d).session.passes.items ++ get_or ps q p.0 ∷ [])) (sym locks_more) row))
 
-  pub new_more : (n : ℕ) → All (IsNew n) service.turns.items → IsNew n t → All (IsNew n) service'.turns.items
-  new_more n all one = subst (λ l. All (IsNew n) l) (sym turns) (each_push (λ k x. IsNew n x) service.turns.items t all one)
+  pub new_more : (n : ℕ) → All (IsNewCore n) service.turns.items → IsNewCore n t → All (IsNewCore n) service'.turns.items
+  new_more n all one = subst (λ l. All (IsNewCore n) l) (sym turns) (each_push (λ k x. IsNewCore n x) service.turns.items t all one)
 
 pub is_new : (t : Turn Served ServedPart) (state : ArenaState) → first_of t ≡ fresh state → first_of t ≡ fresh (arena_of t)
 is_new t state is = is ∙ ap (λ (s : Served). fresh s.first) (sym is)
 
-pub rest_again : (rs rs' rs'' : List Runner) → length rs' ≡ length rs → KeepRest rs rs' → KeepRest rs' rs'' → KeepRest rs rs''
+pub rest_again : (rs rs' rs'' : List Runner) → length rs' ≡ length rs → KeepAllButCores rs rs' → KeepAllButCores rs' rs'' → KeepAllButCores rs rs''
 rest_again rs rs' rs'' same a b q d h =
     let x = a q d h in
     let y = b q d (omega (arith, h, same)) in
@@ -209,9 +209,9 @@ module _ (service : Service) (registry : Registered) (script : Script) (empty : 
         });
       }
 
-  module _ (laid : IsLaid service) (bare rs : List Runner) (count : length bare ≡ length script.sessions) (same : length rs ≡ length bare) (new : AreBare service.switch.turn service.registry.turn script.sessions bare) (rest : KeepRest bare rs) (know : KnowCores service rs)
+  module _ (laid : IsLaid service) (bare rs : List Runner) (count : length bare ≡ length script.sessions) (same : length rs ≡ length bare) (new : AreBare service.switch.turn service.registry.turn script.sessions bare) (rest : KeepAllButCores bare rs) (know : KnowCores service rs)
       (short : All (λ s. length s.calls + 1 < 2 ^ 32) script.sessions) (text : ScriptHasText script) where
-    pub all_ready : AreReady service script rs
+    pub all_ready : AreRunnersReady service script rs
     all_ready q d h =
         let inside : q < length bare = omega (arith, h, same) in
         let near : q < length script.sessions = omega (arith, inside, count) in

@@ -147,10 +147,10 @@ service_field_sync = struct_sync (shape Service.the_type) (
 pub service_sync : IsSync Service.the_row
 service_sync = recorded_sync (Service.the_field).row _ _ (Service.the_type).to_one service_field_sync
 
--- a closure over three references
-pub closure_sync : (δ : Ty) (k : Kept) (ν : Sym) (A B C : RattleType) → IsSync A → IsSync B → IsSync C → IsSync (param 2 (arg δ k (TupleAt ν (A ∷ B ∷ C ∷ []))))
-closure_sync δ k ν A B C a b c =
-    let T = type_at ν (A ∷ B ∷ C ∷ []) in
-    let fields = struct_sync (shape T) (a, (b, (c, tt))) in
-    let whole : IsSync (TupleAt ν (A ∷ B ∷ C ∷ [])) = recorded_sync _ T.D T.to T.to_one fields in
-    param_sync 2 (arg δ k (TupleAt ν (A ∷ B ∷ C ∷ []))) (arg_sync δ k (TupleAt ν (A ∷ B ∷ C ∷ [])) whole)
+-- a closure over four references
+pub closure_sync : (δ : Ty) (k : Kept) (ν : Sym) (A B C D : RattleType) → IsSync A → IsSync B → IsSync C → IsSync D → IsSync (param 2 (arg δ k (TupleAt ν (A ∷ B ∷ C ∷ D ∷ []))))
+closure_sync δ k ν A B C D a b c d =
+    let T = type_at ν (A ∷ B ∷ C ∷ D ∷ []) in
+    let fields = struct_sync (shape T) (a, (b, (c, (d, tt)))) in
+    let whole : IsSync (TupleAt ν (A ∷ B ∷ C ∷ D ∷ [])) = recorded_sync _ T.D T.to T.to_one fields in
+    param_sync 2 (arg δ k (TupleAt ν (A ∷ B ∷ C ∷ D ∷ []))) (arg_sync δ k (TupleAt ν (A ∷ B ∷ C ∷ D ∷ [])) whole)

@@ -1,11 +1,11 @@
 -- The cores of one row come to their namespaces.
-use Rattle.std.proofs.Common.{◌≡◌, ℕ, suc, ◌+◌, ◌<◌, ◌≤◌, List, [], ◌∷◌, ◌++◌, length, length-append, get_or, map, take, drop, refl, sym, ap, ◌∙◌, subst, arith, append_assoc, append-nil}
+use Rattle.std.proofs.Common.{◌≡◌, ℕ, suc, ◌+◌, ◌<◌, ◌≤◌, List, [], ◌∷◌, ◌++◌, length, length-append, get_or, map, take, drop, sym, ap, ◌∙◌, arith, append_assoc, append-nil}
 use Rattle.std.specs.Prelude.{Vec}
 use mathlib.Core.List.{map-append}
 use Rattle.std.proofs.lemmas.List.{length-map, length-take-le, take-append-drop}
 use Rattle.std.proofs.Math.Seq.{drop-cons, take-suc}
 use Rattle.lane_core.specs.declared.machine.Core.{Core}
-use Rattle.session_account.specs.Serving.{Serving, Shape}
+use Rattle.session_account.specs.Serving.{Serving}
 use Rattle.session_service.specs.declared.namespaces.Place.{Place}
 use Rattle.session_service.specs.Namespaces.{arenas_in, serving_at, servings_at, shape_as}
 use Rattle.session_service.specs.Ran.{in_row}

@@ -1,13 +1,13 @@
 -- A session goes from call to call, and comes to its end, by what its passes know.
-use Rattle.std.proofs.Common.{◌≡◌, ◌≢◌, ◌⊎◌, inl, inr, ℕ, ◌+◌, ◌<◌, ◌≤◌, Bool, true, false, ◌||◌, ◌&&◌, cond, List, [], ◌∷◌, ◌++◌, length, length-append, get_or, Option, Some, None, Ok, Err, refl, sym, ap, ◌∙◌, subst, arith, append-nil, eq-eqb}
-use Rattle.std.specs.Prelude.{◌==◌, if◌then◌else◌, option_to_list, option_map, option_and_then, IsTrue, IsSome}
+use Rattle.std.proofs.Common.{◌≡◌, ℕ, ◌+◌, ◌≤◌, Bool, true, false, ◌||◌, List, [], ◌∷◌, ◌++◌, length, length-append, Option, Some, None, refl, sym, ap, ◌∙◌, subst, arith}
+use Rattle.std.specs.Prelude.{option_to_list, option_map, option_and_then, IsSome}
 use Rattle.std.specs.List.{AllByRecursion}
 use Rattle.std.proofs.lemmas.List.Folds.{list_any-append}
 use Rattle.turn_callers.specs.declared.desk.Mine.{Mine}
 use Rattle.namespace_map.specs.declared.commands.Command.{Command}
 use Rattle.namespace_map.specs.declared.refused.OpRefused.{OpRefused}
 use Rattle.namespace_map.specs.declared.refused.OpRefused.TheVariants as op
-use Rattle.namespace_ops.specs.Entries.{Entry, Reply as Answer}
+use Rattle.namespace_ops.specs.Entries.{JournalEntry}
 use Rattle.namespace_ops.specs.Carried as ops
 use Rattle.session_script.specs.declared.script.Line.{Line}
 use Rattle.session_script.specs.declared.script.Script.{Script}
@@ -16,10 +16,10 @@ use Rattle.session_account.specs.declared.reply.Reply.{Reply}
 use Rattle.session_account.specs.declared.reply.Reply.TheVariants as reply
 use Rattle.session_account.specs.Account.{has_cut_entry, session_at}
 use Rattle.session_account.specs.Going.{IsAnswered, IsStopped, NextIs}
-use Rattle.session_account.specs.Made.{Made, is_cut, has_cut, made, made_by, on_after, on_end}
-use Rattle.session_account.specs.Orders.{answer_of, asked, entries_for, entry, entry_for, IsGivenBack}
+use Rattle.session_account.specs.Made.{Made, is_cut, has_cut, made, made_by, on_after}
+use Rattle.session_account.specs.Orders.{answer_of, asked, entry, entry_for, IsGivenBack}
 use Rattle.session_account.specs.Parts as parts
-use Rattle.session_account.specs.Parts.{HasCause, IsOfCut, Who, itself, labels, more}
+use Rattle.session_account.specs.Parts.{HasCause, IsOfCut, more}
 use Rattle.session_account.specs.Going.{known_cores, known_registry}
 use Rattle.session_account.specs.Serving.{Serving, IsArena}
 use Rattle.session_account.proofs.Going.{goes_on, stops_so, ends_so}
@@ -85,7 +85,7 @@ module _ (all : List Serving) (script : Script) (q : ℕ) (replies : List Reply)
     room = let l = length-append replies (answer ∷ []) in let r = s.room in omega (arith, l, r, room);
     unstopped = stopped ∙ s.unstopped;
     uncut =
-        ap has_cut_entry answered.commands ∙ list_any-append (λ (e : Entry). ops.is_cut e.reply) orders.entries (option_to_list (entry_for q call))
+        ap has_cut_entry answered.commands ∙ list_any-append (λ (e : JournalEntry). ops.is_cut e.reply) orders.entries (option_to_list (entry_for q call))
         ∙ or_two (has_cut_entry orders.entries) (has_cut_entry (option_to_list (entry_for q call))) s.uncut (entry_uncut q (length replies) orders.held line answer answered.uncut);
     whole = λ e. whole (s.whole e);
     at =
@@ -105,12 +105,12 @@ module _ (all : List Serving) (script : Script) (q : ℕ) (replies : List Reply)
 
 -- ---- causes
 
-pub cause_none : (script : Script) (session : SessionLines) (replies : List Reply) (entries : List Entry) (stopped : Bool) → stopped ≡ false → HasCause script session replies entries (who_by stopped entries)
+pub cause_none : (script : Script) (session : SessionLines) (replies : List Reply) (entries : List JournalEntry) (stopped : Bool) → stopped ≡ false → HasCause script session replies entries (who_by stopped entries)
 cause_none script session replies entries true e = absurd (cc)
 cause_none script session replies entries false e = tt
 
 -- it switched power off
-pub cause_some : (script : Script) (session : SessionLines) (replies : List Reply) (entries : List Entry) (stopped : Bool) → has_cut replies ≡ true → (has_cut_entry entries ≡ false → IsSome session.cut) → (has_cut_entry entries ≡ true → IsSome script.labelcut)
+pub cause_some : (script : Script) (session : SessionLines) (replies : List Reply) (entries : List JournalEntry) (stopped : Bool) → has_cut replies ≡ true → (has_cut_entry entries ≡ false → IsSome session.cut) → (has_cut_entry entries ≡ true → IsSome script.labelcut)
     → HasCause script session replies entries (who_by stopped entries)
 cause_some script session replies entries false cut its of_labels = tt
 cause_some script session replies entries true cut its of_labels = by (has_cut_entry entries) refl
@@ -133,10 +133,10 @@ cut_behind replies = true_last replies
 -- ---- the end
 
 module _ (all : List Serving) (script : Script) (q : ℕ) (replies : List Reply) (orders orders' : OrdersPart) (known : Parts) (power : Mine) (left : Option ℕ) (s : Standing all script q replies orders known power left) where
-  pub ended_standing : length replies ≡ length (session_at script q).calls → (last : List Entry) → orders'.entries ≡ orders.entries ++ last → IsGivenBack q (length (session_at script q).calls) orders.held last
+  pub ended_standing : length replies ≡ length (session_at script q).calls → (last : List JournalEntry) → orders'.entries ≡ orders.entries ++ last → IsGivenBack q (length (session_at script q).calls) orders.held last
       → parts.IsDone all script q replies (known_registry orders'.entries orders'.room) (known_cores (stands_by all known) (calls_by all known)) (power_by power orders'.entries)
   ended_standing whole last is given =
-      subst (λ (es : List Entry). parts.IsDone all script q replies (known_registry es orders'.room) (known_cores (stands_by all known) (calls_by all known)) (power_by power es)) (sym is)
+      subst (λ (es : List JournalEntry). parts.IsDone all script q replies (known_registry es orders'.room) (known_cores (stands_by all known) (calls_by all known)) (power_by power es)) (sym is)
       (ends_so all script q replies orders.entries last (stands_by all known) left orders'.room (calls_by all known) (power_by power (orders.entries ++ last)) s.at whole
       (subst (λ (on : Option (List ℕ)). IsGivenBack q (length (session_at script q).calls) on last) s.held given)
       (λ place k is. s.free _)

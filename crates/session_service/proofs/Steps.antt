@@ -1,18 +1,16 @@
 -- A call of a session with all that its passes know: it goes on, or comes to its end.
-use Rattle.std.proofs.Common.{◌≡◌, ◌≢◌, ◌⊎◌, inl, inr, ℕ, ◌+◌, ◌^◌, ◌<◌, ◌≤◌, Bool, true, false, List, [], ◌∷◌, ◌++◌, length, length-append, get_or, map, Option, Some, None, Ok, Err, refl, sym, ap, ◌∙◌, subst, arith, append-nil}
+use Rattle.std.proofs.Common.{◌≡◌, inl, inr, ℕ, ◌+◌, ◌^◌, ◌<◌, ◌≤◌, Bool, true, false, List, [], ◌∷◌, ◌++◌, length, length-append, get_or, Option, Some, None, refl, sym, ap, ◌∙◌, subst, arith, append-nil}
 use Rattle.std.specs.Prelude.{◌==◌, ◌*◌, ◌%◌, ◌&&◌, not, T, if◌then◌else◌, option_to_list, IsSome}
 use Rattle.std.specs.List.{AllByRecursion, cons_option}
 use Rattle.std.proofs.lemmas.List.{length-map, length-replicate, get_or-map}
 use Rattle.std.proofs.Math.Facts.{eqb_yes}
 use Rattle.turn_callers.specs.declared.desk.Mine.{Mine}
-use Rattle.turn_callers.specs.Switch.{CanAsk, HasStopped, IsTold, KeepsStopped}
+use Rattle.turn_callers.specs.Switch.{CanAsk, IsTold, KeepsStopped}
 use Rattle.turn_lock.specs.Passes.{lock_id, number_of, out_of, part_of, IsOutside, IsSamePass}
 use Rattle.arena_open.specs.declared.cell.Cell.{Cell}
-use Rattle.arena_open.specs.declared.state.ArenaState.{ArenaState}
 use Rattle.lane_core.specs.declared.history.Act.TheVariants as act
-use Rattle.lane_core.specs.Arenas.{shape_in}
 use Rattle.lane_core.specs.Sessions.{write_steps}
-use Rattle.namespace_ops.specs.Entries.{Entry}
+use Rattle.namespace_ops.specs.Entries.{JournalEntry}
 use Rattle.session_parts.specs.declared.parts.Stand.{Stand}
 use Rattle.session_parts.specs.Laws.{MayBegin}
 use Rattle.session_parts.specs.Parts.{stand_at}
@@ -27,18 +25,17 @@ use Rattle.session_script.specs.declared.script.Script.{Script}
 use Rattle.session_script.specs.declared.script.SessionLines.{SessionLines}
 use Rattle.session_account.specs.declared.reply.Reply.{Reply}
 use Rattle.session_account.specs.declared.reply.Reply.TheVariants as reply
-use Rattle.session_account.specs.Account.{has_cut_entry, no_lines, session_at}
+use Rattle.session_account.specs.Account.{no_lines, session_at}
 use Rattle.session_account.specs.Going.{IsAnswered, IsStopped, NextIs}
-use Rattle.session_account.specs.Made.{Made, is_cut, made, made_by, made_from, on_after, on_end}
+use Rattle.session_account.specs.Made.{Made, is_cut, made, made_by, made_from, on_after}
 use Rattle.session_account.specs.Orders.{entry_for}
 use Rattle.session_account.specs.Parts.{HasCause, IsOfCut, more}
 use Rattle.session_account.specs.Sectors.{act_for, check_of, is_check, IsChecked, on_open, on_spot, size_of, spot_of, stand_as, stand_by, stand_of, stands_of, steps_at, steps_of, words_of, wrong_length}
-use Rattle.session_account.specs.Serving.{Serving, Shape, Spot, IsArena, arenas_of as arenas_by_uuid, no_serving, spot_in}
+use Rattle.session_account.specs.Serving.{Serving, Shape, Spot, IsArena, arenas_of as arenas_by_uuid, spot_in}
 use Rattle.registry_service.specs.declared.served.OrdersPart.{OrdersPart}
-use Rattle.registry_service.specs.Parts.{GivesBack, IsOrdered, MayOrder, PartGoes, ordered}
+use Rattle.registry_service.specs.Parts.{GivesBack, IsOrdered, MayOrder, PartGoes}
 use Rattle.registry_service.specs.Switch.{IsCutShort}
 use Rattle.registry_service.proofs.Laws.{cuts_have_cause, open_goes_on, orders_answer, orders_stop}
-use Rattle.sector_service.specs.declared.power.Caller.{Caller}
 use Rattle.sector_service.specs.declared.served.ServedPart.{ServedPart}
 use Rattle.sector_service.specs.declared.session.Session.{Session}
 use Rattle.sector_service.specs.declared.calls.Heard.TheVariants as heard
@@ -46,14 +43,14 @@ use Rattle.sector_service.specs.declared.calls.Wrote.TheVariants as wrote
 use Rattle.sector_service.specs.Calls as core
 use Rattle.sector_service.specs.Calls.{IsLeft, MayRead, MayWrite, Paid, answered}
 use Rattle.sector_service.specs.Rows.{Know, KnowsAt, OneBecomes, OneGoes, Parts, with_part}
-use Rattle.sector_service.specs.Served.{Served, shape_of}
-use Rattle.sector_service.specs.Switch.{IsNextCaller, IsSameCaller, StaysWhole, StopsWhenSpent}
+use Rattle.sector_service.specs.Served.{shape_of}
+use Rattle.sector_service.specs.Switch.{IsNextCaller, StopsWhenSpent}
 use Rattle.sector_service.proofs.Sessions.{with_other, with_same}
 use Rattle.session_service.specs.declared.finding.Found.{Found}
 use Rattle.session_service.specs.declared.runner.Runner.{Runner}
 use Rattle.session_service.specs.declared.service.Service.{Service}
-use Rattle.session_service.specs.Namespaces.{IsFound, arenas_in, core_at, shape_by}
-use Rattle.session_service.specs.Runners.{Goes, IsAt, IsDone, IsEnded, IsNext, IsRunning, Knows, Standing, calls_by, counted, power_by, stands_by, who_by}
+use Rattle.session_service.specs.Namespaces.{IsFound, core_at, shape_by}
+use Rattle.session_service.specs.Runners.{Goes, IsAt, IsDone, IsEnded, IsNext, IsRunning, Knows, Standing, calls_by, counted, stands_by, who_by}
 use Rattle.session_service.specs.Services.{IsLaid, all_of, arena_at, arena_of, arenas_of, locks_of, orders_of, power_of}
 use Rattle.session_script.specs.Names.{LineHasText}
 use Rattle.session_service.proofs.Seating.{default_same}
@@ -207,7 +204,7 @@ module _ (service : Service) (script : Script) (q : ℕ) (l : Line) (r r' : Runn
         (subst (λ ps. Know (locks_of service) q at.known ps.items) (sym same) at.knows.cores) (λ j. refl)
         order_pass outside known_is pass can_ask is
 
-    at_most_one : (x : Option Entry) → length (option_to_list x) ≤ 1
+    at_most_one : (x : Option JournalEntry) → length (option_to_list x) ≤ 1
     at_most_one None = omega arith
     at_most_one (Some e) = omega arith
 
@@ -303,7 +300,7 @@ no_cost all m e = by (is_cut m.reply) (if is_check m.reply then 0 else steps_at 
     by true x e = refl
     by false x e = e
 
-pub check_answers : (all : List Serving) (q call : ℕ) (held : Option (List ℕ)) (l : Line) (why : Reply) (entries : List Entry) (stands : ℕ → ℕ → List Stand) (left : Option ℕ) → is_check why ≡ true → check_of all held l ≡ Some why → StandsNever l why
+pub check_answers : (all : List Serving) (q call : ℕ) (held : Option (List ℕ)) (l : Line) (why : Reply) (entries : List JournalEntry) (stands : ℕ → ℕ → List Stand) (left : Option ℕ) → is_check why ≡ true → check_of all held l ≡ Some why → StandsNever l why
     → entry_for q (made call held l why) ≡ None → IsAnswered all q (made call held l why) entries entries stands stands left left
 check_answers all q call held l why entries stands left is check never none = record {
   uncut = checked_uncut why is;

@@ -1,5 +1,5 @@
 -- The cores when their locks are closed.
-use Rattle.std.specs.Prelude.{◌≡◌, ℕ, ◌<◌, ◌≤◌, true, List, [], ◌∷◌, ◌++◌, length, slice_index_or}
+use Rattle.std.specs.Prelude.{◌≡◌, ℕ, ◌<◌, ◌≤◌, List, [], ◌∷◌, ◌++◌, length, slice_index_or}
 use Rattle.atomic_table.specs.Seated.{TableId}
 use Rattle.turn_lock.specs.declared.pass.TurnPass.{TurnPass}
 use Rattle.arena_open.specs.declared.state.ArenaState.{ArenaState}
@@ -19,11 +19,11 @@ use Rattle.session_service.specs.Services.{arena_at}
 -- ---- giving passes back
 
 -- each session had one pass more, the one of ps at its place
-abbrev pub HadOneMore : List Runner → List (TurnPass Served ServedPart ghosts) → List Runner → Type 0
-HadOneMore rs ps rs' = (q : ℕ) (d : Runner) (e : TurnPass Served ServedPart ghosts) → q < length rs → (slice_index_or rs q d).session.passes.items ≡ (slice_index_or rs' q d).session.passes.items ++ slice_index_or ps q e ∷ []
+abbrev pub LoseCorePass : List Runner → List (TurnPass Served ServedPart ghosts) → List Runner → Type 0
+LoseCorePass rs ps rs' = (q : ℕ) (d : Runner) (e : TurnPass Served ServedPart ghosts) → q < length rs → (slice_index_or rs q d).session.passes.items ≡ (slice_index_or rs' q d).session.passes.items ++ slice_index_or ps q e ∷ []
 
-abbrev pub HavePasses : List Runner → Type 0
-HavePasses rs = (q : ℕ) (d : Runner) → q < length rs → 0 < length (slice_index_or rs q d).session.passes.items
+abbrev pub HaveCorePasses : List Runner → Type 0
+HaveCorePasses rs = (q : ℕ) (d : Runner) → q < length rs → 0 < length (slice_index_or rs q d).session.passes.items
 
 -- session q of the list has number q, and a pass of each lock
 abbrev pub KnowAll : List TableId → List Runner → Type 0

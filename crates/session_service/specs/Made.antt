@@ -1,5 +1,5 @@
 -- What the locks were made around.
-use Rattle.std.specs.Prelude.{◌≡◌, ℕ, ◌+◌, ◌^◌, ◌<◌, List, [], ◌∷◌, ◌++◌, All, length, map}
+use Rattle.std.specs.Prelude.{◌≡◌, ℕ, ◌+◌, ◌^◌, ◌<◌, false, List, [], ◌∷◌, ◌++◌, All, length, map}
 use Rattle.turn_lock.specs.Passes.{callers_of, first_of}
 use Rattle.arena_open.specs.declared.state.ArenaState.{ArenaState}
 use Rattle.namespace_ops.specs.Registered.{Registered}
@@ -10,7 +10,7 @@ use Rattle.session_service.specs.declared.namespaces.ServedNamespace.{ServedName
 use Rattle.session_service.specs.declared.service.Service.{Service}
 use Rattle.session_service.specs.Namespaces.{servings_of}
 use Rattle.session_service.specs.Seated.{IsQuiet}
-use Rattle.session_service.specs.Services.{IsLaid, IsNew, all_of, arenas_of}
+use Rattle.session_service.specs.Services.{IsLaid, IsNewCore, all_of, arenas_of}
 
 -- the arenas of all namespaces, one after another
 abbrev pub states_in : List ServedNamespace → List ArenaState
@@ -21,13 +21,20 @@ states_in (n ∷ served) = n.arenas.items ++ states_in served
 abbrev pub rooms_of : List SessionLines → List ℕ
 rooms_of sessions = map (λ s. length s.calls + 1) sessions
 
+-- A registry may be served: it is open, its journal is empty, no room is reserved in it, and its areas are those with which it was opened.
+pub record IsUnused (registry : Registered) : Type 0 where
+  pub running : registry.stopped ≡ false
+  pub first : registry.journal ≡ []
+  pub roomless : registry.room ≡ []
+  pub opening : registry.opening ≡ registry.areas
+
 -- the locks are those of a registry, of namespaces that were opened, and of the sessions of a script, and nobody has entered one
 pub record IsMade (registry : Registered) (served : List ServedNamespace) (script : Script) (service : Service) : Type 0 where
   pub few : length script.sessions < 2 ^ 32
   pub all : all_of service ≡ servings_of served
   pub arenas : arenas_of service ≡ states_in served
   pub laid : IsLaid service
-  pub cores : All (IsNew (length script.sessions)) service.turns.items
+  pub cores : All (IsNewCore (length script.sessions)) service.turns.items
   pub orders : callers_of service.registry.turn ≡ length script.sessions
   pub orders_first : first_of service.registry.turn ≡ fresh registry script.labelcut (rooms_of script.sessions)
   pub journal : registry.journal ≡ []

@@ -2,7 +2,7 @@
 use Rattle.std.specs.Prelude.{◌≡◌, ℕ, ◌<◌, true, false, List, [], ◌∷◌, ◌++◌, length, map, Option, Some, None, Vec, slice_get, slice_index_or}
 use Rattle.turn_lock.specs.Rows.{items_at}
 use Rattle.namespace_areas.specs.Seen.{AreLeft as AreasLeft, areas_seen, areas_shown}
-use Rattle.namespace_ops.specs.Entries.{Entry}
+use Rattle.namespace_ops.specs.Entries.{JournalEntry}
 use Rattle.namespace_ops.specs.Registered.{Registered, opening_of}
 use Rattle.arena_open.specs.declared.state.ArenaState.{ArenaState}
 use Rattle.lane_core.specs.declared.history.Entry.{Entry as HistoryEntry}
@@ -39,7 +39,7 @@ abbrev pub replies_of : {Z : Type 0} → List (Vec Reply Z) → List (List Reply
 replies_of replies = map (λ v. v.items) replies
 
 -- the entries of the calls that were answered
-abbrev pub journal_of : Ran → List Entry
+abbrev pub journal_of : Ran → List JournalEntry
 journal_of ran = answered ran.registry.journal
 
 -- The core of an arena after the sessions. What a power cut may leave of it survives by the accounts.

@@ -1,11 +1,9 @@
 -- A session between two of its calls, and at its end: what its passes know, held against the account.
-use Rattle.std.specs.Prelude.{◌≡◌, ◌⊎◌, ℕ, ◌+◌, ◌^◌, ◌<◌, ◌≤◌, Bool, true, false, List, [], All, length, vec_capacity, slice_index_or, Option, Some, None}
-use Rattle.atomic_table.specs.Seated.{TableId}
+use Rattle.std.specs.Prelude.{◌≡◌, ℕ, ◌+◌, ◌^◌, ◌<◌, ◌≤◌, Bool, true, false, List, [], All, length, vec_capacity, slice_index_or, Option, Some, None}
 use Rattle.turn_lock.specs.Passes.{number_of, part_of, IsOutside}
 use Rattle.turn_callers.specs.declared.desk.Mine.{Mine}
 use Rattle.turn_callers.specs.Switch.{CanAsk}
-use Rattle.namespace_ops.specs.Entries.{Entry}
-use Rattle.lane_core.specs.declared.in_call.InCall.{InCall}
+use Rattle.namespace_ops.specs.Entries.{JournalEntry}
 use Rattle.session_script.specs.declared.script.Line.{Line}
 use Rattle.session_script.specs.declared.script.Script.{Script}
 use Rattle.session_account.specs.declared.reply.Reply.{Reply}
@@ -39,11 +37,11 @@ abbrev pub who_if : Bool → Option Who
 who_if true = Some labels
 who_if false = Some itself
 
-abbrev pub who_by : Bool → List Entry → Option Who
+abbrev pub who_by : Bool → List JournalEntry → Option Who
 who_by false entries = None
 who_by true entries = who_if (has_cut_entry entries)
 
-abbrev pub power_by : Mine → List Entry → PowerPart
+abbrev pub power_by : Mine → List JournalEntry → PowerPart
 power_by w entries = record { stopped = who_by w.stopped entries; told = w.told }
 
 -- the passes of session q, and what they know
@@ -127,8 +125,8 @@ pub record IsRunning (service : Service) (script : Script) (q : ℕ) (r : Runner
   pub memory : r.refused ≡ false
 
 -- and it has made none
-abbrev pub IsReady : Service → Script → ℕ → Runner → Type 0
-IsReady service script q r = IsRunning service script q r × (r.replies.items ≡ [])
+abbrev pub IsRunnerReady : Service → Script → ℕ → Runner → Type 0
+IsRunnerReady service script q r = IsRunning service script q r × (r.replies.items ≡ [])
 
 -- it has come to its end, so far as memory lasted
 pub record IsEnded (service : Service) (script : Script) (q : ℕ) (r : Runner) : Type 0 where
@@ -137,8 +135,8 @@ pub record IsEnded (service : Service) (script : Script) (q : ℕ) (r : Runner) 
 
 -- ---- all sessions
 
-abbrev pub AreReady : Service → Script → List Runner → Type 0
-AreReady service script runners = (q : ℕ) (d : Runner) → q < length runners → (q < length script.sessions) × IsReady service script q (slice_index_or runners q d)
+abbrev pub AreRunnersReady : Service → Script → List Runner → Type 0
+AreRunnersReady service script runners = (q : ℕ) (d : Runner) → q < length runners → (q < length script.sessions) × IsRunnerReady service script q (slice_index_or runners q d)
 
 abbrev pub AreEnded : Service → Script → List Runner → Type 0
 AreEnded service script runners = (q : ℕ) (d : Runner) → q < length runners → IsEnded service script q (slice_index_or runners q d)

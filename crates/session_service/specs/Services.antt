@@ -51,8 +51,8 @@ abbrev pub power_of : Service → TableId
 power_of s = lock_id s.switch.turn
 
 -- a lock for this many callers, around a core in which nothing was called
-abbrev pub IsNew : ℕ → Turn Served ServedPart → Type 0
-IsNew callers t = (callers_of t ≡ callers) × (first_of t ≡ fresh (arena_of t))
+abbrev pub IsNewCore : ℕ → Turn Served ServedPart → Type 0
+IsNewCore callers t = (callers_of t ≡ callers) × (first_of t ≡ fresh (arena_of t))
 
 -- ---- namespaces
 

@@ -1,9 +1,9 @@
 //! The locks are closed, and hand back the cores.
 ghost use Rattle.std.specs.Prelude.{◌≡◌, ◌^◌, ◌<◌, [], ◌∷◌, ◌++◌, length, map, true, false, IfOk, OnOk, All};
 ghost use Rattle.turn_lock.specs.Passes.{lock_id, callers_of, first_of};
-ghost use Rattle.session_service.specs.Closed.{AreShared, HadOneMore, HavePasses, KnowAll, PartsAreKnown};
-ghost use Rattle.session_service.specs.Seated.{IsSameRest, KeepRest};
-ghost use Rattle.session_service.specs.Services.{IsNew, arena_of};
+ghost use Rattle.session_service.specs.Closed.{AreShared, LoseCorePass, HaveCorePasses, KnowAll, PartsAreKnown};
+ghost use Rattle.session_service.specs.Seated.{IsSameRest, KeepAllButCores};
+ghost use Rattle.session_service.specs.Services.{IsNewCore, arena_of};
 
 use crate::runner::Runner;
 use lane_core::Core;
@@ -25,10 +25,10 @@ fn take_last(runner: &mut Runner) -> TurnPass<ServedCore>
 
 // Takes the last pass of each session.
 fn take_back(alloc: Global, runners: &mut [Runner]) -> Result<Vec<TurnPass<ServedCore>>, AllocError>
-    requires { HavePasses runners.old }
+    requires { HaveCorePasses runners.old }
     ensures count { IfOk result (λ v. length v.items ≡ length runners.old) }
-    ensures passes { IfOk result (λ v. HadOneMore runners.old v.items runners.new) }
-    ensures rest { OnOk result (KeepRest runners.old runners.new) }
+    ensures passes { IfOk result (λ v. LoseCorePass runners.old v.items runners.new) }
+    ensures rest { OnOk result (KeepAllButCores runners.old runners.new) }
 {
     let mut passes = Vec::with_capacity(alloc, runners.len())?;
     for runner in runners {
@@ -43,12 +43,12 @@ pub(crate) fn close_cores(
     mut turns: Vec<Turn<ServedCore>>,
     runners: &mut [Runner],
 ) -> Result<Vec<Core>, AllocError>
-    requires new { All (IsNew (length runners.old)) turns.items }
+    requires new { All (IsNewCore (length runners.old)) turns.items }
     requires known { KnowAll (map lock_id turns.items) runners.old }
     ensures count { IfOk result (λ v. length v.items ≡ length turns.items) }
     ensures shared { IfOk result (λ v. AreShared (length runners.old) (map arena_of turns.items) v.items) }
     ensures parts { IfOk result (λ v. PartsAreKnown (map lock_id turns.items) (map arena_of turns.items) runners.old v.items) }
-    ensures rest { OnOk result (KeepRest runners.old runners.new) }
+    ensures rest { OnOk result (KeepAllButCores runners.old runners.new) }
 {
     let Some(turn) = turns.pop() else {
         return Ok(Vec::new(alloc));

@@ -8,8 +8,8 @@ ghost use Rattle.session_service.specs.Made.{IsMade};
 ghost use Rattle.session_service.specs.Namespaces.{arenas_in, servings_at};
 ghost use Rattle.session_service.specs.Ran.{HasServed, in_row};
 ghost use Rattle.session_service.specs.Runners.{AreEnded};
-ghost use Rattle.session_service.specs.Seated.{KeepRest};
-ghost use Rattle.session_service.specs.Services.{IsNew, arena_of};
+ghost use Rattle.session_service.specs.Seated.{KeepAllButCores};
+ghost use Rattle.session_service.specs.Services.{IsNewCore, arena_of};
 
 use crate::closing::close_cores;
 use crate::namespaces::Place;
@@ -101,13 +101,13 @@ fn closed(
     turns: Vec<Turn<ServedCore>>,
     mut runners: Vec<Runner>,
 ) -> Result<(Vec<Core>, Vec<Runner>), AllocError>
-    requires new { All (IsNew (length runners.items)) turns.items }
+    requires new { All (IsNewCore (length runners.items)) turns.items }
     requires known { KnowAll (map lock_id turns.items) runners.items }
     ensures count { IfOk result (λ r. length r.0.items ≡ length turns.items) }
     ensures shared { IfOk result (λ r. AreShared (length runners.items) (map arena_of turns.items) r.0.items) }
     ensures parts { IfOk result (λ r. PartsAreKnown (map lock_id turns.items) (map arena_of turns.items) runners.items r.0.items) }
     ensures kept { IfOk result (λ r. length r.1.items ≡ length runners.items) }
-    ensures rest { IfOk result (λ r. KeepRest runners.items r.1.items) }
+    ensures rest { IfOk result (λ r. KeepAllButCores runners.items r.1.items) }
 {
     let cores = close_cores(alloc, turns, runners.as_mut_slice())?;
     Ok((cores, runners))

@@ -26,7 +26,7 @@
 //!
 //! | call | promise | definition |
 //! |---|---|---|
-//! | [`of_namespaces`] | the locks are made, and each session is ready | `IsMade` of `specs/Made.antt`, `AreReady` |
+//! | [`of_namespaces`] | the locks are made, and each session is ready | `IsMade` of `specs/Made.antt`, `AreRunnersReady` |
 //! | [`run_sessions`] | each session has come to its end, whatever the threads did | `AreEnded` of `specs/Runners.antt` |
 //! | [`close`] | the accounts hold, the journal and the histories are legal, and they say what a power cut leaves | `HasServed` of `specs/Ran.antt` |
 #![tactic(auto)]

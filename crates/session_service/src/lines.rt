@@ -12,8 +12,9 @@ use crate::finding::find;
 use crate::runner::Runner;
 use crate::service::Service;
 use lane_replay::{length_of, value_words};
+use nvd_media::Gate;
 use registry_service::order;
-use sector_service::{Heard, Wrote, read, write};
+use sector_service::{Heard, Waiting, Wrote, read, write};
 use session_account::Reply;
 use session_script::{Line, Order, Payload};
 use std::alloc::AllocError;
@@ -76,8 +77,8 @@ fn misfit(value: &Payload, had: u32) -> Option<Reply>
 }
 
 /// Writes a sector of the namespace that is open.
-fn make_write<R: Wait>(
-    rt: &R,
+fn make_write<R: Wait, G: Gate>(
+    waiting: &Waiting<R, G>,
     service: &Service,
     runner: &mut Runner,
     sector: u64,
@@ -100,7 +101,7 @@ fn make_write<R: Wait>(
     let slice = words.as_slice();
     let turns = service.turns.as_slice();
     match write(
-        rt,
+        waiting,
         turns,
         &service.switch.turn,
         &mut runner.session,
@@ -156,8 +157,8 @@ fn make_order<R: Wait>(
 ///
 /// Then come the checks, in this order: `NotOpen`, `Range`, `Length`; of an `open` `IsOpen`. The one
 /// error is out of memory.
-pub(crate) fn make_line<R: Wait>(
-    rt: &R,
+pub(crate) fn make_line<R: Wait, G: Gate>(
+    waiting: &Waiting<R, G>,
     service: &Service,
     runner: &mut Runner,
     line: &Line,
@@ -166,12 +167,13 @@ pub(crate) fn make_line<R: Wait>(
     ensures kept { KeepsReplies runner.old runner.new }
     ensures goes { (script : Script) (q : ℕ) → IsNext service.now script q line.now runner.old → IfOk result (λ r. Goes service.now script q runner.old.replies.items r runner.new) }
 {
+    let rt = waiting.rt;
     if is_off(rt, &service.switch.turn, &mut runner.session.caller.switch) {
         return Ok(Reply::Cut);
     }
     match line {
         Line::Read { sector } => make_read(rt, service, runner, *sector),
-        Line::Write { sector, value } => make_write(rt, service, runner, *sector, value),
+        Line::Write { sector, value } => make_write(waiting, service, runner, *sector, value),
         Line::Order(asked) => make_order(rt, service, runner, asked),
     }
 }

@@ -2,13 +2,15 @@
 ghost use Rattle.std.specs.Prelude.{◌≡◌, ◌+◌, ◌^◌, ◌<◌, ℕ, length, true, false, IsTrue};
 ghost use Rattle.session_account.specs.Account.{session_at};
 ghost use Rattle.session_account.specs.Made as made;
-ghost use Rattle.session_service.specs.Runners.{AreEnded, AreReady, IsAt, IsEnded, IsReady, IsRunning, KeepsReplies};
+ghost use Rattle.session_service.specs.Runners.{AreEnded, AreRunnersReady, IsAt, IsEnded, IsRunnerReady, IsRunning, KeepsReplies};
 ghost use Rattle.session_service.specs.Services.{orders_of};
 
 use crate::lines::make_line;
 use crate::runner::Runner;
 use crate::service::Service;
+use nvd_media::Gate;
 use registry_service::give_back;
+use sector_service::Waiting;
 use session_account::Reply;
 use session_script::{Script, SessionLines};
 use std::sync::Wait;
@@ -23,8 +25,8 @@ fn is_cut(reply: &Reply) -> bool
 }
 
 /// Makes the next call of session q. False if it makes no more: it was cut, or memory ran out.
-fn next_call<R: Wait>(
-    rt: &R,
+fn next_call<R: Wait, G: Gate>(
+    waiting: &Waiting<R, G>,
     service: &Service,
     script: &Script,
     q: usize,
@@ -39,7 +41,12 @@ fn next_call<R: Wait>(
     let sessions = script.sessions.as_slice();
     let calls = sessions[q].calls.as_slice();
     let at = runner.replies.len();
-    match make_line(rt, service, runner, &calls[at]) {
+    let session = runner.session.number;
+    let call = runner.session.caller.call;
+    waiting.gate.enter(session, call);
+    let made = make_line(waiting, service, runner, &calls[at]);
+    waiting.gate.answered(session, call);
+    match made {
         Ok(reply) => {
             let cut = is_cut(&reply);
             runner.replies.push_reserved(reply);
@@ -64,21 +71,23 @@ fn end_session<R: Wait>(rt: &R, service: &Service, script: &Script, q: usize, ru
 
 /// Makes the calls of session q, one after another, until one is cut or memory runs out, and gives
 /// back what it has open after its last call.
-pub(crate) fn run_at<R: Wait>(
+pub(crate) fn run_at<R: Wait, G: Gate>(
     rt: &R,
+    gate: &G,
     service: &Service,
     script: &Script,
     q: usize,
     runner: &mut Runner,
 )
-    requires ready { IsReady service.now script.now q runner.old }
+    requires ready { IsRunnerReady service.now script.now q runner.old }
     requires there { q < length script.now.sessions }
     ensures { IsEnded service.now script.now q runner.new }
 {
+    let waiting = Waiting { rt, gate };
     let sessions = script.sessions.as_slice();
     let calls = sessions[q].calls.len();
     for _call in 0..calls {
-        if !next_call(rt, service, script, q, runner) {
+        if !next_call(&waiting, service, script, q, runner) {
             return;
         }
     }
@@ -92,22 +101,27 @@ pub(crate) fn run_at<R: Wait>(
 /// open is given back, or at the first that is answered `Cut`. Condition: each session is ready, as
 /// `of_namespaces` made it. Then what each was answered belongs to what stands of it, whatever the
 /// threads did (`AreEnded`); [`close`](crate::close) asks for that.
-pub fn run_sessions<R: Threads + Wait + Sync>(
-    rt: &R,
+pub fn run_sessions<R: Threads + Wait + Sync, G: Gate>(
+    waiting: &Waiting<R, G>,
     service: &Service,
     script: &Script,
     workers: usize,
     runners: &mut [Runner],
 )
     requires workers { 0 < workers }
-    requires ready { AreReady service.now script.now runners.old }
+    requires ready { AreRunnersReady service.now script.now runners.old }
     ensures count { length runners.new ≡ length runners.old }
     ensures ended { AreEnded service.now script.now runners.new }
 {
+    let rt = waiting.rt;
+    let gate = waiting.gate;
     thread::for_each_mut(
         rt,
         runners,
         workers,
-        &|q, runner| run_at(rt, service, script, q, runner),
+        &|q, runner|
+            requires ready { IsRunnerReady service.now script.now q runner.old }
+            requires there { q < length script.now.sessions }
+        { run_at(rt, gate, service, script, q, runner) },
     );
 }

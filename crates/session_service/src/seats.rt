@@ -1,7 +1,7 @@
 //! How sessions get their passes.
 ghost use Rattle.std.specs.Prelude.{◌≡◌, ◌≤◌, [], ◌∷◌, ◌++◌, length, false, None, IfOk, OnOk, vec_capacity};
 ghost use Rattle.turn_lock.specs.Passes.{lock_id, first_of, number_of, AreFresh};
-ghost use Rattle.session_service.specs.Seated.{AreBare, HaveOneMore, IsQuiet, IsSameRest, KeepRest, first_caller};
+ghost use Rattle.session_service.specs.Seated.{AreBare, GainCorePass, IsQuiet, IsSameRest, KeepAllButCores, first_caller};
 
 use crate::runner::Runner;
 use registry_service::ServedRegistry;
@@ -92,8 +92,8 @@ pub(crate) fn hand_out(
     mut passes: Vec<TurnPass<ServedCore>>,
 ) -> Result<(), AllocError>
     requires { length passes.items ≡ length runners.old }
-    ensures passes { OnOk result (HaveOneMore runners.old passes.items runners.new) }
-    ensures rest { OnOk result (KeepRest runners.old runners.new) }
+    ensures passes { OnOk result (GainCorePass runners.old passes.items runners.new) }
+    ensures rest { OnOk result (KeepAllButCores runners.old runners.new) }
 {
     while let Some(pass) = passes.pop() {
         let at = passes.len();

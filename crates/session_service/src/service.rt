@@ -2,12 +2,12 @@
 ghost use Rattle.std.specs.Prelude.{◌≡◌, ◌+◌, ◌^◌, ◌<◌, [], ◌∷◌, ◌++◌, All, false, length, map, IfOk, OnOk};
 ghost use Rattle.turn_lock.specs.Passes.{callers_of, first_of};
 ghost use Rattle.sector_service.specs.Served.{fresh};
-ghost use Rattle.session_service.specs.Made.{IsMade, rooms_of};
+ghost use Rattle.session_service.specs.Made.{IsMade, IsUnused, rooms_of};
 ghost use Rattle.session_service.specs.Namespaces.{AreOpened};
 ghost use Rattle.session_script.specs.Names.{ScriptHasText};
-ghost use Rattle.session_service.specs.Runners.{AreReady};
-ghost use Rattle.session_service.specs.Seated.{HaveNone, IsQuiet, KeepRest, KnowCores};
-ghost use Rattle.session_service.specs.Services.{IsNew, arenas_of};
+ghost use Rattle.session_service.specs.Runners.{AreRunnersReady};
+ghost use Rattle.session_service.specs.Seated.{AreSeated, HaveNone, IsQuiet, KnowCores};
+ghost use Rattle.session_service.specs.Services.{IsNewCore, arenas_of};
 
 use crate::laying::lay;
 use crate::namespaces::{Place, ServedNamespace};
@@ -55,12 +55,9 @@ fn add_core(
     requires few { length runners.old < 2 ^ 32 }
     requires fresh { core ≡ fresh core.first }
     requires knows { KnowCores service.old runners.old }
-    requires new { All (IsNew (length runners.old)) service.old.turns.items }
-    ensures arenas { OnOk result (arenas_of service.new ≡ arenas_of service.old ++ core.first ∷ []) }
+    requires new { All (IsNewCore (length runners.old)) service.old.turns.items }
     ensures others { (service.new.places ≡ service.old.places) × (service.new.registry ≡ service.old.registry) × (service.new.switch ≡ service.old.switch) }
-    ensures knows { OnOk result (KnowCores service.new runners.new) }
-    ensures new { OnOk result (All (IsNew (length runners.old)) service.new.turns.items) }
-    ensures rest { OnOk result (KeepRest runners.old runners.new) }
+    ensures seated { OnOk result (AreSeated (arenas_of service.old ++ core.first ∷ []) runners.old service.new runners.new) }
 {
     let (turn, passes) = Turn::of(alloc, core, runners.len() as u32)?;
     hand_out(runners, passes)?;
@@ -79,11 +76,8 @@ fn add_cores(
     requires fresh { All (λ c. c ≡ fresh c.first) cores.items }
     requires knows { KnowCores service.old runners.old }
     requires none { service.old.turns.items ≡ [] }
-    ensures arenas { OnOk result (arenas_of service.new ≡ map (λ c. c.first) cores.items) }
     ensures others { (service.new.places ≡ service.old.places) × (service.new.registry ≡ service.old.registry) × (service.new.switch ≡ service.old.switch) }
-    ensures knows { OnOk result (KnowCores service.new runners.new) }
-    ensures new { OnOk result (All (IsNew (length runners.old)) service.new.turns.items) }
-    ensures rest { OnOk result (KeepRest runners.old runners.new) }
+    ensures seated { OnOk result (AreSeated (map (λ c. c.first) cores.items) runners.old service.new runners.new) }
 {
     for core in cores {
         add_core(alloc, service, core, runners)?;
@@ -103,11 +97,8 @@ fn seat_all(
     requires bare { HaveNone runners.items }
     requires none { service.turns.items ≡ [] }
     ensures count { IfOk result (λ r. length r.1.items ≡ length runners.items) }
-    ensures arenas { IfOk result (λ r. arenas_of r.0 ≡ map (λ c. c.first) cores.items) }
     ensures others { IfOk result (λ r. (r.0.places ≡ service.places) × (r.0.registry ≡ service.registry) × (r.0.switch ≡ service.switch)) }
-    ensures knows { IfOk result (λ r. KnowCores r.0 r.1.items) }
-    ensures new { IfOk result (λ r. All (IsNew (length runners.items)) r.0.turns.items) }
-    ensures rest { IfOk result (λ r. KeepRest runners.items r.1.items) }
+    ensures seated { IfOk result (λ r. AreSeated (map (λ c. c.first) cores.items) runners.items r.0 r.1.items) }
 {
     add_cores(alloc, &mut service, cores, runners.as_mut_slice())?;
     Ok((service, runners))
@@ -158,15 +149,12 @@ pub fn of_namespaces(
     served: Vec<ServedNamespace>,
     script: &Script,
 ) -> Result<(Service, Vec<Runner>), AllocError>
-    requires running { registry.stopped ≡ false }
-    requires first { registry.journal ≡ [] }
-    requires roomless { registry.room ≡ [] }
-    requires opening { registry.opening ≡ registry.areas }
+    requires unused { IsUnused registry }
     requires opened { All AreOpened served.items }
     requires text { ScriptHasText script.now }
     ensures made { IfOk result (λ r. IsMade registry served.items script.now r.0) }
     ensures count { IfOk result (λ r. length r.1.items ≡ length script.now.sessions) }
-    ensures ready { IfOk result (λ r. AreReady r.0 script.now r.1.items) }
+    ensures ready { IfOk result (λ r. AreRunnersReady r.0 script.now r.1.items) }
 {
     let sessions = script.sessions.as_slice();
     let rooms = rooms_for(alloc, sessions)?;

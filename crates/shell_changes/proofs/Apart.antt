@@ -10,7 +10,7 @@ use Rattle.label_set.specs.declared.placed.Placed.{Placed}
 use Rattle.region_space.specs.declared.extent.Extent.{Extent}
 use Rattle.region_space.specs.Space.{clash, extents_meet, overlap_of}
 use Rattle.region_space.proofs.Clashes.{clash_back, clash_self}
-use Rattle.namespace_map.specs.Namespaces.{Entry, Part, entry_at, entry_with, extent_of, labels_with, part_of, uuid_of}
+use Rattle.namespace_map.specs.Namespaces.{NamespaceEntry, Part, entry_at, entry_with, extent_of, labels_with, part_of, uuid_of}
 use Rattle.namespace_map.proofs.Entries.{lookup_entries}
 use Rattle.namespace_map.specs.Areas.{Area}
 use Rattle.namespace_map.specs.Changes.{namespaces_of, placed_in_all}
@@ -67,15 +67,15 @@ no_clash (e ∷ es) x y none (inr i) (inr j) = no_clash es x y (parts_of_none _ 
 
 -- ---- entries
 
-parts_are : (sets : List (List Mapping)) (labels : List Placed) (u : List ℕ) (e : Entry) → entry_at sets labels u ≡ Some e → e.parts ≡ map part_of (labels_with u labels)
+parts_are : (sets : List (List Mapping)) (labels : List Placed) (u : List ℕ) (e : NamespaceEntry) → entry_at sets labels u ≡ Some e → e.parts ≡ map part_of (labels_with u labels)
 parts_are sets labels u e is = by (slice_get (labels_with u labels) 0) is
   where
     by : (o : Option Placed) → option_map (entry_with sets (labels_with u labels)) o ≡ Some e → e.parts ≡ map part_of (labels_with u labels)
     by None h = absurd (cc)
-    by (Some p) h = let same : entry_with sets (labels_with u labels) p ≡ e = cc in ap (λ (x : Entry). x.parts) (sym same)
+    by (Some p) h = let same : entry_with sets (labels_with u labels) p ≡ e = cc in ap (λ (x : NamespaceEntry). x.parts) (sym same)
 
 -- a part is that of a label of the UUID
-pub label_of : (sets : List (List Mapping)) (labels : List Placed) (u : List ℕ) (e : Entry) (a : Part) → entry_at sets labels u ≡ Some e → Contains e.parts a
+pub label_of : (sets : List (List Mapping)) (labels : List Placed) (u : List ℕ) (e : NamespaceEntry) (a : Part) → entry_at sets labels u ≡ Some e → Contains e.parts a
     → (p : Placed) × In p labels × (uuid_of p ≡ u) × (part_of p ≡ a)
 label_of sets labels u e a is c =
     let parts = parts_are sets labels u e is in

@@ -26,7 +26,7 @@ use Rattle.shell_reports.specs.Saved.{IsSaving}
 use Rattle.shell_reports.specs.Cut.{cut_text, done_text}
 use Rattle.shell_changes.specs.Refusals.{refused_outcome}
 use Rattle.shell_changes.specs.Going.{FormatsIn, SavesCut, SavesDone}
-use Rattle.shell_changes.specs.Namespaces.{Ends, Goes, IsCut, IsDone}
+use Rattle.shell_changes.specs.Namespaces.{Ends, Goes, IsPowerCut, IsDone}
 use Rattle.shell_changes.specs.Work.{Arena, Work, begun, count_of, label_changes, label_part, label_steps, steps_of_work}
 use Rattle.shell_changes.specs.Areas.{HasRows, rows_in}
 use Rattle.shell_changes.proofs.Areas.{IsSavedAs, has_rows, rows_opened}
@@ -92,7 +92,7 @@ module _ (leaves : ℕ → List (Option Words) → List (Option (List ℕ)) → 
       → ((rows : List (Option (List ℕ))) → AreLeft news rows → IsLeftBy seen (label_changes work) (label_steps seen work n) (areas_shown rows))
       → map unready news ≡ map unready opened → map size_of news ≡ map size_of opened → (s : SavesCut leaves objects power news made outcome)
       → SavedAs leaves (begun (lasts power.steps (steps_of_all seen work.recovery)) work.arena) set words objects made (burnt power.steps (steps_of_all seen work.recovery)) s.rows s.contents_left
-      → IsCut leaves set seen work power outcome
+      → IsPowerCut leaves set seen work power outcome
   all_cut work news n made given now leave beside sizes s at = record {
     steps = n;
     given = given;
@@ -110,10 +110,10 @@ module _ (leaves : ℕ → List (Option Words) → List (Option (List ℕ)) → 
   }
 
   goes_whole : (work : Work) (refusal : Option OpRefused) → lasts power.steps (steps_of_work seen work) ≡ true → Ends set seen work refusal outcome → Goes leaves set seen work refusal power outcome
-  goes_whole work refusal long ends = subst (λ b. MatchBool b (Ends set seen work refusal outcome) (IsCut leaves set seen work power outcome)) (sym long) ends
+  goes_whole work refusal long ends = subst (λ b. MatchBool b (Ends set seen work refusal outcome) (IsPowerCut leaves set seen work power outcome)) (sym long) ends
 
-  goes_cut : (work : Work) (refusal : Option OpRefused) → lasts power.steps (steps_of_work seen work) ≡ false → IsCut leaves set seen work power outcome → Goes leaves set seen work refusal power outcome
-  goes_cut work refusal short cut = subst (λ b. MatchBool b (Ends set seen work refusal outcome) (IsCut leaves set seen work power outcome)) (sym short) cut
+  goes_cut : (work : Work) (refusal : Option OpRefused) → lasts power.steps (steps_of_work seen work) ≡ false → IsPowerCut leaves set seen work power outcome → Goes leaves set seen work refusal power outcome
+  goes_cut work refusal short cut = subst (λ b. MatchBool b (Ends set seen work refusal outcome) (IsPowerCut leaves set seen work power outcome)) (sym short) cut
 
   -- ---- recovery first
 

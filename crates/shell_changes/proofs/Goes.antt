@@ -23,7 +23,7 @@ use Rattle.namespace_areas.proofs.Seen.{seen_labels}
 use Rattle.namespace_areas.proofs.Opening.{held_all, row_of}
 use Rattle.namespace_ops.specs.declared.registry.OpenFault.{OpenFault}
 use Rattle.namespace_ops.specs.Registered.{Registered, opened_on}
-use Rattle.namespace_ops.specs.Opening.{opening, overlap_fault, set_fault_from, sets_of}
+use Rattle.namespace_ops.specs.Opening.{registry_opening, overlap_fault, set_fault_from, sets_of}
 use Rattle.nvd_media.specs.Images.{Images}
 use Rattle.image_set.specs.Load.{ImageSet, bytes_kept}
 use Rattle.image_set.specs.Sound.{IsArea}
@@ -120,8 +120,8 @@ err_by : {A B F : Type 0} (v : A) (w : B) (o : Option F) (f : F) → Err f ≡ v
 err_by v w None f is = absurd (let e = is in cc)
 err_by {F = F} v w (Some g) f is = ap (λ (x : F). Err x) (let e = is in cc)
 
-read_err : (nfit : Nfit) (areas : List Area) (f : OpenFault) → Err f ≡ opening nfit areas → reading nfit (overlap_fault (labels_of areas)) ≡ Err f
-unfolding reading opening
+read_err : (nfit : Nfit) (areas : List Area) (f : OpenFault) → Err f ≡ registry_opening nfit areas → reading nfit (overlap_fault (labels_of areas)) ≡ Err f
+unfolding reading registry_opening
 read_err nfit areas f is = err_by (opened_on (sets_of nfit) areas) (sets_of nfit) (first_fault (set_fault_from 0 nfit.regions ∷ overlap_fault (labels_of areas) ∷ [])) f is
 
 module _ (set : ImageSet) (words : List (Option Words)) (nfit : Nfit) (labels : set.labels ≡ map (option_map bytes_kept) words) (is_nfit : set.nfit ≡ nfit) where
@@ -137,13 +137,13 @@ module _ (set : ImageSet) (words : List (Option Words)) (nfit : Nfit) (labels : 
   sets_are whole = ap (λ (n : Nfit). reading n (overlap_fault (placed_in_all (areas_in set.labels)))) is_nfit ∙ ap (reading nfit) (sym (overlap_is whole))
 
   -- so the sets are those of a registry that is opened
-  pub sets_ok : (registry : Registered) → AreWhole words → Ok registry ≡ opening nfit (map opened_as words) → sets_in set ≡ Ok registry.sets
+  pub sets_ok : (registry : Registered) → AreWhole words → Ok registry ≡ registry_opening nfit (map opened_as words) → sets_in set ≡ Ok registry.sets
   sets_ok registry whole is =
       let was = was_opened nfit (map opened_as words) registry is in
       sets_are whole ∙ read_ok nfit (overlap_fault (labels_of (map opened_as words))) was.sound was.clear ∙ ap (λ (s : List (List Mapping)). Ok s) was.sets
 
   -- and there are none if it isn't opened
-  pub sets_err : (f : OpenFault) → AreWhole words → Err f ≡ opening nfit (map opened_as words) → sets_in set ≡ Err f
+  pub sets_err : (f : OpenFault) → AreWhole words → Err f ≡ registry_opening nfit (map opened_as words) → sets_in set ≡ Err f
   sets_err f whole is = sets_are whole ∙ read_err nfit (map opened_as words) f is
 
 module _ (leaves : ℕ → List (Option Words) → List (Option (List ℕ)) → Type 0) (nfit : Nfit) (labels : List (Option Words)) (beside : Beside) (contents : List (List ℕ)) (power : Power) (c : Command) (outcome : Outcome) (parted : IsParted nfit labels beside) where
@@ -154,7 +154,7 @@ module _ (leaves : ℕ → List (Option Words) → List (Option (List ℕ)) → 
   set = set_parted nfit labels beside contents
 
   -- a registry that is opened, and a command on what it has
-  pub comes : (registry : Registered) → Ok registry ≡ opening nfit (map opened_as labels) → (makes_sectors c ≡ is_whole beside)
+  pub comes : (registry : Registered) → Ok registry ≡ registry_opening nfit (map opened_as labels) → (makes_sectors c ≡ is_whole beside)
       → GoesFrom leaves (objects_left beside contents) power registry.sets registry.areas (words_beside beside) c outcome → ChangeComes leaves c power set outcome
   comes registry is needs from =
       let was = was_opened nfit (map opened_as labels) registry is in
@@ -170,7 +170,7 @@ module _ (leaves : ℕ → List (Option Words) → List (Option (List ℕ)) → 
       (labels_are set labels nfit (parted_labels nfit labels beside contents) (parted_nfit nfit labels beside contents)) it)
 
   -- one that isn't
-  pub comes_not : (f : OpenFault) → Err f ≡ opening nfit (map opened_as labels) → outcome ≡ open_outcome f → ChangeComes leaves c power set outcome
+  pub comes_not : (f : OpenFault) → Err f ≡ registry_opening nfit (map opened_as labels) → outcome ≡ open_outcome f → ChangeComes leaves c power set outcome
   comes_not f is said =
       let sets : sets_in set ≡ Err f = sets_err set labels nfit (parted_labels nfit labels beside contents) (parted_nfit nfit labels beside contents) f all_whole is in
       subst (λ (r : Result (List (List Mapping)) OpenFault). OnSets leaves set c power r outcome) (sym sets) said

@@ -24,12 +24,12 @@ use Rattle.region_space.specs.Space.{overlap_of}
 use Rattle.namespace_map.specs.declared.commands.Command.{Command}
 use Rattle.namespace_map.specs.declared.commands.Command.TheVariants.{Create, Delete, Rename, Claim, Unclaim}
 use Rattle.namespace_map.specs.declared.refused.OpRefused.{OpRefused}
-use Rattle.namespace_map.specs.Namespaces.{Entry, Namespaces, Part, extent_of, lookup, placed_of}
+use Rattle.namespace_map.specs.Namespaces.{NamespaceEntry, Namespaces, Part, extent_of, lookup, placed_of}
 use Rattle.namespace_map.specs.Laws.{IsRising}
 use Rattle.namespace_map.specs.Areas.{Area, Change, IsLeftBy, after_steps, all_changed, slots_of, slots_on, steps_of_all}
-use Rattle.namespace_map.specs.Commands.{done, recovered, refusal_of}
+use Rattle.namespace_map.specs.Commands.{done, after_recovery, refusal_of}
 use Rattle.namespace_map.specs.Changes.{changes_of, gone_changes, labels_at, namespaces_of, placed_in_all, recovered_areas, recovery_changes, settling_changes}
-use Rattle.namespace_map.specs.Left.{AreRead, AreRegions}
+use Rattle.namespace_map.specs.Left.{LabelsAreRead, AreRegions}
 use Rattle.namespace_map.proofs.Fronts.{cut_is_front}
 use Rattle.namespace_map.proofs.Rising.{rising_entries}
 use Rattle.namespace_laws.specs.Apart.{EntriesApart, KeepsApart, LeavesOthers as KeepsOthers}
@@ -61,7 +61,7 @@ use Rattle.shell_reports.specs.Outcome.{Outcome}
 use Rattle.shell_reports.specs.Saved.{IsSaving}
 use Rattle.shell_changes.specs.Areas.{HasAreas, HasRows, area_by, area_in, areas_in, rows_in}
 use Rattle.shell_changes.specs.Maps.{AcceptedIsApart, ChangesKeepApart, ChangesLabels, CrashIsInEither, CrashLeavesOthers, CrashRecovers, IsCutIn, IsLeftOf, OwnIsLeft, ReportsShowTheMap, CutInCommand, CutInFormat, CutInRecovery, DoneIsTheCommand, HasTable, SavesMap, map_of, uuid_of, with_bytes}
-use Rattle.shell_changes.specs.Namespaces.{Ends, IsCut, IsDone, OnSets, refusal_in, sets_in, work_by, work_in}
+use Rattle.shell_changes.specs.Namespaces.{Ends, IsPowerCut, IsDone, OnSets, refusal_in, sets_in, work_by, work_in}
 use Rattle.namespace_ops.specs.Counted.{makes_sectors}
 use Rattle.shell_changes.specs.Work.{Arena, Formats, Work, arena_of, begun, count_of, label_changes, label_steps, steps_of_work}
 use Rattle.shell_changes.specs.Refusals.{refused_outcome}
@@ -131,14 +131,14 @@ label_stands : (labels : List (Option (List ℕ))) (m s : ℕ) (l : Label) → s
 label_stands labels m s l e = let (bytes, read) = label_bytes labels m s l e in (bytes, reads_grammar bytes s l read)
 
 -- labels are those that a reader finds valid
-pub areas_read : (labels : List (Option (List ℕ))) → AreRead (areas_in labels)
+pub areas_read : (labels : List (Option (List ℕ))) → LabelsAreRead (areas_in labels)
 areas_read labels = record {
   number = λ m s l e. let (bytes, stands) = label_stands labels m s l e in stands.slot ∙ stands.numbered;
   bytes = λ m s l e. let (bytes, stands) = label_stands labels m s l e in stands.raw_some;
 }
 
 -- they stay so in recovery
-module _ (sets : List (List Mapping)) (areas : List (Option Area)) (regions : AreRegions sets) (read : AreRead areas) where
+module _ (sets : List (List Mapping)) (areas : List (Option Area)) (regions : AreRegions sets) (read : LabelsAreRead areas) where
   abbrev first : List Change
   first = flat_map (gone_changes areas) (namespaces_of sets areas).entries
 
@@ -165,22 +165,22 @@ module _ (sets : List (List Mapping)) (areas : List (Option Area)) (regions : Ar
   bytes : AllByRecursion PutsBytes (recovery_changes sets areas)
   bytes = append_all PutsBytes first second went.bytes settles.bytes
 
-  pub recovered_read : AreRead (recovered_areas sets areas)
+  pub recovered_read : LabelsAreRead (recovered_areas sets areas)
   recovered_read = read_all (recovery_changes sets areas) areas read bytes
 
-  cut_read : (n : ℕ) (stays : Bool) → AreRead (after_steps areas (recovery_changes sets areas) n stays)
+  cut_read : (n : ℕ) (stays : Bool) → LabelsAreRead (after_steps areas (recovery_changes sets areas) n stays)
   cut_read n stays =
       let front = cut_is_front (recovery_changes sets areas) areas n stays in
-      subst AreRead (sym front.2) (read_all (take front.0 (recovery_changes sets areas)) areas read (take_all PutsBytes front.0 (recovery_changes sets areas) bytes))
+      subst LabelsAreRead (sym front.2) (read_all (take front.0 (recovery_changes sets areas)) areas read (take_all PutsBytes front.0 (recovery_changes sets areas) bytes))
 
   -- a cut within recovery recovers to what recovery makes
-  cut_recovers : (n : ℕ) (stays : Bool) → recovered (namespaces_of sets (after_steps areas (recovery_changes sets areas) n stays)) ≡ recovered (namespaces_of sets areas)
+  cut_recovers : (n : ℕ) (stays : Bool) → after_recovery (namespaces_of sets (after_steps areas (recovery_changes sets areas) n stays)) ≡ after_recovery (namespaces_of sets areas)
   cut_recovers n stays =
       sym (recovery_agrees sets (after_steps areas (recovery_changes sets areas) n stays) regions (cut_read n stays)) ∙ recovery_resumes sets areas regions read n stays
       ∙ recovery_agrees sets areas regions read
 
 -- a command that isn't refused
-agreed : (sets : List (List Mapping)) (areas : List (Option Area)) (c : Command) → ChangesLabels c → AreRegions sets → AreRead areas → refusal_of (namespaces_of sets areas) c ≡ None → Agrees sets areas c
+agreed : (sets : List (List Mapping)) (areas : List (Option Area)) (c : Command) → ChangesLabels c → AreRegions sets → LabelsAreRead areas → refusal_of (namespaces_of sets areas) c ≡ None → Agrees sets areas c
 agreed sets areas (Create spec) changes regions read none = create_agrees sets areas spec.uuid spec.name spec.region spec.size spec.make regions none
 agreed sets areas (Delete uuid) changes regions read none = delete_agrees sets areas uuid regions read none
 agreed sets areas (Rename uuid name) changes regions read none = rename_agrees sets areas uuid name regions read none
@@ -190,23 +190,23 @@ agreed sets areas (Unclaim uuid) changes regions read none = absurd changes
 -- ---- apart
 
 -- an entry after recovery has the parts that it had
-parts_before : (ns : Namespaces) (u : List ℕ) (e : Entry) → lookup u (recovered ns).entries ≡ Some e → (x : Entry) × (lookup u ns.entries ≡ Some x) × (e.parts ≡ x.parts)
-parts_before ns u e is = let (x, was, settled) = found_before ns u e is in (x, was, ap (λ (y : Entry). y.parts) (sym settled))
+parts_before : (ns : Namespaces) (u : List ℕ) (e : NamespaceEntry) → lookup u (after_recovery ns).entries ≡ Some e → (x : NamespaceEntry) × (lookup u ns.entries ≡ Some x) × (e.parts ≡ x.parts)
+parts_before ns u e is = let (x, was, settled) = found_before ns u e is in (x, was, ap (λ (y : NamespaceEntry). y.parts) (sym settled))
 
-recovered_apart : (ns : Namespaces) → EntriesApart ns → EntriesApart (recovered ns)
+recovered_apart : (ns : Namespaces) → EntriesApart ns → EntriesApart (after_recovery ns)
 recovered_apart ns before u v e f differ at_u at_v a b in_e in_f =
     let (x, x_is, x_parts) = parts_before ns u e at_u in
     let (y, y_is, y_parts) = parts_before ns v f at_v in
     before u v x y differ x_is y_is a b (subst (λ (ps : List Part). Contains ps a) x_parts in_e) (subst (λ (ps : List Part). Contains ps b) y_parts in_f)
 
-leaves_others : (sets : List (List Mapping)) (areas : List (Option Area)) (c : Command) → ChangesLabels c → AreRegions sets → AreRead areas → refusal_of (namespaces_of sets areas) c ≡ None → KeepsOthers sets areas (uuid_of c) c
+leaves_others : (sets : List (List Mapping)) (areas : List (Option Area)) (c : Command) → ChangesLabels c → AreRegions sets → LabelsAreRead areas → refusal_of (namespaces_of sets areas) c ≡ None → KeepsOthers sets areas (uuid_of c) c
 leaves_others sets areas (Create spec) changes regions read none = create_others sets areas spec.uuid spec.name spec.region spec.size spec.make regions none
 leaves_others sets areas (Delete uuid) changes regions read none = delete_others sets areas uuid regions read none
 leaves_others sets areas (Rename uuid name) changes regions read none = rename_others sets areas uuid name regions read none
 leaves_others sets areas (Claim uuid) changes regions read none = absurd changes
 leaves_others sets areas (Unclaim uuid) changes regions read none = absurd changes
 
-keeps : (sets : List (List Mapping)) (areas : List (Option Area)) (c : Command) → ChangesLabels c → AreRegions sets → AreRead areas → refusal_of (namespaces_of sets areas) c ≡ None → KeepsApart sets areas c
+keeps : (sets : List (List Mapping)) (areas : List (Option Area)) (c : Command) → ChangesLabels c → AreRegions sets → LabelsAreRead areas → refusal_of (namespaces_of sets areas) c ≡ None → KeepsApart sets areas c
 keeps sets areas (Create spec) changes regions read none = create_apart sets areas spec.uuid spec.name spec.region spec.size spec.make regions none
 keeps sets areas (Delete uuid) changes regions read none = delete_apart sets areas uuid regions read none
 keeps sets areas (Rename uuid name) changes regions read none = rename_apart sets areas uuid name regions read none
@@ -229,14 +229,14 @@ keep_apart c loaded sets changes table are =
     let seen : List (Option Area) = areas_in loaded.labels in
     let mid : List (Option Area) = recovered_areas sets seen in
     let regions = regions_of loaded sets table are in
-    let read : AreRead seen = areas_read loaded.labels in
-    let read_mid : AreRead mid = recovered_read sets seen regions read in
-    let map_is : namespaces_of sets mid ≡ recovered (map_of sets loaded) = recovery_agrees sets seen regions read in
-    let first : EntriesApart (recovered (map_of sets loaded)) = recovered_apart (map_of sets loaded) (accepted_apart loaded sets are) in
+    let read : LabelsAreRead seen = areas_read loaded.labels in
+    let read_mid : LabelsAreRead mid = recovered_read sets seen regions read in
+    let map_is : namespaces_of sets mid ≡ after_recovery (map_of sets loaded) = recovery_agrees sets seen regions read in
+    let first : EntriesApart (after_recovery (map_of sets loaded)) = recovered_apart (map_of sets loaded) (accepted_apart loaded sets are) in
     let first_mid : EntriesApart (namespaces_of sets mid) = subst EntriesApart (sym map_is) first in
     let own : List Change = changes_of (namespaces_of sets mid) mid c in
     record {
-      after_recovery = first;
+      recovery = first;
       in_recovery = λ n stays. stopped_apart sets seen n stays (no_overlap (overlap_of (map extent_of (placed_in_all seen))) (accepted loaded sets are).clear);
       after_command = λ none.
           subst EntriesApart (ap (namespaces_of sets) (after_whole own mid) ∙ agreed sets mid c changes regions read_mid none ∙ ap (λ (ns : Namespaces). done ns c) map_is)
@@ -247,9 +247,9 @@ keep_apart c loaded sets changes table are =
 -- ---- recovered again
 
 -- recovery of what recovery has made changes nothing
-recovers_once : (sets : List (List Mapping)) (areas : List (Option Area)) → AreRegions sets → AreRead areas → recovered (recovered (namespaces_of sets areas)) ≡ recovered (namespaces_of sets areas)
+recovers_once : (sets : List (List Mapping)) (areas : List (Option Area)) → AreRegions sets → LabelsAreRead areas → after_recovery (after_recovery (namespaces_of sets areas)) ≡ after_recovery (namespaces_of sets areas)
 recovers_once sets areas regions read =
-    ap recovered (sym (recovery_agrees sets areas regions read) ∙ ap (namespaces_of sets) (sym (after_whole (recovery_changes sets areas) areas)))
+    ap after_recovery (sym (recovery_agrees sets areas regions read) ∙ ap (namespaces_of sets) (sym (after_whole (recovery_changes sets areas) areas)))
     ∙ cut_recovers sets areas regions read (steps_of_all areas (recovery_changes sets areas)) true
 
 -- ---- a set that is saved
@@ -337,43 +337,43 @@ module _ (leaves : ℕ → List (Option Words) → List (Option (List ℕ)) → 
   -- ---- to its end
 
   done_shown : ChangesLabels c → HasTable loaded → sets_in loaded ≡ Ok sets → refusal_in sets seen c ≡ None → IsDone loaded seen (work_by sets seen c None) outcome
-      → SavesMap sets loaded (makes_sectors c) (done (recovered (map_of sets loaded)) c) outcome
+      → SavesMap sets loaded (makes_sectors c) (done (after_recovery (map_of sets loaded)) c) outcome
   done_shown changes table are none d =
       let regions : AreRegions sets = regions_of loaded sets table are in
-      let read : AreRead seen = areas_read loaded.labels in
+      let read : LabelsAreRead seen = areas_read loaded.labels in
       let agrees : Agrees sets mid c = agreed sets mid c changes regions (recovered_read sets seen regions read) none in
       let is = now_is true arena loaded None d.contents d.contents_left d.now d.formats in
-      saves_shown sets loaded d.now (makes_sectors c) (all_rows (rows_in loaded) (recovery ++ own)) (done (recovered (map_of sets loaded)) c) ending.Done _ d.set outcome is.0 (λ plain. is.1 (kept_by true plain)) d.has d.saves
+      saves_shown sets loaded d.now (makes_sectors c) (all_rows (rows_in loaded) (recovery ++ own)) (done (after_recovery (map_of sets loaded)) c) ending.Done _ d.set outcome is.0 (λ plain. is.1 (kept_by true plain)) d.has d.saves
       (ap (namespaces_of sets) (d.shown ∙ changed_both recovery own seen) ∙ agrees ∙ ap (λ (ns : Namespaces). done ns c) (recovery_agrees sets seen regions read))
 
   done_by : ChangesLabels c → HasTable loaded → sets_in loaded ≡ Ok sets → outcome.ending ≡ ending.Done → (r : Option OpRefused) → refusal_in sets seen c ≡ r
-      → Ends loaded seen (work_by sets seen c r) r outcome → SavesMap sets loaded (makes_sectors c) (done (recovered (map_of sets loaded)) c) outcome
+      → Ends loaded seen (work_by sets seen c r) r outcome → SavesMap sets loaded (makes_sectors c) (done (after_recovery (map_of sets loaded)) c) outcome
   done_by changes table are ended None none d = done_shown changes table are none d
   done_by changes table are ended (Some f) some said = absurd (let e : ending.Refused ≡ ending.Done = sym (ending_of outcome (refused_outcome f) said) ∙ ended in cc)
 
   done_on : ChangesLabels c → HasTable loaded → sets_in loaded ≡ Ok sets → outcome.ending ≡ ending.Done → (b : Bool)
-      → MatchBool b (Ends loaded seen (work_in sets seen c) (refusal_in sets seen c) outcome) (IsCut leaves loaded seen (work_in sets seen c) power outcome)
-      → SavesMap sets loaded (makes_sectors c) (done (recovered (map_of sets loaded)) c) outcome
+      → MatchBool b (Ends loaded seen (work_in sets seen c) (refusal_in sets seen c) outcome) (IsPowerCut leaves loaded seen (work_in sets seen c) power outcome)
+      → SavesMap sets loaded (makes_sectors c) (done (after_recovery (map_of sets loaded)) c) outcome
   done_on changes table are ended true ends = done_by changes table are ended (refusal_in sets seen c) refl ends
   done_on changes table are ended false cut = absurd (let e : ending.PowerCut ≡ ending.Done = sym cut.saves.ends ∙ ended in cc)
 
   -- ---- cut
 
-  left_as : (work : Work) (cut : IsCut leaves loaded seen work power outcome) (formats : Bool) (areas : List (Option Area)) → (formats ≡ false → begun (lasts power.steps (steps_of_all seen work.recovery)) work.arena ≡ None)
+  left_as : (work : Work) (cut : IsPowerCut leaves loaded seen work power outcome) (formats : Bool) (areas : List (Option Area)) → (formats ≡ false → begun (lasts power.steps (steps_of_all seen work.recovery)) work.arena ≡ None)
       → areas_shown cut.rows ≡ areas → SavesMap sets loaded formats (namespaces_of sets areas) outcome
   left_as work cut formats areas kept is =
       let now = now_is (lasts power.steps (steps_of_all seen work.recovery)) work.arena loaded (burnt power.steps (steps_of_all seen work.recovery)) cut.contents cut.contents_left cut.now cut.formats in
       saves_shown sets loaded cut.now formats cut.rows (namespaces_of sets areas) ending.PowerCut _ cut.set outcome now.0 (λ plain. now.1 (kept plain)) cut.has cut.saves (ap (namespaces_of sets) is)
 
-  steps_are : (work : Work) (cut : IsCut leaves loaded seen work power outcome) (n : ℕ) → power.steps ≡ Some n → cut.steps ≡ n
+  steps_are : (work : Work) (cut : IsPowerCut leaves loaded seen work power outcome) (n : ℕ) → power.steps ≡ Some n → cut.steps ≡ n
   steps_are work cut n is = let both : Some cut.steps ≡ Some n = sym cut.given ∙ is in cc
 
-  left_after : (work : Work) (cut : IsCut leaves loaded seen work power outcome) (n k : ℕ) → power.steps ≡ Some n → label_steps seen work n ≡ k → IsLeftBy seen (label_changes work) k (areas_shown cut.rows)
+  left_after : (work : Work) (cut : IsPowerCut leaves loaded seen work power outcome) (n k : ℕ) → power.steps ≡ Some n → label_steps seen work n ≡ k → IsLeftBy seen (label_changes work) k (areas_shown cut.rows)
   left_after work cut n k is label_is =
       subst (λ (m : ℕ). IsLeftBy seen (label_changes work) m (areas_shown cut.rows)) (ap (label_steps seen work) (steps_are work cut n is) ∙ label_is) (cut.leave cut.rows cut.left_of)
 
   -- in recovery, whatever stands behind it
-  in_recovery : (arena' : Option Arena) (own' : List Change) (cut : IsCut leaves loaded seen (record { recovery = recovery; arena = arena'; own = own' }) power outcome) (n : ℕ) → power.steps ≡ Some n → n < early → CutInRecovery sets loaded n outcome
+  in_recovery : (arena' : Option Arena) (own' : List Change) (cut : IsPowerCut leaves loaded seen (record { recovery = recovery; arena = arena'; own = own' }) power outcome) (n : ℕ) → power.steps ≡ Some n → n < early → CutInRecovery sets loaded n outcome
   in_recovery arena' own' cut n is lt = by (left_after (record { recovery = recovery; arena = arena'; own = own' }) cut n n is (label_short early (count_of arena') n short))
     where
       short : nat_le early n ≡ false
@@ -387,7 +387,7 @@ module _ (leaves : ℕ → List (Option Words) → List (Option (List ℕ)) → 
       by (inr e) = (false, left_as (record { recovery = recovery; arena = arena'; own = own' }) cut false (after_steps seen recovery n false) kept (e ∙ after_first recovery own' seen n false lt))
 
   -- in the format
-  in_format : (cut : IsCut leaves loaded seen (work_by sets seen c None) power outcome) (n : ℕ) → power.steps ≡ Some n → early ≤ n → n < early + format → CutInFormat sets loaded outcome
+  in_format : (cut : IsPowerCut leaves loaded seen (work_by sets seen c None) power outcome) (n : ℕ) → power.steps ≡ Some n → early ≤ n → n < early + format → CutInFormat sets loaded outcome
   in_format cut n is le lt =
       by (left_after (work_by sets seen c None) cut n early is (label_long early format n (le-leb early n le) ∙ format_left early format n le lt))
     where
@@ -400,7 +400,7 @@ module _ (leaves : ℕ → List (Option Words) → List (Option (List ℕ)) → 
       by (inr e) = left_as (work_by sets seen c None) cut true mid (λ no. absurd (true≢false no)) (e ∙ made false)
 
   -- in the command's label changes
-  in_command : (cut : IsCut leaves loaded seen (work_by sets seen c None) power outcome) (n : ℕ) → power.steps ≡ Some n → early + format ≤ n → CutInCommand sets loaded c (n - early - format) outcome
+  in_command : (cut : IsPowerCut leaves loaded seen (work_by sets seen c None) power outcome) (n : ℕ) → power.steps ≡ Some n → early + format ≤ n → CutInCommand sets loaded c (n - early - format) outcome
   in_command cut n is le =
       by (left_after (work_by sets seen c None) cut n (early + (n - early - format)) is (label_long early format n (le-leb early n (under_first early format n le))))
     where
@@ -414,7 +414,7 @@ module _ (leaves : ℕ → List (Option Words) → List (Option (List ℕ)) → 
       by (inr e) = (false, left_as (work_by sets seen c None) cut (makes_sectors c) (after_steps mid own (n - early - format) false) (kept_by (lasts power.steps early)) (e ∙ made false))
 
   cut_by : (n : ℕ) → power.steps ≡ Some n → (r : Option OpRefused) → refusal_in sets seen c ≡ r → lasts power.steps (steps_of_work seen (work_by sets seen c r)) ≡ false
-      → IsCut leaves loaded seen (work_by sets seen c r) power outcome → IsCutIn sets loaded c n outcome
+      → IsPowerCut leaves loaded seen (work_by sets seen c r) power outcome → IsCutIn sets loaded c n outcome
   cut_by n is (Some f) some short cut =
       let none : steps_of_all seen (recovery ++ []) + 0 ≡ early = add_none (steps_of_all seen (recovery ++ [])) ∙ ap (λ (cs : List Change). steps_of_all seen cs) (append_nil recovery) in
       let lt : n < early = leb-false early n (ap (λ (k : ℕ). nat_le k n) (sym none) ∙ ap (λ (p : Option ℕ). lasts p (steps_of_all seen (recovery ++ []) + 0)) (sym is) ∙ short) in
@@ -434,12 +434,12 @@ module _ (leaves : ℕ → List (Option Words) → List (Option (List ℕ)) → 
 
   -- power was given for so many steps
   cut_steps : outcome.ending ≡ ending.PowerCut → (b : Bool)
-      → MatchBool b (Ends loaded seen (work_in sets seen c) (refusal_in sets seen c) outcome) (IsCut leaves loaded seen (work_in sets seen c) power outcome) → (n : ℕ) × (power.steps ≡ Some n)
+      → MatchBool b (Ends loaded seen (work_in sets seen c) (refusal_in sets seen c) outcome) (IsPowerCut leaves loaded seen (work_in sets seen c) power outcome) → (n : ℕ) × (power.steps ≡ Some n)
   cut_steps ended true ends = absurd (not_cut (refusal_in sets seen c) ends ended)
   cut_steps ended false cut = (cut.steps, cut.given)
 
   cut_on : (n : ℕ) → power.steps ≡ Some n → outcome.ending ≡ ending.PowerCut → (b : Bool) → lasts power.steps (steps_of_work seen (work_in sets seen c)) ≡ b
-      → MatchBool b (Ends loaded seen (work_in sets seen c) (refusal_in sets seen c) outcome) (IsCut leaves loaded seen (work_in sets seen c) power outcome) → IsCutIn sets loaded c n outcome
+      → MatchBool b (Ends loaded seen (work_in sets seen c) (refusal_in sets seen c) outcome) (IsPowerCut leaves loaded seen (work_in sets seen c) power outcome) → IsCutIn sets loaded c n outcome
   cut_on n is ended true long ends = absurd (not_cut (refusal_in sets seen c) ends ended)
   cut_on n is ended false short cut = cut_by n is (refusal_in sets seen c) refl short cut
 
@@ -460,7 +460,7 @@ module _ (leaves : ℕ → List (Option Words) → List (Option (List ℕ)) → 
           absurd (not_some format some none)
 
   abbrev Recovers : Type 0
-  Recovers = (ns : Namespaces) × SavesMap sets loaded (makes_sectors c) ns outcome × ((recovered ns ≡ recovered (map_of sets loaded)) ⊎ (recovered ns ≡ recovered (done (recovered (map_of sets loaded)) c)))
+  Recovers = (ns : Namespaces) × SavesMap sets loaded (makes_sectors c) ns outcome × ((after_recovery ns ≡ after_recovery (map_of sets loaded)) ⊎ (after_recovery ns ≡ after_recovery (done (after_recovery (map_of sets loaded)) c)))
 
   recovers_by : (n : ℕ) → ChangesLabels c → HasTable loaded → sets_in loaded ≡ Ok sets → IsCutIn sets loaded c n outcome → Recovers
   recovers_by n changes table are (inl (lt, (stays, saves))) = (
@@ -470,35 +470,35 @@ module _ (leaves : ℕ → List (Option Words) → List (Option (List ℕ)) → 
   )
   recovers_by n changes table are (inr (inl (le, lt, none, saves))) =
       let regions = regions_of loaded sets table are in
-      let read : AreRead seen = areas_read loaded.labels in (
+      let read : LabelsAreRead seen = areas_read loaded.labels in (
         namespaces_of sets mid,
         subst (λ (b : Bool). SavesMap sets loaded b (namespaces_of sets mid) outcome) (sym (formats_sectors (some_format early format n le lt))) saves,
-        inl (ap recovered (recovery_agrees sets seen regions read) ∙ recovers_once sets seen regions read),
+        inl (ap after_recovery (recovery_agrees sets seen regions read) ∙ recovers_once sets seen regions read),
       )
   recovers_by n changes table are (inr (inr (far, none, (stays, saves)))) =
       let regions = regions_of loaded sets table are in
-      let read : AreRead seen = areas_read loaded.labels in
-      let map_is : namespaces_of sets mid ≡ recovered (map_of sets loaded) = recovery_agrees sets seen regions read in
+      let read : LabelsAreRead seen = areas_read loaded.labels in
+      let map_is : namespaces_of sets mid ≡ after_recovery (map_of sets loaded) = recovery_agrees sets seen regions read in
       let rest : ℕ = n - early - format in (
         namespaces_of sets (after_steps mid own rest stays),
         saves,
         elim (to_either sets seen mid regions (recovered_read sets seen regions read) map_is c changes none rest stays) [
-          | inl before ↦ inl (before ∙ ap recovered map_is ∙ recovers_once sets seen regions read)
-          | inr after ↦ inr (after ∙ ap (λ (ns : Namespaces). recovered (done ns c)) map_is)
+          | inl before ↦ inl (before ∙ ap after_recovery map_is ∙ recovers_once sets seen regions read)
+          | inr after ↦ inr (after ∙ ap (λ (ns : Namespaces). after_recovery (done ns c)) map_is)
         ],
       )
 
   -- ---- the namespaces one by one
 
   abbrev LeavesAll : Type 0
-  LeavesAll = (ns : Namespaces) × SavesMap sets loaded (makes_sectors c) ns outcome × IsLeftOf (recovered (map_of sets loaded)) ns c
+  LeavesAll = (ns : Namespaces) × SavesMap sets loaded (makes_sectors c) ns outcome × IsLeftOf (after_recovery (map_of sets loaded)) ns c
 
-  left_by : ChangesLabels c → HasTable loaded → sets_in loaded ≡ Ok sets → refusal_in sets seen c ≡ None → (k : ℕ) (stays : Bool) → IsLeftOf (recovered (map_of sets loaded)) (namespaces_of sets (after_steps mid own k stays)) c
+  left_by : ChangesLabels c → HasTable loaded → sets_in loaded ≡ Ok sets → refusal_in sets seen c ≡ None → (k : ℕ) (stays : Bool) → IsLeftOf (after_recovery (map_of sets loaded)) (namespaces_of sets (after_steps mid own k stays)) c
   left_by changes table are none k stays =
       let regions = regions_of loaded sets table are in
-      let read : AreRead seen = areas_read loaded.labels in
-      let read_mid : AreRead mid = recovered_read sets seen regions read in
-      let map_is : namespaces_of sets mid ≡ recovered (map_of sets loaded) = recovery_agrees sets seen regions read in
+      let read : LabelsAreRead seen = areas_read loaded.labels in
+      let read_mid : LabelsAreRead mid = recovered_read sets seen regions read in
+      let map_is : namespaces_of sets mid ≡ after_recovery (map_of sets loaded) = recovery_agrees sets seen regions read in
       let apart : EntriesApart (namespaces_of sets mid) = subst EntriesApart (sym map_is) (recovered_apart (map_of sets loaded) (accepted_apart loaded sets are)) in
       record {
         others = λ other ne. leaves_others sets mid c changes regions read_mid none k stays other ne ∙ ap (λ (ns : Namespaces). lookup other ns.entries) map_is;
@@ -512,7 +512,7 @@ module _ (leaves : ℕ → List (Option Words) → List (Option (List ℕ)) → 
   others_by n changes table are le (inr (inl (le', lt, none, saves))) = (
     namespaces_of sets mid,
     subst (λ (b : Bool). SavesMap sets loaded b (namespaces_of sets mid) outcome) (sym (formats_sectors (some_format early format n le' lt))) saves,
-    subst (λ (areas : List (Option Area)). IsLeftOf (recovered (map_of sets loaded)) (namespaces_of sets areas) c) (after_none own mid 0 true refl) (left_by changes table are none 0 true),
+    subst (λ (areas : List (Option Area)). IsLeftOf (after_recovery (map_of sets loaded)) (namespaces_of sets areas) c) (after_none own mid 0 true refl) (left_by changes table are none 0 true),
   )
   others_by n changes table are le (inr (inr (far, none, (stays, saves)))) = (
     namespaces_of sets (after_steps mid own (n - early - format) stays),

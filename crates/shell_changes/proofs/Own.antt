@@ -14,14 +14,14 @@ use Rattle.label_set.specs.declared.placed.Placed.{Placed}
 use Rattle.label_set.specs.declared.placed.SetStatus.{SetStatus}
 use Rattle.label_set.specs.declared.placed.SetStatus.TheVariants.{Complete, Unfinished, Local, Incomplete}
 use Rattle.label_set.specs.Rules.{is_updating, module_of}
-use Rattle.namespace_map.specs.Namespaces.{Entry, Namespaces, Part, entry_with, labels_with, lookup, part_of}
+use Rattle.namespace_map.specs.Namespaces.{NamespaceEntry, Namespaces, Part, entry_with, labels_with, lookup, part_of}
 use Rattle.namespace_map.specs.declared.commands.Command.{Command}
 use Rattle.namespace_map.specs.declared.commands.Named.{Named}
 use Rattle.namespace_map.specs.declared.commands.Command.TheVariants.{Create, Delete, Rename, Claim, Unclaim}
 use Rattle.namespace_map.specs.Areas.{Area, Change, after_steps, all_changed}
 use Rattle.namespace_map.specs.Changes.{change_to, changes_of, in_two, namespaces_of, own_labels, placed_in_all}
-use Rattle.namespace_map.specs.Commands.{area_of, deleted_entry, done, entry_modules, is_complete, recovered, refusal_of, settled_entry, settled_status, short_of, unfinished_gone}
-use Rattle.namespace_map.specs.Left.{AreRead, AreRegions}
+use Rattle.namespace_map.specs.Commands.{area_of, deleted_entry, done, entry_modules, is_complete, after_recovery, refusal_of, settled_entry, settled_status, short_of, unfinished_gone}
+use Rattle.namespace_map.specs.Left.{LabelsAreRead, AreRegions}
 use Rattle.namespace_map.proofs.Entries as entries
 use Rattle.namespace_map.proofs.Entries.{lookup_entries}
 use Rattle.namespace_laws.specs.Laws.{CutOfDelete, CutOfDeleteAlone}
@@ -40,13 +40,13 @@ use Rattle.shell_changes.specs.Maps.{ChangesLabels, DeleteIsLeft, OwnIsLeft, uui
 
 -- ---- an entry that recovery left
 
-still_there : (gone : Namespaces) (b : Bool) (o : Option Entry) (e : Entry) → option_map (settled_entry gone) (cond b None o) ≡ Some e → (x : Entry) × (o ≡ Some x) × (settled_entry gone x ≡ e)
+still_there : (gone : Namespaces) (b : Bool) (o : Option NamespaceEntry) (e : NamespaceEntry) → option_map (settled_entry gone) (cond b None o) ≡ Some e → (x : NamespaceEntry) × (o ≡ Some x) × (settled_entry gone x ≡ e)
 still_there gone true o e is = absurd (none-some e is)
 still_there gone false None e is = absurd (none-some e is)
 still_there gone false (Some x) e is = (x, refl, same_Some (settled_entry gone x) e is)
 
 -- it is one that was there, settled
-pub found_before : (ns : Namespaces) (u : List ℕ) (e : Entry) → lookup u (recovered ns).entries ≡ Some e → (x : Entry) × (lookup u ns.entries ≡ Some x) × (settled_entry (unfinished_gone ns ns.entries) x ≡ e)
+pub found_before : (ns : Namespaces) (u : List ℕ) (e : NamespaceEntry) → lookup u (after_recovery ns).entries ≡ Some e → (x : NamespaceEntry) × (lookup u ns.entries ≡ Some x) × (settled_entry (unfinished_gone ns ns.entries) x ≡ e)
 found_before ns u e is =
     let gone = unfinished_gone ns ns.entries in
     still_there gone (list_any (goes u) ns.entries) (lookup u ns.entries) e
@@ -62,7 +62,7 @@ none_full gone [] all = refl
 none_full gone (m ∷ modules) (some, rest) = rw (has_slot (area_of gone m).free some) (none_full gone modules rest)
 
 -- so if each module has a free slot, it isn't pending
-settled_whole : (gone : Namespaces) (x : Entry) → AllByRecursion (λ m. nat_lt (area_of gone m).free 1 ≡ false) x.updating → (name : List ℕ) (pending : Bool) → (settled_entry gone x).status ≡ Complete name pending → pending ≡ false
+settled_whole : (gone : Namespaces) (x : NamespaceEntry) → AllByRecursion (λ m. nat_lt (area_of gone m).free 1 ≡ false) x.updating → (name : List ℕ) (pending : Bool) → (settled_entry gone x).status ≡ Complete name pending → pending ≡ false
 settled_whole gone x all name pending is = by x.status is
   where
     by : (s : SetStatus) → settled_status s (if is_complete s then filter (λ m. (area_of gone m).free == 0) x.updating else x.updating) ≡ Complete name pending → pending ≡ false
@@ -82,30 +82,30 @@ some_modules P (p ∷ labels) (one, rest) = by (is_updating p) (some_modules P l
     by true more = (one, more)
     by false more = more
 
-updating_among : (P : ℕ → Type 0) (sets : List (List Mapping)) (areas : List (Option Area)) (u : List ℕ) (x : Entry) → lookup u (namespaces_of sets areas).entries ≡ Some x → AllByRecursion P (entry_modules x) → AllByRecursion P x.updating
+updating_among : (P : ℕ → Type 0) (sets : List (List Mapping)) (areas : List (Option Area)) (u : List ℕ) (x : NamespaceEntry) → lookup u (namespaces_of sets areas).entries ≡ Some x → AllByRecursion P (entry_modules x) → AllByRecursion P x.updating
 updating_among P sets areas u x is = by (slice_get (labels_with u (placed_in_all areas)) 0) (sym (lookup_entries sets (placed_in_all areas) u) ∙ is)
   where
     by : (o : Option Placed) → option_map (entry_with sets (labels_with u (placed_in_all areas))) o ≡ Some x → AllByRecursion P (entry_modules x) → AllByRecursion P x.updating
     by None at = absurd (none-some x at)
     by (Some p) at =
-        subst (λ (y : Entry). AllByRecursion P (entry_modules y) → AllByRecursion P y.updating) (same_Some (entry_with sets (labels_with u (placed_in_all areas)) p) x at)
+        subst (λ (y : NamespaceEntry). AllByRecursion P (entry_modules y) → AllByRecursion P y.updating) (same_Some (entry_with sets (labels_with u (placed_in_all areas)) p) x at)
         (some_modules P (labels_with u (placed_in_all areas)))
 
 -- ---- on areas that recovery has made
 
-module _ (sets : List (List Mapping)) (seen mid : List (Option Area)) (regions : AreRegions sets) (read : AreRead mid) (map_is : namespaces_of sets mid ≡ recovered (namespaces_of sets seen)) where
+module _ (sets : List (List Mapping)) (seen mid : List (Option Area)) (regions : AreRegions sets) (read : LabelsAreRead mid) (map_is : namespaces_of sets mid ≡ after_recovery (namespaces_of sets seen)) where
   abbrev ns : Namespaces
   ns = namespaces_of sets mid
 
-  settled_if_room : (u : List ℕ) (e : Entry) (pending : Bool) → lookup u ns.entries ≡ Some e → e.status ≡ Complete e.name pending → short_of ns 1 (entry_modules e) ≡ None → pending ≡ false
+  settled_if_room : (u : List ℕ) (e : NamespaceEntry) (pending : Bool) → lookup u ns.entries ≡ Some e → e.status ≡ Complete e.name pending → short_of ns 1 (entry_modules e) ≡ None → pending ≡ false
   settled_if_room u e pending is status room =
       let (x, was, settled) = found_before (namespaces_of sets seen) u e (ap (λ (it : Namespaces). lookup u it.entries) (sym map_is) ∙ is) in
       let gone = unfinished_gone (namespaces_of sets seen) (namespaces_of sets seen).entries in
-      let all : AllByRecursion (λ m. nat_lt (area_of (recovered (namespaces_of sets seen)) m).free 1 ≡ false) (entry_modules e) =
-      not_short (recovered (namespaces_of sets seen)) 1 (entry_modules e) (ap (λ (it : Namespaces). short_of it 1 (entry_modules e)) (sym map_is) ∙ room) in
+      let all : AllByRecursion (λ m. nat_lt (area_of (after_recovery (namespaces_of sets seen)) m).free 1 ≡ false) (entry_modules e) =
+      not_short (after_recovery (namespaces_of sets seen)) 1 (entry_modules e) (ap (λ (it : Namespaces). short_of it 1 (entry_modules e)) (sym map_is) ∙ room) in
       let all' : AllByRecursion (λ m. nat_lt (area_of gone m).free 1 ≡ false) (entry_modules x) =
-      subst (λ (y : Entry). AllByRecursion (λ m. nat_lt (area_of gone m).free 1 ≡ false) (entry_modules y)) (sym settled) all in
-      settled_whole gone x (updating_among (λ m. nat_lt (area_of gone m).free 1 ≡ false) sets seen u x was all') e.name pending (ap (λ (y : Entry). y.status) settled ∙ status)
+      subst (λ (y : NamespaceEntry). AllByRecursion (λ m. nat_lt (area_of gone m).free 1 ≡ false) (entry_modules y)) (sym settled) all in
+      settled_whole gone x (updating_among (λ m. nat_lt (area_of gone m).free 1 ≡ false) sets seen u x was all') e.name pending (ap (λ (y : NamespaceEntry). y.status) settled ∙ status)
 
   -- ---- a delete
 
@@ -147,7 +147,7 @@ module _ (sets : List (List Mapping)) (seen mid : List (Option Area)) (regions :
     deleted : lookup uuid (namespaces_of sets (all_changed mid ds)).entries ≡ None
     deleted =
         ap (λ (it : Namespaces). lookup uuid it.entries) whole
-        ∙ ap (λ (o : Option Entry). lookup uuid (deleted_entry ns o).entries) found.is
+        ∙ ap (λ (o : Option NamespaceEntry). lookup uuid (deleted_entry ns o).entries) found.is
         ∙ lookup_without ns.entries found.entry.uuid uuid
         ∙ rw ((bytes_eq-Decides found.entry.uuid uuid).1 (entries.entry_uuid sets (placed_in_all mid) uuid found.entry (sym (lookup_entries sets (placed_in_all mid) uuid) ∙ found.is))) refl
 
@@ -174,8 +174,8 @@ module _ (sets : List (List Mapping)) (seen mid : List (Option Area)) (regions :
     delete_either : (b : Bool) → found.entry.status ≡ Complete found.entry.name b → RecoversToEither sets mid (Delete uuid)
     delete_either false status n stays = delete_recovers sets mid uuid found.entry regions read found.is status good n stays
     delete_either true status n stays = elim (one_change (one_if_pending status) n stays) [
-      | inl before ↦ inl (ap (λ (left : List (Option Area)). recovered (namespaces_of sets left)) before)
-      | inr after ↦ inr (ap (λ (left : List (Option Area)). recovered (namespaces_of sets left)) after ∙ ap recovered whole)
+      | inl before ↦ inl (ap (λ (left : List (Option Area)). after_recovery (namespaces_of sets left)) before)
+      | inr after ↦ inr (ap (λ (left : List (Option Area)). after_recovery (namespaces_of sets left)) after ∙ ap after_recovery whole)
     ]
 
   -- ---- a rename

@@ -13,8 +13,8 @@ use Rattle.label_set.specs.declared.placed.Placed.{Placed}
 use Rattle.nfit_reader.specs.declared.table.Mapping.{Mapping}
 use Rattle.region_space.specs.declared.extent.Extent.{Extent}
 use Rattle.region_space.specs.Space.{clash, overlap_of}
-use Rattle.namespace_map.specs.Namespaces.{Entry, extent_of, labels_with, placed_in, placed_on}
-use Rattle.namespace_map.specs.Areas.{Area, Change, after_steps, all_changed, changed, changed_slots, is_free, refilled, replaced, slot_of, slots_of, slots_on}
+use Rattle.namespace_map.specs.Namespaces.{NamespaceEntry, extent_of, labels_with, placed_in, placed_on}
+use Rattle.namespace_map.specs.Areas.{Area, Change, after_steps, all_changed, changed_areas, changed_slots, is_free, refilled, replaced, slot_of, slots_of, slots_on}
 use Rattle.namespace_map.specs.Changes.{by_position, change_to, gone_changes, is_unsettled, labels_at, namespaces_of, own_labels, placed_in_all, recovery_changes, settling_changes, with_name}
 use Rattle.namespace_map.specs.Commands.{is_complete, is_unfinished}
 use Rattle.namespace_map.proofs.Areas.{area_of_other, slots_of_changed}
@@ -152,13 +152,13 @@ set_past (x ∷ xs) (suc i) a past = ap (λ (ys : List (Option Area)). x ∷ ys)
 other_slot : (olds : List (Option Area)) (m k : ℕ) (l : Label) → IsKnown olds m l → IsKnown olds m (record l { slot = k })
 other_slot olds m k l known = record { old = known.old; has = known.has; uuid = known.uuid; start = known.start; bytes = known.bytes }
 
-known_one : (olds areas : List (Option Area)) (c : Change) → AllKnown areas olds → PutsKnown olds c → AllKnown (changed areas c) olds
+known_one : (olds areas : List (Option Area)) (c : Change) → AllKnown areas olds → PutsKnown olds c → AllKnown (changed_areas areas c) olds
 known_one olds areas c known puts m s l is = elim (cases_eq m c.number) [
   | inr apart ↦ known m s l (sym (ap (λ (a : Option Area). slice_get (slots_of a) s) (area_of_other areas c m apart)) ∙ is)
   | inl same ↦ elim (cases_lt c.number (length areas)) [
     | inr past ↦ known m s l (sym (ap (λ (xs : List (Option Area)). slice_get (slots_on xs m) s) (set_past areas c.number _ past)) ∙ is)
     | inl below ↦
-        let at : slice_get (changed_slots (slots_on areas c.number) c) s ≡ Some (Some (Some l)) = sym (ap (λ (xs : List SlotState). slice_get xs s) (ap (slots_on (changed areas c)) same ∙ slots_of_changed areas c below)) ∙ is in
+        let at : slice_get (changed_slots (slots_on areas c.number) c) s ≡ Some (Some (Some l)) = sym (ap (λ (xs : List SlotState). slice_get xs s) (ap (slots_on (changed_areas areas c)) same ∙ slots_of_changed areas c below)) ∙ is in
         subst (λ (n : ℕ). IsKnown olds n l) (sym same)
         (replaced_has (IsKnown olds c.number) (slots_on areas c.number) (slot_of (slots_on areas c.number) c.uuid) c.label (known c.number) (λ k n e. other_slot olds c.number n k (puts k e)) s l at)
   ]
@@ -167,14 +167,14 @@ known_one olds areas c known puts m s l is = elim (cases_eq m c.number) [
 known_all : (olds : List (Option Area)) (cs : List Change) (areas : List (Option Area)) → AllKnown areas olds → AllByRecursion (PutsKnown olds) cs → AllKnown (all_changed areas cs) olds
 unfolding all_changed
 known_all olds [] areas known all = known
-known_all olds (c ∷ cs) areas known (one, rest) = known_all olds cs (changed areas c) (known_one olds areas c known one) rest
+known_all olds (c ∷ cs) areas known (one, rest) = known_all olds cs (changed_areas areas c) (known_one olds areas c known one) rest
 
 pub known_self : (areas : List (Option Area)) → AllKnown areas areas
 known_self areas m s l is = record { old = l; has = (s, is); uuid = refl; start = refl; bytes = refl }
 
 -- ---- the label changes of recovery
 
-gone_known : (olds areas : List (Option Area)) (e : Entry) → AllByRecursion (PutsKnown olds) (gone_changes areas e)
+gone_known : (olds areas : List (Option Area)) (e : NamespaceEntry) → AllByRecursion (PutsKnown olds) (gone_changes areas e)
 gone_known olds areas e = by (is_unfinished e.status)
   where
     removes : (ps : List (ℕ × Label)) → AllByRecursion (PutsKnown olds) (map (change_to (λ l. None)) ps)
@@ -198,7 +198,7 @@ own_known olds areas uuid known =
         let at : q.«module» ≡ r.0 = r.1 ∙ (let e : 0 + r.0 ≡ r.0 = omega arith in e) in
         subst (λ (m : ℕ). IsKnown olds m q.label) (sym at) (known r.0 r.2.0 q.label r.2.1)
 
-settling_known : (olds areas : List (Option Area)) (e : Entry) → AllKnown areas olds → AllByRecursion (PutsKnown olds) (settling_changes areas e)
+settling_known : (olds areas : List (Option Area)) (e : NamespaceEntry) → AllKnown areas olds → AllByRecursion (PutsKnown olds) (settling_changes areas e)
 settling_known olds areas e known = by (is_complete e.status)
   where
     puts : (ps : List (ℕ × Label)) → AllByRecursion (λ p. IsKnown olds p.0 p.1) ps → AllByRecursion (PutsKnown olds) (map (change_to (λ l. Some (with_name e.name (settled l)))) ps)

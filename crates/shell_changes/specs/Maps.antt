@@ -6,11 +6,11 @@ use Rattle.nfit_reader.specs.declared.table.Mapping.{Mapping}
 use Rattle.nfit_reader.specs.Table.{nfit_reading}
 use Rattle.nfit_reader.specs.Counted.{AreCounted}
 use Rattle.label_set.specs.declared.placed.SetStatus.TheVariants.{Complete}
-use Rattle.namespace_map.specs.Namespaces.{Entry, Namespaces, lookup}
+use Rattle.namespace_map.specs.Namespaces.{NamespaceEntry, Namespaces, lookup}
 use Rattle.namespace_map.specs.declared.commands.Command.{Command}
 use Rattle.namespace_map.specs.declared.commands.Command.TheVariants.{Claim, Create, Delete, Rename, Unclaim}
 use Rattle.namespace_map.specs.Areas.{Area, after_steps, steps_of_all}
-use Rattle.namespace_map.specs.Commands.{done, name_in, new_entry, recovered, set_of}
+use Rattle.namespace_map.specs.Commands.{done, name_in, new_entry, after_recovery, set_of}
 use Rattle.namespace_map.specs.Changes.{changes_of, namespaces_of, placed_in_all, recovered_areas, recovery_changes}
 use Rattle.namespace_laws.specs.Apart.{EntriesApart}
 use Rattle.namespace_laws.specs.Laws.{CutOfCreate, CutOfCreateAlone, CutOfDelete, CutOfDeleteAlone, CutOfRename, CutOfRenameAlone}
@@ -68,10 +68,10 @@ AcceptedIsApart = (loaded : ImageSet) (sets : List (List Mapping)) → sets_in l
 
 -- what recovery makes of a set, and then a command that isn't refused: each to its end, or as far as a crash lets it
 pub record StaysApart (sets : List (List Mapping)) (loaded : ImageSet) (c : Command) : Type 0 where
-  pub after_recovery : EntriesApart (recovered (map_of sets loaded))
+  pub recovery : EntriesApart (after_recovery (map_of sets loaded))
   -- within recovery, after any number of its steps
   pub in_recovery : (n : ℕ) (stays : Bool) → EntriesApart (namespaces_of sets (after_steps (areas_in loaded.labels) (recovery_changes sets (areas_in loaded.labels)) n stays))
-  pub after_command : refusal_in sets (areas_in loaded.labels) c ≡ None → EntriesApart (done (recovered (map_of sets loaded)) c)
+  pub after_command : refusal_in sets (areas_in loaded.labels) c ≡ None → EntriesApart (done (after_recovery (map_of sets loaded)) c)
   pub after_crash : refusal_in sets (areas_in loaded.labels) c ≡ None → (n : ℕ) (stays : Bool) → let areas = recovered_areas sets (areas_in loaded.labels) in
       EntriesApart (namespaces_of sets (after_steps areas (changes_of (namespaces_of sets areas) areas c) n stays))
 
@@ -82,7 +82,7 @@ ChangesKeepApart = (c : Command) (loaded : ImageSet) (sets : List (List Mapping)
 -- a law: after a command that was carried out the namespaces are the command applied to those after recovery
 abbrev pub DoneIsTheCommand : (ℕ → List (Option Words) → List (Option (List ℕ)) → Type 0) → Type 0
 DoneIsTheCommand leaves = (c : Command) (power : Power) (loaded : ImageSet) (sets : List (List Mapping)) (outcome : Outcome) → ChangesLabels c → HasTable loaded → sets_in loaded ≡ Ok sets
-    → ChangeComes leaves c power loaded outcome → outcome.ending ≡ ending.Done → SavesMap sets loaded (makes_sectors c) (done (recovered (map_of sets loaded)) c) outcome
+    → ChangeComes leaves c power loaded outcome → outcome.ending ≡ ending.Done → SavesMap sets loaded (makes_sectors c) (done (after_recovery (map_of sets loaded)) c) outcome
 
 -- ---- after a crash
 
@@ -127,8 +127,8 @@ CrashIsInEither leaves = (c : Command) (power : Power) (loaded : ImageSet) (sets
 abbrev pub CrashRecovers : (ℕ → List (Option Words) → List (Option (List ℕ)) → Type 0) → Type 0
 CrashRecovers leaves = (c : Command) (power : Power) (loaded : ImageSet) (sets : List (List Mapping)) (outcome : Outcome) → ChangesLabels c → HasTable loaded → sets_in loaded ≡ Ok sets
     → ChangeComes leaves c power loaded outcome → outcome.ending ≡ ending.PowerCut
-    → let before = recovered (map_of sets loaded) in
-    (ns : Namespaces) × SavesMap sets loaded (makes_sectors c) ns outcome × ((recovered ns ≡ before) ⊎ (recovered ns ≡ recovered (done before c)))
+    → let before = after_recovery (map_of sets loaded) in
+    (ns : Namespaces) × SavesMap sets loaded (makes_sectors c) ns outcome × ((after_recovery ns ≡ before) ⊎ (after_recovery ns ≡ after_recovery (done before c)))
 
 -- the UUID of the namespace that a command is about
 abbrev pub uuid_of : Command → List ℕ
@@ -140,22 +140,22 @@ uuid_of (Unclaim uuid) = uuid
 
 -- What a crash leaves of a namespace's delete. One that is still pending once recovery is made has a label on a module without a free slot. So it has
 -- one label, else its delete is refused; and it is as it was, or gone.
-pub record DeleteIsLeft (e : Entry) (left : Option Entry) : Type 0 where
+pub record DeleteIsLeft (e : NamespaceEntry) (left : Option NamespaceEntry) : Type 0 where
   pub between : CutOfDelete e left
   pub alone : length e.parts ≡ 1 → CutOfDeleteAlone e left
   pub pending : e.status ≡ Complete e.name true → length e.parts ≡ 1
 
 -- of its rename, which is refused if it is still pending then
-pub record RenameIsLeft (e : Entry) (name : List ℕ) (left : Option Entry) : Type 0 where
+pub record RenameIsLeft (e : NamespaceEntry) (name : List ℕ) (left : Option NamespaceEntry) : Type 0 where
   pub settled : e.status ≡ Complete e.name false
   pub between : CutOfRename e name left
   pub alone : length e.parts ≡ 1 → CutOfRenameAlone e name left
 
 -- what a crash leaves of a command's own namespace, by the tables of `namespace_laws`
-abbrev pub OwnIsLeft : Namespaces → Command → Option Entry → Type 0
+abbrev pub OwnIsLeft : Namespaces → Command → Option NamespaceEntry → Type 0
 OwnIsLeft before (Create spec) left = CutOfCreate (new_entry before spec) left × (length (set_of before spec.region) ≡ 1 → CutOfCreateAlone (new_entry before spec) left)
-OwnIsLeft before (Delete uuid) left = (e : Entry) × (lookup uuid before.entries ≡ Some e) × DeleteIsLeft e left
-OwnIsLeft before (Rename uuid name) left = (e : Entry) × (lookup uuid before.entries ≡ Some e) × RenameIsLeft e (name_in name) left
+OwnIsLeft before (Delete uuid) left = (e : NamespaceEntry) × (lookup uuid before.entries ≡ Some e) × DeleteIsLeft e left
+OwnIsLeft before (Rename uuid name) left = (e : NamespaceEntry) × (lookup uuid before.entries ≡ Some e) × RenameIsLeft e (name_in name) left
 OwnIsLeft before (Claim uuid) left = ⊥
 OwnIsLeft before (Unclaim uuid) left = ⊥
 
@@ -170,4 +170,4 @@ pub record IsLeftOf (before ns : Namespaces) (c : Command) : Type 0 where
 abbrev pub CrashLeavesOthers : (ℕ → List (Option Words) → List (Option (List ℕ)) → Type 0) → Type 0
 CrashLeavesOthers leaves = (c : Command) (power : Power) (loaded : ImageSet) (sets : List (List Mapping)) (outcome : Outcome) (n : ℕ) → power.steps ≡ Some n → ChangesLabels c → HasTable loaded → sets_in loaded ≡ Ok sets
     → ChangeComes leaves c power loaded outcome → outcome.ending ≡ ending.PowerCut → recovery_steps sets loaded ≤ n
-    → (ns : Namespaces) × SavesMap sets loaded (makes_sectors c) ns outcome × IsLeftOf (recovered (map_of sets loaded)) ns c
+    → (ns : Namespaces) × SavesMap sets loaded (makes_sectors c) ns outcome × IsLeftOf (after_recovery (map_of sets loaded)) ns c

@@ -47,7 +47,7 @@ pub record IsDone (loaded : ImageSet) (areas : List (Option Area)) (work : Work)
 
 -- power is cut within the work: the set is saved with what the chooser leaves of the words of its label areas, as their first stores and
 -- keeps have left them, and then of the contents, if a format has begun
-pub record IsCut (leaves : ℕ → List (Option Words) → List (Option (List ℕ)) → Type 0) (loaded : ImageSet) (areas : List (Option Area)) (work : Work) (power : Power) (outcome : Outcome) : Type 0 where
+pub record IsPowerCut (leaves : ℕ → List (Option Words) → List (Option (List ℕ)) → Type 0) (loaded : ImageSet) (areas : List (Option Area)) (work : Work) (power : Power) (outcome : Outcome) : Type 0 where
   pub steps : ℕ
   pub given : power.steps ≡ Some steps
   -- whatever label areas are there after the crash, they show the changes that a crash may leave
@@ -91,7 +91,7 @@ Ends loaded areas work (Some refused) outcome = outcome ≡ refused_outcome refu
 -- a command, by how long power lasts
 abbrev pub Goes : (ℕ → List (Option Words) → List (Option (List ℕ)) → Type 0) → ImageSet → List (Option Area) → Work → Option OpRefused → Power → Outcome → Type 0
 Goes leaves loaded areas work refusal power outcome =
-    MatchBool (lasts power.steps (steps_of_work areas work)) (Ends loaded areas work refusal outcome) (IsCut leaves loaded areas work power outcome)
+    MatchBool (lasts power.steps (steps_of_work areas work)) (Ends loaded areas work refusal outcome) (IsPowerCut leaves loaded areas work power outcome)
 
 abbrev pub OnSets : (ℕ → List (Option Words) → List (Option (List ℕ)) → Type 0) → ImageSet → Command → Power → Result (List (List Mapping)) OpenFault → Outcome → Type 0
 OnSets leaves loaded c power (Ok sets) outcome =

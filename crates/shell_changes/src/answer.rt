@@ -1,7 +1,7 @@
 //! What a command answers, and the image set that it saves.
 ghost use Rattle.std.specs.Prelude.{◌≡◌, ◌≢◌, ◌≤◌, ℕ, List, Some, None, IfSome, IsTrue, OnOk, Err};
 ghost use Rattle.std.specs.Option.{ForSome};
-ghost use Rattle.nvd_media.specs.Causes.{Rose};
+ghost use Rattle.nvd_media.specs.Causes.{LeavesOutside, Rose};
 ghost use Rattle.nvd_media.specs.Images.{Becomes, IsEmptySet, IsUnfinished, Images};
 ghost use Rattle.image_set.specs.Changed.{IsSavable, objects_in};
 ghost use Rattle.image_set.specs.Outline.{HasContents, IsCopyable};
@@ -28,11 +28,11 @@ pub enum Left {
 fn save_whole<K: ImageSink>(alloc: Global, set: &SetLeft, out: &mut K) -> Result<(), CopyFault>
     requires empty { ForSome (K.made out.old) IsEmptySet }
     requires savable { IsSavable set.now }
-    ensures saved { OnOk result (Saves (Some (objects_in set.now)) (K.made out.old) (K.made out.new)) }
-    ensures stored { OnOk result (Stores (Some (objects_in set.now)) (K.kept out.old) (K.kept out.new)) }
+    ensures saved { OnOk result (Saves (Some (objects_in set.now)) (K.made out.old) (K.made out.new) × Stores (Some (objects_in set.now)) (K.kept out.old) (K.kept out.new)) }
     ensures no_read { result ≢ Err CopyFault.ReadFault }
     ensures unwritten { result ≡ Err CopyFault.WriteFault → Becomes (K.made out.old) (K.made out.new) IsUnfinished }
     ensures memory { result ≡ Err CopyFault.OutOfMemory → K.made out.new ≡ K.made out.old }
+    ensures later { K.faults out.old ≤ K.faults out.new }
     ensures written { result ≡ Err CopyFault.WriteFault → Rose (K.faults out.old) (K.faults out.new) }
 {
     match set.save(alloc, out) {
@@ -56,9 +56,7 @@ fn save_copied<S: ImageSource, K: ImageSink>(
     ensures unread { result ≡ Err CopyFault.ReadFault → Becomes (K.made out.old) (K.made out.new) IsUnfinished }
     ensures unwritten { result ≡ Err CopyFault.WriteFault → Becomes (K.made out.old) (K.made out.new) IsUnfinished }
     ensures memory { result ≡ Err CopyFault.OutOfMemory → K.made out.new ≡ K.made out.old }
-    ensures same { S.held images.new ≡ S.held images.old }
-    ensures read { result ≡ Err CopyFault.ReadFault → Rose (S.faults images.old) (S.faults images.new) }
-    ensures written { result ≡ Err CopyFault.WriteFault → Rose (K.faults out.old) (K.faults out.new) }
+    ensures outside { LeavesOutside (S.held images.old) (S.held images.new) (S.faults images.old) (S.faults images.new) (K.faults out.old) (K.faults out.new) result CopyFault.ReadFault CopyFault.WriteFault }
 {
     set.save(alloc, images, out)
 }
@@ -109,9 +107,7 @@ impl SavedSet {
         ensures unread { result ≡ Err CopyFault.ReadFault → IsTrue (is_copied self.now) × Becomes (K.made out.old) (K.made out.new) IsUnfinished }
         ensures unwritten { result ≡ Err CopyFault.WriteFault → Becomes (K.made out.old) (K.made out.new) IsUnfinished }
         ensures memory { result ≡ Err CopyFault.OutOfMemory → K.made out.new ≡ K.made out.old }
-        ensures same { S.held images.new ≡ S.held images.old }
-        ensures read { result ≡ Err CopyFault.ReadFault → Rose (S.faults images.old) (S.faults images.new) }
-        ensures written { result ≡ Err CopyFault.WriteFault → Rose (K.faults out.old) (K.faults out.new) }
+        ensures outside { LeavesOutside (S.held images.old) (S.held images.new) (S.faults images.old) (S.faults images.new) (K.faults out.old) (K.faults out.new) result CopyFault.ReadFault CopyFault.WriteFault }
     {
         match &self.left {
             Left::Whole(set) => save_whole(alloc, set, out),

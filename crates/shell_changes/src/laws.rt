@@ -21,7 +21,7 @@ pub fn changes_keep_apart()
 {}
 
 /// A law: after a `create` of either mode, a `delete` or a `rename` with status 0 the namespaces of the saved set are the
-/// command applied to those that recovery makes of the set that was loaded (`done`, `recovered`). All else is as it was
+/// command applied to those that recovery makes of the set that was loaded (`done`, `after_recovery`). All else is as it was
 /// loaded, but for the contents in which a `create --mode sector` formats its arena.
 pub fn done_is_the_command<C: Chooser>(choose: &C)
     ensures { DoneIsTheCommand (LeavesBy C.begins C.picks choose.now) }

@@ -18,7 +18,7 @@
 //! | what | function | definition |
 //! |---|---|---|
 //! | what a command may come to | [`change_answer`] | `ChangeComes` of `specs/Namespaces.antt` |
-//! | the saved label areas, to the byte | [`change_answer`] | `IsDone`, `IsCut` of `specs/Namespaces.antt` |
+//! | the saved label areas, to the byte | [`change_answer`] | `IsDone`, `IsPowerCut` of `specs/Namespaces.antt` |
 //! | the saved contents | [`change_answer`] | `Formats`, `AreFormatted` of `specs/Work.antt` |
 //! | what `init` may come to | [`init_answer`] | `InitComes` of `specs/Init.antt` |
 //! | the commands that words say | [`create_in`], [`delete_in`], [`rename_in`] | `specs/Words.antt` |

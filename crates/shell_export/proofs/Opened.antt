@@ -16,9 +16,9 @@ use Rattle.label_set.specs.declared.placed.Placed.{Placed}
 use Rattle.namespace_areas.specs.declared.area.Area.{Area}
 use Rattle.namespace_areas.specs.Areas.{shown_in, labels_of}
 use Rattle.namespace_areas.specs.Seen.{AreHeld}
-use Rattle.namespace_map.specs.Namespaces.{Entry, entry_at, lookup, placed_of}
+use Rattle.namespace_map.specs.Namespaces.{NamespaceEntry, entry_at, lookup, placed_of}
 use Rattle.namespace_ops.specs.declared.registry.OpenFault.{OpenFault}
-use Rattle.namespace_ops.specs.Opening.{opening, sets_of}
+use Rattle.namespace_ops.specs.Opening.{registry_opening, sets_of}
 use Rattle.namespace_ops.specs.Counted.{namespaces_in}
 use Rattle.namespace_ops.specs.Registered.{Registered, state_of}
 use Rattle.namespace_ops.proofs.Shown.{shown_at}
@@ -58,10 +58,10 @@ module _ (loaded : Loaded) (uuid : List ℕ) (zeros : Bool) (areas : List Area) 
   labels_are = ap placed_of (sym shown)
 
   -- what is due of a namespace, by its entry
-  abbrev entry_outcome : Option Entry → Outcome
+  abbrev entry_outcome : Option NamespaceEntry → Outcome
   entry_outcome entry = on_place uuid zeros (sets_of loaded.nfit) (map bytes_kept loaded.contents) (place_of (sets_of loaded.nfit) entry)
 
-  pub on_open : AreHeld areas → (registry : Registered) → Ok registry ≡ opening loaded.nfit areas
+  pub on_open : AreHeld areas → (registry : Registered) → Ok registry ≡ registry_opening loaded.nfit areas
       → on_place uuid zeros registry.sets (map bytes_kept loaded.contents) (place_of registry.sets (lookup uuid (namespaces_in (state_of registry)).entries)) ≡ export_outcome uuid zeros (image_set_in loaded)
   unfolding export_outcome image_set_in
   on_open held registry e =
@@ -71,7 +71,7 @@ module _ (loaded : Loaded) (uuid : List ℕ) (zeros : Bool) (areas : List Area) 
       ∙ ap (λ (fault : Option OpenFault). unless_fault fault (entry_outcome (entry_at (sets_of loaded.nfit) (labels_of areas) uuid))) (sym o.none)
       ∙ ap (λ (labels : List Placed). unless_fault (registry_fault loaded.nfit labels) (entry_outcome (entry_at (sets_of loaded.nfit) labels uuid))) (sym labels_are)
 
-  pub on_fault : (fault : OpenFault) → Err fault ≡ opening loaded.nfit areas → export_outcome uuid zeros (image_set_in loaded) ≡ open_outcome fault
+  pub on_fault : (fault : OpenFault) → Err fault ≡ registry_opening loaded.nfit areas → export_outcome uuid zeros (image_set_in loaded) ≡ open_outcome fault
   unfolding export_outcome image_set_in
   on_fault fault e =
       ap (λ (labels : List Placed). unless_fault (registry_fault loaded.nfit labels) (entry_outcome (entry_at (sets_of loaded.nfit) labels uuid))) labels_are

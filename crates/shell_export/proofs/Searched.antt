@@ -1,9 +1,10 @@
--- The first number that passes a test.
-use Rattle.std.proofs.Common.{◌≡◌, ℕ, suc, ◌+◌, ◌-◌, ◌<◌, Bool, false, refl, ap, ◌∙◌, arith}
-use Rattle.std.specs.Prelude.{find}
-use Rattle.std.specs.List.{range_with_len}
+-- The bad sector for which an export is refused.
+use Rattle.std.proofs.Common.{◌≡◌, ℕ, Bool, List, Option, Result, Ok, Err, refl, ap}
+use Rattle.arena_open.specs.declared.chain_refused.ChainRefused.{ChainRefused}
+use Rattle.arena_open.specs.declared.state.ArenaState.{ArenaState}
+use Rattle.shell_reports.specs.Sectors.{on_arenas}
+use Rattle.shell_export.specs.Export.{IsRefusedAt, bytes_unless, sectors_outcome}
 
--- the search goes on behind a number that fails
-pub found_later : (test : ℕ → Bool) (k n : ℕ) → k < n → test k ≡ false → find test (range_with_len k (n - k)) ≡ find test (range_with_len (k + 1) (n - (k + 1)))
-found_later test k n lt fails =
-    ap (λ (m : ℕ). find test (range_with_len k m)) (let e : n - k ≡ suc (n - (k + 1)) = omega (arith, lt) in e) ∙ rw fails refl
+pub on_same : (uuid : List ℕ) (zeros : Bool) (bad : Option ℕ) (r : Result (List ArenaState) ChainRefused) → IsRefusedAt zeros r bad → on_arenas uuid (bytes_unless bad) r ≡ on_arenas uuid (sectors_outcome zeros) r
+on_same uuid zeros bad (Ok states) h = ap (λ (o : Option ℕ). bytes_unless o states) (h states refl)
+on_same uuid zeros bad (Err fault) h = refl

@@ -1,16 +1,17 @@
 -- The command `export`: the bytes of a whole namespace. UEFI 2.10, chapter 6 (BTT) and section 13.19 (labels), with this project's rules.
-use Rattle.std.specs.Prelude.{ℕ, ◌/◌, Bool, true, false, not, ◌||◌, if◌then◌else◌, List, ◌++◌, find, replicate, slice_index_or, Option, Some, None, Result, Ok, Err, codes}
+use Rattle.std.specs.Prelude.{◌≡◌, ℕ, ◌/◌, Bool, true, false, not, ◌||◌, if◌then◌else◌, List, ◌++◌, replicate, slice_index_or, Option, Some, None, Result, Ok, Err, codes}
 use Rattle.std.specs.List.{flat_map, range_with_len}
 use Rattle.std.specs.Fmt.{decimal}
 use Rattle.cut_words.specs.WordBytes.{bytes_of}
 use Rattle.nfit_reader.specs.declared.table.Mapping.{Mapping}
 use Rattle.label_codec.specs.declared.mode.Mode.{Mode}
 use Rattle.label_codec.specs.declared.mode.Mode.TheVariants as mode
+use Rattle.arena_open.specs.declared.chain_refused.ChainRefused.{ChainRefused}
 use Rattle.arena_open.specs.declared.state.ArenaState.{ArenaState}
 use Rattle.arena_open.specs.declared.cell.Cell.{Cell}
 use Rattle.arena_open.specs.declared.cell.Cell.TheVariants as cell
 use Rattle.arena_open.specs.ChainCells.{contents_of, sectors_of, sizes_of}
-use Rattle.namespace_map.specs.Namespaces.{Entry, entry_at}
+use Rattle.namespace_map.specs.Namespaces.{NamespaceEntry, entry_at}
 use Rattle.namespace_map.specs.Commands.{is_complete, is_sector}
 use Rattle.namespace_map.specs.declared.refused.OpRefused.{OpRefused}
 use Rattle.namespace_map.specs.declared.refused.OpRefused.TheVariants.{NoSuch, NotComplete, NotSector}
@@ -19,6 +20,7 @@ use Rattle.namespace_areas.specs.Finding.{found_by, set_at}
 use Rattle.namespace_ops.specs.Opening.{sets_of}
 use Rattle.image_set.specs.Load.{ImageSet}
 use Rattle.sector_namespaces.specs.View.{rows_of, view_words, opened_view}
+use Rattle.namespace_bytes.specs.Bad.{first_bad}
 use Rattle.shell_reports.specs.Outcome.{Outcome, printed}
 use Rattle.shell_reports.specs.List.{labels_in_set}
 use Rattle.shell_reports.specs.Faults.{find_refusal, refused_outcome}
@@ -32,7 +34,7 @@ is_raw mode.Raw = true
 is_raw other = false
 
 -- the place of a complete namespace, of sectors or raw, by its entry; or why there is none
-abbrev pub place_of : List (List Mapping) → Option Entry → Result Found OpRefused
+abbrev pub place_of : List (List Mapping) → Option NamespaceEntry → Result Found OpRefused
 place_of sets None = Err NoSuch
 place_of sets (Some e) =
     if not (is_complete e.status) then Err NotComplete
@@ -62,18 +64,14 @@ sector_bytes states sector = bytes_of (cell_words (sector_words states sector) (
 abbrev pub sectors_bytes : List ArenaState → List ℕ
 sectors_bytes states = flat_map (sector_bytes states) (range_with_len 0 (sectors_of states))
 
-abbrev pub is_bad : Cell → Bool
-is_bad (cell.Bytes words) = false
-is_bad cell.Bad = true
-
--- the first sector that is bad
-abbrev pub first_bad : List ArenaState → Option ℕ
-first_bad states = find (λ sector. is_bad (cell_in states sector)) (range_with_len 0 (sectors_of states))
-
 -- the bad sector for which the export is refused; none if bad sectors count as zeros
 abbrev pub refused_at : Bool → List ArenaState → Option ℕ
 refused_at true states = None
 refused_at false states = first_bad states
+
+-- it is this one, if the arenas are opened
+abbrev pub IsRefusedAt : Bool → Result (List ArenaState) ChainRefused → Option ℕ → Type 0
+IsRefusedAt zeros opened bad = (states : List ArenaState) → opened ≡ Ok states → bad ≡ refused_at zeros states
 
 -- ---- the outcome
 
@@ -81,8 +79,12 @@ abbrev pub unless_bad : Option ℕ → Outcome → Outcome
 unless_bad None outcome = outcome
 unless_bad (Some sector) outcome = refused_outcome (codes "BadSector " ++ decimal sector)
 
+-- the bytes of all sectors, or the refusal for a bad one
+abbrev pub bytes_unless : Option ℕ → List ArenaState → Outcome
+bytes_unless bad states = unless_bad bad (printed (sectors_bytes states))
+
 abbrev pub sectors_outcome : Bool → List ArenaState → Outcome
-sectors_outcome zeros states = unless_bad (refused_at zeros states) (printed (sectors_bytes states))
+sectors_outcome zeros states = bytes_unless (refused_at zeros states) states
 
 -- of a namespace of this mode with these words
 abbrev pub words_outcome : List ℕ → Bool → Mode → List ℕ → Outcome

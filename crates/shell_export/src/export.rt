@@ -1,7 +1,8 @@
 //! The command `export`: all bytes of a namespace.
-ghost use Rattle.std.specs.Prelude.{◌≡◌, false, IfOk, Ok, OnErr, map};
+ghost use Rattle.std.specs.Prelude.{◌≡◌, ◌%◌, ◌^◌, ◌≤◌, false, IfOk, Ok, Err, OnErr, length, map};
 ghost use Rattle.std.specs.List.{All};
 ghost use Rattle.nvd_media.specs.Causes.{Rose};
+ghost use Rattle.arena_open.specs.Writes.{IsSettled};
 ghost use Rattle.cut_words.specs.WordBytes.{bytes_of};
 ghost use Rattle.image_set.specs.Load.{bytes_kept, image_set_in};
 ghost use Rattle.image_set.specs.Sound.{IsContents, IsSound};
@@ -9,21 +10,25 @@ ghost use Rattle.namespace_map.specs.Namespaces.{lookup};
 ghost use Rattle.namespace_areas.specs.Seen.{AreHeld};
 ghost use Rattle.namespace_ops.specs.Counted.{namespaces_in};
 ghost use Rattle.namespace_ops.specs.Registered.{state_of};
+ghost use Rattle.power_cut.specs.Namespace.{words_of};
+ghost use Rattle.sector_namespaces.specs.Changing.{IsFinding};
 ghost use Rattle.sector_namespaces.specs.View.{AreUsable, IsUsable, LiesOn, opened_view, view_words};
 ghost use Rattle.shell_reports.specs.Outcome.{printed};
 ghost use Rattle.shell_reports.specs.Sectors.{on_arenas};
-ghost use Rattle.shell_export.specs.Export.{export_outcome, on_place, place_of, sectors_outcome, words_outcome};
+ghost use Rattle.shell_export.specs.Export.{IsRefusedAt, bytes_unless, export_outcome, on_place, place_of, sectors_outcome, words_outcome};
 ghost use Rattle.shell_export.specs.Printing.{IsPrinted};
 
 use crate::pieces::print_report;
 use crate::place::{find_place, is_sector};
 use crate::sectors::sectors_answer;
 use crate::words::words_answer;
+use arena_open::ChainRefused;
 use cut_words::CutWords;
 use image_set::Loaded;
 use interleave::InterleaveSet;
 use label_codec::Mode;
 use namespace_areas::{Found, open_areas};
+use namespace_bytes::{first_bad, read_arenas};
 use namespace_ops::Registry;
 use nvd_media::TextSink;
 use nvd_words::Items;
@@ -53,6 +58,55 @@ fn raw_answer<O: TextSink>(
     words_answer(alloc, &space, text)
 }
 
+/// Returns the first bad sector, or none if bad ones count as zeros. It reads no sector: the maps of all arenas say it.
+fn refused_at(
+    alloc: Global,
+    space: &SetWords<'_>,
+    uuid: &Uuid,
+    zeros: bool,
+) -> Result<Option<u64>, ChainRefused>
+    requires pages { length (words_of space.now).kept % 512 ≡ 0 }
+    requires few { length (words_of space.now).kept ≤ 2 ^ 52 }
+    requires settled { IsSettled (words_of space.now) }
+    ensures bad { IfOk result (IsRefusedAt zeros (opened_view (words_of space.now).kept uuid.now)) }
+    ensures refused { (f : ChainRefused) → result ≡ Err f → IsFinding f → opened_view (words_of space.now).kept uuid.now ≡ Err f }
+{
+    if zeros {
+        return Ok(None);
+    }
+    match read_arenas(alloc, space, uuid) {
+        Ok(arenas) => Ok(first_bad(arenas.as_slice())),
+        Err(refused) => Err(refused),
+    }
+}
+
+/// Opens the arenas of a namespace that was found in a set, and prints its sectors, or refuses for a bad sector.
+fn opened_answer<O: TextSink>(
+    alloc: Global,
+    set: &InterleaveSet,
+    found: &Found,
+    contents: Items<CutWords>,
+    uuid: &Uuid,
+    bad: Option<u64>,
+    text: &mut O,
+) -> Result<Status, AllocError>
+    requires lies { LiesOn set.now found.now }
+    requires sector { found.now.mode ≡ Mode.Sector }
+    requires rows { All IsContents contents }
+    requires usable { IsUsable set.now contents }
+    ensures printed { IfOk result (IsPrinted (on_arenas uuid.now (bytes_unless bad) (opened_view (view_words set.now found.now contents) uuid.now)) (O.written text.old) (O.written text.new) (O.kept text.old) (O.kept text.new)) }
+    ensures failed { result ≡ Ok Status.WriteFault → Rose (O.faults text.old) (O.faults text.new) }
+    ensures memory { OnErr result (O.written text.new ≡ O.written text.old) }
+{
+    match open_sectors(alloc, set, found, contents, uuid) {
+        Ok(chain) => sectors_answer(alloc, &chain, bad, text),
+        Err(refused) => {
+            let report = arena_answer(alloc, uuid, refused)?;
+            Ok(print_report(&report, text))
+        }
+    }
+}
+
 /// Prints the sectors of a namespace that was found in a set.
 fn chain_answer<O: TextSink>(
     alloc: Global,
@@ -71,8 +125,13 @@ fn chain_answer<O: TextSink>(
     ensures failed { result ≡ Ok Status.WriteFault → Rose (O.faults text.old) (O.faults text.new) }
     ensures memory { OnErr result (O.written text.new ≡ O.written text.old) }
 {
-    match open_sectors(alloc, set, found, contents, uuid) {
-        Ok(chain) => sectors_answer(alloc, &chain, zeros, text),
+    let _few = set.ways();
+    let space = SetWords::of(set, found.offset, found.raw, contents.into_vec());
+    match refused_at(alloc, &space, uuid, zeros) {
+        Ok(bad) => {
+            let contents = Items::from_vec(space.into_modules());
+            opened_answer(alloc, set, found, contents, uuid, bad, text)
+        }
         Err(refused) => {
             let report = arena_answer(alloc, uuid, refused)?;
             Ok(print_report(&report, text))

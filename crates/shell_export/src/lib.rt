@@ -12,7 +12,8 @@
 //! time. One piece is held in memory beside the contents.
 //!
 //! `export_outcome` of `specs/Export.antt` says which text is due. A refusal is found before the first byte is printed, and
-//! so is out of memory: all buffers are allocated first. `IsPrinted` of `specs/Printing.antt` says how much of the text was
+//! so is out of memory: all buffers are allocated first. Bad sectors are found by the arenas' map entries alone, so each
+//! sector is read once. `IsPrinted` of `specs/Printing.antt` says how much of the text was
 //! printed. All are this project's rules over UEFI 2.10, chapter 6, and ACPI 6.5, section 5.2.25.4.
 #![tactic(auto)]
 

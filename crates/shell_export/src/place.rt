@@ -5,7 +5,7 @@ ghost use Rattle.std.specs.Str.{bytes_eq};
 ghost use Rattle.label_set.specs.Rules.{counted_from, mapping_of};
 ghost use Rattle.namespace_map.specs.Namespaces.{listed, lookup};
 ghost use Rattle.namespace_map.specs.Commands.{is_complete, is_sector};
-ghost use Rattle.namespace_areas.specs.Finding.{LiesIn, found_at, set_at};
+ghost use Rattle.namespace_areas.specs.Finding.{LiesInSet, found_at, set_at};
 ghost use Rattle.namespace_areas.specs.Seen.{AreHeld};
 ghost use Rattle.namespace_ops.specs.Counted.{namespaces_in};
 ghost use Rattle.namespace_ops.specs.Registered.{state_of};
@@ -149,7 +149,7 @@ pub fn find_place(
     requires running { registry.now.stopped ≡ false }
     requires held { AreHeld registry.now.areas }
     ensures place { IfOk result (λ found. found ≡ place_of registry.now.sets (lookup uuid.now (namespaces_in (state_of registry.now)).entries)) }
-    ensures lies { IfOk result (λ found. IfOk found (LiesIn registry.now.sets)) }
+    ensures lies { IfOk result (λ found. IfOk found (LiesInSet registry.now.sets)) }
 {
     match registry.find(uuid) {
         Ok(found) => Ok(Ok(found)),

@@ -6,7 +6,7 @@ ghost use Rattle.arena_open.specs.ChainCells.{sectors_of};
 ghost use Rattle.cut_words.specs.WordBytes.{bytes_of};
 ghost use Rattle.shell_reports.specs.Faults.{refused_outcome};
 ghost use Rattle.shell_reports.specs.Saved.{outcome_of};
-ghost use Rattle.shell_export.specs.Export.{cell_in, cell_words, first_bad, is_bad, refused_at, sector_bytes, sectors_bytes, sectors_outcome, sector_words};
+ghost use Rattle.shell_export.specs.Export.{bytes_unless, cell_in, cell_words, sector_bytes, sectors_bytes, sector_words};
 ghost use Rattle.shell_export.specs.Printing.{AppendsAll, AppendsBut, AppendsFront, HasRoom, IsPrinted};
 
 use crate::pieces::{PIECE, WORD, print_report, print_words, status_after};
@@ -32,46 +32,6 @@ fn most_words<W: WordSpace>(chain: &ReadChain<W>) -> usize
         most = most.max(sector_words(chain, sector));
     }
     most
-}
-
-/// Returns whether a sector is bad. The buffer has room for it.
-fn is_bad<W: WordSpace>(chain: &ReadChain<W>, sector: u64, words: &mut [u64]) -> bool
-    requires there { sector < sectors_of chain.now }
-    requires room { sector_words chain.now sector ≤ length words.old }
-    ensures bad { result ≡ is_bad (cell_in chain.now sector) }
-    ensures room { length words.new ≡ length words.old }
-{
-    let count = sector_words(chain, sector);
-    match chain.read(sector, &mut words[..count]) {
-        CellKind::Bytes => false,
-        CellKind::Bad => true,
-    }
-}
-
-/// Returns the first sector that is bad.
-fn first_bad<W: WordSpace>(chain: &ReadChain<W>, words: &mut [u64]) -> Option<u64>
-    requires room { HasRoom chain.now (length words.old) }
-    ensures bad { result ≡ first_bad chain.now }
-    ensures room { length words.new ≡ length words.old }
-{
-    for sector in 0..chain.sectors() {
-        if is_bad(chain, sector, words) {
-            return Some(sector);
-        }
-    }
-    None
-}
-
-/// Returns the bad sector for which the export is refused.
-fn refused_at<W: WordSpace>(chain: &ReadChain<W>, zeros: bool, words: &mut [u64]) -> Option<u64>
-    requires room { HasRoom chain.now (length words.old) }
-    ensures bad { result ≡ refused_at zeros chain.now }
-    ensures room { length words.new ≡ length words.old }
-{
-    if zeros {
-        return None;
-    }
-    first_bad(chain, words)
 }
 
 /// Reads a sector, a bad one as zeros.
@@ -157,23 +117,25 @@ fn bad_answer(alloc: Global, sector: u64) -> Result<Report, AllocError>
     refused_answer(alloc, &format!(in alloc; "BadSector {}", sector)?)
 }
 
-/// Prints the bytes of all sectors, or refuses for the first one that is bad, unless bad ones count as zeros. Refusals and
-/// out of memory come before the first byte.
+/// Prints the bytes of all sectors, in which bad ones count as zeros, or refuses for a bad sector. Out of memory comes before
+/// the first byte.
 pub(crate) fn sectors_answer<W: WordSpace, O: TextSink>(
     alloc: Global,
     chain: &ReadChain<W>,
-    zeros: bool,
+    bad: Option<u64>,
     text: &mut O,
 ) -> Result<Status, AllocError>
-    ensures printed { IfOk result (IsPrinted (sectors_outcome zeros chain.now) (O.written text.old) (O.written text.new) (O.kept text.old) (O.kept text.new)) }
+    ensures printed { IfOk result (IsPrinted (bytes_unless bad chain.now) (O.written text.old) (O.written text.new) (O.kept text.old) (O.kept text.new)) }
     ensures failed { result ≡ Ok Status.WriteFault → Rose (O.faults text.old) (O.faults text.new) }
     ensures memory { OnErr result (O.written text.new ≡ O.written text.old) }
 {
-    let most = most_words(chain);
-    let mut words = vec![in alloc; 0; most]?;
-    let mut room = vec![in alloc; [0; WORD]; most]?;
-    match refused_at(chain, zeros, &mut words) {
+    match bad {
         Some(sector) => Ok(print_report(&bad_answer(alloc, sector)?, text)),
-        None => Ok(status_after(print_sectors(chain, &mut words, &mut room, text))),
+        None => {
+            let most = most_words(chain);
+            let mut words = vec![in alloc; 0; most]?;
+            let mut room = vec![in alloc; [0; WORD]; most]?;
+            Ok(status_after(print_sectors(chain, &mut words, &mut room, text)))
+        }
     }
 }

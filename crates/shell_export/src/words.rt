@@ -41,7 +41,6 @@ fn print_piece<W: WordSpace, O: TextSink>(
     ensures all { OnOk result (AppendsAll (O.written text.old) (O.written text.new) (O.kept text.old) (O.kept text.new) (bytes_of (take size (drop first (W.words space.now).kept)))) }
     ensures part { OnErr result (AppendsFront (O.written text.old) (O.written text.new) (bytes_of (take size (drop first (W.words space.now).kept)))) }
     ensures cause { HasCause (O.faults text.old) (O.faults text.new) result }
-    ensures sizes { (length words.new ≡ length words.old) × (length room.new ≡ length room.old) }
 {
     load_words(space, first, &mut words[..size]);
     print_words(&words[..size], room, text)

@@ -35,7 +35,7 @@ use Rattle.shell_sectors.specs.Write.{length_refusal, length_text}
 use Rattle.shell_sectors.proofs.Coming.{on_words, rows_settled}
 use Rattle.shell_import.specs.declared.import.Imported.TheVariants as imported
 use Rattle.shell_import.specs.Answering.{IsPut, PutsOn}
-use Rattle.shell_import.specs.Import.{Fits, ImportComes, ImportsArenas, OnMode}
+use Rattle.shell_import.specs.Import.{ImportFits, ImportComes, ImportsArenas, OnMode}
 use Rattle.shell_import.specs.Placed.{IsPlacedIn}
 use Rattle.shell_import.proofs.Loaded.{placed_comes}
 use Rattle.shell_import.proofs.Saved.{saves_namespace}
@@ -77,22 +77,29 @@ module _ (loaded : ImageSet) (uuid : List ℕ) (set : FoundSet) (f : IsPlacedIn 
     unfolding view_words
     had_is = ap (λ (m : Namespace). 8 * length (words_of m).kept) is
 
+    abbrev was : List ℕ
+    was = view_words (set_at (sets_of loaded.nfit) set.found.region) set.found (rows_of loaded.contents)
+
+    was_is : (words_of n).kept ≡ was
+    unfolding view_words
+    was_is = ap (λ (m : Namespace). (words_of m).kept) is
+
     module _ (outcome : Outcome) where
       on_fit : (said had : ℕ) (Like : List ℕ → Type 0) (o : Option (List ℕ)) → length_refusal said had ≡ o
-          → MatchOption o (SavesNamespace set.found loaded Like ending.Done done_text outcome) (λ refusal. outcome ≡ refused_outcome refusal) → Fits set.found loaded said had Like outcome
+          → MatchOption o (SavesNamespace set.found loaded Like ending.Done done_text outcome) (λ refusal. outcome ≡ refused_outcome refusal) → ImportFits set.found loaded said had Like outcome
       on_fit said had Like o e it =
           subst (λ (x : Option (List ℕ)). MatchOption x (SavesNamespace set.found loaded Like ending.Done done_text outcome) (λ refusal. outcome ≡ refused_outcome refusal)) (sym e) it
 
       on_states : (r : Result (List ArenaState) ChainRefused) → opened_view (words_of n).kept uuid ≡ r → OnArenas (ImportsArenas uuid bytes loaded outcome set.found) uuid outcome r → OnMode true uuid bytes loaded outcome set.found
       on_states r view arenas = on_words (ImportsArenas uuid bytes loaded outcome) uuid loaded outcome set.found r (ap (λ (m : Namespace). opened_view (words_of m).kept uuid) (sym is) ∙ view) arenas
 
-      on_bytes : Fits set.found loaded (length bytes) (8 * length (words_of n).kept) (λ now. now ≡ words_in bytes) outcome → OnMode false uuid bytes loaded outcome set.found
-      on_bytes fits = subst (λ (had : ℕ). Fits set.found loaded (length bytes) had (λ now. now ≡ words_in bytes) outcome) had_is fits
+      on_bytes : ImportFits set.found loaded (length bytes) (8 * length (words_of n).kept) (λ now. now ≡ words_in bytes) outcome → OnMode false uuid bytes loaded outcome set.found
+      on_bytes fits = subst (λ (had : ℕ). ImportFits set.found loaded (length bytes) had (λ now. now ≡ words_in bytes) outcome) had_is fits
 
       -- nothing is saved
       not_on : (b : Bool) (report : Report) → PutsOn b n uuid bytes (imported.Not report) → outcome ≡ outcome_of report → OnMode b uuid bytes loaded outcome set.found
       not_on true report (inl (states, view, (refusal, some, said))) e =
-          on_states (Ok states) view (on_fit (length bytes) (sum (sizes_of states)) (HasContents uuid bytes states) (Some refusal) some (e ∙ said))
+          on_states (Ok states) view (on_fit (length bytes) (sum (sizes_of states)) (HasContents uuid bytes states was) (Some refusal) some (e ∙ said))
       not_on true report (inr (fault, view, said)) e = on_states (Err fault) view (e ∙ said)
       not_on false report (refusal, some, said) e = on_bytes (on_fit (length bytes) (8 * length (words_of n).kept) (λ now. now ≡ words_in bytes) (Some refusal) some (e ∙ said))
 
@@ -113,7 +120,8 @@ module _ (loaded : ImageSet) (uuid : List ℕ) (set : FoundSet) (f : IsPlacedIn 
 
         done_on : (b : Bool) → PutsOn b n uuid bytes (imported.Done modules) → OnMode b uuid bytes loaded outcome set.found
         done_on true (inl (states, view, (none, put))) =
-            on_states (Ok states) view (on_fit (length bytes) (sum (sizes_of states)) (HasContents uuid bytes states) None none (saved (HasContents uuid bytes states) put))
+            on_states (Ok states) view (on_fit (length bytes) (sum (sizes_of states)) (HasContents uuid bytes states was) None none
+            (subst (λ (ws : List ℕ). SavesNamespace set.found loaded (HasContents uuid bytes states ws) ending.Done done_text outcome) was_is (saved (HasContents uuid bytes states (words_of n).kept) put)))
         done_on true (inr (fault, view, never)) = absurd never
         done_on false (none, put) = on_bytes (on_fit (length bytes) (8 * length (words_of n).kept) (λ now. now ≡ words_in bytes) None none (saved (λ now. now ≡ words_in bytes) put))
 

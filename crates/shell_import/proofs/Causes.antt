@@ -25,7 +25,7 @@ use Rattle.shell_sectors.specs.Write.{length_text}
 use Rattle.shell_export.specs.Causes.{breaks_export, breaks_placed}
 use Rattle.shell_export.proofs.Causes.{ending_for}
 use Rattle.shell_import.specs.Causes.{bars_found, misfits, refuses_import}
-use Rattle.shell_import.specs.Import.{Fits, ImportComes, ImportsArenas, OnMode, OnPlace, place_in}
+use Rattle.shell_import.specs.Import.{ImportComes, ImportsArenas, OnMode, OnPlace, place_in}
 
 module _ (uuid bytes : List ℕ) (loaded : ImageSet) (outcome : Outcome) where
   fit_by : (found : Found) (said had : ℕ) (Like : List ℕ → Type 0) (same : Bool)
@@ -35,7 +35,7 @@ module _ (uuid bytes : List ℕ) (loaded : ImageSet) (outcome : Outcome) where
   fit_by found said had Like false it = ap (λ (o : Outcome). o.ending) it
 
   on_states : (found : Found) (r : Result (List ArenaState) ChainRefused) → OnArenas (ImportsArenas uuid bytes loaded outcome found) uuid outcome r → outcome.ending ≡ ending_for (is_err r) (misfits (length bytes) r)
-  on_states found (Ok states) it = fit_by found (length bytes) (sum (sizes_of states)) (HasContents uuid bytes states) (eqb (length bytes) (sum (sizes_of states))) it
+  on_states found (Ok states) it = fit_by found (length bytes) (sum (sizes_of states)) (HasContents uuid bytes states (view_words (set_at (sets_of loaded.nfit) found.region) found (rows_of loaded.contents))) (eqb (length bytes) (sum (sizes_of states))) it
   on_states found (Err fault) it = ap (λ (o : Outcome). o.ending) it
 
   abbrev has : Found → ℕ

@@ -9,12 +9,12 @@ use Rattle.namespace_areas.specs.declared.area.Area.{Area}
 use Rattle.namespace_areas.specs.Areas.{labels_of, shown_in}
 use Rattle.namespace_areas.specs.Opening.{opened_as}
 use Rattle.namespace_areas.specs.Seen.{AreHeld}
-use Rattle.namespace_map.specs.Namespaces.{Entry, entry_at, lookup, placed_of}
+use Rattle.namespace_map.specs.Namespaces.{NamespaceEntry, entry_at, lookup, placed_of}
 use Rattle.namespace_map.specs.declared.refused.OpRefused.{OpRefused}
 use Rattle.namespace_areas.specs.declared.found.Found.{Found}
 use Rattle.namespace_ops.specs.declared.registry.OpenFault.{OpenFault}
 use Rattle.namespace_ops.specs.Counted.{namespaces_in}
-use Rattle.namespace_ops.specs.Opening.{opening, sets_of}
+use Rattle.namespace_ops.specs.Opening.{registry_opening, sets_of}
 use Rattle.namespace_ops.specs.Registered.{Registered, state_of}
 use Rattle.namespace_ops.proofs.Shown.{shown_at}
 use Rattle.shell_reports.specs.Causes.{fault_in}
@@ -28,7 +28,7 @@ use Rattle.shell_export.proofs.Opened.{shown_all}
 use Rattle.shell_import.specs.Import.{ImportComes, OnPlace, place_in}
 use Rattle.shell_import.specs.Placed.{IsReadOn, IsUnplaced}
 
-module _ (loaded : Loaded) (sound : IsSound loaded) (uuid : List ℕ) (areas : List Area) (are : areas ≡ map opened_as loaded.labels) (registry : Registered) (is : Ok registry ≡ opening loaded.nfit areas) where
+module _ (loaded : Loaded) (sound : IsSound loaded) (uuid : List ℕ) (areas : List Area) (are : areas ≡ map opened_as loaded.labels) (registry : Registered) (is : Ok registry ≡ registry_opening loaded.nfit areas) where
   o : IsOpened loaded.nfit areas registry
   o = opened_is loaded.nfit areas registry is
 
@@ -43,7 +43,7 @@ module _ (loaded : Loaded) (sound : IsSound loaded) (uuid : List ℕ) (areas : L
   unfolding image_set_in
   place_is =
       ap (λ (r : Registered). place_of r.sets (lookup uuid (namespaces_in (state_of r)).entries)) o.is
-      ∙ ap (λ (entry : Option Entry). place_of (sets_of loaded.nfit) entry) (sym (shown_at (sets_of loaded.nfit) areas (labels_of areas) uuid held_areas (λ u. refl)))
+      ∙ ap (λ (entry : Option NamespaceEntry). place_of (sets_of loaded.nfit) entry) (sym (shown_at (sets_of loaded.nfit) areas (labels_of areas) uuid held_areas (λ u. refl)))
       ∙ ap (λ (labels : List Placed). place_of (sets_of loaded.nfit) (entry_at (sets_of loaded.nfit) labels uuid)) labels_are
 
   pub read_on : IsReadOn (image_set_in loaded) uuid loaded.contents (record { registry = registry; nfit_bytes = loaded.nfit_bytes; bad = loaded.bad })

@@ -34,7 +34,7 @@ PutsWords n bytes done = Puts n (length bytes) (8 * length (words_of n).kept) (�
 
 -- into one of sectors, with these arenas
 abbrev pub PutsStates : Namespace → List ℕ → List ArenaState → List ℕ → Imported → Type 0
-PutsStates n uuid states bytes done = Puts n (length bytes) (sum (sizes_of states)) (HasContents uuid bytes states) done
+PutsStates n uuid states bytes done = Puts n (length bytes) (sum (sizes_of states)) (HasContents uuid bytes states (words_of n).kept) done
 
 -- nothing is imported, with this answer
 abbrev pub IsNot : Outcome → Imported → Type 0

@@ -27,18 +27,19 @@ abbrev pub place_in : ImageSet → List ℕ → Result Found OpRefused
 place_in loaded uuid = place_of (sets_of loaded.nfit) (entry_at (sets_of loaded.nfit) (labels_in_set loaded) uuid)
 
 -- the loaded set is saved, with such words in the namespace; or it is refused, since there are other bytes than `had`
-abbrev pub Fits : Found → ImageSet → ℕ → ℕ → (List ℕ → Type 0) → Outcome → Type 0
-Fits found loaded said had Like outcome =
+abbrev pub ImportFits : Found → ImageSet → ℕ → ℕ → (List ℕ → Type 0) → Outcome → Type 0
+ImportFits found loaded said had Like outcome =
     MatchOption (length_refusal said had) (SavesNamespace found loaded Like ending.Done done_text outcome) (λ refusal. outcome ≡ refused_outcome refusal)
 
 -- on a raw namespace: its words are those of the bytes
 abbrev pub ImportsWords : List ℕ → ImageSet → Outcome → Found → Type 0
 ImportsWords bytes loaded outcome found =
-    Fits found loaded (length bytes) (8 * length (view_words (set_at (sets_of loaded.nfit) found.region) found (rows_of loaded.contents))) (λ now. now ≡ words_in bytes) outcome
+    ImportFits found loaded (length bytes) (8 * length (view_words (set_at (sets_of loaded.nfit) found.region) found (rows_of loaded.contents))) (λ now. now ≡ words_in bytes) outcome
 
--- on one of sectors: they have the bytes, one after another
+-- on one of sectors: they have the bytes, one after another, and the words behind the arenas are as loaded
 abbrev pub ImportsArenas : List ℕ → List ℕ → ImageSet → Outcome → Found → List ArenaState → Type 0
-ImportsArenas uuid bytes loaded outcome found states = Fits found loaded (length bytes) (sum (sizes_of states)) (HasContents uuid bytes states) outcome
+ImportsArenas uuid bytes loaded outcome found states =
+    ImportFits found loaded (length bytes) (sum (sizes_of states)) (HasContents uuid bytes states (view_words (set_at (sets_of loaded.nfit) found.region) found (rows_of loaded.contents))) outcome
 
 abbrev pub OnMode : Bool → List ℕ → List ℕ → ImageSet → Outcome → Found → Type 0
 OnMode true uuid bytes loaded outcome found = OnArenas (ImportsArenas uuid bytes loaded outcome found) uuid outcome (opened_in loaded uuid found)

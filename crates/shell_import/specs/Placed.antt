@@ -2,7 +2,7 @@
 use Rattle.std.specs.Prelude.{◌≡◌, ◌⊎◌, ℕ, false, List, length, None, Some, Ok, Err}
 use Rattle.cut_words.specs.Words.{Words}
 use Rattle.image_set.specs.Load.{ImageSet}
-use Rattle.namespace_areas.specs.Finding.{LiesIn}
+use Rattle.namespace_areas.specs.Finding.{LiesInSet}
 use Rattle.namespace_areas.specs.Seen.{AreHeld}
 use Rattle.namespace_map.specs.Namespaces.{lookup}
 use Rattle.namespace_map.specs.declared.refused.OpRefused.{OpRefused}
@@ -40,7 +40,7 @@ pub record IsReadOn (loaded : ImageSet) (uuid : List ℕ) (contents : List Words
 pub record IsPlacedIn (loaded : ImageSet) (uuid : List ℕ) (set : FoundSet) : Type 0 where
   pub none : fault_in loaded ≡ None
   pub is : place_in loaded uuid ≡ Ok set.found
-  pub lies : LiesIn set.rest.registry.sets set.found
+  pub lies : LiesInSet set.rest.registry.sets set.found
   pub sets : set.rest.registry.sets ≡ sets_of loaded.nfit
   pub contents : set.contents ≡ rows_of loaded.contents
   pub usable : AreUsable set.rest.registry.sets set.contents

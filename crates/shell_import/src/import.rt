@@ -22,11 +22,11 @@ ghost use Rattle.shell_import.specs.Placed.{IsPlacedIn};
 
 use crate::finding::find_in_set;
 use arena_open::ChainRefused;
-use cut_words::{CutWords, WordSpace};
+use cut_words::CutWords;
 use image_set::Loaded;
 use interleave::InterleaveSet;
 use namespace_areas::Found;
-use namespace_bytes::{ArenaAt, put_raw, put_sectors, read_arenas, size_of_all};
+use namespace_bytes::{ArenaAt, PlainWords, put_raw, put_sectors, read_arenas, size_of_all};
 use power_cut::SetWords;
 use shell_changes::{Answer, without_set};
 use shell_export::is_sector;
@@ -55,14 +55,14 @@ fn length_answer(alloc: Global, said: usize, had: u64) -> Result<Report, AllocEr
 }
 
 /// Puts bytes into a raw namespace, if it has as many.
-fn import_words(alloc: Global, space: SetWords<'_>, bytes: &[u8]) -> Result<Imported, AllocError>
+fn import_words(alloc: Global, space: PlainWords<'_>, bytes: &[u8]) -> Result<Imported, AllocError>
     requires few { length (words_of space).kept ≤ 2 ^ 52 }
     requires settled { IsSettled (words_of space) }
     ensures { IfOk result (PutsWords space.entry bytes.now) }
 {
     let had = WORD * space.count();
     if bytes.len() as u64 == had {
-        return Ok(Imported::Done(put_raw(space, bytes)));
+        return Ok(Imported::Done(put_raw(alloc, space, bytes)?));
     }
     Ok(Imported::Not(length_answer(alloc, bytes.len(), had)?))
 }
@@ -70,7 +70,7 @@ fn import_words(alloc: Global, space: SetWords<'_>, bytes: &[u8]) -> Result<Impo
 /// Puts bytes into the sectors of these arenas, which are all of a namespace, if they have as many.
 fn import_arenas(
     alloc: Global,
-    space: SetWords<'_>,
+    space: PlainWords<'_>,
     arenas: &[ArenaAt],
     bytes: &[u8],
 ) -> Result<Imported, AllocError>
@@ -81,7 +81,7 @@ fn import_arenas(
 {
     let had = size_of_all(arenas);
     if bytes.len() as u64 == had {
-        return Ok(Imported::Done(put_sectors(space, arenas, bytes)));
+        return Ok(Imported::Done(put_sectors(alloc, space, arenas, bytes)?));
     }
     Ok(Imported::Not(length_answer(alloc, bytes.len(), had)?))
 }
@@ -94,22 +94,64 @@ fn unopened(alloc: Global, uuid: &Uuid, refused: ChainRefused) -> Result<Importe
     Ok(Imported::Not(arena_answer(alloc, uuid, refused)?))
 }
 
-/// Opens the arenas of a namespace, and puts bytes into their sectors, if they have as many.
+/// Takes the words of a namespace that was found in a set as plain words.
+fn plain_words<'a>(
+    alloc: Global,
+    set: &'a InterleaveSet,
+    found: &Found,
+    modules: Vec<CutWords>,
+) -> Result<PlainWords<'a>, AllocError>
+    requires within { IsWithin set.now found.now }
+    requires settled { AreSettled modules.items }
+    requires usable { IsUsable set.now modules.items }
+    ensures made { IfOk result (λ space. space ≡ over set.now found.now.offset found.now.raw modules.items) }
+    ensures few { IfOk result (λ space. length (words_of space).kept ≤ 2 ^ 52) }
+    ensures settled { IfOk result (λ space. IsSettled (words_of space)) }
+{
+    let _few = set.ways();
+    PlainWords::of(alloc, set, found.offset, found.raw, modules)
+}
+
+/// Opens the arenas of a namespace that was found in a set, and puts bytes into their sectors, if they have as many.
 fn import_sectors(
     alloc: Global,
-    space: SetWords<'_>,
+    set: &InterleaveSet,
+    found: &Found,
+    modules: Vec<CutWords>,
     uuid: &Uuid,
     bytes: &[u8],
 ) -> Result<Imported, AllocError>
-    requires pages { length (words_of space).kept % 512 ≡ 0 }
-    requires few { length (words_of space).kept ≤ 2 ^ 52 }
-    requires settled { IsSettled (words_of space) }
-    ensures { IfOk result (PutsSectors space.entry uuid.now bytes.now) }
+    requires within { IsWithin set.now found.now }
+    requires settled { AreSettled modules.items }
+    requires usable { IsUsable set.now modules.items }
+    ensures { IfOk result (PutsSectors (over set.now found.now.offset found.now.raw modules.items) uuid.now bytes.now) }
 {
+    let _few = set.ways();
+    let space = SetWords::of(set, found.offset, found.raw, modules);
     match read_arenas(alloc, &space, uuid) {
-        Ok(arenas) => import_arenas(alloc, space, arenas.as_slice(), bytes),
+        Ok(arenas) => {
+            let space = plain_words(alloc, set, found, space.into_modules())?;
+            import_arenas(alloc, space, arenas.as_slice(), bytes)
+        }
         Err(refused) => unopened(alloc, uuid, refused),
     }
+}
+
+/// Puts bytes into a raw namespace that was found in a set, if it has as many.
+fn import_raw(
+    alloc: Global,
+    set: &InterleaveSet,
+    found: &Found,
+    modules: Vec<CutWords>,
+    bytes: &[u8],
+) -> Result<Imported, AllocError>
+    requires within { IsWithin set.now found.now }
+    requires settled { AreSettled modules.items }
+    requires usable { IsUsable set.now modules.items }
+    ensures { IfOk result (PutsWords (over set.now found.now.offset found.now.raw modules.items) bytes.now) }
+{
+    let space = plain_words(alloc, set, found, modules)?;
+    import_words(alloc, space, bytes)
 }
 
 /// Puts bytes into a namespace that was found in a set, if it has as many.
@@ -126,12 +168,10 @@ fn import_found(
     requires usable { IsUsable set.now modules.items }
     ensures { IfOk result (PutsOn (is_sector found.now.mode) (over set.now found.now.offset found.now.raw modules.items) uuid.now bytes.now) }
 {
-    let _few = set.ways();
-    let space = SetWords::of(set, found.offset, found.raw, modules);
     if is_sector(&found.mode) {
-        import_sectors(alloc, space, uuid, bytes)
+        import_sectors(alloc, set, found, modules, uuid, bytes)
     } else {
-        import_words(alloc, space, bytes)
+        import_raw(alloc, set, found, modules, bytes)
     }
 }
 
@@ -181,8 +221,9 @@ fn found_answer(
 ///
 /// A raw namespace gets the bytes by place. One of sectors gets them sector by sector: each goes into its sector's block, and
 /// its map entry becomes a normal one. All pending moves of the namespace's arenas are made by this. Free blocks, the log,
-/// info blocks, label areas and contents outside the namespace's extents are saved as they were loaded. After a refusal
-/// nothing is saved. Beside the loaded set only the arenas' maps take memory. The call fails only if memory runs out.
+/// info blocks, words behind the arenas, label areas and contents outside the namespace's extents are saved as they were
+/// loaded. After a refusal nothing is saved. Beside the loaded set only the arenas' maps take memory. The call fails only if
+/// memory runs out.
 pub fn import_answer(
     alloc: Global,
     uuid: &Uuid,

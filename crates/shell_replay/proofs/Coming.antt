@@ -23,12 +23,12 @@ use Rattle.shell_sectors.proofs.Coming.{found_comes, on_words, saves_namespace}
 use Rattle.shell_replay.specs.declared.replay.Replayed.{Replayed}
 use Rattle.shell_replay.specs.declared.replay.Replayed.TheVariants as replayed
 use Rattle.shell_replay.specs.declared.schedule.Schedule.{Schedule}
-use Rattle.shell_replay.specs.Answering.{AreKept, IsReplayed, IsTurnedDown, KeepsBehind, ReplaysInto, ReplaysOn}
+use Rattle.shell_replay.specs.Answering.{AreKept, IsReplayed, IsReplayRefused, KeepsBehindArena, ReplaysInto, ReplaysOn}
 use Rattle.shell_replay.specs.Replay.{HasReplayed, ReplayComes, ReplaysArenas, arenas_refusal}
 
 -- ---- what was opened
 
-pub are_kept : (n now : Namespace) (uuid : List ℕ) (states : List ArenaState) → AreServed n now uuid states → KeepsBehind (words_of n).kept (words_of now).kept states → AreKept now uuid (words_of n).kept states
+pub are_kept : (n now : Namespace) (uuid : List ℕ) (states : List ArenaState) → AreServed n now uuid states → KeepsBehindArena (words_of n).kept (words_of now).kept states → AreKept now uuid (words_of n).kept states
 are_kept n now uuid states s kept = record { settled = s.settled; few = s.few; are_open = s.are_open; found = s.found; kept = kept }
 
 module _ (leaves : ℕ → List (Option Words) → List (Option (List ℕ)) → Type 0) (n now : Namespace) (uuid : List ℕ) (schedule : Schedule) (states : List ArenaState) (s : AreServed n now uuid states) where
@@ -67,7 +67,7 @@ module _ (leaves : ℕ → List (Option Words) → List (Option (List ℕ)) → 
       (on_words (ReplaysArenas leaves uuid schedule loaded outcome) uuid loaded outcome set.found r (ap (λ (m : Namespace). opened_view (words_of m).kept uuid) (sym is) ∙ read) arenas)
 
   -- nothing is saved
-  pub comes_not : IsTurnedDown n uuid outcome → ReplayComes leaves uuid schedule loaded outcome
+  pub comes_not : IsReplayRefused n uuid outcome → ReplayComes leaves uuid schedule loaded outcome
   comes_not (inl (states, read, (other, said))) = on_read (Ok states) read (others_comes leaves set uuid schedule loaded outcome states other said)
   comes_not (inr (fault, read, said)) = on_read (Err fault) read said
 

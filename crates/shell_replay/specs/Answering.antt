@@ -22,8 +22,8 @@ use Rattle.shell_replay.specs.Replay.{HasReplayed, arenas_refusal}
 -- ---- opening
 
 -- if a namespace has one arena, its words behind the arena's are as they were
-abbrev pub KeepsBehind : List ℕ → List ℕ → List ArenaState → Type 0
-KeepsBehind was now states = (state : ArenaState) → states ≡ state ∷ [] → drop (state.info.layout.size / 8) now ≡ drop (state.info.layout.size / 8) was
+abbrev pub KeepsBehindArena : List ℕ → List ℕ → List ArenaState → Type 0
+KeepsBehindArena was now states = (state : ArenaState) → states ≡ state ∷ [] → drop (state.info.layout.size / 8) now ≡ drop (state.info.layout.size / 8) was
 
 -- A namespace's words have no pending word, and they hold these arenas without pending moves; they were others before these moves.
 pub record AreKept (n : Namespace) (uuid was : List ℕ) (states : List ArenaState) : Type 0 where
@@ -31,7 +31,7 @@ pub record AreKept (n : Namespace) (uuid was : List ℕ) (states : List ArenaSta
   pub few : length (words_of n).kept ≤ 2 ^ 52
   pub are_open : AreOpen states
   pub found : opened_view (words_of n).kept uuid ≡ Ok (map found_again states)
-  pub kept : KeepsBehind was (words_of n).kept states
+  pub kept : KeepsBehindArena was (words_of n).kept states
 
 -- ---- the schedule
 
@@ -50,8 +50,8 @@ ReplaysInto leaves n uuid schedule was states (replayed.Not report) =
 
 -- ---- on a namespace
 
-abbrev pub IsTurnedDown : Namespace → List ℕ → Outcome → Type 0
-IsTurnedDown n uuid outcome =
+abbrev pub IsReplayRefused : Namespace → List ℕ → Outcome → Type 0
+IsReplayRefused n uuid outcome =
     ((states : List ArenaState) × (opened_view (words_of n).kept uuid ≡ Ok states) × ((length states ≢ 1) × (outcome ≡ refused_outcome (arenas_refusal (length states)))))
     ⊎ ((fault : ChainRefused) × (opened_view (words_of n).kept uuid ≡ Err fault) × (outcome ≡ arena_outcome uuid fault))
 
@@ -59,4 +59,4 @@ abbrev pub ReplaysOn : (ℕ → List (Option Words) → List (Option (List ℕ))
 ReplaysOn leaves n uuid schedule (replayed.Done text modules) =
     (state : ArenaState) × (opened_view (words_of n).kept uuid ≡ Ok (state ∷ [])) × (text.items ≡ replay_text (opened_held state) schedule.lines)
     × IsReplayed leaves n uuid schedule (words_of n).kept state modules.items
-ReplaysOn leaves n uuid schedule (replayed.Not report) = IsTurnedDown n uuid (outcome_of report)
+ReplaysOn leaves n uuid schedule (replayed.Not report) = IsReplayRefused n uuid (outcome_of report)

@@ -18,7 +18,7 @@ use std::alloc::{AllocError, Global};
 
 /// What a schedule comes to on an arena.
 #[derive(Drop)]
-pub(crate) struct Ended {
+pub(crate) struct ReplayEnd {
     /// What its lines print.
     pub text: Vec<u8>,
     /// The arena's words after the power cut.
@@ -32,7 +32,7 @@ pub(crate) fn play_and_cut<C: Chooser>(
     state: ArenaState,
     schedule: &Schedule,
     choose: &mut C,
-) -> Result<Ended, AllocError>
+) -> Result<ReplayEnd, AllocError>
     requires state { IsOpenState state }
     requires few { length schedule.now.lines < 2 ^ 32 }
     ensures text { IfOk result (λ ended. ended.text.items ≡ replay_text (opened_held state) schedule.now.lines) }
@@ -45,5 +45,5 @@ pub(crate) fn play_and_cut<C: Chooser>(
     let text = play(alloc, &mut core, &schedule.lines)?;
     choose.begin(schedule.seed);
     let left = core.cut(choose);
-    Ok(Ended { text, left })
+    Ok(ReplayEnd { text, left })
 }

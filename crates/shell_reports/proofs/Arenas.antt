@@ -12,10 +12,10 @@ use Rattle.interleave.proofs.Checked.{no_first, no_fault}
 use Rattle.label_set.specs.declared.placed.Placed.{Placed}
 use Rattle.namespace_areas.specs.declared.area.Area.{Area}
 use Rattle.namespace_areas.specs.Areas.{shown_in, labels_of}
-use Rattle.namespace_map.specs.Namespaces.{Entry, entry_at, lookup, placed_of}
+use Rattle.namespace_map.specs.Namespaces.{NamespaceEntry, entry_at, lookup, placed_of}
 use Rattle.namespace_areas.specs.Finding.{found_of}
 use Rattle.namespace_ops.specs.declared.registry.OpenFault.{OpenFault}
-use Rattle.namespace_ops.specs.Opening.{opening, set_fault_from, sets_of, overlap_fault}
+use Rattle.namespace_ops.specs.Opening.{registry_opening, set_fault_from, sets_of, overlap_fault}
 use Rattle.namespace_ops.specs.Counted.{namespaces_in}
 use Rattle.namespace_ops.specs.Registered.{Registered, opened_on, state_of}
 use Rattle.namespace_ops.proofs.Shown.{shown_at}
@@ -49,8 +49,8 @@ pub record IsOpened (nfit : Nfit) (areas : List Area) (registry : Registered) : 
   pub none : registry_fault nfit (labels_of areas) ≡ None
   pub is : registry ≡ opened_on (sets_of nfit) areas
 
-pub opened_is : (nfit : Nfit) (areas : List Area) (registry : Registered) → Ok registry ≡ opening nfit areas → IsOpened nfit areas registry
-unfolding opening
+pub opened_is : (nfit : Nfit) (areas : List Area) (registry : Registered) → Ok registry ≡ registry_opening nfit areas → IsOpened nfit areas registry
+unfolding registry_opening
 opened_is nfit areas registry e =
     let parts = no_fault (opened_on (sets_of nfit) areas) registry (registry_fault nfit (labels_of areas)) (sym e) in
     record { none = parts.0; is = sym parts.1 }
@@ -62,8 +62,8 @@ fault_by : (value : Registered) (o : Option OpenFault) (fault : OpenFault) → E
 fault_by value None fault e = absurd (let f = e in cc)
 fault_by value (Some found) fault e = (let same : found ≡ fault = cc in ap Some same)
 
-pub fault_is : (nfit : Nfit) (areas : List Area) (fault : OpenFault) → Err fault ≡ opening nfit areas → registry_fault nfit (labels_of areas) ≡ Some fault
-unfolding opening
+pub fault_is : (nfit : Nfit) (areas : List Area) (fault : OpenFault) → Err fault ≡ registry_opening nfit areas → registry_fault nfit (labels_of areas) ≡ Some fault
+unfolding registry_opening
 fault_is nfit areas fault e = fault_by (opened_on (sets_of nfit) areas) (registry_fault nfit (labels_of areas)) fault e
 
 -- ---- the outcome of a command
@@ -72,19 +72,19 @@ module _ (loaded : Loaded) (uuid : List ℕ) (areas : List Area) (shown : map sh
   labels_are : placed_of (map shown_by (map (option_map bytes_kept) loaded.labels)) ≡ labels_of areas
   labels_are = ap placed_of (sym shown)
 
-  pub on_open : AreHeld areas → (registry : Registered) → Ok registry ≡ opening loaded.nfit areas → (f : List ArenaState → Outcome)
+  pub on_open : AreHeld areas → (registry : Registered) → Ok registry ≡ registry_opening loaded.nfit areas → (f : List ArenaState → Outcome)
       → on_found uuid f registry.sets (map bytes_kept loaded.contents) (found_of registry.sets (lookup uuid (namespaces_in (state_of registry)).entries)) ≡ on_sectors f (image_set_in loaded) uuid
   unfolding on_sectors image_set_in
   on_open held registry e f =
       let o : IsOpened loaded.nfit areas registry = opened_is loaded.nfit areas registry e in
       ap (λ (r : Registered). on_found uuid f r.sets (map bytes_kept loaded.contents) (found_of r.sets (lookup uuid (namespaces_in (state_of r)).entries))) o.is
-      ∙ ap (λ (entry : Option Entry). on_found uuid f (sets_of loaded.nfit) (map bytes_kept loaded.contents) (found_of (sets_of loaded.nfit) entry)) (sym (shown_at (sets_of loaded.nfit) areas (labels_of areas) uuid held (λ u. refl)))
+      ∙ ap (λ (entry : Option NamespaceEntry). on_found uuid f (sets_of loaded.nfit) (map bytes_kept loaded.contents) (found_of (sets_of loaded.nfit) entry)) (sym (shown_at (sets_of loaded.nfit) areas (labels_of areas) uuid held (λ u. refl)))
       ∙ ap (λ (fault : Option OpenFault). unless_fault fault (on_found uuid f (sets_of loaded.nfit) (map bytes_kept loaded.contents)
       (found_of (sets_of loaded.nfit) (entry_at (sets_of loaded.nfit) (labels_of areas) uuid)))) (sym o.none)
       ∙ ap (λ (labels : List Placed). unless_fault (registry_fault loaded.nfit labels) (on_found uuid f (sets_of loaded.nfit) (map bytes_kept loaded.contents)
       (found_of (sets_of loaded.nfit) (entry_at (sets_of loaded.nfit) labels uuid)))) (sym labels_are)
 
-  pub on_fault : (fault : OpenFault) → Err fault ≡ opening loaded.nfit areas → (f : List ArenaState → Outcome) → on_sectors f (image_set_in loaded) uuid ≡ open_outcome fault
+  pub on_fault : (fault : OpenFault) → Err fault ≡ registry_opening loaded.nfit areas → (f : List ArenaState → Outcome) → on_sectors f (image_set_in loaded) uuid ≡ open_outcome fault
   unfolding on_sectors image_set_in
   on_fault fault e f =
       ap (λ (labels : List Placed). unless_fault (registry_fault loaded.nfit labels) (on_found uuid f (sets_of loaded.nfit) (map bytes_kept loaded.contents)

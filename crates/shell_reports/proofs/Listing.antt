@@ -12,7 +12,7 @@ use Rattle.namespace_areas.specs.Seen.{AreHeld}
 use Rattle.namespace_areas.proofs.Seen.{seen_labels}
 use Rattle.namespace_ops.specs.declared.registry.OpenFault.{OpenFault}
 use Rattle.namespace_ops.specs.declared.registry.OpenFault.TheVariants.{OutOfMemory}
-use Rattle.namespace_ops.specs.Opening.{opening, overlap_fault, set_fault_from, sets_of}
+use Rattle.namespace_ops.specs.Opening.{registry_opening, overlap_fault, set_fault_from, sets_of}
 use Rattle.namespace_ops.specs.Counted.{namespaces_in}
 use Rattle.namespace_ops.specs.Registered.{Registered, opened_on, state_of}
 use Rattle.shell_reports.specs.declared.outcome.Report.{Report}
@@ -44,13 +44,13 @@ module _ (nfit : Nfit) (areas : List Area) where
   refuses_by (Some g) f is = ap (λ (x : OpenFault). Err x) (let e = is in cc)
 
   -- an open registry lists the namespaces of the labels
-  pub lists : AreHeld areas → (r : Registered) → Ok r ≡ opening nfit areas → listed_by nfit (labels_of areas) ≡ Ok (listed (namespaces_in (state_of r)))
-  unfolding opening
+  pub lists : AreHeld areas → (r : Registered) → Ok r ≡ registry_opening nfit areas → listed_by nfit (labels_of areas) ≡ Ok (listed (namespaces_in (state_of r)))
+  unfolding registry_opening
   lists held r is = lists_by held fault r is
 
   -- a registry that isn't opened is refused for the same fault
-  pub refuses : (f : OpenFault) → Err f ≡ opening nfit areas → listed_by nfit (labels_of areas) ≡ Err f
-  unfolding opening
+  pub refuses : (f : OpenFault) → Err f ≡ registry_opening nfit areas → listed_by nfit (labels_of areas) ≡ Err f
+  unfolding registry_opening
   refuses f is = refuses_by fault f is
 
 -- the answer on a registry that isn't opened

@@ -69,5 +69,5 @@ pub use outcome::{Report, image_answer, printed_answer, usage_answer};
 pub use power::{Power, cut_line, fuse_of};
 pub use read::read_answer;
 pub use sector_faults::{arena_answer, refused_answer, unfound_answer};
-pub use status::{Ending, Status, Stop};
+pub use status::{Ending, RunStop, Status};
 pub use texts::{label_fault_text, mode_text, name_text};

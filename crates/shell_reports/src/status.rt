@@ -31,7 +31,7 @@ pub enum Ending {
 
 /// Why a run stops without an answer.
 #[derive(Clone, Copy, Debug, PartialEq, Eq)]
-pub enum Stop {
+pub enum RunStop {
     ReadFault,
     OutOfMemory,
 }

@@ -19,12 +19,12 @@ use Rattle.image_set.specs.Load.{ImageSet, area_of, loading}
 use Rattle.shell_reports.specs.declared.status.Ending.{Ending}
 use Rattle.shell_reports.specs.declared.status.Ending.TheVariants as ending
 use Rattle.shell_reports.specs.declared.status.Status.TheVariants as status
-use Rattle.shell_run.specs.declared.words.Command.{Command}
-use Rattle.shell_run.specs.declared.words.Command.TheVariants.{Labels, Nfit, Init, Change, Info, Read, Write, Replay, Export, Import}
-use Rattle.shell_run.specs.declared.words.Command.TheVariants as command
+use Rattle.shell_run.specs.declared.words.CommandLine.{CommandLine}
+use Rattle.shell_run.specs.declared.words.CommandLine.TheVariants.{Labels, Nfit, Init, Change, Info, Read, Write, Replay, Export, Import, Serve, Load}
+use Rattle.shell_run.specs.declared.words.CommandLine.TheVariants as command
 use Rattle.shell_reports.specs.declared.power.Power.{Power}
 use Rattle.nfit_reader.specs.declared.table.Mapping.{Mapping}
-use Rattle.namespace_map.specs.declared.commands.Command.{Command as NamespaceCommand}
+use Rattle.namespace_map.specs.declared.commands.Command.{Command}
 use Rattle.namespace_map.specs.declared.refused.OpRefused.{OpRefused}
 use Rattle.namespace_map.specs.Areas.{Area}
 use Rattle.shell_changes.specs.Areas.{areas_in}
@@ -53,21 +53,29 @@ use Rattle.shell_export.specs.Causes.{breaks_export, refuses_export}
 use Rattle.shell_export.specs.Export.{export_outcome}
 use Rattle.shell_export.proofs.Causes.{export_ends, ending_for as ending_by_cause}
 use Rattle.session_script.specs.declared.schedule.Replay.{Replay as Schedules}
+use Rattle.session_script.specs.declared.script.Script.{Script}
 use Rattle.session_script.specs.Schedule.{replay_reading}
+use Rattle.session_script.specs.Script.{script_reading}
 use Rattle.shell_replay.specs.declared.schedule.Schedule.{Schedule}
 use Rattle.shell_import.specs.Import.{ImportComes}
 use Rattle.shell_import.proofs.Causes.{import_ends}
+use Rattle.shell_serve.specs.declared.load.Load.{Load as Loading}
+use Rattle.shell_serve.specs.Causes.{breaks_load, breaks_serve, refuses_load}
+use Rattle.shell_serve.specs.Laws as due
+use Rattle.shell_serve.specs.Load.{LoadComes}
+use Rattle.shell_serve.specs.Serve.{ServeComes}
+use Rattle.shell_serve.proofs.Causes.{load_due, serve_due}
 use Rattle.shell_replay.specs.Causes.{has_others, others_found}
 use Rattle.shell_replay.specs.Replay.{ReplayComes, ReplaysArenas, arenas_refusal}
 use Rattle.shell_run.specs.declared.scripts.ScriptRefused.{ScriptRefused}
 use Rattle.shell_run.specs.Run.{Comes, LoadedComes, OnImages, OnLoaded, OnScript, ComesTold, reads_script}
 use Rattle.shell_run.specs.declared.scripts.ScriptRefused.TheVariants as refused
 use Rattle.shell_run.specs.Scripts.{bytes_in, most_contents, script_in, script_outcome}
-use Rattle.shell_run.specs.Statuses.{ending_by, ending_due, ending_on, ending_scripted, ending_with, has_block, is_barred, is_cut, is_short, keeps_area, refuses_area, refuses_images}
+use Rattle.shell_run.specs.Statuses.{breaks_sessions, ending_by, ending_due, ending_on, ending_scripted, ending_with, has_block, is_barred, is_cut, is_short, keeps_area, refuses_area, refuses_images}
 use Rattle.shell_run.specs.Laws.{StatusIsDue}
 
 -- the ways in which a command on images is answered
-data CommandCase (command : Command) (found : Result ImageSet LoadFault) (e : Ending) : Type 0 where
+data CommandCase (command : CommandLine) (found : Result ImageSet LoadFault) (e : Ending) : Type 0 where
   is_refused : refuses_images command found ≡ true → e ≡ ending.Image → CommandCase command found e
   is_done : refuses_images command found ≡ false → is_cut command found ≡ false → is_barred command found ≡ false → e ≡ ending.Done → CommandCase command found e
   is_turned_down : refuses_images command found ≡ false → is_cut command found ≡ false → is_barred command found ≡ true → e ≡ ending.Refused → CommandCase command found e
@@ -152,7 +160,7 @@ init_command m power loaded e (is_blank_short blank short cut) = is_cut_short bl
 
 -- ---- commands on namespaces
 
-module _ (leaves : ℕ → List (Option Words) → List (Option (List ℕ)) → Type 0) (c : NamespaceCommand) (power : Power) (loaded : ImageSet) (outcome : Outcome) where
+module _ (leaves : ℕ → List (Option Words) → List (Option (List ℕ)) → Type 0) (c : Command) (power : Power) (loaded : ImageSet) (outcome : Outcome) where
   abbrev seen : List (Option Area)
   seen = areas_in loaded.labels
 
@@ -164,7 +172,7 @@ module _ (leaves : ℕ → List (Option Words) → List (Option (List ℕ)) → 
       is_turned_down (ap (λ r. is_err r) are) long (ap (refuses_by seen c) are ∙ ap (λ (o : Option OpRefused). is_some o) some) (ending_of outcome (refused_outcome f) ends)
 
   lasting_case : (sets : List (List Mapping)) → sets_in loaded ≡ Ok sets → (b : Bool) → lasts power.steps (steps_of_work seen (work_in sets seen c)) ≡ b
-      → MatchBool b (changes.Ends loaded seen (work_in sets seen c) (refusal_in sets seen c) outcome) (changes.IsCut leaves loaded seen (work_in sets seen c) power outcome)
+      → MatchBool b (changes.Ends loaded seen (work_in sets seen c) (refusal_in sets seen c) outcome) (changes.IsPowerCut leaves loaded seen (work_in sets seen c) power outcome)
       → CommandCase (Change c power) (Ok loaded) outcome.ending
   lasting_case sets are true long ends = whole_case sets are (refusal_in sets seen c) refl (ap (changes.is_short_by seen c power.steps) are ∙ ap not long) ends
   lasting_case sets are false short cut = is_cut_short (ap (λ r. is_err r) are) (ap (changes.is_short_by seen c power.steps) are ∙ ap not short) (cut.saves.ends)
@@ -282,10 +290,37 @@ same_by false script bytes why e = let same : script ≡ bytes = cc in sym same
 bytes_same : (script bytes : List ℕ) → bytes_in script ≡ Ok bytes → bytes ≡ script
 bytes_same script bytes e = same_by (nat_lt most_contents (length script)) script bytes (refused.TooLong most_contents) e
 
+-- ---- `load`
+
+load_by : (l : Loading) (workers : ℕ) (loaded : ImageSet) (e : Ending) (b c : Bool) → breaks_load l loaded ≡ b → refuses_load l loaded ≡ c → e ≡ due.ending_by b c → CommandCase (Load l workers) (Ok loaded) e
+load_by l workers loaded e true c p q is = is_refused p is
+load_by l workers loaded e false true p q is = is_turned_down p refl q is
+load_by l workers loaded e false false p q is = is_done p refl q is
+
+load_case : (l : Loading) (workers : ℕ) (loaded : ImageSet) (outcome : Outcome) → LoadComes l loaded outcome → CommandCase (Load l workers) (Ok loaded) outcome.ending
+load_case l workers loaded outcome comes = load_by l workers loaded outcome.ending (breaks_load l loaded) (refuses_load l loaded) refl refl (load_due l loaded outcome comes)
+
+-- ---- `serve`
+
+serve_by : (b : Bool) → due.ending_by b false ≡ ending_by b false false
+serve_by true = refl
+serve_by false = refl
+
+serve_found : (script : Script) (found : Result ImageSet LoadFault) (outcome : Outcome) → OnLoaded (ServeComes script) found outcome → outcome.ending ≡ ending_by (breaks_sessions (Ok script) found) false false
+serve_found script (Ok loaded) outcome comes = serve_due script loaded outcome comes ∙ serve_by (breaks_serve loaded script)
+serve_found script (Err fault) outcome comes = ending_of outcome _ comes
+
+abbrev serve_for : Images → Result Script ScriptRefused → Ending
+serve_for set r = if is_err r then ending.Usage else ending_by (breaks_sessions r (loading set)) false false
+
+serve_ending : (set : Images) (outcome : Outcome) (r : Result Script ScriptRefused) → OnScript (λ (lines : Script). OnImages (ServeComes lines) (Some set)) r outcome → outcome.ending ≡ serve_for set r
+serve_ending set outcome (Ok script) on = serve_found script (loading set) outcome (on set refl)
+serve_ending set outcome (Err why) said = ending_of outcome (script_outcome why) said
+
 -- ---- any command
 
 module _ (leaves : ℕ → List (Option Words) → List (Option (List ℕ)) → Type 0) where
-  command_case : (command : Command) (found : Result ImageSet LoadFault) (outcome : Outcome) → OnLoaded (LoadedComes leaves command) found outcome → CommandCase command found outcome.ending
+  command_case : (command : CommandLine) (found : Result ImageSet LoadFault) (outcome : Outcome) → OnLoaded (LoadedComes leaves command) found outcome → CommandCase command found outcome.ending
   command_case command (Err fault) outcome comes = is_refused refl (ending_of outcome _ comes)
   command_case (Labels m) (Ok loaded) outcome comes =
       subst (λ (e : Ending). CommandCase (Labels m) (Ok loaded) e) (sym (ending_of outcome _ comes)) (labels_case m loaded (module_outcome m (area_of loaded m)).ending (module_case m (area_of loaded m)))
@@ -301,21 +336,23 @@ module _ (leaves : ℕ → List (Option Words) → List (Option (List ℕ)) → 
   command_case (Replay uuid seed) (Ok loaded) outcome comes = absurd comes
   command_case (Export uuid zeros) (Ok loaded) outcome comes = export_case uuid zeros loaded outcome comes
   command_case (Import uuid) (Ok loaded) outcome comes = absurd comes
+  command_case (Serve running) (Ok loaded) outcome comes = absurd comes
+  command_case (Load l workers) (Ok loaded) outcome comes = load_case l workers loaded outcome comes
 
   -- ---- the ending that is due
 
-  by_three : (command : Command) (found : Result ImageSet LoadFault) (a b c : Bool) → refuses_images command found ≡ a → is_cut command found ≡ b → is_barred command found ≡ c
+  by_three : (command : CommandLine) (found : Result ImageSet LoadFault) (a b c : Bool) → refuses_images command found ≡ a → is_cut command found ≡ b → is_barred command found ≡ c
       → ending_on command found ≡ ending_by a b c
   by_three command found a b c p q r = λ i. ending_by (p i) (q i) (r i)
 
-  case_ending : (command : Command) (found : Result ImageSet LoadFault) (e : Ending) → CommandCase command found e → e ≡ ending_on command found
+  case_ending : (command : CommandLine) (found : Result ImageSet LoadFault) (e : Ending) → CommandCase command found e → e ≡ ending_on command found
   case_ending command found e (is_refused refused image) = image ∙ sym (by_three command found true (is_cut command found) (is_barred command found) refused refl refl)
   case_ending command found e (is_done accepted long allowed done) = done ∙ sym (by_three command found false false false accepted long allowed)
   case_ending command found e (is_turned_down accepted long barred refused) = refused ∙ sym (by_three command found false false true accepted long barred)
   case_ending command found e (is_cut_short accepted short cut) = cut ∙ sym (by_three command found false true (is_barred command found) accepted short refl)
 
   -- a command without a script
-  plain_ending : (command : Command) (set : Images) (outcome : Outcome) → OnImages (LoadedComes leaves command) (Some set) outcome → outcome.ending ≡ ending_on command (loading set)
+  plain_ending : (command : CommandLine) (set : Images) (outcome : Outcome) → OnImages (LoadedComes leaves command) (Some set) outcome → outcome.ending ≡ ending_on command (loading set)
   plain_ending command set outcome on = case_ending command (loading set) outcome.ending (command_case command (loading set) outcome (on set refl))
 
   -- `replay`, by its script
@@ -346,7 +383,7 @@ module _ (leaves : ℕ → List (Option Words) → List (Option (List ℕ)) → 
       import_found uuid bytes (loading set) outcome (on set refl) ∙ ap (λ (bs : List ℕ). ending_scripted (Import uuid) bs (loading set)) (same bytes refl)
   import_ending uuid script set outcome (Err why) same said = ending_of outcome (script_outcome why) said
 
-  script_ending : (command : Command) (script : List ℕ) (set : Images) (outcome : Outcome) → Comes leaves command (Some set) script outcome → outcome.ending ≡ ending_with (Some command) script (loading set)
+  script_ending : (command : CommandLine) (script : List ℕ) (set : Images) (outcome : Outcome) → Comes leaves command (Some set) script outcome → outcome.ending ≡ ending_with (Some command) script (loading set)
   script_ending (Labels m) script set outcome comes = plain_ending (Labels m) set outcome comes
   script_ending Nfit script set outcome comes = plain_ending Nfit set outcome comes
   script_ending command.List script set outcome comes = plain_ending command.List set outcome comes
@@ -357,14 +394,16 @@ module _ (leaves : ℕ → List (Option Words) → List (Option (List ℕ)) → 
   script_ending (Write uuid sector value) script set outcome comes = plain_ending (Write uuid sector value) set outcome comes
   script_ending (Export uuid zeros) script set outcome comes = plain_ending (Export uuid zeros) set outcome comes
   script_ending (Import uuid) script set outcome comes = import_ending uuid script set outcome (bytes_in script) (bytes_same script) comes
+  script_ending (Serve running) script set outcome comes = serve_ending set outcome (script_in script_reading script) comes
+  script_ending (Load l workers) script set outcome comes = plain_ending (Load l workers) set outcome comes
   script_ending (Replay uuid seed) script set outcome comes = replay_ending uuid seed set outcome (script_in replay_reading script) comes
 
-  due_by : (words : List (List ℕ)) (set : Images) (script : List ℕ) (left : Option (List ℕ)) (outcome : Outcome) (found : Option Command) → command_of words ≡ found
+  due_by : (words : List (List ℕ)) (set : Images) (script : List ℕ) (left : Option (List ℕ)) (outcome : Outcome) (found : Option CommandLine) → command_of words ≡ found
       → MatchOption found ⊤ (λ command. IsTrue (reads_script command) → left ≡ Some script)
       → MatchOption found (outcome ≡ usage) (λ command. ComesTold leaves command (Some set) left outcome) → outcome.ending ≡ ending_due words script set
-  due_by words set script left outcome None is told due = ending_of outcome _ due ∙ sym (ap (λ (o : Option Command). ending_with o script (loading set)) is)
+  due_by words set script left outcome None is told due = ending_of outcome _ due ∙ sym (ap (λ (o : Option CommandLine). ending_with o script (loading set)) is)
   due_by words set script left outcome (Some command) is told due =
-      script_ending command script set outcome (due script told) ∙ sym (ap (λ (o : Option Command). ending_with o script (loading set)) is)
+      script_ending command script set outcome (due script told) ∙ sym (ap (λ (o : Option CommandLine). ending_with o script (loading set)) is)
 
   pub status_due : StatusIsDue leaves
   status_due words set script left made made' text text' images images' source source' status.ReadFault told ends = inr tt

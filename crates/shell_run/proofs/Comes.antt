@@ -20,14 +20,18 @@ use Rattle.shell_changes.specs.declared.answer.Left.TheVariants.{Whole, Copied}
 use Rattle.shell_changes.specs.Answers.{ComesFrom, HasSizes, outcome_with, whole_outcome}
 use Rattle.shell_changes.specs.Saved.{AreObjects, AreSaved, HasContentsOf, HasItsContents, HasSize, Stores, copies_contents, objects_saved}
 use Rattle.session_script.specs.declared.schedule.Replay.{Replay}
+use Rattle.session_script.specs.declared.script.Script.{Script}
 use Rattle.session_script.specs.Schedule.{replay_reading}
+use Rattle.session_script.specs.Script.{script_reading}
 use Rattle.shell_import.specs.Import.{ImportComes}
 use Rattle.shell_replay.specs.declared.schedule.Schedule.{Schedule}
 use Rattle.shell_replay.specs.Replay.{ReplayComes}
+use Rattle.shell_serve.specs.declared.serving.Running.{Running}
+use Rattle.shell_serve.specs.Serve.{ServeComes}
 use Rattle.shell_run.specs.declared.scripts.ScriptRefused.{ScriptRefused}
-use Rattle.shell_run.specs.declared.words.Command.{Command}
-use Rattle.shell_run.specs.declared.words.Command.TheVariants.{Labels, Nfit, Init, Change, Info, Read, Write, Replay as AskReplay, Export, Import}
-use Rattle.shell_run.specs.declared.words.Command.TheVariants as command
+use Rattle.shell_run.specs.declared.words.CommandLine.{CommandLine}
+use Rattle.shell_run.specs.declared.words.CommandLine.TheVariants.{Labels, Nfit, Init, Change, Info, Read, Write, Replay as AskReplay, Export, Import, Serve, Load}
+use Rattle.shell_run.specs.declared.words.CommandLine.TheVariants as command
 use Rattle.shell_run.specs.Printed.{Exports, IsReported, IsUnloaded}
 use Rattle.shell_run.specs.Run.{Comes, ComesTold, IsDue, LoadedComes, OnImages, OnLoaded, OnScript, copies, copies_by, copies_found, needs_contents, reads_script}
 use Rattle.shell_run.specs.Scripts.{bytes_in, script_in, script_outcome}
@@ -97,13 +101,13 @@ if_both P Q R (Err e) both p q = tt
 
 -- ---- by the command
 
-module _ (leaves : ℕ → List (Option Words) → List (Option (List ℕ)) → Type 0) (command like : Command) (is : command ≡ like) where
+module _ (leaves : ℕ → List (Option Words) → List (Option (List ℕ)) → Type 0) (command like : CommandLine) (is : command ≡ like) where
   pub outlined_by : {E : Type 0} (outline : Outline) (r : Result Answer E) → IfOk r (λ answer. (contents : List (List ℕ)) → LoadedComes leaves like (image_set_with outline contents) (outcome_with answer contents))
       → IfOk r (λ answer. (contents : List (List ℕ)) → LoadedComes leaves command (image_set_with outline contents) (outcome_with answer contents))
-  outlined_by outline r comes = subst (λ (c : Command). IfOk r (λ answer. (contents : List (List ℕ)) → LoadedComes leaves c (image_set_with outline contents) (outcome_with answer contents))) (sym is) comes
+  outlined_by outline r comes = subst (λ (c : CommandLine). IfOk r (λ answer. (contents : List (List ℕ)) → LoadedComes leaves c (image_set_with outline contents) (outcome_with answer contents))) (sym is) comes
 
   pub loaded_by : {E : Type 0} (loaded : ImageSet) (r : Result Answer E) → IfOk r (λ answer. LoadedComes leaves like loaded (whole_outcome answer)) → IfOk r (λ answer. LoadedComes leaves command loaded (whole_outcome answer))
-  loaded_by loaded r comes = subst (λ (c : Command). IfOk r (λ answer. LoadedComes leaves c loaded (whole_outcome answer))) (sym is) comes
+  loaded_by loaded r comes = subst (λ (c : CommandLine). IfOk r (λ answer. LoadedComes leaves c loaded (whole_outcome answer))) (sym is) comes
 
   pub copies_by_it : {E : Type 0} (r : Result Answer E) → copies like ≡ true → IfOk r (λ answer. IsTrue (copies_contents answer.saved) → IsTrue (copies command))
   copies_by_it r does = if_all (λ (answer : Answer). IsTrue (copies_contents answer.saved) → IsTrue (copies command)) r (λ answer copied. subst (λ (b : Bool). IsTrue b) (sym (ap copies is ∙ does)) refl)
@@ -224,7 +228,7 @@ if_told P (Err e) fault all nothing says read memory = tt
 
 module _ (leaves : ℕ → List (Option Words) → List (Option (List ℕ)) → Type 0) (held : Option Images) (script : List ℕ) (outcome : Outcome) where
   -- a command without a script comes to what is due on the images
-  pub plain_comes : (command : Command) → reads_script command ≡ false → OnImages (LoadedComes leaves command) held outcome → Comes leaves command held script outcome
+  pub plain_comes : (command : CommandLine) → reads_script command ≡ false → OnImages (LoadedComes leaves command) held outcome → Comes leaves command held script outcome
   plain_comes (Labels m) plain on = on
   plain_comes Nfit plain on = on
   plain_comes command.List plain on = on
@@ -236,12 +240,14 @@ module _ (leaves : ℕ → List (Option Words) → List (Option (List ℕ)) → 
   plain_comes (AskReplay uuid seed) plain on = absurd (let e = plain in cc)
   plain_comes (Export uuid zeros) plain on = on
   plain_comes (Import uuid) plain on = absurd (let e = plain in cc)
+  plain_comes (Serve running) plain on = absurd (let e = plain in cc)
+  plain_comes (Load l workers) plain on = on
 
 module _ (leaves : ℕ → List (Option Words) → List (Option (List ℕ)) → Type 0) (held : Option Images) (left : Option (List ℕ)) where
-  abbrev pub IsDueFor : Command → Answer → Type 0
+  abbrev pub IsDueFor : CommandLine → Answer → Type 0
   IsDueFor command answer = (outcome : Outcome) → ComesFrom held answer outcome → ComesTold leaves command held left outcome
 
-  pub plain_due : {E : Type 0} (command : Command) (r : Result Answer E) → reads_script command ≡ false → IfOk r (IsTold (LoadedComes leaves command) held) → IfOk r (IsDueFor command)
+  pub plain_due : {E : Type 0} (command : CommandLine) (r : Result Answer E) → reads_script command ≡ false → IfOk r (IsTold (LoadedComes leaves command) held) → IfOk r (IsDueFor command)
   plain_due command (Ok answer) plain told = λ outcome from script reads. plain_comes leaves held script outcome command plain (told outcome from)
   plain_due command (Err e) plain told = tt
 
@@ -277,20 +283,34 @@ module _ (leaves : ℕ → List (Option Words) → List (Option (List ℕ)) → 
       (sym (refused script (reads refl))) (from_none held answer outcome (script_outcome why) nothing says from)
   misread_bytes_due uuid why (Err e) refused says nothing = tt
 
+  -- a script of sessions was read
+  pub sessions_due : {E : Type 0} (running : Running) (lines : Script) (r : Result Answer E) → ForSome left (λ text. script_in script_reading text ≡ Ok lines) → IfOk r (IsTold (ServeComes lines) held) → IfOk r (IsDueFor (Serve running))
+  sessions_due running lines (Ok answer) read told = λ outcome from script reads.
+      subst (λ (s : Result Script ScriptRefused). OnScript (λ (q : Script). OnImages (ServeComes q) held) s outcome) (sym (read script (reads refl))) (told outcome from)
+  sessions_due running lines (Err e) read told = tt
+
+  -- none was
+  pub misread_sessions_due : {E : Type 0} (running : Running) (why : ScriptRefused) (r : Result Answer E) → ForSome left (λ text. script_in script_reading text ≡ Err why)
+      → IfOk r (λ answer. (contents : List (List ℕ)) → outcome_with answer contents ≡ script_outcome why) → IfOk r (λ answer. answer.saved ≡ None) → IfOk r (IsDueFor (Serve running))
+  misread_sessions_due running why (Ok answer) refused says nothing = λ outcome from script reads.
+      subst (λ (s : Result Script ScriptRefused). OnScript (λ (q : Script). OnImages (ServeComes q) held) s outcome)
+      (sym (refused script (reads refl))) (from_none held answer outcome (script_outcome why) nothing says from)
+  misread_sessions_due running why (Err e) refused says nothing = tt
+
 -- ---- the words
 
 module _ (leaves : ℕ → List (Option Words) → List (Option (List ℕ)) → Type 0) (words : List (List ℕ)) (held : Option Images) (left : Option (List ℕ)) (outcome : Outcome) where
   -- what a command comes to is what is due for its words
-  pub command_due : (command : Command) → command_of words ≡ Some command → ComesTold leaves command held left outcome → IsDue leaves words held left outcome
-  command_due command said told = subst (λ (o : Option Command). MatchOption o (outcome ≡ usage) (λ c. ComesTold leaves c held left outcome)) (sym said) told
+  pub command_due : (command : CommandLine) → command_of words ≡ Some command → ComesTold leaves command held left outcome → IsDue leaves words held left outcome
+  command_due command said told = subst (λ (o : Option CommandLine). MatchOption o (outcome ≡ usage) (λ c. ComesTold leaves c held left outcome)) (sym said) told
 
   -- and so is what is said of words that aren't a command line
   pub usage_due : command_of words ≡ None → outcome ≡ usage → IsDue leaves words held left outcome
-  usage_due none says = subst (λ (o : Option Command). MatchOption o (outcome ≡ usage) (λ c. ComesTold leaves c held left outcome)) (sym none) says
+  usage_due none says = subst (λ (o : Option CommandLine). MatchOption o (outcome ≡ usage) (λ c. ComesTold leaves c held left outcome)) (sym none) says
 
 -- a command that copies contents is one of the words
-pub command_copies : (words : List (List ℕ)) (command : Command) → command_of words ≡ Some command → IsTrue (copies command) → IsTrue (copies_by words)
-command_copies words command said does = subst (λ (o : Option Command). IsTrue (copies_found o)) (sym said) does
+pub command_copies : (words : List (List ℕ)) (command : CommandLine) → command_of words ≡ Some command → IsTrue (copies command) → IsTrue (copies_by words)
+command_copies words command said does = subst (λ (o : Option CommandLine). IsTrue (copies_found o)) (sym said) does
 
 -- ---- what is only printed
 
@@ -307,9 +327,9 @@ reported_unloaded {E} r fault outcome says read memory (report, is, same) = (
   reported_is r (load_outcome fault) outcome says (report, is, same),
 )
 
-pub export_due : (leaves : ℕ → List (Option Words) → List (Option (List ℕ)) → Type 0) (command : Command) (uuid : List ℕ) (zeros : Bool) (held : Option Images) (left : Option (List ℕ)) (outcome : Outcome)
+pub export_due : (leaves : ℕ → List (Option Words) → List (Option (List ℕ)) → Type 0) (command : CommandLine) (uuid : List ℕ) (zeros : Bool) (held : Option Images) (left : Option (List ℕ)) (outcome : Outcome)
     → command ≡ Export uuid zeros → OnImages (Exports uuid zeros) held outcome → ComesTold leaves command held left outcome
-export_due leaves command uuid zeros held left outcome is due = λ script reads. subst (λ (c : Command). Comes leaves c held script outcome) (sym is) due
+export_due leaves command uuid zeros held left outcome is due = λ script reads. subst (λ (c : CommandLine). Comes leaves c held script outcome) (sym is) due
 
 -- ---- a set that isn't finished
 

@@ -9,8 +9,8 @@ use Rattle.shell_reports.specs.declared.status.Ending.{Ending}
 use Rattle.shell_reports.specs.declared.status.Ending.TheVariants as ending
 use Rattle.shell_reports.specs.declared.status.Status.{Status}
 use Rattle.shell_reports.specs.declared.status.Status.TheVariants as status
-use Rattle.shell_reports.specs.declared.status.Stop.{Stop}
-use Rattle.shell_reports.specs.declared.status.Stop.TheVariants as stop
+use Rattle.shell_reports.specs.declared.status.RunStop.{RunStop}
+use Rattle.shell_reports.specs.declared.status.RunStop.TheVariants as stop
 use Rattle.shell_reports.specs.Outcome.{Outcome, lf, status_of}
 use Rattle.shell_reports.specs.Saved.{Saves}
 use Rattle.shell_changes.specs.Saved.{Stores}
@@ -51,7 +51,7 @@ ends_read faulted copying due made text text' s rose (inl w) = rw w.0 (inr (inr 
 ends_read faulted copying due made text text' s rose (inr r) = rw r.0 (rose, inl refl, r.1)
 
 -- a run that has no answer
-pub ends_stopped : (faulted : Type 0) (copying : Bool) (due : Outcome → Type 0) (made : Option Images) (text text' : Option (List ℕ)) (s : Status) (why : Stop)
+pub ends_stopped : (faulted : Type 0) (copying : Bool) (due : Outcome → Type 0) (made : Option Images) (text text' : Option (List ℕ)) (s : Status) (why : RunStop)
     → (why ≡ stop.ReadFault → faulted) → (why ≡ stop.OutOfMemory → (s ≡ status.OutOfMemory) × (text' ≡ text))
     → (why ≡ stop.ReadFault → ((s ≡ status.WriteFault) × AppendsPart text text' (codes "read fault" ++ lf)) ⊎ ((s ≡ status.ReadFault) × Appends text text' (codes "read fault" ++ lf)))
     → Ends faulted copying due made made text text' s
@@ -140,7 +140,7 @@ holds_more due wider kept kept' text text' status.OutOfMemory more h = tt
 holds_more due wider kept kept' text text' other more h = (h.0, more h.0 h.1, h.2, h.3, h.4)
 
 -- a run that has no answer
-pub holds_stopped : (due : Outcome → Type 0) (kept kept' : Option Images) (text text' : Option (List ℕ)) (s : Status) (why : Stop) → (why ≡ stop.OutOfMemory → s ≡ status.OutOfMemory)
+pub holds_stopped : (due : Outcome → Type 0) (kept kept' : Option Images) (text text' : Option (List ℕ)) (s : Status) (why : RunStop) → (why ≡ stop.OutOfMemory → s ≡ status.OutOfMemory)
     → (why ≡ stop.ReadFault → (s ≡ status.WriteFault) ⊎ (s ≡ status.ReadFault)) → Holds due kept kept' text text' s
 holds_stopped due kept kept' text text' s stop.OutOfMemory memory read = rw (memory refl) tt
 holds_stopped due kept kept' text text' s stop.ReadFault memory read = elim (read refl) [ inl is ↦ rw is tt | inr is ↦ rw is tt ]

@@ -2,7 +2,7 @@
 use Rattle.std.proofs.Common.{◌≡◌, [], ◌∷◌, Some, None, refl, codes}
 use Rattle.clap.proofs.OnLiterals.{clap_on_literals}
 use Rattle.command_words.specs.Parsed.{parsed}
-use Rattle.shell_run.specs.declared.words.Command.TheVariants.{Labels, Nfit}
+use Rattle.shell_run.specs.declared.words.CommandLine.TheVariants.{Labels, Nfit}
 use Rattle.shell_run.specs.Commands.{kind_of}
 use Rattle.shell_run.specs.Words.{command_of}
 

@@ -3,11 +3,11 @@ use Rattle.std.specs.Prelude.{List, [], ◌∷◌, ℕ, Option, Some, None, if�
 use Rattle.std.specs.Str.{bytes_eq}
 use Rattle.command_words.specs.App.{Described}
 use Rattle.command_words.specs.declared.argument.Form.TheVariants.{Place, Optional, Required, Flag}
-use Rattle.shell_run.specs.declared.commands.Kind.{Kind}
-use Rattle.shell_run.specs.declared.commands.Kind.TheVariants as kind
+use Rattle.shell_run.specs.declared.commands.CommandKind.{CommandKind}
+use Rattle.shell_run.specs.declared.commands.CommandKind.TheVariants as kind
 
 -- the command that a name says
-unfoldable pub kind_of : List ℕ → Option Kind
+unfoldable pub kind_of : List ℕ → Option CommandKind
 kind_of name =
     if bytes_eq name (codes "labels") then Some kind.Labels
     else if bytes_eq name (codes "nfit") then Some kind.Nfit
@@ -22,6 +22,8 @@ kind_of name =
     else if bytes_eq name (codes "replay") then Some kind.Replay
     else if bytes_eq name (codes "export") then Some kind.Export
     else if bytes_eq name (codes "import") then Some kind.Import
+    else if bytes_eq name (codes "serve") then Some kind.Serve
+    else if bytes_eq name (codes "load") then Some kind.Load
     else None
 
 -- the options on power cuts
@@ -29,7 +31,7 @@ abbrev pub power_arguments : List Described
 power_arguments = (codes "cut", Optional) ∷ (codes "evict", Optional) ∷ []
 
 -- the arguments of a command
-abbrev pub arguments_of : Kind → List Described
+abbrev pub arguments_of : CommandKind → List Described
 arguments_of kind.Labels = (codes "module", Place) ∷ []
 arguments_of kind.Nfit = []
 arguments_of kind.List = []
@@ -45,3 +47,5 @@ arguments_of kind.Write = (codes "uuid", Place) ∷ (codes "sector", Place) ∷ 
 arguments_of kind.Replay = (codes "uuid", Place) ∷ (codes "evict", Optional) ∷ []
 arguments_of kind.Export = (codes "uuid", Place) ∷ (codes "bad-as-zeros", Flag) ∷ []
 arguments_of kind.Import = (codes "uuid", Place) ∷ []
+arguments_of kind.Serve = (codes "workers", Optional) ∷ (codes "evict", Optional) ∷ []
+arguments_of kind.Load = (codes "number", Place) ∷ (codes "uuid", Required) ∷ (codes "sessions", Optional) ∷ (codes "calls", Optional) ∷ (codes "workers", Optional) ∷ []

@@ -9,10 +9,10 @@ use Rattle.image_set.specs.declared.fault.LoadFault.{LoadFault}
 use Rattle.image_set.specs.Load.{ImageSet, loading}
 use Rattle.shell_reports.specs.declared.status.Status.{Status}
 use Rattle.shell_reports.specs.declared.status.Status.TheVariants as status
-use Rattle.shell_run.specs.declared.words.Command.{Command}
-use Rattle.shell_run.specs.declared.words.Command.TheVariants.{Labels, Nfit, Init, Change, Info, Read, Write, Replay, Export, Import}
-use Rattle.shell_run.specs.declared.words.Command.TheVariants as command
-use Rattle.shell_run.specs.Words.{GivesGoodName, command_of}
+use Rattle.shell_run.specs.declared.words.CommandLine.{CommandLine}
+use Rattle.shell_run.specs.declared.words.CommandLine.TheVariants.{Labels, Nfit, Init, Change, Info, Read, Write, Replay, Export, Import, Serve, Load}
+use Rattle.shell_run.specs.declared.words.CommandLine.TheVariants as command
+use Rattle.shell_run.specs.Words.{HasGoodValues, command_of}
 use Rattle.shell_reports.specs.Outcome.{Outcome, usage, lf, status_of}
 use Rattle.shell_reports.specs.LoadFaults.{load_outcome}
 use Rattle.shell_reports.specs.Labels.{labels_outcome}
@@ -29,6 +29,9 @@ use Rattle.shell_export.specs.Export.{export_outcome}
 use Rattle.shell_import.specs.Import.{ImportComes}
 use Rattle.shell_replay.specs.Replay.{ReplayComes}
 use Rattle.session_script.specs.Schedule.{replay_reading}
+use Rattle.session_script.specs.Script.{script_reading}
+use Rattle.shell_serve.specs.Load.{LoadComes}
+use Rattle.shell_serve.specs.Serve.{ServeComes}
 use Rattle.shell_run.specs.declared.scripts.ScriptRefused.{ScriptRefused}
 use Rattle.shell_run.specs.Scripts.{bytes_in, script_in, script_outcome}
 
@@ -36,7 +39,7 @@ use Rattle.shell_run.specs.Scripts.{bytes_in, script_in, script_outcome}
 
 -- what a command without a script may come to on the set that it loads; `leaves` says what a power cut may leave of rows of words, by the number from
 -- which the chooser is begun
-abbrev pub LoadedComes : (ℕ → List (Option Words) → List (Option (List ℕ)) → Type 0) → Command → ImageSet → Outcome → Type 0
+abbrev pub LoadedComes : (ℕ → List (Option Words) → List (Option (List ℕ)) → Type 0) → CommandLine → ImageSet → Outcome → Type 0
 LoadedComes leaves (Labels m) loaded outcome = outcome ≡ labels_outcome m loaded
 LoadedComes leaves Nfit loaded outcome = outcome ≡ nfit_outcome loaded
 LoadedComes leaves command.List loaded outcome = outcome ≡ list_outcome loaded
@@ -48,6 +51,8 @@ LoadedComes leaves (Write uuid sector value) loaded outcome = WriteComes uuid se
 LoadedComes leaves (Replay uuid seed) loaded outcome = ⊥
 LoadedComes leaves (Export uuid zeros) loaded outcome = outcome ≡ export_outcome uuid zeros loaded
 LoadedComes leaves (Import uuid) loaded outcome = ⊥
+LoadedComes leaves (Serve running) loaded outcome = ⊥
+LoadedComes leaves (Load l workers) loaded outcome = LoadComes l loaded outcome
 
 -- by the set that is loaded, or by why none is
 abbrev pub OnLoaded : (ImageSet → Outcome → Type 0) → Result ImageSet LoadFault → Outcome → Type 0
@@ -64,14 +69,15 @@ OnScript comes (Ok script) outcome = comes script outcome
 OnScript comes (Err why) outcome = outcome ≡ script_outcome why
 
 -- what a command may come to, for images and a script: a command with a script reads it to its end first, and then loads the whole set
-abbrev pub Comes : (ℕ → List (Option Words) → List (Option (List ℕ)) → Type 0) → Command → Option Images → List ℕ → Outcome → Type 0
+abbrev pub Comes : (ℕ → List (Option Words) → List (Option (List ℕ)) → Type 0) → CommandLine → Option Images → List ℕ → Outcome → Type 0
 Comes leaves (Replay uuid seed) held script outcome =
     OnScript (λ schedule. OnImages (ReplayComes leaves uuid (record { lines = schedule.lines; seed = seed })) held) (script_in replay_reading script) outcome
 Comes leaves (Import uuid) held script outcome = OnScript (λ bytes. OnImages (ImportComes uuid bytes) held) (bytes_in script) outcome
+Comes leaves (Serve running) held script outcome = OnScript (λ lines. OnImages (ServeComes lines) held) (script_in script_reading script) outcome
 Comes leaves command held script outcome = OnImages (LoadedComes leaves command) held outcome
 
 -- whether a command reads the script
-abbrev pub reads_script : Command → Bool
+abbrev pub reads_script : CommandLine → Bool
 reads_script (Labels m) = false
 reads_script Nfit = false
 reads_script command.List = false
@@ -83,9 +89,11 @@ reads_script (Write uuid sector value) = false
 reads_script (Replay uuid seed) = true
 reads_script (Export uuid zeros) = false
 reads_script (Import uuid) = true
+reads_script (Serve running) = true
+reads_script (Load l workers) = false
 
 -- whether a command prints its text piece by piece, as the text may be as long as the contents; it writes no set
-abbrev pub streams : Command → Bool
+abbrev pub streams : CommandLine → Bool
 streams (Labels m) = false
 streams Nfit = false
 streams command.List = false
@@ -97,17 +105,19 @@ streams (Write uuid sector value) = false
 streams (Replay uuid seed) = false
 streams (Export uuid zeros) = true
 streams (Import uuid) = false
+streams (Serve running) = false
+streams (Load l workers) = false
 
 -- a command that makes an answer, of the loaded set alone
-abbrev pub IsPlain : Command → Type 0
+abbrev pub IsPlain : CommandLine → Type 0
 IsPlain command = (reads_script command ≡ false) × (streams command ≡ false)
 
--- a command that makes an answer, and gives no name that has a zero byte
-abbrev pub IsAnswered : Command → Type 0
-IsAnswered command = GivesGoodName command × (streams command ≡ false)
+-- a command that makes an answer, and has good values
+abbrev pub IsAnswered : CommandLine → Type 0
+IsAnswered command = HasGoodValues command × (streams command ≡ false)
 
 -- whether a command copies contents as it saves, so that reading may fail then
-abbrev pub copies : Command → Bool
+abbrev pub copies : CommandLine → Bool
 copies (Labels m) = false
 copies Nfit = false
 copies command.List = false
@@ -119,9 +129,11 @@ copies (Write uuid sector value) = false
 copies (Replay uuid seed) = false
 copies (Export uuid zeros) = false
 copies (Import uuid) = false
+copies (Serve running) = false
+copies (Load l workers) = false
 
 -- whether a command works on the contents of modules, so that they are loaded
-abbrev pub needs_contents : Command → Bool
+abbrev pub needs_contents : CommandLine → Bool
 needs_contents (Labels m) = false
 needs_contents Nfit = false
 needs_contents command.List = false
@@ -133,9 +145,11 @@ needs_contents (Write uuid sector value) = true
 needs_contents (Replay uuid seed) = true
 needs_contents (Export uuid zeros) = true
 needs_contents (Import uuid) = true
+needs_contents (Serve running) = true
+needs_contents (Load l workers) = true
 
 -- whether the words are those of a command that copies contents
-abbrev pub copies_found : Option Command → Bool
+abbrev pub copies_found : Option CommandLine → Bool
 copies_found None = false
 copies_found (Some command) = copies command
 
@@ -145,7 +159,7 @@ copies_by words = copies_found (command_of words)
 -- ---- once for all commands
 
 -- a command comes to this, as far as images and script are told
-abbrev pub ComesTold : (ℕ → List (Option Words) → List (Option (List ℕ)) → Type 0) → Command → Option Images → Option (List ℕ) → Outcome → Type 0
+abbrev pub ComesTold : (ℕ → List (Option Words) → List (Option (List ℕ)) → Type 0) → CommandLine → Option Images → Option (List ℕ) → Outcome → Type 0
 ComesTold leaves command held left outcome =
     (script : List ℕ) → (IsTrue (reads_script command) → left ≡ Some script) → Comes leaves command held script outcome
 

@@ -22,18 +22,23 @@ use Rattle.shell_sectors.specs.Causes.{refuses_write}
 use Rattle.shell_export.specs.Causes.{breaks_export, refuses_export}
 use Rattle.shell_import.specs.Causes.{refuses_import}
 use Rattle.shell_replay.specs.Causes.{refuses_replay}
+use Rattle.session_script.specs.declared.script.Script.{Script}
 use Rattle.session_script.specs.Schedule.{replay_reading}
+use Rattle.session_script.specs.Script.{script_reading}
+use Rattle.shell_serve.specs.Causes.{breaks_load, breaks_serve, refuses_load}
+use Rattle.shell_run.specs.declared.scripts.ScriptRefused.{ScriptRefused}
 use Rattle.shell_run.specs.Scripts.{bytes_in, script_in}
-use Rattle.shell_run.specs.declared.words.Command.{Command}
-use Rattle.shell_run.specs.declared.words.Command.TheVariants.{Labels, Nfit, Init, Change, Info, Read, Write, Replay, Export, Import}
-use Rattle.shell_run.specs.declared.words.Command.TheVariants as command
+use Rattle.shell_run.specs.declared.words.CommandLine.{CommandLine}
+use Rattle.shell_run.specs.declared.words.CommandLine.TheVariants.{Labels, Nfit, Init, Change, Info, Read, Write, Replay, Export, Import, Serve, Load}
+use Rattle.shell_run.specs.declared.words.CommandLine.TheVariants as command
 use Rattle.shell_run.specs.Words.{command_of}
 
 -- ---- a script that isn't taken
 
-abbrev pub refuses_script : Command → List ℕ → Bool
+abbrev pub refuses_script : CommandLine → List ℕ → Bool
 refuses_script (Replay uuid seed) script = is_err (script_in replay_reading script)
 refuses_script (Import uuid) script = is_err (bytes_in script)
+refuses_script (Serve running) script = is_err (script_in script_reading script)
 refuses_script command script = false
 
 -- ---- images that are refused for a command
@@ -53,7 +58,7 @@ keeps_area None = true
 keeps_area (Some area) = has_block (block_in area)
 
 -- the set isn't loaded, or what the command asks of it is refused
-abbrev pub refuses_images : Command → Result ImageSet LoadFault → Bool
+abbrev pub refuses_images : CommandLine → Result ImageSet LoadFault → Bool
 refuses_images command (Err fault) = true
 refuses_images (Labels m) (Ok loaded) = refuses_area (area_of loaded m)
 refuses_images Nfit (Ok loaded) = false
@@ -66,6 +71,8 @@ refuses_images (Write uuid sector value) (Ok loaded) = is_broken loaded uuid
 refuses_images (Replay uuid seed) (Ok loaded) = is_broken loaded uuid
 refuses_images (Export uuid zeros) (Ok loaded) = breaks_export loaded uuid
 refuses_images (Import uuid) (Ok loaded) = breaks_export loaded uuid
+refuses_images (Serve running) (Ok loaded) = is_err (sets_in loaded)
+refuses_images (Load l workers) (Ok loaded) = breaks_load l loaded
 
 -- ---- steps and refusals
 
@@ -75,19 +82,20 @@ is_short steps None = false
 is_short steps (Some area) = not (lasts steps (init_count (length area / 8)))
 
 -- a command takes more steps than power lasts for
-abbrev pub is_cut : Command → Result ImageSet LoadFault → Bool
+abbrev pub is_cut : CommandLine → Result ImageSet LoadFault → Bool
 is_cut (Init m power) (Ok loaded) = is_short power.steps (area_of loaded m)
 is_cut (Change c power) (Ok loaded) = changes.is_short loaded c power.steps
 is_cut command found = false
 
 -- a command is refused by its own rules
-abbrev pub is_barred : Command → Result ImageSet LoadFault → Bool
+abbrev pub is_barred : CommandLine → Result ImageSet LoadFault → Bool
 is_barred (Change c power) (Ok loaded) = refuses loaded c
 is_barred (Info uuid) (Ok loaded) = refuses_info loaded uuid
 is_barred (Read uuid sector) (Ok loaded) = refuses_read loaded uuid sector
 is_barred (Write uuid sector value) (Ok loaded) = refuses_write loaded uuid sector value
 is_barred (Replay uuid seed) (Ok loaded) = refuses_replay loaded uuid
 is_barred (Export uuid zeros) (Ok loaded) = refuses_export loaded uuid zeros
+is_barred (Load l workers) (Ok loaded) = refuses_load l loaded
 is_barred command found = false
 
 -- ---- the table
@@ -96,7 +104,7 @@ is_barred command found = false
 abbrev pub ending_by : Bool → Bool → Bool → Ending
 ending_by refused cut barred = if refused then ending.Image else if cut then ending.PowerCut else if barred then ending.Refused else ending.Done
 
-abbrev pub ending_on : Command → Result ImageSet LoadFault → Ending
+abbrev pub ending_on : CommandLine → Result ImageSet LoadFault → Ending
 ending_on command found = ending_by (refuses_images command found) (is_cut command found) (is_barred command found)
 
 -- whether the bytes of `import` aren't taken; the images were loaded
@@ -104,12 +112,19 @@ abbrev pub bars_bytes : List ℕ → List ℕ → Result ImageSet LoadFault → 
 bars_bytes uuid bytes (Ok loaded) = refuses_import loaded uuid (length bytes)
 bars_bytes uuid bytes (Err fault) = false
 
--- a refusal of `import` is by its script, too
-abbrev pub ending_scripted : Command → List ℕ → Result ImageSet LoadFault → Ending
+-- the images are refused for sessions; the script was read
+abbrev pub breaks_sessions : Result Script ScriptRefused → Result ImageSet LoadFault → Bool
+breaks_sessions lines (Err fault) = true
+breaks_sessions (Ok script) (Ok loaded) = breaks_serve loaded script
+breaks_sessions (Err why) (Ok loaded) = false
+
+-- a refusal of `import` is by its script, too, and so are the arenas that `serve` opens
+abbrev pub ending_scripted : CommandLine → List ℕ → Result ImageSet LoadFault → Ending
 ending_scripted (Import uuid) script found = ending_by (refuses_images (Import uuid) found) false (bars_bytes uuid script found)
+ending_scripted (Serve running) script found = ending_by (breaks_sessions (script_in script_reading script) found) false false
 ending_scripted command script found = ending_on command found
 
-abbrev pub ending_with : Option Command → List ℕ → Result ImageSet LoadFault → Ending
+abbrev pub ending_with : Option CommandLine → List ℕ → Result ImageSet LoadFault → Ending
 ending_with None script found = ending.Usage
 ending_with (Some command) script found = if refuses_script command script then ending.Usage else ending_scripted command script found
 

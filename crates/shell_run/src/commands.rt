@@ -3,7 +3,7 @@ use command_words::{Argument, Form};
 
 /// What a command does.
 #[derive(Clone, Copy, Debug, PartialEq, Eq)]
-pub enum Kind {
+pub enum CommandKind {
     /// Prints the current index block and the labels of a module.
     Labels,
     /// Prints the modules and regions of the firmware's table.
@@ -30,6 +30,10 @@ pub enum Kind {
     Export,
     /// Fills a namespace with the bytes of the script.
     Import,
+    /// Runs the sessions of the script.
+    Serve,
+    /// Runs sessions whose calls follow from a number.
+    Load,
 }
 
 /// The number of a module.
@@ -116,60 +120,96 @@ const EVICT: Argument = Argument {
     form: Form::Optional,
 };
 
+/// The number from which the calls of sessions follow.
+const NUMBER: Argument = Argument {
+    name: "number",
+    form: Form::Place,
+};
+
+/// The UUID of a namespace that sessions open.
+const LOADED_UUID: Argument = Argument {
+    name: "uuid",
+    form: Form::Required,
+};
+
+/// How many sessions there are.
+const SESSIONS: Argument = Argument {
+    name: "sessions",
+    form: Form::Optional,
+};
+
+/// How many calls on sectors each session makes.
+const CALLS: Argument = Argument {
+    name: "calls",
+    form: Form::Optional,
+};
+
+/// In how many threads sessions run, at most.
+const WORKERS: Argument = Argument {
+    name: "workers",
+    form: Form::Optional,
+};
+
 /// Whether bad sectors count as zeros.
 const BAD_AS_ZEROS: Argument = Argument {
     name: "bad-as-zeros",
     form: Form::Flag,
 };
 
-impl Kind {
+impl CommandKind {
     ghost use Rattle.std.specs.Prelude.{◌≡◌, map};
     ghost use Rattle.command_words.specs.App.{said};
     ghost use Rattle.shell_run.specs.Commands.{kind_of, arguments_of};
 
     /// The command that a name says.
     #[tactic(auto, using(nvd_words::proofs::Checks::choices), unfolding(crate::specs::Commands::kind_of))]
-    pub fn of_name(name: &str) -> Option<Kind>
+    pub fn of_name(name: &str) -> Option<CommandKind>
         ensures { result ≡ kind_of name.now }
     {
         if name == "labels" {
-            return Some(Kind::Labels);
+            return Some(CommandKind::Labels);
         }
         if name == "nfit" {
-            return Some(Kind::Nfit);
+            return Some(CommandKind::Nfit);
         }
         if name == "list" {
-            return Some(Kind::List);
+            return Some(CommandKind::List);
         }
         if name == "init" {
-            return Some(Kind::Init);
+            return Some(CommandKind::Init);
         }
         if name == "create" {
-            return Some(Kind::Create);
+            return Some(CommandKind::Create);
         }
         if name == "delete" {
-            return Some(Kind::Delete);
+            return Some(CommandKind::Delete);
         }
         if name == "rename" {
-            return Some(Kind::Rename);
+            return Some(CommandKind::Rename);
         }
         if name == "info" {
-            return Some(Kind::Info);
+            return Some(CommandKind::Info);
         }
         if name == "read" {
-            return Some(Kind::Read);
+            return Some(CommandKind::Read);
         }
         if name == "write" {
-            return Some(Kind::Write);
+            return Some(CommandKind::Write);
         }
         if name == "replay" {
-            return Some(Kind::Replay);
+            return Some(CommandKind::Replay);
         }
         if name == "export" {
-            return Some(Kind::Export);
+            return Some(CommandKind::Export);
         }
         if name == "import" {
-            return Some(Kind::Import);
+            return Some(CommandKind::Import);
+        }
+        if name == "serve" {
+            return Some(CommandKind::Serve);
+        }
+        if name == "load" {
+            return Some(CommandKind::Load);
         }
         None
     }
@@ -179,11 +219,11 @@ impl Kind {
         ensures { map said result.now ≡ arguments_of self }
     {
         match self {
-            Kind::Labels => &[MODULE],
-            Kind::Nfit => &[],
-            Kind::List => &[],
-            Kind::Init => &[MODULE, CUT, EVICT],
-            Kind::Create => &[
+            CommandKind::Labels => &[MODULE],
+            CommandKind::Nfit => &[],
+            CommandKind::List => &[],
+            CommandKind::Init => &[MODULE, CUT, EVICT],
+            CommandKind::Create => &[
                 CREATED_UUID,
                 CREATED_NAME,
                 REGION,
@@ -194,14 +234,16 @@ impl Kind {
                 CUT,
                 EVICT,
             ],
-            Kind::Delete => &[UUID, CUT, EVICT],
-            Kind::Rename => &[UUID, NAME, CUT, EVICT],
-            Kind::Info => &[UUID],
-            Kind::Read => &[UUID, SECTOR],
-            Kind::Write => &[UUID, SECTOR, VALUE],
-            Kind::Replay => &[UUID, EVICT],
-            Kind::Export => &[UUID, BAD_AS_ZEROS],
-            Kind::Import => &[UUID],
+            CommandKind::Delete => &[UUID, CUT, EVICT],
+            CommandKind::Rename => &[UUID, NAME, CUT, EVICT],
+            CommandKind::Info => &[UUID],
+            CommandKind::Read => &[UUID, SECTOR],
+            CommandKind::Write => &[UUID, SECTOR, VALUE],
+            CommandKind::Replay => &[UUID, EVICT],
+            CommandKind::Export => &[UUID, BAD_AS_ZEROS],
+            CommandKind::Import => &[UUID],
+            CommandKind::Serve => &[WORKERS, EVICT],
+            CommandKind::Load => &[NUMBER, LOADED_UUID, SESSIONS, CALLS, WORKERS],
         }
     }
 }

@@ -2,12 +2,12 @@
 //!
 //! ```text
 //!  words ──► command                                        words, commands, command_words
-//!  script ──► schedule     of `replay`; of `import` bytes  scripts, session_script
+//!  script ──► schedule     of `replay`; of `serve` sessions, of `import` bytes  scripts, session_script
 //!  image set ──► lines ──► text, status                     top
 //!      │   labels, nfit, list, info, read; export, which prints piece by piece
 //!      │
 //!      ├──► a changed set, or its state after a crash ──► image set
-//!      │       init, create, delete, rename, write, replay, import
+//!      │       init, create, delete, rename, write, replay, import, serve, load
 //!      └──► the first object that is missing or outside its limits
 //! ```
 //!
@@ -18,7 +18,7 @@
 //! before anything is loaded (`OnScript`); its handler gets what was read. `export` alone gets the text sink (`streams`), since its
 //! text may be as long as the contents. Loading, faults of reading and writing and
 //! running out of memory are handled once, for all commands, by `OnLoaded`, by `Ends` and in `top`. Contents are loaded for
-//! `info`, `read`, `write`, `replay`, `export`, `import` and `create --mode sector` alone (`needs_contents`); the other commands that save copy them (`copies`).
+//! `info`, `read`, `write`, `replay`, `export`, `import`, `serve`, `load` and `create --mode sector` alone (`needs_contents`); the other commands that save copy them (`copies`).
 #![tactic(auto)]
 
 mod commands;

@@ -2,13 +2,17 @@
 ghost use Rattle.std.specs.Prelude.{◌≡◌, ◌≢◌, ◌≤◌, ◌<◌, ◌^◌, ℕ, length, string_bytes, IfOk, Ok, Err};
 ghost use Rattle.std.specs.Option.{ForSome};
 ghost use Rattle.nvd_media.specs.Causes.{Rose};
+ghost use Rattle.session_script.specs.Names.{ScriptHasText};
 ghost use Rattle.session_script.specs.Schedule.{replay_reading};
+ghost use Rattle.session_script.specs.Script.{script_reading};
 ghost use Rattle.shell_reports.specs.Saved.{outcome_of};
 ghost use Rattle.shell_run.specs.Scripts.{bytes_in, kind_text, limit_text, most_bytes, refused_text, script_in, script_outcome};
 
 use nvd_media::{TextFault, TextSource, read_all};
-use session_script::{LineKind, Replay, ScriptFault, ScriptLimit, read_replay};
-use shell_reports::{Ending, Report, Stop};
+use session_script::{
+    LineKind, Replay, Script, ScriptFault, ScriptLimit, read_replay, read_script,
+};
+use shell_reports::{Ending, Report, RunStop};
 use std::alloc::{AllocError, Global};
 
 /// The greatest number of bytes of a script of lines.
@@ -32,7 +36,7 @@ pub(crate) enum ScriptStop {
     /// The script isn't taken.
     Refused(ScriptRefused),
     /// It can't be read, or memory ran out.
-    Stop(Stop),
+    Stop(RunStop),
 }
 
 /// Reads a script of at most `most` bytes to its end.
@@ -41,23 +45,23 @@ fn text_in<T: TextSource>(alloc: Global, script: &mut T, most: usize) -> Result<
     ensures all { IfOk result (λ bytes. ForSome (T.left script.old) (λ text. bytes.items ≡ text)) }
     ensures within { IfOk result (λ bytes. length bytes.items ≤ most) }
     ensures too_long { (why : ScriptRefused) → result ≡ Err (ScriptStop.Refused why) → (why ≡ ScriptRefused.TooLong most) × ForSome (T.left script.old) (λ text. most < length text) }
-    ensures failed { result ≡ Err (ScriptStop.Stop Stop.ReadFault) → Rose (T.faults script.old) (T.faults script.new) }
+    ensures failed { result ≡ Err (ScriptStop.Stop RunStop.ReadFault) → Rose (T.faults script.old) (T.faults script.new) }
 {
     match read_all(alloc, script, most) {
         Ok(bytes) => Ok(bytes),
-        Err(TextFault::ReadFault) => Err(ScriptStop::Stop(Stop::ReadFault)),
+        Err(TextFault::ReadFault) => Err(ScriptStop::Stop(RunStop::ReadFault)),
         Err(TextFault::TooLong { .. }) => Err(ScriptStop::Refused(ScriptRefused::TooLong { most })),
-        Err(TextFault::OutOfMemory) => Err(ScriptStop::Stop(Stop::OutOfMemory)),
+        Err(TextFault::OutOfMemory) => Err(ScriptStop::Stop(RunStop::OutOfMemory)),
     }
 }
 
 /// A text that isn't in the grammar, or the stop if memory ran out.
 fn fault_stop(fault: ScriptFault) -> ScriptStop
     ensures refused { (why : ScriptRefused) → result ≡ ScriptStop.Refused why → (why ≡ ScriptRefused.Fault fault) × (fault ≢ ScriptFault.OutOfMemory) }
-    ensures unread { result ≢ ScriptStop.Stop Stop.ReadFault }
+    ensures unread { result ≢ ScriptStop.Stop RunStop.ReadFault }
 {
     match fault {
-        ScriptFault::OutOfMemory => ScriptStop::Stop(Stop::OutOfMemory),
+        ScriptFault::OutOfMemory => ScriptStop::Stop(RunStop::OutOfMemory),
         _ => ScriptStop::Refused(ScriptRefused::Fault(fault)),
     }
 }
@@ -68,7 +72,7 @@ fn schedule_in(alloc: Global, text: Vec<u8>) -> Result<Replay, ScriptStop>
     ensures read { IfOk result (λ replay. script_in replay_reading text.items ≡ Ok replay) }
     ensures few { IfOk result (λ replay. length replay.lines < 2 ^ 32) }
     ensures refused { (why : ScriptRefused) → result ≡ Err (ScriptStop.Refused why) → script_in replay_reading text.items ≡ Err why }
-    ensures unread { result ≢ Err (ScriptStop.Stop Stop.ReadFault) }
+    ensures unread { result ≢ Err (ScriptStop.Stop RunStop.ReadFault) }
 {
     match read_replay(alloc, text) {
         Ok(replay) => Ok(replay),
@@ -87,10 +91,42 @@ pub(crate) fn read_schedule<T: TextSource>(
     ensures read { IfOk result (λ replay. ForSome (T.left script.old) (λ text. script_in replay_reading text ≡ Ok replay)) }
     ensures few { IfOk result (λ replay. length replay.lines < 2 ^ 32) }
     ensures refused { (why : ScriptRefused) → result ≡ Err (ScriptStop.Refused why) → ForSome (T.left script.old) (λ text. script_in replay_reading text ≡ Err why) }
-    ensures failed { result ≡ Err (ScriptStop.Stop Stop.ReadFault) → Rose (T.faults script.old) (T.faults script.new) }
+    ensures failed { result ≡ Err (ScriptStop.Stop RunStop.ReadFault) → Rose (T.faults script.old) (T.faults script.new) }
 {
     match text_in(alloc, script, MOST_BYTES) {
         Ok(text) => schedule_in(alloc, text),
+        Err(stop) => Err(stop),
+    }
+}
+
+/// Reads the script of sessions from its text.
+fn sessions_in(alloc: Global, text: &[u8]) -> Result<Script, ScriptStop>
+    requires within { length text.now ≤ most_bytes }
+    ensures read { IfOk result (λ script. script_in script_reading text.now ≡ Ok script) }
+    ensures text { IfOk result ScriptHasText }
+    ensures refused { (why : ScriptRefused) → result ≡ Err (ScriptStop.Refused why) → script_in script_reading text.now ≡ Err why }
+    ensures unread { result ≢ Err (ScriptStop.Stop RunStop.ReadFault) }
+{
+    match read_script(alloc, text) {
+        Ok(script) => Ok(script),
+        Err(fault) => Err(fault_stop(fault)),
+    }
+}
+
+/// Reads the script of sessions, which is all that is left of the script. Names in it are UTF-8.
+///
+/// It is refused and it stops as a schedule does.
+pub(crate) fn read_sessions<T: TextSource>(
+    alloc: Global,
+    script: &mut T,
+) -> Result<Script, ScriptStop>
+    ensures read { IfOk result (λ lines. ForSome (T.left script.old) (λ text. script_in script_reading text ≡ Ok lines)) }
+    ensures text { IfOk result ScriptHasText }
+    ensures refused { (why : ScriptRefused) → result ≡ Err (ScriptStop.Refused why) → ForSome (T.left script.old) (λ text. script_in script_reading text ≡ Err why) }
+    ensures failed { result ≡ Err (ScriptStop.Stop RunStop.ReadFault) → Rose (T.faults script.old) (T.faults script.new) }
+{
+    match text_in(alloc, script, MOST_BYTES) {
+        Ok(text) => sessions_in(alloc, &text),
         Err(stop) => Err(stop),
     }
 }
@@ -105,7 +141,7 @@ pub(crate) fn read_bytes<T: TextSource>(
 ) -> Result<Vec<u8>, ScriptStop>
     ensures read { IfOk result (λ bytes. ForSome (T.left script.old) (λ text. bytes_in text ≡ Ok bytes.items)) }
     ensures refused { (why : ScriptRefused) → result ≡ Err (ScriptStop.Refused why) → ForSome (T.left script.old) (λ text. bytes_in text ≡ Err why) }
-    ensures failed { result ≡ Err (ScriptStop.Stop Stop.ReadFault) → Rose (T.faults script.old) (T.faults script.new) }
+    ensures failed { result ≡ Err (ScriptStop.Stop RunStop.ReadFault) → Rose (T.faults script.old) (T.faults script.new) }
 {
     text_in(alloc, script, MOST_CONTENTS)
 }

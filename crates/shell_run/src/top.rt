@@ -1,7 +1,7 @@
 ghost use Rattle.std.specs.Prelude.{◌≡◌, ◌≢◌, ◌⊎◌, ◌++◌, ◌≤◌, ◌<◌, ◌^◌, ℕ, List, codes, length, map, string_bytes, true, false, IfOk, IsSome, IsTrue, OnOk, None, Ok, Err, Option};
 ghost use Rattle.std.specs.Option.{ForSome};
 ghost use Rattle.std.specs.Io.KnownBytes.{Appends};
-ghost use Rattle.nvd_media.specs.Causes.{Rose};
+ghost use Rattle.nvd_media.specs.Causes.{LeavesOutside, Rose};
 ghost use Rattle.nvd_media.specs.Images.{Images, Becomes, IsEmptySet, IsUnfinished, Keeps};
 ghost use Rattle.image_set.specs.Load.{image_set_in};
 ghost use Rattle.image_set.specs.Outline.{IsOutlined, image_set_with};
@@ -18,16 +18,23 @@ ghost use Rattle.shell_changes.specs.Remains.{LeavesBy};
 ghost use Rattle.shell_changes.specs.Saved.{AreSaved, HasContentsOf, Stores, copies_contents};
 ghost use Rattle.shell_import.specs.Import.{ImportComes};
 ghost use Rattle.shell_replay.specs.Replay.{ReplayComes};
+ghost use Rattle.session_script.specs.Names.{ScriptHasText};
+ghost use Rattle.shell_serve.specs.Load.{LoadComes};
+ghost use Rattle.shell_serve.specs.Serve.{ServeComes};
 ghost use Rattle.shell_run.specs.Scripts.{script_outcome};
 ghost use Rattle.shell_run.specs.Run.{AppendsPart, ComesTold, Ends, Holds, IsAnswered, IsDue, IsPlain, LeavesScript, LoadedComes, OnImages, copies, copies_by, needs_contents, reads_script};
 ghost use Rattle.shell_run.specs.Printed.{EndsPrinting, Exports, HoldsPrinted, IsMisused, IsReported, IsUnloaded};
-ghost use Rattle.shell_run.specs.Words.{GivesGoodName};
+ghost use Rattle.shell_run.specs.Words.{HasGoodValues};
 
-use crate::scripts::{ScriptRefused, ScriptStop, read_bytes, read_schedule, script_answer};
-use crate::words::{Command, command_from};
+use crate::scripts::{
+    ScriptRefused, ScriptStop, read_bytes, read_schedule, read_sessions, script_answer,
+};
+use crate::words::{CommandLine, command_from};
 use command_words::WordsFault;
 use image_set::{CopyFault, LoadFault, Loaded, Outline, load, load_outline};
 use nvd_media::{Chooser, Gate, ImageSink, ImageSource, TextSink, TextSource};
+use sector_service::Waiting;
+use session_script::Script;
 use shell_changes::{
     Answer, SavedSet, SetRead, change_answer, init_answer, makes_sectors, without_set,
 };
@@ -35,23 +42,24 @@ use shell_export::export_answer;
 use shell_import::import_answer;
 use shell_replay::{Schedule, replay_answer};
 use shell_reports::{
-    Ending, Report, Status, Stop, info_answer, labels_answer, list_answer, load_answer,
+    Ending, Report, RunStop, Status, info_answer, labels_answer, list_answer, load_answer,
     nfit_answer, read_answer, usage_answer,
 };
 use shell_sectors::write_answer;
+use shell_serve::{Load, Running, serve_answer};
 use std::alloc::{AllocError, Global};
 use std::sync::Wait;
 use std::thread::Threads;
 use uuid::Uuid;
 
 /// The answer of a handler, or the stop if memory ran out.
-fn found_memory(answer: Result<Answer, AllocError>) -> Result<Answer, Stop>
+fn found_memory(answer: Result<Answer, AllocError>) -> Result<Answer, RunStop>
     ensures same { IfOk result (λ x. answer ≡ Ok x) }
-    ensures memory { result ≢ Err Stop.ReadFault }
+    ensures memory { result ≢ Err RunStop.ReadFault }
 {
     match answer {
         Ok(answer) => Ok(answer),
-        Err(_) => Err(Stop::OutOfMemory),
+        Err(_) => Err(RunStop::OutOfMemory),
     }
 }
 
@@ -122,116 +130,148 @@ fn sector_found(
 }
 
 /// Whether a command works on the contents of modules.
-fn needs_contents(command: &Command) -> bool
+fn needs_contents(command: &CommandLine) -> bool
     ensures { result ≡ needs_contents command.now }
 {
     match command {
-        Command::Labels(_) => false,
-        Command::Nfit => false,
-        Command::List => false,
-        Command::Init(_, _) => false,
-        Command::Change(change, _) => makes_sectors(change),
-        Command::Info(_) => true,
-        Command::Read(_, _) => true,
-        Command::Write(_, _, _) => true,
-        Command::Replay(_, _) => true,
-        Command::Export(_, _) => true,
-        Command::Import(_) => true,
+        CommandLine::Labels(_) => false,
+        CommandLine::Nfit => false,
+        CommandLine::List => false,
+        CommandLine::Init(_, _) => false,
+        CommandLine::Change(change, _) => makes_sectors(change),
+        CommandLine::Info(_) => true,
+        CommandLine::Read(_, _) => true,
+        CommandLine::Write(_, _, _) => true,
+        CommandLine::Replay(_, _) => true,
+        CommandLine::Export(_, _) => true,
+        CommandLine::Import(_) => true,
+        CommandLine::Serve(_) => true,
+        CommandLine::Load(_, _) => true,
     }
 }
 
 /// Whether a command reads the script.
-fn reads_script(command: &Command) -> bool
+fn reads_script(command: &CommandLine) -> bool
     ensures { result ≡ reads_script command.now }
 {
     match command {
-        Command::Labels(_) => false,
-        Command::Nfit => false,
-        Command::List => false,
-        Command::Init(_, _) => false,
-        Command::Change(_, _) => false,
-        Command::Info(_) => false,
-        Command::Read(_, _) => false,
-        Command::Write(_, _, _) => false,
-        Command::Replay(_, _) => true,
-        Command::Export(_, _) => false,
-        Command::Import(_) => true,
+        CommandLine::Labels(_) => false,
+        CommandLine::Nfit => false,
+        CommandLine::List => false,
+        CommandLine::Init(_, _) => false,
+        CommandLine::Change(_, _) => false,
+        CommandLine::Info(_) => false,
+        CommandLine::Read(_, _) => false,
+        CommandLine::Write(_, _, _) => false,
+        CommandLine::Replay(_, _) => true,
+        CommandLine::Export(_, _) => false,
+        CommandLine::Import(_) => true,
+        CommandLine::Serve(_) => true,
+        CommandLine::Load(_, _) => false,
     }
 }
 
 /// What a command without a script comes to on the set that it loads but for its contents.
 fn outlined_answer<C: Chooser>(
     alloc: Global,
-    command: Command,
+    command: CommandLine,
     outline: Outline,
     choose: &mut C,
 ) -> Result<Answer, AllocError>
     requires sound { IsOutlined outline }
-    requires name { GivesGoodName command }
+    requires name { HasGoodValues command }
     requires outlined { needs_contents command ≡ false }
     ensures comes { IfOk result (λ answer. (contents : List (List ℕ)) → LoadedComes (LeavesBy C.begins C.picks choose.old) command (image_set_with outline contents) (outcome_with answer contents)) }
     ensures sizes { IfOk result (HasSizes outline.sizes) }
     ensures copying { IfOk result (λ answer. IsTrue (copies_contents answer.saved) → IsTrue (copies command)) }
 {
     match command {
-        Command::Labels(module) => labels_found(alloc, module, &outline),
-        Command::Nfit => table_found(alloc, &outline),
-        Command::List => list_found(alloc, outline),
-        Command::Init(module, power) => init_answer(alloc, module, power, outline, choose),
-        Command::Change(change, power) => {
+        CommandLine::Labels(module) => labels_found(alloc, module, &outline),
+        CommandLine::Nfit => table_found(alloc, &outline),
+        CommandLine::List => list_found(alloc, outline),
+        CommandLine::Init(module, power) => init_answer(alloc, module, power, outline, choose),
+        CommandLine::Change(change, power) => {
             change_answer(alloc, &change, power, SetRead::Outline(outline), choose)
         }
-        Command::Info(_) => unreachable!(),
-        Command::Read(_, _) => unreachable!(),
-        Command::Write(_, _, _) => unreachable!(),
-        Command::Replay(_, _) => unreachable!(),
-        Command::Export(_, _) => unreachable!(),
-        Command::Import(_) => unreachable!(),
+        CommandLine::Info(_) => unreachable!(),
+        CommandLine::Read(_, _) => unreachable!(),
+        CommandLine::Write(_, _, _) => unreachable!(),
+        CommandLine::Replay(_, _) => unreachable!(),
+        CommandLine::Export(_, _) => unreachable!(),
+        CommandLine::Import(_) => unreachable!(),
+        CommandLine::Serve(_) => unreachable!(),
+        CommandLine::Load(_, _) => unreachable!(),
     }
 }
 
-/// What a command without a script comes to on the set that it loads with its contents.
-fn loaded_answer<C: Chooser>(
+/// What `load` comes to on the set that it loads, in so many threads.
+fn load_found<R: Threads + Wait + Sync, C: Chooser, G: Gate>(
+    waiting: &Waiting<R, G>,
     alloc: Global,
-    command: Command,
+    load: &Load,
+    workers: u32,
+    loaded: Loaded,
+    choose: &mut C,
+) -> Result<Answer, AllocError>
+    requires workers { 0 < workers }
+    requires some { 0 < load.now.sessions }
+    requires sound { IsSound loaded }
+    ensures comes { IfOk result (λ answer. LoadComes load.now (image_set_in loaded) (whole_outcome answer)) }
+    ensures whole { IfOk result (λ answer. copies_contents answer.saved ≡ false) }
+{
+    let running = Running { workers, seed: 0 };
+    shell_serve::load_answer(waiting, alloc, running, load, loaded, choose)
+}
+
+/// What a command without a script comes to on the set that it loads with its contents.
+fn loaded_answer<R: Threads + Wait + Sync, C: Chooser, G: Gate>(
+    waiting: &Waiting<R, G>,
+    alloc: Global,
+    command: CommandLine,
     loaded: Loaded,
     choose: &mut C,
 ) -> Result<Answer, AllocError>
     requires sound { IsSound loaded }
-    requires name { GivesGoodName command }
+    requires name { HasGoodValues command }
     requires whole { needs_contents command ≡ true }
     requires plain { IsPlain command }
     ensures comes { IfOk result (λ answer. LoadedComes (LeavesBy C.begins C.picks choose.old) command (image_set_in loaded) (whole_outcome answer)) }
     ensures whole { IfOk result (λ answer. copies_contents answer.saved ≡ false) }
 {
     match command {
-        Command::Labels(_) => unreachable!(),
-        Command::Nfit => unreachable!(),
-        Command::List => unreachable!(),
-        Command::Init(_, _) => unreachable!(),
-        Command::Change(change, power) => {
+        CommandLine::Labels(_) => unreachable!(),
+        CommandLine::Nfit => unreachable!(),
+        CommandLine::List => unreachable!(),
+        CommandLine::Init(_, _) => unreachable!(),
+        CommandLine::Change(change, power) => {
             change_answer(alloc, &change, power, SetRead::Whole(loaded), choose)
         }
-        Command::Info(uuid) => arenas_found(alloc, &uuid, loaded),
-        Command::Read(uuid, sector) => sector_found(alloc, &uuid, sector, loaded),
-        Command::Write(uuid, sector, value) => write_answer(alloc, &uuid, sector, value, loaded),
-        Command::Replay(_, _) => unreachable!(),
-        Command::Export(_, _) => unreachable!(),
-        Command::Import(_) => unreachable!(),
+        CommandLine::Info(uuid) => arenas_found(alloc, &uuid, loaded),
+        CommandLine::Read(uuid, sector) => sector_found(alloc, &uuid, sector, loaded),
+        CommandLine::Write(uuid, sector, value) => write_answer(
+            alloc, &uuid, sector, value, loaded,
+        ),
+        CommandLine::Replay(_, _) => unreachable!(),
+        CommandLine::Export(_, _) => unreachable!(),
+        CommandLine::Import(_) => unreachable!(),
+        CommandLine::Serve(_) => unreachable!(),
+        CommandLine::Load(load, workers) => load_found(
+            waiting, alloc, &load, workers, loaded, choose,
+        ),
     }
 }
 
 /// The answer on a set that isn't loaded, or the stop if that is no finding about its objects.
-fn unloaded(alloc: Global, fault: LoadFault) -> Result<Answer, Stop>
+fn unloaded(alloc: Global, fault: LoadFault) -> Result<Answer, RunStop>
     ensures text { IfOk result (λ answer. (contents : List (List ℕ)) → outcome_with answer contents ≡ load_outcome fault) }
     ensures saved { IfOk result (λ answer. answer.saved ≡ None) }
     ensures source { IfOk result (λ _. fault ≢ LoadFault.ReadFault) }
     ensures memory { IfOk result (λ _. fault ≢ LoadFault.OutOfMemory) }
-    ensures failed { result ≡ Err Stop.ReadFault → fault ≡ LoadFault.ReadFault }
+    ensures failed { result ≡ Err RunStop.ReadFault → fault ≡ LoadFault.ReadFault }
 {
     match fault {
-        LoadFault::ReadFault => Err(Stop::ReadFault),
-        LoadFault::OutOfMemory => Err(Stop::OutOfMemory),
+        LoadFault::ReadFault => Err(RunStop::ReadFault),
+        LoadFault::OutOfMemory => Err(RunStop::OutOfMemory),
         _ => found_memory(reported(load_answer(alloc, fault))),
     }
 }
@@ -239,17 +279,17 @@ fn unloaded(alloc: Global, fault: LoadFault) -> Result<Answer, Stop>
 /// What a command without a script comes to that needs no contents: the set is loaded but for them.
 fn perform_outlined<S: ImageSource, C: Chooser>(
     alloc: Global,
-    command: Command,
+    command: CommandLine,
     images: &mut S,
     choose: &mut C,
-) -> Result<Answer, Stop>
-    requires name { GivesGoodName command }
+) -> Result<Answer, RunStop>
+    requires name { HasGoodValues command }
     requires outlined { needs_contents command ≡ false }
     ensures told { IfOk result (λ answer. (outcome : Outcome) → ComesFrom (S.held images.old) answer outcome → OnImages (LoadedComes (LeavesBy C.begins C.picks choose.old) command) (S.held images.old) outcome) }
     ensures copying { IfOk result (λ answer. IsTrue (copies_contents answer.saved) → IsTrue (copies command)) }
     ensures there { IfOk result (λ answer. HasContentsOf (S.held images.old) answer.saved) }
     ensures same { S.held images.new ≡ S.held images.old }
-    ensures failed { result ≡ Err Stop.ReadFault → Rose (S.faults images.old) (S.faults images.new) }
+    ensures failed { result ≡ Err RunStop.ReadFault → Rose (S.faults images.old) (S.faults images.new) }
     ensures later { S.faults images.old ≤ S.faults images.new }
 {
     match load_outline(alloc, images) {
@@ -259,23 +299,24 @@ fn perform_outlined<S: ImageSource, C: Chooser>(
 }
 
 /// What a command without a script comes to that needs contents: the whole set is loaded.
-fn perform_whole<S: ImageSource, C: Chooser>(
+fn perform_whole<R: Threads + Wait + Sync, S: ImageSource, C: Chooser, G: Gate>(
+    waiting: &Waiting<R, G>,
     alloc: Global,
-    command: Command,
+    command: CommandLine,
     images: &mut S,
     choose: &mut C,
-) -> Result<Answer, Stop>
-    requires name { GivesGoodName command }
+) -> Result<Answer, RunStop>
+    requires name { HasGoodValues command }
     requires whole { needs_contents command ≡ true }
     requires plain { IsPlain command }
     ensures told { IfOk result (λ answer. (outcome : Outcome) → ComesFrom (S.held images.old) answer outcome → OnImages (LoadedComes (LeavesBy C.begins C.picks choose.old) command) (S.held images.old) outcome) }
     ensures whole { IfOk result (λ answer. copies_contents answer.saved ≡ false) }
     ensures same { S.held images.new ≡ S.held images.old }
-    ensures failed { result ≡ Err Stop.ReadFault → Rose (S.faults images.old) (S.faults images.new) }
+    ensures failed { result ≡ Err RunStop.ReadFault → Rose (S.faults images.old) (S.faults images.new) }
     ensures later { S.faults images.old ≤ S.faults images.new }
 {
     match load(alloc, images) {
-        Ok(loaded) => found_memory(loaded_answer(alloc, command, loaded, choose)),
+        Ok(loaded) => found_memory(loaded_answer(waiting, alloc, command, loaded, choose)),
         Err(why) => unloaded(alloc, why),
     }
 }
@@ -287,12 +328,12 @@ fn replay_loaded<S: ImageSource, C: Chooser>(
     schedule: &Schedule,
     images: &mut S,
     choose: &mut C,
-) -> Result<Answer, Stop>
+) -> Result<Answer, RunStop>
     requires few { length schedule.now.lines < 2 ^ 32 }
     ensures told { IfOk result (λ answer. (outcome : Outcome) → ComesFrom (S.held images.old) answer outcome → OnImages (ReplayComes (LeavesBy C.begins C.picks choose.old) uuid.now schedule.now) (S.held images.old) outcome) }
     ensures whole { IfOk result (λ answer. copies_contents answer.saved ≡ false) }
     ensures same { S.held images.new ≡ S.held images.old }
-    ensures failed { result ≡ Err Stop.ReadFault → Rose (S.faults images.old) (S.faults images.new) }
+    ensures failed { result ≡ Err RunStop.ReadFault → Rose (S.faults images.old) (S.faults images.new) }
     ensures later { S.faults images.old ≤ S.faults images.new }
 {
     match load(alloc, images) {
@@ -302,10 +343,10 @@ fn replay_loaded<S: ImageSource, C: Chooser>(
 }
 
 /// The answer to a script that isn't taken.
-fn misread(alloc: Global, why: ScriptRefused) -> Result<Answer, Stop>
+fn misread(alloc: Global, why: ScriptRefused) -> Result<Answer, RunStop>
     ensures text { IfOk result (λ answer. (contents : List (List ℕ)) → outcome_with answer contents ≡ script_outcome why) }
     ensures saved { IfOk result (λ answer. answer.saved ≡ None) }
-    ensures memory { result ≢ Err Stop.ReadFault }
+    ensures memory { result ≢ Err RunStop.ReadFault }
 {
     found_memory(reported(script_answer(alloc, why)))
 }
@@ -318,11 +359,11 @@ fn perform_replay<S: ImageSource, T: TextSource, C: Chooser>(
     images: &mut S,
     script: &mut T,
     choose: &mut C,
-) -> Result<Answer, Stop>
-    ensures told { IfOk result (λ answer. (outcome : Outcome) → ComesFrom (S.held images.old) answer outcome → ComesTold (LeavesBy C.begins C.picks choose.old) (Command.Replay uuid seed) (S.held images.old) (T.left script.old) outcome) }
+) -> Result<Answer, RunStop>
+    ensures told { IfOk result (λ answer. (outcome : Outcome) → ComesFrom (S.held images.old) answer outcome → ComesTold (LeavesBy C.begins C.picks choose.old) (CommandLine.Replay uuid seed) (S.held images.old) (T.left script.old) outcome) }
     ensures whole { IfOk result (λ answer. copies_contents answer.saved ≡ false) }
     ensures same { S.held images.new ≡ S.held images.old }
-    ensures failed { result ≡ Err Stop.ReadFault → Rose (S.faults images.old) (S.faults images.new) ⊎ Rose (T.faults script.old) (T.faults script.new) }
+    ensures failed { result ≡ Err RunStop.ReadFault → Rose (S.faults images.old) (S.faults images.new) ⊎ Rose (T.faults script.old) (T.faults script.new) }
     ensures later { S.faults images.old ≤ S.faults images.new }
 {
     match read_schedule(alloc, script) {
@@ -344,11 +385,11 @@ fn import_loaded<S: ImageSource>(
     uuid: &Uuid,
     bytes: &[u8],
     images: &mut S,
-) -> Result<Answer, Stop>
+) -> Result<Answer, RunStop>
     ensures told { IfOk result (λ answer. (outcome : Outcome) → ComesFrom (S.held images.old) answer outcome → OnImages (ImportComes uuid.now bytes.now) (S.held images.old) outcome) }
     ensures whole { IfOk result (λ answer. copies_contents answer.saved ≡ false) }
     ensures same { S.held images.new ≡ S.held images.old }
-    ensures failed { result ≡ Err Stop.ReadFault → Rose (S.faults images.old) (S.faults images.new) }
+    ensures failed { result ≡ Err RunStop.ReadFault → Rose (S.faults images.old) (S.faults images.new) }
     ensures later { S.faults images.old ≤ S.faults images.new }
 {
     match load(alloc, images) {
@@ -364,11 +405,11 @@ fn perform_import<S: ImageSource, T: TextSource, C: Chooser>(
     images: &mut S,
     script: &mut T,
     choose: &mut C,
-) -> Result<Answer, Stop>
-    ensures told { IfOk result (λ answer. (outcome : Outcome) → ComesFrom (S.held images.old) answer outcome → ComesTold (LeavesBy C.begins C.picks choose.old) (Command.Import uuid) (S.held images.old) (T.left script.old) outcome) }
+) -> Result<Answer, RunStop>
+    ensures told { IfOk result (λ answer. (outcome : Outcome) → ComesFrom (S.held images.old) answer outcome → ComesTold (LeavesBy C.begins C.picks choose.old) (CommandLine.Import uuid) (S.held images.old) (T.left script.old) outcome) }
     ensures whole { IfOk result (λ answer. copies_contents answer.saved ≡ false) }
     ensures same { S.held images.new ≡ S.held images.old }
-    ensures failed { result ≡ Err Stop.ReadFault → Rose (S.faults images.old) (S.faults images.new) ⊎ Rose (T.faults script.old) (T.faults script.new) }
+    ensures failed { result ≡ Err RunStop.ReadFault → Rose (S.faults images.old) (S.faults images.new) ⊎ Rose (T.faults script.old) (T.faults script.new) }
     ensures later { S.faults images.old ≤ S.faults images.new }
 {
     match read_bytes(alloc, script) {
@@ -378,72 +419,127 @@ fn perform_import<S: ImageSource, T: TextSource, C: Chooser>(
     }
 }
 
-/// What a command with a script comes to.
-fn perform_scripted<S: ImageSource, T: TextSource, C: Chooser>(
+/// What `serve` comes to once its script is read: the whole set is loaded.
+fn serve_loaded<R: Threads + Wait + Sync, S: ImageSource, C: Chooser, G: Gate>(
+    waiting: &Waiting<R, G>,
     alloc: Global,
-    command: Command,
+    running: Running,
+    script: &Script,
+    images: &mut S,
+    choose: &mut C,
+) -> Result<Answer, RunStop>
+    requires workers { 0 < running.workers }
+    requires text { ScriptHasText script.now }
+    ensures told { IfOk result (λ answer. (outcome : Outcome) → ComesFrom (S.held images.old) answer outcome → OnImages (ServeComes script.now) (S.held images.old) outcome) }
+    ensures whole { IfOk result (λ answer. copies_contents answer.saved ≡ false) }
+    ensures same { S.held images.new ≡ S.held images.old }
+    ensures failed { result ≡ Err RunStop.ReadFault → Rose (S.faults images.old) (S.faults images.new) }
+    ensures later { S.faults images.old ≤ S.faults images.new }
+{
+    match load(alloc, images) {
+        Ok(loaded) => found_memory(serve_answer(waiting, alloc, running, script, loaded, choose)),
+        Err(why) => unloaded(alloc, why),
+    }
+}
+
+/// What `serve` comes to: its script is read first.
+fn perform_serve<R: Threads + Wait + Sync, S: ImageSource, T: TextSource, C: Chooser, G: Gate>(
+    waiting: &Waiting<R, G>,
+    alloc: Global,
+    running: Running,
     images: &mut S,
     script: &mut T,
     choose: &mut C,
-) -> Result<Answer, Stop>
+) -> Result<Answer, RunStop>
+    requires workers { 0 < running.workers }
+    ensures told { IfOk result (λ answer. (outcome : Outcome) → ComesFrom (S.held images.old) answer outcome → ComesTold (LeavesBy C.begins C.picks choose.old) (CommandLine.Serve running) (S.held images.old) (T.left script.old) outcome) }
+    ensures whole { IfOk result (λ answer. copies_contents answer.saved ≡ false) }
+    ensures same { S.held images.new ≡ S.held images.old }
+    ensures failed { result ≡ Err RunStop.ReadFault → Rose (S.faults images.old) (S.faults images.new) ⊎ Rose (T.faults script.old) (T.faults script.new) }
+    ensures later { S.faults images.old ≤ S.faults images.new }
+{
+    match read_sessions(alloc, script) {
+        Ok(lines) => serve_loaded(waiting, alloc, running, &lines, images, choose),
+        Err(ScriptStop::Refused(why)) => misread(alloc, why),
+        Err(ScriptStop::Stop(stop)) => Err(stop),
+    }
+}
+
+/// What a command with a script comes to.
+fn perform_scripted<R: Threads + Wait + Sync, S: ImageSource, T: TextSource, C: Chooser, G: Gate>(
+    waiting: &Waiting<R, G>,
+    alloc: Global,
+    command: CommandLine,
+    images: &mut S,
+    script: &mut T,
+    choose: &mut C,
+) -> Result<Answer, RunStop>
     requires scripted { reads_script command ≡ true }
+    requires good { HasGoodValues command }
     ensures told { IfOk result (λ answer. (outcome : Outcome) → ComesFrom (S.held images.old) answer outcome → ComesTold (LeavesBy C.begins C.picks choose.old) command (S.held images.old) (T.left script.old) outcome) }
     ensures whole { IfOk result (λ answer. copies_contents answer.saved ≡ false) }
     ensures same { S.held images.new ≡ S.held images.old }
-    ensures failed { result ≡ Err Stop.ReadFault → Rose (S.faults images.old) (S.faults images.new) ⊎ Rose (T.faults script.old) (T.faults script.new) }
+    ensures failed { result ≡ Err RunStop.ReadFault → Rose (S.faults images.old) (S.faults images.new) ⊎ Rose (T.faults script.old) (T.faults script.new) }
     ensures later { S.faults images.old ≤ S.faults images.new }
 {
     match command {
-        Command::Replay(uuid, seed) => perform_replay(alloc, uuid, seed, images, script, choose),
-        Command::Import(uuid) => perform_import(alloc, uuid, images, script, choose),
+        CommandLine::Replay(uuid, seed) => perform_replay(
+            alloc, uuid, seed, images, script, choose,
+        ),
+        CommandLine::Import(uuid) => perform_import(alloc, uuid, images, script, choose),
+        CommandLine::Serve(running) => perform_serve(
+            waiting, alloc, running, images, script, choose,
+        ),
         _ => unreachable!(),
     }
 }
 
 /// What a command without a script comes to.
-fn perform_plain<S: ImageSource, C: Chooser>(
+fn perform_plain<R: Threads + Wait + Sync, S: ImageSource, C: Chooser, G: Gate>(
+    waiting: &Waiting<R, G>,
     alloc: Global,
-    command: Command,
+    command: CommandLine,
     images: &mut S,
     choose: &mut C,
-) -> Result<Answer, Stop>
-    requires name { GivesGoodName command }
+) -> Result<Answer, RunStop>
+    requires name { HasGoodValues command }
     requires plain { IsPlain command }
     ensures told { IfOk result (λ answer. (outcome : Outcome) → ComesFrom (S.held images.old) answer outcome → OnImages (LoadedComes (LeavesBy C.begins C.picks choose.old) command) (S.held images.old) outcome) }
     ensures copying { IfOk result (λ answer. IsTrue (copies_contents answer.saved) → IsTrue (copies command)) }
     ensures there { IfOk result (λ answer. HasContentsOf (S.held images.old) answer.saved) }
     ensures same { S.held images.new ≡ S.held images.old }
-    ensures failed { result ≡ Err Stop.ReadFault → Rose (S.faults images.old) (S.faults images.new) }
+    ensures failed { result ≡ Err RunStop.ReadFault → Rose (S.faults images.old) (S.faults images.new) }
     ensures later { S.faults images.old ≤ S.faults images.new }
 {
     if needs_contents(&command) {
-        perform_whole(alloc, command, images, choose)
+        perform_whole(waiting, alloc, command, images, choose)
     } else {
         perform_outlined(alloc, command, images, choose)
     }
 }
 
 /// What a command comes to that makes an answer.
-fn perform<S: ImageSource, T: TextSource, C: Chooser>(
+fn perform<R: Threads + Wait + Sync, S: ImageSource, T: TextSource, C: Chooser, G: Gate>(
+    waiting: &Waiting<R, G>,
     alloc: Global,
-    command: Command,
+    command: CommandLine,
     images: &mut S,
     script: &mut T,
     choose: &mut C,
-) -> Result<Answer, Stop>
+) -> Result<Answer, RunStop>
     requires asked { IsAnswered command }
     ensures told { IfOk result (λ answer. (outcome : Outcome) → ComesFrom (S.held images.old) answer outcome → ComesTold (LeavesBy C.begins C.picks choose.old) command (S.held images.old) (T.left script.old) outcome) }
     ensures copying { IfOk result (λ answer. IsTrue (copies_contents answer.saved) → IsTrue (copies command)) }
     ensures there { IfOk result (λ answer. HasContentsOf (S.held images.old) answer.saved) }
     ensures same { S.held images.new ≡ S.held images.old }
     ensures unread { reads_script command ≡ false → T.left script.new ≡ T.left script.old }
-    ensures failed { result ≡ Err Stop.ReadFault → Rose (S.faults images.old) (S.faults images.new) ⊎ Rose (T.faults script.old) (T.faults script.new) }
+    ensures failed { result ≡ Err RunStop.ReadFault → Rose (S.faults images.old) (S.faults images.new) ⊎ Rose (T.faults script.old) (T.faults script.new) }
     ensures later { S.faults images.old ≤ S.faults images.new }
 {
     if reads_script(&command) {
-        perform_scripted(alloc, command, images, script, choose)
+        perform_scripted(waiting, alloc, command, images, script, choose)
     } else {
-        perform_plain(alloc, command, images, choose)
+        perform_plain(waiting, alloc, command, images, choose)
     }
 }
 
@@ -460,9 +556,7 @@ fn save_if<S: ImageSource, K: ImageSink>(
     ensures unread { result ≡ Err CopyFault.ReadFault → IsTrue (copies_contents saved) × Becomes (K.made out.old) (K.made out.new) IsUnfinished }
     ensures unwritten { result ≡ Err CopyFault.WriteFault → IsSome saved × Becomes (K.made out.old) (K.made out.new) IsUnfinished }
     ensures memory { result ≡ Err CopyFault.OutOfMemory → K.made out.new ≡ K.made out.old }
-    ensures same { S.held images.new ≡ S.held images.old }
-    ensures read { result ≡ Err CopyFault.ReadFault → Rose (S.faults images.old) (S.faults images.new) }
-    ensures written { result ≡ Err CopyFault.WriteFault → Rose (K.faults out.old) (K.faults out.new) }
+    ensures outside { LeavesOutside (S.held images.old) (S.held images.new) (S.faults images.old) (S.faults images.new) (K.faults out.old) (K.faults out.new) result CopyFault.ReadFault CopyFault.WriteFault }
 {
     match saved {
         Some(set) => set.save(alloc, images, out),
@@ -484,14 +578,14 @@ fn printed<O: TextSink>(ending: Ending, bytes: &[u8], text: &mut O) -> Status
 }
 
 /// Ends a run that has no answer.
-fn stopped<O: TextSink>(stop: Stop, text: &mut O) -> Status
-    ensures memory { stop ≡ Stop.OutOfMemory → (result ≡ Status.OutOfMemory) × (O.written text.new ≡ O.written text.old) }
-    ensures read { stop ≡ Stop.ReadFault → ((result ≡ Status.WriteFault) × AppendsPart (O.written text.old) (O.written text.new) (codes "read fault" ++ lf)) ⊎ ((result ≡ Status.ReadFault) × Appends (O.written text.old) (O.written text.new) (codes "read fault" ++ lf)) }
+fn stopped<O: TextSink>(stop: RunStop, text: &mut O) -> Status
+    ensures memory { stop ≡ RunStop.OutOfMemory → (result ≡ Status.OutOfMemory) × (O.written text.new ≡ O.written text.old) }
+    ensures read { stop ≡ RunStop.ReadFault → ((result ≡ Status.WriteFault) × AppendsPart (O.written text.old) (O.written text.new) (codes "read fault" ++ lf)) ⊎ ((result ≡ Status.ReadFault) × Appends (O.written text.old) (O.written text.new) (codes "read fault" ++ lf)) }
     ensures failed { result ≡ Status.WriteFault → Rose (O.faults text.old) (O.faults text.new) }
 {
     match stop {
-        Stop::OutOfMemory => Status::OutOfMemory,
-        Stop::ReadFault => match text.write(b"read fault\n") {
+        RunStop::OutOfMemory => Status::OutOfMemory,
+        RunStop::ReadFault => match text.write(b"read fault\n") {
             Ok(()) => Status::ReadFault,
             Err(_) => Status::WriteFault,
         },
@@ -523,16 +617,31 @@ fn conclude<S: ImageSource, K: ImageSink, O: TextSink>(
     } = report;
     match save_if(alloc, saved, images, out) {
         Ok(()) => printed(ending, &bytes, text),
-        Err(CopyFault::ReadFault) => stopped(Stop::ReadFault, text),
+        Err(CopyFault::ReadFault) => stopped(RunStop::ReadFault, text),
         Err(CopyFault::WriteFault) => Status::WriteFault,
         Err(CopyFault::OutOfMemory) => Status::OutOfMemory,
     }
 }
 
-/// Carries out a command that makes an answer: its image set, if it has one, is saved, and then its text is printed.
-fn answer<S: ImageSource, T: TextSource, K: ImageSink, O: TextSink, C: Chooser>(
+/// Where threads and memory come from.
+#[derive(Drop)]
+struct Tools<'a, R: Threads + Wait + Sync, G: Gate> {
+    waiting: Waiting<'a, R, G>,
     alloc: Global,
-    command: Command,
+}
+
+/// Carries out a command that makes an answer: its image set, if it has one, is saved, and then its text is printed.
+fn answer<
+    R: Threads + Wait + Sync,
+    S: ImageSource,
+    T: TextSource,
+    K: ImageSink,
+    O: TextSink,
+    C: Chooser,
+    G: Gate,
+>(
+    tools: &Tools<R, G>,
+    command: CommandLine,
     images: &mut S,
     script: &mut T,
     out: &mut K,
@@ -549,8 +658,8 @@ fn answer<S: ImageSource, T: TextSource, K: ImageSink, O: TextSink, C: Chooser>(
     ensures same { S.held images.new ≡ S.held images.old }
     ensures unread { reads_script command ≡ false → T.left script.new ≡ T.left script.old }
 {
-    match perform(alloc, command, images, script, choose) {
-        Ok(answer) => conclude(alloc, answer, images, out, text),
+    match perform(&tools.waiting, tools.alloc, command, images, script, choose) {
+        Ok(answer) => conclude(tools.alloc, answer, images, out, text),
         Err(stop) => stopped(stop, text),
     }
 }
@@ -576,8 +685,8 @@ fn tell_unloaded<O: TextSink>(alloc: Global, fault: LoadFault, text: &mut O) -> 
     ensures failed { result ≡ Status.WriteFault → Rose (O.faults text.old) (O.faults text.new) }
 {
     match fault {
-        LoadFault::ReadFault => stopped(Stop::ReadFault, text),
-        LoadFault::OutOfMemory => stopped(Stop::OutOfMemory, text),
+        LoadFault::ReadFault => stopped(RunStop::ReadFault, text),
+        LoadFault::OutOfMemory => stopped(RunStop::OutOfMemory, text),
         _ => report(load_answer(alloc, fault), text),
     }
 }
@@ -605,9 +714,17 @@ fn export<S: ImageSource, O: TextSink>(
 }
 
 /// Carries out a command.
-fn carry_out<S: ImageSource, T: TextSource, K: ImageSink, O: TextSink, C: Chooser>(
-    alloc: Global,
-    command: Command,
+fn carry_out<
+    R: Threads + Wait + Sync,
+    S: ImageSource,
+    T: TextSource,
+    K: ImageSink,
+    O: TextSink,
+    C: Chooser,
+    G: Gate,
+>(
+    tools: &Tools<R, G>,
+    command: CommandLine,
     images: &mut S,
     script: &mut T,
     out: &mut K,
@@ -615,7 +732,7 @@ fn carry_out<S: ImageSource, T: TextSource, K: ImageSink, O: TextSink, C: Choose
     choose: &mut C,
 ) -> Status
     requires empty { ForSome (K.made out.old) IsEmptySet }
-    requires name { GivesGoodName command }
+    requires name { HasGoodValues command }
     ensures ends { Ends (Rose (S.faults images.old) (S.faults images.new) ⊎ Rose (T.faults script.old) (T.faults script.new)) (copies command) (ComesTold (LeavesBy C.begins C.picks choose.old) command (S.held images.old) (T.left script.old))
         (K.made out.old) (K.made out.new) (O.written text.old) (O.written text.new) result }
     ensures stored { Holds (ComesTold (LeavesBy C.begins C.picks choose.old) command (S.held images.old) (T.left script.old)) (K.kept out.old) (K.kept out.new) (O.kept text.old) (O.kept text.new) result }
@@ -625,8 +742,8 @@ fn carry_out<S: ImageSource, T: TextSource, K: ImageSink, O: TextSink, C: Choose
     ensures unread { reads_script command ≡ false → T.left script.new ≡ T.left script.old }
 {
     match command {
-        Command::Export(uuid, zeros) => export(alloc, &uuid, zeros, images, text),
-        _ => answer(alloc, command, images, script, out, text, choose),
+        CommandLine::Export(uuid, zeros) => export(tools.alloc, &uuid, zeros, images, text),
+        _ => answer(tools, command, images, script, out, text, choose),
     }
 }
 
@@ -667,7 +784,7 @@ pub fn run<
     C: Chooser,
     G: Gate,
 >(
-    _rt: &R,
+    rt: &R,
     alloc: Global,
     words: &[String],
     images: &mut S,
@@ -675,7 +792,7 @@ pub fn run<
     out: &mut K,
     text: &mut O,
     choose: &mut C,
-    _gate: &G,
+    gate: &G,
 ) -> Status
     requires { ForSome (K.made out.old) IsEmptySet }
     ensures ends { Ends (Rose (S.faults images.old) (S.faults images.new) ⊎ Rose (T.faults script.old) (T.faults script.new)) (copies_by (map string_bytes words.now)) (IsDue (LeavesBy C.begins C.picks choose.old) (map string_bytes words.now) (S.held images.old) (T.left script.old))
@@ -687,7 +804,11 @@ pub fn run<
     ensures unread { LeavesScript (map string_bytes words.now) (T.left script.old) (T.left script.new) }
 {
     match command_from(alloc, words) {
-        Ok(command) => carry_out(alloc, command, images, script, out, text, choose),
+        Ok(command) => {
+            let waiting = Waiting { rt, gate };
+            let tools = Tools { waiting, alloc };
+            carry_out(&tools, command, images, script, out, text, choose)
+        }
         Err(fault) => misused(alloc, fault, text),
     }
 }

@@ -20,10 +20,10 @@ use Rattle.namespace_areas.specs.Finding.{found_of}
 use Rattle.namespace_areas.specs.Opening.{AreWhole, as_area, opened_as}
 use Rattle.namespace_areas.specs.Seen.{AreHeld, words_of}
 use Rattle.namespace_areas.proofs.Opening.{held_all, words_all}
-use Rattle.namespace_map.specs.Namespaces.{Entry, entry_at, lookup, placed_of}
+use Rattle.namespace_map.specs.Namespaces.{NamespaceEntry, entry_at, lookup, placed_of}
 use Rattle.namespace_ops.specs.declared.registry.OpenFault.{OpenFault}
 use Rattle.namespace_ops.specs.Counted.{namespaces_in}
-use Rattle.namespace_ops.specs.Opening.{opening, sets_of}
+use Rattle.namespace_ops.specs.Opening.{registry_opening, sets_of}
 use Rattle.namespace_ops.specs.Registered.{Registered, state_of}
 use Rattle.namespace_ops.proofs.Regions.{sets_are as sets_checked}
 use Rattle.namespace_ops.proofs.Shown.{shown_at}
@@ -59,13 +59,13 @@ module _ (loaded : Loaded) (sound : IsSound loaded) (uuid : List ℕ) (areas : L
   unfolding image_set_in
   fault_was = ap (registry_fault loaded.nfit) (sym labels_are)
 
-  pub fault_found : (fault : OpenFault) → Err fault ≡ opening loaded.nfit areas → fault_in (image_set_in loaded) ≡ Some fault
+  pub fault_found : (fault : OpenFault) → Err fault ≡ registry_opening loaded.nfit areas → fault_in (image_set_in loaded) ≡ Some fault
   fault_found fault is = fault_was ∙ fault_is loaded.nfit areas fault is
 
   pub held : AreHeld areas
   held = subst (λ (xs : List Area). AreHeld xs) (sym are) (held_all loaded.labels (are_whole loaded.labels sound.areas))
 
-  module _ (registry : Registered) (is : Ok registry ≡ opening loaded.nfit areas) where
+  module _ (registry : Registered) (is : Ok registry ≡ registry_opening loaded.nfit areas) where
     o : IsOpened loaded.nfit areas registry
     o = opened_is loaded.nfit areas registry is
 
@@ -82,7 +82,7 @@ module _ (loaded : Loaded) (sound : IsSound loaded) (uuid : List ℕ) (areas : L
     unfolding image_set_in
     found_is =
         ap (λ (r : Registered). found_of r.sets (lookup uuid (namespaces_in (state_of r)).entries)) o.is
-        ∙ ap (λ (entry : Option Entry). found_of (sets_of loaded.nfit) entry) (sym (shown_at (sets_of loaded.nfit) areas (labels_of areas) uuid held (λ u. refl)))
+        ∙ ap (λ (entry : Option NamespaceEntry). found_of (sets_of loaded.nfit) entry) (sym (shown_at (sets_of loaded.nfit) areas (labels_of areas) uuid held (λ u. refl)))
         ∙ ap (λ (labels : List Placed). found_of (sets_of loaded.nfit) (entry_at (sets_of loaded.nfit) labels uuid)) labels_are
 
     usable : AreUsable registry.sets loaded.contents

@@ -11,7 +11,7 @@ use Rattle.image_set.specs.Changed.{objects_of}
 use Rattle.image_set.specs.Load.{ImageSet, bytes_kept}
 use Rattle.namespace_map.specs.declared.refused.OpRefused.{OpRefused}
 use Rattle.namespace_areas.specs.declared.found.Found.{Found}
-use Rattle.namespace_areas.specs.Finding.{LiesIn, found_of, set_at}
+use Rattle.namespace_areas.specs.Finding.{LiesInSet, found_of, set_at}
 use Rattle.namespace_areas.specs.Opening.{AreWhole}
 use Rattle.namespace_areas.specs.Seen.{words_of as area_words}
 use Rattle.namespace_map.specs.Namespaces.{lookup}
@@ -52,7 +52,7 @@ pub record IsFoundIn (loaded : ImageSet) (uuid : List ℕ) (set : FoundSet) : Ty
   pub none : fault_in loaded ≡ None
   pub is : found_in loaded uuid ≡ Ok set.found
   pub sector : set.found.mode ≡ mode.Sector
-  pub lies : LiesIn set.rest.registry.sets set.found
+  pub lies : LiesInSet set.rest.registry.sets set.found
   pub sets : set.rest.registry.sets ≡ sets_of loaded.nfit
   pub contents : set.contents ≡ rows_of loaded.contents
   pub usable : AreUsable set.rest.registry.sets set.contents

@@ -4,23 +4,23 @@ use Rattle.std.specs.Prelude.{Vec, All, Any}
 use Rattle.std.proofs.lemmas.List.{length-map}
 use Rattle.atomic_table.specs.Seated.{TableId}
 use Rattle.turn_lock.specs.Passes.{lock_of, number_of, part_of, out_of}
-use Rattle.turn_callers.specs.declared.register.Call.{Call}
-use Rattle.turn_callers.specs.declared.register.Entry.{Entry}
+use Rattle.turn_callers.specs.declared.register.RegisterCall.{RegisterCall}
+use Rattle.turn_callers.specs.declared.register.RegisterEntry.{RegisterEntry}
 use Rattle.turn_callers.specs.declared.register.Share.{Share}
 use Rattle.turn_callers.specs.declared.register.Register.{Register}
-use Rattle.turn_callers.specs.declared.script.Session.{Session}
+use Rattle.turn_callers.specs.declared.script.ScriptSession.{ScriptSession}
 use Rattle.turn_lock.specs.Rows.{items_at}
 use Rattle.turn_callers.specs.Replay.{entries_by, made}
 use Rattle.turn_callers.specs.Shares.{share, share_at}
-use Rattle.turn_callers.specs.Scripts.{IsDone, AreDone}
+use Rattle.turn_callers.specs.Scripts.{IsScriptDone, AreScriptsDone}
 use Rattle.turn_lock.proofs.Places.{there, mapped, items_at_is}
 
 -- the session q, which is done
-session_at : {Z : Type 0} (lock : TableId) (scripts : List (Vec Call Z)) (ss : List Session) → AreDone lock scripts ss → (q : ℕ) → q < length ss
-    → (s : Session) × (get_or ss q s ≡ s) × IsDone lock (items_at scripts q) q s
-session_at lock scripts ss done q h = let t = there ss q h in (t.0, t.1, subst (λ s. IsDone lock (items_at scripts q) q s) t.1 (done q t.0 h))
+session_at : {Z : Type 0} (lock : TableId) (scripts : List (Vec RegisterCall Z)) (ss : List ScriptSession) → AreScriptsDone lock scripts ss → (q : ℕ) → q < length ss
+    → (s : ScriptSession) × (get_or ss q s ≡ s) × IsScriptDone lock (items_at scripts q) q s
+session_at lock scripts ss done q h = let t = there ss q h in (t.0, t.1, subst (λ s. IsScriptDone lock (items_at scripts q) q s) t.1 (done q t.0 h))
 
-module _ {Z : Type 0} (lock : TableId) (scripts : List (Vec Call Z)) (ss : List Session) (done : AreDone lock scripts ss) where
+module _ {Z : Type 0} (lock : TableId) (scripts : List (Vec RegisterCall Z)) (ss : List ScriptSession) (done : AreScriptsDone lock scripts ss) where
   pub all_out : All (λ p. (lock_of p ≡ lock) × (out_of p ≡ None)) (map (λ s. s.pass) ss)
   all_out k d h =
       let inside : k < length ss = omega (arith, length-map ss (λ s. s.pass)) in
@@ -30,7 +30,7 @@ module _ {Z : Type 0} (lock : TableId) (scripts : List (Vec Call Z)) (ss : List 
   pub every_one : (q : ℕ) → q < length ss → Any (λ p. number_of p ≡ q) (map (λ s. s.pass) ss)
   every_one q h = let s = session_at lock scripts ss done q h in (q, s.0.pass, omega (arith, length-map ss (λ s. s.pass)), mapped (λ s. s.pass) ss q s.0 s.0.pass h s.1, s.2.1)
 
-  replies_at : (q : ℕ) (s : Session) → q < length ss → get_or ss q s ≡ s → items_at (map (λ s. s.replies) ss) q ≡ s.replies.items
+  replies_at : (q : ℕ) (s : ScriptSession) → q < length ss → get_or ss q s ≡ s → items_at (map (λ s. s.replies) ss) q ≡ s.replies.items
   replies_at q s h is = let h' : q < length (map (λ s. s.replies) ss) = omega (arith, length-map ss (λ s. s.replies)) in
       items_at_is (map (λ s. s.replies) ss) q s.replies h' ∙ ap (λ v. v.items) (mapped (λ s. s.replies) ss q s s.replies h is)
 
@@ -46,6 +46,6 @@ module _ {Z : Type 0} (lock : TableId) (scripts : List (Vec Call Z)) (ss : List 
       let same : Some (share_at r.journal.items r.rooms.items q) ≡ Some (share (made q (items_at scripts q) s.0.replies.items) 0) = ap (λ (n : ℕ). Some (share_at r.journal.items r.rooms.items n)) (sym s.2.1) ∙ sym here ∙ s.2.3 in
       ap (entries_in (entries_by q r.journal.items)) same ∙ ap (made q (items_at scripts q)) (sym (replies_at q s.0 h s.1))
     where
-      entries_in : List Entry → Option Share → List Entry
+      entries_in : List RegisterEntry → Option Share → List RegisterEntry
       entries_in z (Some p) = p.entries
       entries_in z None = z

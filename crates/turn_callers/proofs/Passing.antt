@@ -5,11 +5,11 @@ use Rattle.atomic_table.specs.Seated.{TableId}
 use Rattle.turn_callers.specs.contracts.register.RegisterParted.TheImpl.{ghosts}
 use Rattle.turn_lock.specs.declared.pass.TurnPass.{TurnPass}
 use Rattle.turn_lock.specs.Passes.{lock_of, number_of, part_of, out_of, AreFresh}
-use Rattle.turn_callers.specs.declared.register.Entry.{Entry}
+use Rattle.turn_callers.specs.declared.register.RegisterEntry.{RegisterEntry}
 use Rattle.turn_callers.specs.declared.register.Share.{Share}
 use Rattle.turn_callers.specs.declared.register.Register.{Register}
-use Rattle.turn_callers.specs.declared.order.Order.{Order}
-use Rattle.turn_callers.specs.declared.session.Session.{Session}
+use Rattle.turn_callers.specs.declared.order.ShelfOrder.{ShelfOrder}
+use Rattle.turn_callers.specs.declared.session.ShelfSession.{ShelfSession}
 use Rattle.turn_lock.specs.Rows.{items_at}
 use Rattle.turn_callers.specs.Replay.{entries_by}
 use Rattle.turn_callers.specs.Shares.{share, share_at}
@@ -20,11 +20,11 @@ use Rattle.turn_lock.proofs.Rows.{row_push, row_pop}
 use Rattle.turn_callers.specs.Seats.{Has, Seats}
 use Rattle.turn_callers.specs.Sessions.{AreReady, AreDone}
 
-module _ {Z : Type 0} (locks : List TableId) (lock : TableId) (scripts : List (Vec Order Z)) where
+module _ {Z : Type 0} (locks : List TableId) (lock : TableId) (scripts : List (Vec ShelfOrder Z)) where
   -- each session gets a fresh pass of one lock more
-  pub ready_next : (first : Register) (ss ss' : List Session) (ps : List (TurnPass Register Share ghosts)) → AreReady locks scripts ss → length ss' ≡ length ss → length ps ≡ length ss
-      → ((q : ℕ) (d : Session) (e : TurnPass Register Share ghosts) → q < length ss → (get_or ss' q d).passes.items ≡ (get_or ss q d).passes.items ++ get_or ps q e ∷ [])
-      → ((q : ℕ) (d : Session) → q < length ss → ((get_or ss' q d).number ≡ (get_or ss q d).number) × ((get_or ss' q d).replies ≡ (get_or ss q d).replies))
+  pub ready_next : (first : Register) (ss ss' : List ShelfSession) (ps : List (TurnPass Register Share ghosts)) → AreReady locks scripts ss → length ss' ≡ length ss → length ps ≡ length ss
+      → ((q : ℕ) (d : ShelfSession) (e : TurnPass Register Share ghosts) → q < length ss → (get_or ss' q d).passes.items ≡ (get_or ss q d).passes.items ++ get_or ps q e ∷ [])
+      → ((q : ℕ) (d : ShelfSession) → q < length ss → ((get_or ss' q d).number ≡ (get_or ss q d).number) × ((get_or ss' q d).replies ≡ (get_or ss q d).replies))
       → AreFresh lock first ps → first.journal.items ≡ [] → first.rooms.items ≡ map vec_len scripts → AreReady (locks ++ lock ∷ []) scripts ss'
   ready_next first ss ss' ps ready same count handed others fresh journal rooms q d h =
       let inside : q < length ss = omega arith in
@@ -33,7 +33,7 @@ module _ {Z : Type 0} (locks : List TableId) (lock : TableId) (scripts : List (V
       let p = there ps q (omega arith) in
       let f = fresh q p.0 (omega arith) in
       let n : ℕ = length (items_at scripts q) in
-      let part = ap (λ (j : List Entry). Some (share (entries_by q j) (get_or first.rooms.items q 0))) journal ∙ ap (λ (r : List ℕ). Some (share [] (get_or r q 0))) rooms ∙ ap (λ (k : ℕ). Some (share [] k)) (length_at scripts q) in
+      let part = ap (λ (j : List RegisterEntry). Some (share (entries_by q j) (get_or first.rooms.items q 0))) journal ∙ ap (λ (r : List ℕ). Some (share [] (get_or r q 0))) rooms ∙ ap (λ (k : ℕ). Some (share [] k)) (length_at scripts q) in
       let mine : IsPassOf lock q (Has [] n) (get_or ps q p.0) = (f.0, f.1, f.3, (share [] n, f.2 ∙ part, (refl, le_refl n))) in
       let row = row_push locks q (λ j. Has [] n) (get_or ss q d).passes.items lock (get_or ps q p.0) (subst (λ (k : ℕ). Seats locks k (λ j. []) n (get_or ss q d).passes.items) old.0 old.1.0) mine in
       let number = o.0 ∙ old.0 in (
@@ -45,13 +45,13 @@ module _ {Z : Type 0} (locks : List TableId) (lock : TableId) (scripts : List (V
         ),
       )
 
-  pub have_passes : (ss : List Session) → AreDone (locks ++ lock ∷ []) scripts ss → (q : ℕ) (d : Session) → q < length ss → 0 < length (get_or ss q d).passes.items
+  pub have_passes : (ss : List ShelfSession) → AreDone (locks ++ lock ∷ []) scripts ss → (q : ℕ) (d : ShelfSession) → q < length ss → 0 < length (get_or ss q d).passes.items
   have_passes ss done q d h = let row = (done q d h).1.0 in omega (arith, row.count, length-append locks (lock ∷ []))
 
-  module _ (ss ss' : List Session) (ps : List (TurnPass Register Share ghosts)) (done : AreDone (locks ++ lock ∷ []) scripts ss) (same : length ss' ≡ length ss) (count : length ps ≡ length ss)
-      (taken : (q : ℕ) (d : Session) (e : TurnPass Register Share ghosts) → q < length ss → (get_or ss q d).passes.items ≡ (get_or ss' q d).passes.items ++ get_or ps q e ∷ [])
-      (others : (q : ℕ) (d : Session) → q < length ss → ((get_or ss' q d).number ≡ (get_or ss q d).number) × ((get_or ss' q d).replies ≡ (get_or ss q d).replies)) where
-    both : (q : ℕ) (d : Session) (e : TurnPass Register Share ghosts) → q < length ss
+  module _ (ss ss' : List ShelfSession) (ps : List (TurnPass Register Share ghosts)) (done : AreDone (locks ++ lock ∷ []) scripts ss) (same : length ss' ≡ length ss) (count : length ps ≡ length ss)
+      (taken : (q : ℕ) (d : ShelfSession) (e : TurnPass Register Share ghosts) → q < length ss → (get_or ss q d).passes.items ≡ (get_or ss' q d).passes.items ++ get_or ps q e ∷ [])
+      (others : (q : ℕ) (d : ShelfSession) → q < length ss → ((get_or ss' q d).number ≡ (get_or ss q d).number) × ((get_or ss' q d).replies ≡ (get_or ss q d).replies)) where
+    both : (q : ℕ) (d : ShelfSession) (e : TurnPass Register Share ghosts) → q < length ss
         → Seats locks (get_or ss q d).number (λ j. made_at (get_or ss q d).number j (items_at scripts q) (get_or ss q d).replies.items) 0 (get_or ss' q d).passes.items
         × IsPassOf lock (get_or ss q d).number (Has (made_at (get_or ss q d).number (length locks) (items_at scripts q) (get_or ss q d).replies.items) 0) (get_or ps q e)
     both q d e h =
@@ -81,7 +81,7 @@ module _ {Z : Type 0} (locks : List TableId) (lock : TableId) (scripts : List (V
         let b = (both q s.0 p.0 h).1 in (q, p.0, omega arith, p.1, ap (λ x. number_of x) (sym p.1) ∙ b.1 ∙ (done q s.0 h).0)
 
     pub tied : (r : Register) → All (λ p. part_of p ≡ Some (share_at r.journal.items r.rooms.items (number_of p))) ps
-        → (q : ℕ) (d : Session) → q < length ss → entries_by q r.journal.items ≡ made_at q (length locks) (items_at scripts q) (get_or ss q d).replies.items
+        → (q : ℕ) (d : ShelfSession) → q < length ss → entries_by q r.journal.items ≡ made_at q (length locks) (items_at scripts q) (get_or ss q d).replies.items
     tied r known q d h =
         let p = there ps q (omega arith) in
         let x = get_or ps q p.0 in
@@ -91,6 +91,6 @@ module _ {Z : Type 0} (locks : List TableId) (lock : TableId) (scripts : List (V
         ap (λ (n : ℕ). Some (share_at r.journal.items r.rooms.items n)) (sym number) ∙ sym (known q p.0 (omega arith)) ∙ b.3.1 in
         ap (entries_in (entries_by q r.journal.items)) here ∙ b.3.2.0 ∙ ap (λ (n : ℕ). made_at n (length locks) (items_at scripts q) (get_or ss q d).replies.items) (done q d h).0
       where
-        entries_in : List Entry → Option Share → List Entry
+        entries_in : List RegisterEntry → Option Share → List RegisterEntry
         entries_in z (Some s) = s.entries
         entries_in z None = z

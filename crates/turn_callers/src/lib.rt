@@ -41,9 +41,9 @@ mod turns;
 
 pub use counting::{count_turns, take_turns};
 pub use desk::{Desk, Mine};
-pub use order::Order;
+pub use order::ShelfOrder;
 pub use power::{go_off, is_off};
-pub use register::{Call, Entry, Register};
+pub use register::{Register, RegisterCall, RegisterEntry};
 pub use script::{Ran, run_scripts};
 pub use shelf::{ShelfRan, run_shelf};
 pub use switch::{ask_in_turn, finish, stop_in_turn, wait_for_off};

@@ -5,9 +5,9 @@ ghost use Rattle.turn_callers.specs.Orders.{AreWithin};
 ghost use Rattle.turn_callers.specs.Seats.{HasSeats, Ordered};
 ghost use Rattle.turn_callers.specs.Sessions.{IsReady, IsDone};
 
-use crate::order::Order;
+use crate::order::ShelfOrder;
 use crate::register::Register;
-use crate::session::Session;
+use crate::session::ShelfSession;
 use crate::turns::make_in_turn;
 use std::sync::Wait;
 use turn_lock::{Turn, TurnPass};
@@ -17,7 +17,7 @@ fn make_order<R: Wait>(
     rt: &R,
     turns: &[Turn<Register>],
     passes: &mut Vec<TurnPass<Register>>,
-    order: Order,
+    order: ShelfOrder,
 ) -> u64
     requires place { order.place < length turns.now }
     requires seats { HasSeats (map lock_id turns.now) passes.old.items }
@@ -33,15 +33,15 @@ fn make_order<R: Wait>(
 pub(crate) fn run_session<R: Wait>(
     rt: &R,
     turns: &[Turn<Register>],
-    orders: &[Order],
-    session: &mut Session,
+    orders: &[ShelfOrder],
+    session: &mut ShelfSession,
 )
     requires places { AreWithin (length turns.now) orders.now }
     requires ready { IsReady (map lock_id turns.now) orders.now session.old }
     ensures number { session.new.number ≡ session.old.number }
     ensures done { IsDone (map lock_id turns.now) orders.now session.new }
 {
-    let Session {
+    let ShelfSession {
         passes,
         replies,
         ..

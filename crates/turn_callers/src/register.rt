@@ -8,7 +8,7 @@ use turn_lock::Parted;
 
 /// A call of a register. It replies the value before the call.
 #[derive(Clone, Copy)]
-pub enum Call {
+pub enum RegisterCall {
     Read,
     /// Stores this value.
     Write(u64),
@@ -16,16 +16,16 @@ pub enum Call {
 
 /// A call that was made, its caller, and its reply.
 #[derive(Clone, Copy)]
-pub struct Entry {
+pub struct RegisterEntry {
     pub by: u32,
-    pub call: Call,
+    pub call: RegisterCall,
     pub reply: u64,
 }
 
 /// A caller's part of a register: its own entries, and the room reserved for more of them. It never
 /// exists at run time.
 pub struct Share {
-    pub entries: LinkedList<Entry>,
+    pub entries: LinkedList<RegisterEntry>,
     pub room: u64,
 }
 
@@ -36,7 +36,7 @@ pub struct Share {
 #[derive(Drop)]
 pub struct Register {
     value: u64,
-    journal: Vec<Entry>,
+    journal: Vec<RegisterEntry>,
     // The calls that each caller may still make.
     rooms: Vec<u32>,
     ghost replays: { value ≡ value_of 0 journal.items },
@@ -76,7 +76,7 @@ impl Register {
     }
 
     /// Returns the journal, which is legal.
-    pub fn into_journal(self) -> Vec<Entry>
+    pub fn into_journal(self) -> Vec<RegisterEntry>
         ensures same { result ≡ self.journal }
         ensures legal { is_legal 0 result.items ≡ true }
     {
@@ -85,7 +85,7 @@ impl Register {
     }
 
     /// Makes a call for which room was reserved, and returns its reply.
-    pub fn make(&mut self, by: u32, call: Call) -> u64
+    pub fn make(&mut self, by: u32, call: RegisterCall) -> u64
         requires { 0 < slice_index self.old.rooms.items by }
         ensures journal { self.new.journal.items ≡ self.old.journal.items ++ entry by call result ∷ [] }
         ensures rooms { self.new.rooms.items ≡ slice_set self.old.rooms.items by (slice_index self.old.rooms.items by - 1) }
@@ -94,18 +94,19 @@ impl Register {
         let at = by as usize;
         let left = self.rooms[at] - 1;
         self.rooms[at] = left;
-        self.journal.push_reserved(Entry { by, call, reply });
+        self.journal
+            .push_reserved(RegisterEntry { by, call, reply });
         self.value = after(self.value, call);
         reply
     }
 }
 
 // Returns the value after a call.
-fn after(value: u64, call: Call) -> u64
+fn after(value: u64, call: RegisterCall) -> u64
     ensures { result ≡ value_after value call }
 {
     match call {
-        Call::Read => value,
-        Call::Write(new) => new,
+        RegisterCall::Read => value,
+        RegisterCall::Write(new) => new,
     }
 }

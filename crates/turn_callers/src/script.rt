@@ -3,9 +3,9 @@ ghost use Rattle.std.specs.Prelude.{◌≡◌, ℕ, ◌^◌, ◌<◌, ◌≤◌,
 ghost use Rattle.turn_lock.specs.Passes.{lock_id, first_of, number_of, AreFresh};
 ghost use Rattle.turn_lock.specs.Rows.{items_at};
 ghost use Rattle.turn_callers.specs.Replay.{is_legal, HasNoOther, AreOwnEntries, AreAnswered};
-ghost use Rattle.turn_callers.specs.Scripts.{IsNewFor, IsReady, IsDone, AreReady, AreDone};
+ghost use Rattle.turn_callers.specs.Scripts.{IsNewFor, IsScriptReady, IsScriptDone, AreScriptsReady, AreScriptsDone};
 
-use crate::register::{Call, Entry, Register};
+use crate::register::{Register, RegisterCall, RegisterEntry};
 use crate::turns::make_in_turn;
 use std::alloc::{AllocError, Global};
 use std::sync::Wait;
@@ -15,7 +15,7 @@ use turn_lock::{Turn, TurnPass};
 
 // One caller, with its replies.
 #[derive(Drop)]
-struct Session {
+struct ScriptSession {
     pass: TurnPass<Register>,
     replies: Vec<u64>,
 }
@@ -23,7 +23,7 @@ struct Session {
 /// The journal of all calls, and the replies of each caller.
 #[derive(Drop)]
 pub struct Ran {
-    pub journal: Vec<Entry>,
+    pub journal: Vec<RegisterEntry>,
     pub replies: Vec<Vec<u64>>,
 }
 
@@ -35,7 +35,7 @@ pub struct Ran {
 pub fn run_scripts<R: Threads + Wait + Sync>(
     rt: &R,
     alloc: Global,
-    scripts: &[Vec<Call>],
+    scripts: &[Vec<RegisterCall>],
     workers: usize,
 ) -> Result<Ran, AllocError>
     requires workers { 0 < workers }
@@ -59,30 +59,35 @@ pub fn run_scripts<R: Threads + Wait + Sync>(
 fn sit(
     alloc: Global,
     turn: &Turn<Register>,
-    scripts: &[Vec<Call>],
+    scripts: &[Vec<RegisterCall>],
     passes: Vec<TurnPass<Register>>,
-) -> Result<Vec<Session>, AllocError>
+) -> Result<Vec<ScriptSession>, AllocError>
     requires count { length passes.items ≡ length scripts.now }
     requires first { IsNewFor scripts.now (first_of turn.now) }
     requires fresh { AreFresh (lock_id turn.now) (first_of turn.now) passes.items }
     ensures count { IfOk result (λ v. length v.items ≡ length scripts.now) }
-    ensures ready { IfOk result (λ v. AreReady (lock_id turn.now) scripts.now v.items) }
+    ensures ready { IfOk result (λ v. AreScriptsReady (lock_id turn.now) scripts.now v.items) }
 {
     let mut sessions = Vec::new(alloc);
     for pass in passes {
         let number = pass.number() as usize;
         let replies = Vec::with_capacity(alloc, scripts[number].len())?;
-        sessions.push(Session { pass, replies })?;
+        sessions.push(ScriptSession { pass, replies })?;
     }
     Ok(sessions)
 }
 
 // Makes the calls of a script, each in the caller's turn.
-fn run_session<R: Wait>(rt: &R, turn: &Turn<Register>, calls: &[Call], session: &mut Session)
-    requires { IsReady (lock_id turn.now) calls.now (number_of session.old.pass) session.old }
-    ensures { IsDone (lock_id turn.now) calls.now (number_of session.old.pass) session.new }
+fn run_session<R: Wait>(
+    rt: &R,
+    turn: &Turn<Register>,
+    calls: &[RegisterCall],
+    session: &mut ScriptSession,
+)
+    requires { IsScriptReady (lock_id turn.now) calls.now (number_of session.old.pass) session.old }
+    ensures { IsScriptDone (lock_id turn.now) calls.now (number_of session.old.pass) session.new }
 {
-    let Session { pass, replies } = session;
+    let ScriptSession { pass, replies } = session;
     for call in calls {
         replies.push_reserved(make_in_turn(rt, turn, pass, *call));
     }
@@ -92,13 +97,13 @@ fn run_session<R: Wait>(rt: &R, turn: &Turn<Register>, calls: &[Call], session: 
 fn run_at<R: Wait>(
     rt: &R,
     turn: &Turn<Register>,
-    scripts: &[Vec<Call>],
+    scripts: &[Vec<RegisterCall>],
     i: usize,
-    session: &mut Session,
+    session: &mut ScriptSession,
 )
     requires inside { i < length scripts.now }
-    requires ready { IsReady (lock_id turn.now) (items_at scripts.now i) i session.old }
-    ensures { IsDone (lock_id turn.now) (items_at scripts.now i) i session.new }
+    requires ready { IsScriptReady (lock_id turn.now) (items_at scripts.now i) i session.old }
+    ensures { IsScriptDone (lock_id turn.now) (items_at scripts.now i) i session.new }
 {
     run_session(rt, turn, scripts[i].as_slice(), session);
 }
@@ -107,14 +112,14 @@ fn run_at<R: Wait>(
 fn run_all<R: Threads + Wait + Sync>(
     rt: &R,
     turn: &Turn<Register>,
-    scripts: &[Vec<Call>],
+    scripts: &[Vec<RegisterCall>],
     workers: usize,
-    sessions: &mut [Session],
+    sessions: &mut [ScriptSession],
 )
     requires workers { 0 < workers }
     requires count { length sessions.old ≡ length scripts.now }
-    requires ready { AreReady (lock_id turn.now) scripts.now sessions.old }
-    ensures { AreDone (lock_id turn.now) scripts.now sessions.new }
+    requires ready { AreScriptsReady (lock_id turn.now) scripts.now sessions.old }
+    ensures { AreScriptsDone (lock_id turn.now) scripts.now sessions.new }
 {
     thread::for_each_mut(
         rt,
@@ -128,15 +133,15 @@ fn run_all<R: Threads + Wait + Sync>(
 fn run_each<R: Threads + Wait + Sync>(
     rt: &R,
     turn: &Turn<Register>,
-    scripts: &[Vec<Call>],
+    scripts: &[Vec<RegisterCall>],
     workers: usize,
-    mut sessions: Vec<Session>,
-) -> Vec<Session>
+    mut sessions: Vec<ScriptSession>,
+) -> Vec<ScriptSession>
     requires workers { 0 < workers }
     requires count { length sessions.items ≡ length scripts.now }
-    requires ready { AreReady (lock_id turn.now) scripts.now sessions.items }
+    requires ready { AreScriptsReady (lock_id turn.now) scripts.now sessions.items }
     ensures count { length result.items ≡ length scripts.now }
-    ensures done { AreDone (lock_id turn.now) scripts.now result.items }
+    ensures done { AreScriptsDone (lock_id turn.now) scripts.now result.items }
 {
     run_all(rt, turn, scripts, workers, sessions.as_mut_slice());
     sessions
@@ -145,7 +150,7 @@ fn run_each<R: Threads + Wait + Sync>(
 // The passes and the replies of all sessions.
 fn stand(
     alloc: Global,
-    sessions: Vec<Session>,
+    sessions: Vec<ScriptSession>,
 ) -> Result<(Vec<TurnPass<Register>>, Vec<Vec<u64>>), AllocError>
     ensures passes { IfOk result (λ r. r.0.items ≡ map (λ s. s.pass) sessions.items) }
     ensures replies { IfOk result (λ r. r.1.items ≡ map (λ s. s.replies) sessions.items) }
@@ -153,7 +158,7 @@ fn stand(
     let mut passes = Vec::new(alloc);
     let mut all = Vec::new(alloc);
     for session in sessions {
-        let Session { pass, replies } = session;
+        let ScriptSession { pass, replies } = session;
         passes.push(pass)?;
         all.push(replies)?;
     }

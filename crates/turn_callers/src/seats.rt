@@ -2,14 +2,17 @@
 ghost use Rattle.std.specs.Prelude.{◌≡◌, ◌^◌, ◌<◌, [], ◌∷◌, ◌++◌, length, OnOk, IfOk};
 ghost use Rattle.turn_callers.specs.Sessions.{AreReady, KeepRest, HaveOneMore, HadOneMore, HavePasses};
 
-use crate::order::Order;
+use crate::order::ShelfOrder;
 use crate::register::Register;
-use crate::session::Session;
+use crate::session::ShelfSession;
 use std::alloc::{AllocError, Global};
 use turn_lock::TurnPass;
 
 // Makes a session for each script, without a pass.
-pub(crate) fn stools(alloc: Global, scripts: &[Vec<Order>]) -> Result<Vec<Session>, AllocError>
+pub(crate) fn stools(
+    alloc: Global,
+    scripts: &[Vec<ShelfOrder>],
+) -> Result<Vec<ShelfSession>, AllocError>
     requires { length scripts.now < 2 ^ 32 }
     ensures count { IfOk result (λ v. length v.items ≡ length scripts.now) }
     ensures ready { IfOk result (λ v. AreReady [] scripts.now v.items) }
@@ -17,7 +20,7 @@ pub(crate) fn stools(alloc: Global, scripts: &[Vec<Order>]) -> Result<Vec<Sessio
     let mut sessions = Vec::new(alloc);
     for i in 0..scripts.len() {
         let replies = Vec::with_capacity(alloc, scripts[i].len())?;
-        sessions.push(Session {
+        sessions.push(ShelfSession {
             number: i as u32,
             passes: Vec::new(alloc),
             replies,
@@ -27,7 +30,7 @@ pub(crate) fn stools(alloc: Global, scripts: &[Vec<Order>]) -> Result<Vec<Sessio
 }
 
 // Gives a pass to the session.
-fn add(session: &mut Session, pass: TurnPass<Register>) -> Result<(), AllocError>
+fn add(session: &mut ShelfSession, pass: TurnPass<Register>) -> Result<(), AllocError>
     ensures passes { OnOk result (session.new.passes.items ≡ session.old.passes.items ++ pass ∷ []) }
     ensures number { session.new.number ≡ session.old.number }
     ensures replies { session.new.replies ≡ session.old.replies }
@@ -38,7 +41,7 @@ fn add(session: &mut Session, pass: TurnPass<Register>) -> Result<(), AllocError
 
 // Gives each session the pass of its number.
 pub(crate) fn hand_out(
-    sessions: &mut [Session],
+    sessions: &mut [ShelfSession],
     mut passes: Vec<TurnPass<Register>>,
 ) -> Result<(), AllocError>
     requires { length passes.items ≡ length sessions.old }
@@ -53,7 +56,7 @@ pub(crate) fn hand_out(
 }
 
 // Takes the last pass of the session.
-fn take_last(session: &mut Session) -> TurnPass<Register>
+fn take_last(session: &mut ShelfSession) -> TurnPass<Register>
     requires { 0 < length session.old.passes.items }
     ensures passes { session.old.passes.items ≡ session.new.passes.items ++ result ∷ [] }
     ensures number { session.new.number ≡ session.old.number }
@@ -68,7 +71,7 @@ fn take_last(session: &mut Session) -> TurnPass<Register>
 // Takes the last pass of each session.
 pub(crate) fn take_back(
     alloc: Global,
-    sessions: &mut [Session],
+    sessions: &mut [ShelfSession],
 ) -> Result<Vec<TurnPass<Register>>, AllocError>
     requires { HavePasses sessions.old }
     ensures count { IfOk result (λ v. length v.items ≡ length sessions.old) }

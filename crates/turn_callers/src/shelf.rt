@@ -1,18 +1,18 @@
 //! Registers behind a lock each, and all callers at once.
-ghost use Rattle.std.specs.Prelude.{◌≡◌, ℕ, ◌^◌, ◌<◌, [], length, map, true};
+ghost use Rattle.std.specs.Prelude.{◌≡◌, ◌^◌, ◌<◌, [], length, map};
 ghost use Rattle.std.specs.Prelude.{All, OnOk, IfOk, sum_by, vec_len};
 ghost use Rattle.turn_lock.specs.Passes.{lock_id};
 ghost use Rattle.turn_lock.specs.Rows.{items_at};
-ghost use Rattle.turn_callers.specs.Replay.{is_legal, HasNoOther, AreAnswered};
-ghost use Rattle.turn_callers.specs.Orders.{AreWithin, AreOwnEntriesAt};
+ghost use Rattle.turn_callers.specs.Replay.{AreAnswered};
+ghost use Rattle.turn_callers.specs.Orders.{AreShelfJournals, AreWithin};
 ghost use Rattle.turn_callers.specs.Sessions.{IsReady, IsDone, AreReady, AreDone};
 ghost use Rattle.turn_callers.specs.Sessions.{IsNew, AreJournals, KeepReplies};
 
-use crate::order::Order;
+use crate::order::ShelfOrder;
 use crate::orders::run_session;
-use crate::register::{Entry, Register};
+use crate::register::{Register, RegisterEntry};
 use crate::seats::{hand_out, stools, take_back};
-use crate::session::Session;
+use crate::session::ShelfSession;
 use std::alloc::{AllocError, Global};
 use std::sync::Wait;
 use std::thread;
@@ -22,9 +22,9 @@ use turn_lock::Turn;
 // Makes `places` registers, a lock around each, and gives each session a pass of each.
 fn shelve(
     alloc: Global,
-    scripts: &[Vec<Order>],
+    scripts: &[Vec<ShelfOrder>],
     places: usize,
-    sessions: &mut [Session],
+    sessions: &mut [ShelfSession],
 ) -> Result<Vec<Turn<Register>>, AllocError>
     requires few { length scripts.now < 2 ^ 32 }
     requires small { sum_by vec_len scripts.now < 2 ^ 32 }
@@ -48,9 +48,9 @@ fn shelve(
 fn run_at<R: Wait>(
     rt: &R,
     turns: &[Turn<Register>],
-    scripts: &[Vec<Order>],
+    scripts: &[Vec<ShelfOrder>],
     i: usize,
-    session: &mut Session,
+    session: &mut ShelfSession,
 )
     requires inside { i < length scripts.now }
     requires places { All (λ s. AreWithin (length turns.now) s.items) scripts.now }
@@ -64,9 +64,9 @@ fn run_at<R: Wait>(
 fn run_all<R: Threads + Wait + Sync>(
     rt: &R,
     turns: &[Turn<Register>],
-    scripts: &[Vec<Order>],
+    scripts: &[Vec<ShelfOrder>],
     workers: usize,
-    sessions: &mut [Session],
+    sessions: &mut [ShelfSession],
 )
     requires workers { 0 < workers }
     requires places { All (λ s. AreWithin (length turns.now) s.items) scripts.now }
@@ -86,9 +86,9 @@ fn run_all<R: Threads + Wait + Sync>(
 fn close_all(
     alloc: Global,
     mut turns: Vec<Turn<Register>>,
-    scripts: &[Vec<Order>],
-    sessions: &mut [Session],
-) -> Result<Vec<Vec<Entry>>, AllocError>
+    scripts: &[Vec<ShelfOrder>],
+    sessions: &mut [ShelfSession],
+) -> Result<Vec<Vec<RegisterEntry>>, AllocError>
     requires new { All (IsNew (length sessions.old)) turns.items }
     requires done { AreDone (map lock_id turns.items) scripts.now sessions.old }
     ensures count { IfOk result (λ v. length v.items ≡ length turns.items) }
@@ -108,16 +108,16 @@ fn close_all(
 /// The journal of each register, and the replies of each caller, in the order of its script.
 #[derive(Drop)]
 pub struct ShelfRan {
-    pub journals: Vec<Vec<Entry>>,
+    pub journals: Vec<Vec<RegisterEntry>>,
     pub replies: Vec<Vec<u64>>,
 }
 
-fn replies_of(alloc: Global, sessions: Vec<Session>) -> Result<Vec<Vec<u64>>, AllocError>
+fn replies_of(alloc: Global, sessions: Vec<ShelfSession>) -> Result<Vec<Vec<u64>>, AllocError>
     ensures { IfOk result (λ v. v.items ≡ map (λ s. s.replies) sessions.items) }
 {
     let mut all = Vec::new(alloc);
     for session in sessions {
-        let Session { replies, .. } = session;
+        let ShelfSession { replies, .. } = session;
         all.push(replies)?;
     }
     Ok(all)
@@ -126,9 +126,9 @@ fn replies_of(alloc: Global, sessions: Vec<Session>) -> Result<Vec<Vec<u64>>, Al
 // The locks, and the sessions with a pass of each.
 fn shelved(
     alloc: Global,
-    scripts: &[Vec<Order>],
+    scripts: &[Vec<ShelfOrder>],
     places: usize,
-) -> Result<(Vec<Turn<Register>>, Vec<Session>), AllocError>
+) -> Result<(Vec<Turn<Register>>, Vec<ShelfSession>), AllocError>
     requires few { length scripts.now < 2 ^ 32 }
     requires small { sum_by vec_len scripts.now < 2 ^ 32 }
     ensures places { IfOk result (λ r. length r.0.items ≡ places) }
@@ -145,10 +145,10 @@ fn shelved(
 fn run_each<R: Threads + Wait + Sync>(
     rt: &R,
     turns: &[Turn<Register>],
-    scripts: &[Vec<Order>],
+    scripts: &[Vec<ShelfOrder>],
     workers: usize,
-    mut sessions: Vec<Session>,
-) -> Vec<Session>
+    mut sessions: Vec<ShelfSession>,
+) -> Vec<ShelfSession>
     requires workers { 0 < workers }
     requires places { All (λ s. AreWithin (length turns.now) s.items) scripts.now }
     requires count { length sessions.items ≡ length scripts.now }
@@ -164,9 +164,9 @@ fn run_each<R: Threads + Wait + Sync>(
 fn closed(
     alloc: Global,
     turns: Vec<Turn<Register>>,
-    scripts: &[Vec<Order>],
-    mut sessions: Vec<Session>,
-) -> Result<(Vec<Vec<Entry>>, Vec<Session>), AllocError>
+    scripts: &[Vec<ShelfOrder>],
+    mut sessions: Vec<ShelfSession>,
+) -> Result<(Vec<Vec<RegisterEntry>>, Vec<ShelfSession>), AllocError>
     requires new { All (IsNew (length sessions.items)) turns.items }
     requires done { AreDone (map lock_id turns.items) scripts.now sessions.items }
     ensures count { IfOk result (λ r. length r.0.items ≡ length turns.items) }
@@ -187,7 +187,7 @@ fn closed(
 pub fn run_shelf<R: Threads + Wait + Sync>(
     rt: &R,
     alloc: Global,
-    scripts: &[Vec<Order>],
+    scripts: &[Vec<ShelfOrder>],
     places: usize,
     workers: usize,
 ) -> Result<ShelfRan, AllocError>
@@ -196,10 +196,8 @@ pub fn run_shelf<R: Threads + Wait + Sync>(
     requires small { sum_by vec_len scripts.now < 2 ^ 32 }
     requires places { All (λ s. AreWithin places s.items) scripts.now }
     ensures count { IfOk result (λ r. length r.journals.items ≡ places) }
-    ensures legal { IfOk result (λ r. (j : ℕ) → j < places → is_legal 0 (items_at r.journals.items j) ≡ true) }
-    ensures replies { IfOk result (λ r. (j : ℕ) → j < places → AreOwnEntriesAt j scripts.now (items_at r.journals.items j) r.replies.items) }
+    ensures journals { IfOk result (λ r. AreShelfJournals places scripts.now r.journals.items r.replies.items) }
     ensures each_answered { IfOk result (λ r. AreAnswered scripts.now r.replies.items) }
-    ensures no_other { IfOk result (λ r. (j : ℕ) → j < places → HasNoOther (length scripts.now) (items_at r.journals.items j)) }
 {
     let (turns, ready) = shelved(alloc, scripts, places)?;
     let done = run_each(rt, turns.as_slice(), scripts, workers, ready);

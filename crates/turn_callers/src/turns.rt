@@ -5,7 +5,7 @@ ghost use Rattle.turn_lock.specs.Passes.{IsSamePass, IsOutside, PartBecomes};
 ghost use Rattle.turn_callers.specs.Replay.{entry};
 ghost use Rattle.turn_callers.specs.Shares.{with_entry};
 
-use crate::register::{Call, Register};
+use crate::register::{Register, RegisterCall};
 use std::sync::Wait;
 use turn_lock::{Turn, TurnPass};
 
@@ -15,7 +15,7 @@ pub fn make_in_turn<R: Wait>(
     rt: &R,
     turn: &Turn<Register>,
     pass: &mut TurnPass<Register>,
-    call: Call,
+    call: RegisterCall,
 ) -> u64
     requires outside { IsOutside (lock_id turn.now) pass.old }
     requires room { IsSomeAnd (part_of pass.old) (λ p. 0 < p.room) }

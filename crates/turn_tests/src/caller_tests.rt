@@ -2,8 +2,8 @@
 //! is called once.
 use std::test::Fail;
 use turn_callers::{
-    Call, Desk, Order, ask_in_turn, count_turns, finish, run_scripts, run_shelf, stop_in_turn,
-    wait_for_off,
+    Desk, RegisterCall, ShelfOrder, ask_in_turn, count_turns, finish, run_scripts, run_shelf,
+    stop_in_turn, wait_for_off,
 };
 use turn_lock::Turn;
 
@@ -20,8 +20,12 @@ fn turns_of_four_threads_interleave(rt: HostRuntime) -> Result<(), Fail> {
 fn three_callers_at_one_register(rt: HostRuntime) -> Result<(), Fail> {
     let alloc = rt.alloc();
     let mut scripts = Vec::new(alloc);
-    scripts.push(vec![in alloc; Call::Write(3), Call::Read]?)?;
-    scripts.push(vec![in alloc; Call::Read, Call::Write(5), Call::Read]?)?;
+    scripts.push(vec![in alloc; RegisterCall::Write(3), RegisterCall::Read]?)?;
+    scripts.push(vec![in alloc;
+        RegisterCall::Read,
+        RegisterCall::Write(5),
+        RegisterCall::Read,
+    ]?)?;
     scripts.push(Vec::new(alloc))?;
     let ran = run_scripts(&rt, alloc, &scripts, 2)?;
     assert!(rt; ran.journal.len() == 5 && ran.replies.len() == 3);
@@ -31,13 +35,13 @@ fn three_callers_at_one_register(rt: HostRuntime) -> Result<(), Fail> {
 #[test]
 fn two_callers_at_two_registers(rt: HostRuntime) -> Result<(), Fail> {
     let alloc = rt.alloc();
-    let write = Order {
+    let write = ShelfOrder {
         place: 1,
-        call: Call::Write(3),
+        call: RegisterCall::Write(3),
     };
-    let read = Order {
+    let read = ShelfOrder {
         place: 0,
-        call: Call::Read,
+        call: RegisterCall::Read,
     };
     let mut scripts = Vec::new(alloc);
     scripts.push(vec![in alloc; write, read]?)?;

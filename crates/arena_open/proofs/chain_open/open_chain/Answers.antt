@@ -23,7 +23,7 @@ out e = cc
 pub arenas-init : goal.arenas-init
 arenas-init g c =
     let start : SoFar (g.W.WordSpace.words c.args.space.now) c.args.fuse.now c.args.first c.args.parent.now (g.W.WordSpace.words c.args.space.now) c.args.fuse.now c.args.first [] =
-    starts (g.W.WordSpace.words c.args.space.now) c.args.fuse.now c.args.first c.args.parent.now c.requires.from c.requires.to c.requires.inside c.requires.settled in
+    starts (g.W.WordSpace.words c.args.space.now) c.args.fuse.now c.args.first c.args.parent.now c.requires.chain.from c.requires.chain.to c.requires.chain.inside c.requires.chain.settled in
     record {
       so_far = subst (λ (ss : List ArenaState). SoFar (g.W.WordSpace.words c.args.space.now) c.args.fuse.now c.args.first c.args.parent.now (g.W.WordSpace.words c.args.space.now) c.args.fuse.now c.args.first ss) (sym c.new-arenas.ensures.items) start;
       same = refl;
@@ -31,7 +31,7 @@ arenas-init g c =
 
 pub overflow_cast-arena : goal.overflow_cast-arena
 overflow_cast-arena g c =
-    omega (arith, c.len-arena.ensures ∙ c.arenas.arenas.ok.0, few (g.W.WordSpace.words c.args.space.now) c.args.fuse.now c.args.first c.args.parent.now (g.W.WordSpace.words c.arenas.space) c.arenas.fuse c.arenas.at c.arenas.arenas.items c.arenas.invariant.so_far, c.arenas.invariant.so_far.inside, c.requires.small)
+    omega (arith, c.len-arena.ensures ∙ c.arenas.arenas.ok.0, few (g.W.WordSpace.words c.args.space.now) c.args.fuse.now c.args.first c.args.parent.now (g.W.WordSpace.words c.arenas.space) c.arenas.fuse c.arenas.at c.arenas.arenas.items c.arenas.invariant.so_far, c.arenas.invariant.so_far.inside, c.requires.chain.small)
 
 pub returns-then-is_err-clause-made : goal.returns-then-is_err-clause-made
 returns-then-is_err-clause-made g c = λ memory. absurd (memory c.len-arena.result (ap (λ (f : ChainRefused). Err f) refl))
@@ -41,6 +41,17 @@ returns-then-is_err-clause-memory g c =
     λ k e. subst (λ (n : ℕ). RecoversFirst n (g.W.WordSpace.words c.args.space.now) (g.W.WordSpace.words c.arenas.space) c.args.fuse.now c.arenas.fuse c.args.parent.now c.args.first)
     (sym (c.len-arena.ensures ∙ c.arenas.arenas.ok.0) ∙ same_number (record { arena = c.len-arena.result; fault = open_refused.OutOfMemory }) (wants_memory k) e)
     (first_made (g.W.WordSpace.words c.args.space.now) c.args.fuse.now c.args.first c.args.parent.now (g.W.WordSpace.words c.arenas.space) c.arenas.fuse c.arenas.at c.arenas.arenas.items c.arenas.invariant.so_far)
+
+pub open_arena-requires : goal.open_arena-requires
+open_arena-requires g c =
+    let s = c.arenas.invariant.so_far in
+    record {
+      space = record {
+        inside = omega (arith, s.inside, s.count);
+        small = omega (arith, s.count, c.requires.chain.small);
+        settled = s.settled;
+      };
+    }
 
 pub push_reserved-requires : goal.push_reserved-requires
 push_reserved-requires g c =
@@ -57,7 +68,7 @@ new-requires g c =
     let same : c.from_vec.result ≡ c.arenas.arenas.items ++ c.in-Ok.state ∷ [] = c.from_vec.ensures ∙ states_are in
     subst AreOpen (sym same) (record {
       each = all_open (g.W.WordSpace.words c.args.space.now) c.args.fuse.now c.args.first c.args.parent.now (g.W.WordSpace.words c.arenas.space) c.arenas.fuse c.arenas.at c.arenas.arenas.items c.arenas.invariant.so_far (g.W.WordSpace.words c.open_arena.new.space) c.open_arena.new.fuse c.in-Ok.state o;
-      few = omega (arith, n, ap length states_are, few (g.W.WordSpace.words c.args.space.now) c.args.fuse.now c.args.first c.args.parent.now (g.W.WordSpace.words c.arenas.space) c.arenas.fuse c.arenas.at c.arenas.arenas.items c.arenas.invariant.so_far, c.arenas.invariant.so_far.inside, c.requires.small);
+      few = omega (arith, n, ap length states_are, few (g.W.WordSpace.words c.args.space.now) c.args.fuse.now c.args.first c.args.parent.now (g.W.WordSpace.words c.arenas.space) c.arenas.fuse c.arenas.at c.arenas.arenas.items c.arenas.invariant.so_far, c.arenas.invariant.so_far.inside, c.requires.chain.small);
     })
 
 pub returns-then-next-eq0-clause-answer : goal.returns-then-next-eq0-clause-answer
@@ -103,7 +114,7 @@ arenas-preserved g c =
     c.push_reserved.ensures.items ∙ ap (λ (ss : List ArenaState). ss ++ c.in-Ok.state ∷ []) c.reserve.ensures.items in
     record {
       so_far = subst (λ (ss : List ArenaState). SoFar (g.W.WordSpace.words c.args.space.now) c.args.fuse.now c.args.first c.args.parent.now (g.W.WordSpace.words c.open_arena.new.space) c.open_arena.new.fuse (c.arenas.at + c.in-Ok.state.info.next / 8) ss) (sym states_are)
-          (goes_on (g.W.WordSpace.words c.args.space.now) c.args.fuse.now c.args.first c.args.parent.now (g.W.WordSpace.words c.arenas.space) c.arenas.fuse c.arenas.at c.arenas.arenas.items c.arenas.invariant.so_far (g.W.WordSpace.words c.open_arena.new.space) c.open_arena.new.fuse c.in-Ok.state o c.if-next-eq0.false c.requires.to c.requires.from);
+          (goes_on (g.W.WordSpace.words c.args.space.now) c.args.fuse.now c.args.first c.args.parent.now (g.W.WordSpace.words c.arenas.space) c.arenas.fuse c.arenas.at c.arenas.arenas.items c.arenas.invariant.so_far (g.W.WordSpace.words c.open_arena.new.space) c.open_arena.new.fuse c.in-Ok.state o c.if-next-eq0.false c.requires.chain.to c.requires.chain.from);
       same = c.in-Ok.ensures.beside ∙ c.arenas.invariant.same;
     }
 

@@ -21,20 +21,20 @@ returns-clause-count g c =
 pub returns-clause-outside : goal.returns-clause-outside
 returns-clause-outside g c =
     keeps_outside (g.W.WordSpace.words c.args.space.now) (g.W.WordSpace.words c.write_areas.new.space) c.args.fuse.now c.write_areas.new.fuse
-    c.args.at c.args.layout.now (words_in c.info_block-block.result.bytes) (is_ok c.write_areas.result) c.requires.layout
-    (length_words c.info_block-block.result.bytes ∙ ap (λ (n : ℕ). n / 8) c.info_block-block.ensures.count) c.requires.settled c.write_areas.ensures.made
+    c.args.at c.args.layout.now (words_in c.info_block-block.result.bytes) (is_ok c.write_areas.result) c.requires.format.layout
+    (length_words c.info_block-block.result.bytes ∙ ap (λ (n : ℕ). n / 8) c.info_block-block.ensures.count) c.requires.format.settled c.write_areas.ensures.made
 
 pub returns-clause-settles : goal.returns-clause-settles
 returns-clause-settles g c =
     settles c.write_areas.result (g.W.WordSpace.words c.args.space.now) (g.W.WordSpace.words c.write_areas.new.space) c.args.fuse.now c.write_areas.new.fuse
     c.args.at c.args.layout.now c.info_block-block.result.bytes c.args.uuid.now c.args.parent.now
     (spells_new c.info_block-block.result.bytes c.new_info.result (new_info c.args.layout.now c.args.uuid.now c.args.parent.now) c.info_block-block.ensures.spelling
-    c.info_block-block.ensures.reads c.info_block-block.ensures.count c.info_block-block.ensures.fit c.new_info.ensures.info) c.requires.settled c.write_areas.ensures.made
+    c.info_block-block.ensures.reads c.info_block-block.ensures.count c.info_block-block.ensures.fit c.new_info.ensures.info) c.requires.format.settled c.write_areas.ensures.made
 
 pub returns-clause-opens : goal.returns-clause-opens
 returns-clause-opens g c =
     opens c.write_areas.result (g.W.WordSpace.words c.args.space.now) (g.W.WordSpace.words c.write_areas.new.space) c.args.fuse.now c.write_areas.new.fuse
     c.args.at c.args.layout.now c.info_block-block.result.bytes c.args.uuid.now c.args.parent.now
     (spells_new c.info_block-block.result.bytes c.new_info.result (new_info c.args.layout.now c.args.uuid.now c.args.parent.now) c.info_block-block.ensures.spelling
-    c.info_block-block.ensures.reads c.info_block-block.ensures.count c.info_block-block.ensures.fit c.new_info.ensures.info) c.requires.settled c.requires.layout c.requires.inside
+    c.info_block-block.ensures.reads c.info_block-block.ensures.count c.info_block-block.ensures.fit c.new_info.ensures.info) c.requires.format.settled c.requires.format.layout c.requires.format.inside
     c.write_areas.ensures.made

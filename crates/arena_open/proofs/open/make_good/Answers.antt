@@ -16,12 +16,12 @@ write_word-requires-clause-inside g c =
     (write_steps (take c.loop-half.half-index (shifted c.args.at (move_writes c.args.layout.now c.args.words.now c.args.moves.now)))) true c.loop-half.invariant.made in
     let there = move_inside c.args.layout.now (get_or c.args.moves.now c.loop-half.half-index no_half) c.requires.layout
     (c.requires.moves c.loop-half.half-index no_half (omega arith)).sector in
-    omega (arith, same, there, c.requires.inside, c.requires.copied, c.from.ensures)
+    omega (arith, same, there, c.requires.space.inside, c.requires.copied, c.from.ensures)
 
 pub write_word-requires-clause-settled : goal.write_word-requires-clause-settled
 write_word-requires-clause-settled g c =
     made_clear (g.W.WordSpace.words c.args.space.now) (g.W.WordSpace.words c.loop-half.space) c.args.fuse.now c.loop-half.fuse
-    (take c.loop-half.half-index (shifted c.args.at (move_writes c.args.layout.now c.args.words.now c.args.moves.now))) _ c.requires.settled c.loop-half.invariant.made
+    (take c.loop-half.half-index (shifted c.args.at (move_writes c.args.layout.now c.args.words.now c.args.moves.now))) _ c.requires.space.settled c.loop-half.invariant.made
 
 pub loop-half-preserved : goal.loop-half-preserved
 loop-half-preserved g c =

@@ -34,10 +34,14 @@ recover-requires-clause-few g c =
     let s : Sound (drop c.args.at (g.W.WordSpace.words c.args.space.now).kept) c.args.parent.now c.in_ok-opened.opened = sound (drop c.args.at (g.W.WordSpace.words c.args.space.now).kept) c.args.parent.now c.in_ok-opened.opened (sym (c.in_ok-opened.ensures (λ e. cc))) in
     s.few
 
-pub recover-requires-clause-inside : goal.recover-requires-clause-inside
-recover-requires-clause-inside g c =
+pub recover-requires-clause-space : goal.recover-requires-clause-space
+recover-requires-clause-space g c =
     let s : Sound (drop c.args.at (g.W.WordSpace.words c.args.space.now).kept) c.args.parent.now c.in_ok-opened.opened = sound (drop c.args.at (g.W.WordSpace.words c.args.space.now).kept) c.args.parent.now c.in_ok-opened.opened (sym (c.in_ok-opened.ensures (λ e. cc))) in
-    arena_inside (g.W.WordSpace.words c.args.space.now).kept c.args.parent.now c.args.at c.in_ok-opened.opened.info (omega (arith, c.requires.inside)) s.arena
+    record {
+      inside = arena_inside (g.W.WordSpace.words c.args.space.now).kept c.args.parent.now c.args.at c.in_ok-opened.opened.info (omega (arith, c.requires.space.inside)) s.arena;
+      small = c.requires.space.small;
+      settled = c.requires.space.settled;
+    }
 
 pub returns-clause-answer : goal.returns-clause-answer
 returns-clause-answer g c =
@@ -49,11 +53,11 @@ returns-clause-made g c =
     c.in_ok-opened.opened (is_ok c.recover.result) (sym (c.in_ok-opened.ensures (λ e. cc))) (c.recover.ensures.made not_memory)
 
 pub returns-clause-settles : goal.returns-clause-settles
-returns-clause-settles g c = settles (g.W.WordSpace.words c.args.space.now) (g.W.WordSpace.words c.recover.new.space) c.args.fuse.now c.recover.new.fuse c.args.at c.args.parent.now c.in_ok-opened.opened c.requires.settled (sym (c.in_ok-opened.ensures (λ e. cc))) c.recover.result c.recover.ensures.made
+returns-clause-settles g c = settles (g.W.WordSpace.words c.args.space.now) (g.W.WordSpace.words c.recover.new.space) c.args.fuse.now c.recover.new.fuse c.args.at c.args.parent.now c.in_ok-opened.opened c.requires.space.settled (sym (c.in_ok-opened.ensures (λ e. cc))) c.recover.result c.recover.ensures.made
 
 pub returns-clause-state : goal.returns-clause-state
 returns-clause-state g c =
     answered_state (lasts c.args.fuse.now (2 * length c.in_ok-opened.opened.moves)) (drop c.args.at (g.W.WordSpace.words c.args.space.now).kept) c.args.parent.now c.in_ok-opened.opened c.recover.result (sym (c.in_ok-opened.ensures (λ e. cc))) c.recover.ensures.answer
 
 pub returns-clause-again : goal.returns-clause-again
-returns-clause-again g c = again (g.W.WordSpace.words c.args.space.now) (g.W.WordSpace.words c.recover.new.space) c.args.fuse.now c.recover.new.fuse c.args.at c.args.parent.now c.in_ok-opened.opened c.requires.settled (sym (c.in_ok-opened.ensures (λ e. cc))) c.recover.result c.recover.ensures.made
+returns-clause-again g c = again (g.W.WordSpace.words c.args.space.now) (g.W.WordSpace.words c.recover.new.space) c.args.fuse.now c.recover.new.fuse c.args.at c.args.parent.now c.in_ok-opened.opened c.requires.space.settled (sym (c.in_ok-opened.ensures (λ e. cc))) c.recover.result c.recover.ensures.made

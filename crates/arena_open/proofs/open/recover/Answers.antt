@@ -1,9 +1,17 @@
-use Rattle.std.proofs.Common.{◌≡◌, ◌/◌, ◌∙◌, List, true, false, length, map, take, drop, ap}
+use Rattle.std.proofs.Common.{◌≡◌, ◌/◌, ◌∙◌, List, true, false, length, map, take, drop, ap, arith}
+use Rattle.std.proofs.lemmas.List.{length-drop, length-take-le}
 use Rattle.flog.specs.declared.group.Group.{Group}
 use Rattle.arena_open.specs.Moves.{lane_of, move_writes, state_of, recovered}
 use Rattle.arena_open.proofs.Written.{length_over}
 use Rattle.arena_open.proofs.Recovering.{written_back, steps_by, words_by, answers_cut, answers_state}
 use Rattle.arena_open.proofs.open.recover.Goals as goal
+
+pub make_good-requires-clause-space : goal.make_good-requires-clause-space
+make_good-requires-clause-space g c = record {
+  inside = omega (arith, c.requires.space.inside, ap length (c.deref_mut.ensures.value ∙ c.in-Ok-read_words.ensures), length-take-le (c.args.opened.info.layout.size / 8) (drop c.args.at (g.W.WordSpace.words c.args.space.now).kept) (omega (arith, c.requires.space.inside, length-drop c.args.at (g.W.WordSpace.words c.args.space.now).kept)));
+  small = c.requires.space.small;
+  settled = c.requires.space.settled;
+}
 
 pub returns-in-Ok-make_good-clause-made : goal.returns-in-Ok-make_good-clause-made
 returns-in-Ok-make_good-clause-made g c = λ not_memory. (steps_by c.args.at (drop c.args.at (g.W.WordSpace.words c.args.space.now).kept) c.args.opened c.requires.layout c.requires.moves (g.W.WordSpace.words c.args.space.now) (g.W.WordSpace.words c.make_good.new.space) c.args.fuse.now c.make_good.new.fuse c.deref_mut.result.now c.as_slice-moves.result.now true (c.deref_mut.ensures.value ∙ c.in-Ok-read_words.ensures) c.as_slice-moves.ensures c.in-Ok-make_good.ensures.made)

@@ -1,13 +1,23 @@
-use Rattle.std.proofs.Common.{◌≡◌, ◌+◌, ◌-◌, min, Ok, arith, ap, sym, ◌∙◌, subst}
+use Rattle.std.proofs.Common.{◌+◌, ◌-◌, min, Ok, arith, refl, sym, ◌∙◌, subst}
 use Rattle.image_set.specs.declared.fault.CopyStop.{CopyStop}
 use Rattle.image_set.specs.Outline.{CopiesRow}
 use Rattle.image_set.proofs.Copied.{row_as, row_ends, row_more}
 use Rattle.image_set.proofs.copying.copy_object.Goals as goal
 
-pub copy_piece-requires-in-loop-at-clause-end : goal.copy_piece-requires-in-loop-at-clause-end
-copy_piece-requires-in-loop-at-clause-end g c =
-    row_ends (g.S.ImageSource.held c.args.images.now) c.args.object c.loop-at.at (g.K.ImageSink.made c.args.out.now) (g.K.ImageSink.made c.loop-at.out)
-    (g.K.ImageSink.kept c.args.out.now) (g.K.ImageSink.kept c.loop-at.out) c.loop-at.at c.requires.absent c.loop-at.invariant.copied
+pub copy_piece-requires-clause-part : goal.copy_piece-requires-clause-part
+copy_piece-requires-clause-part g c = record {
+  within = omega arith;
+  there = c.requires.there;
+  end = λ set told. sym (rw (c.requires.absent set told) refl);
+}
+
+pub copy_piece-requires-in-loop-at-clause-part : goal.copy_piece-requires-in-loop-at-clause-part
+copy_piece-requires-in-loop-at-clause-part g c = record {
+  within = c.loop-at.invariant.within;
+  there = λ set told. c.requires.there set (sym c.loop-at.invariant.same ∙ told);
+  end = row_ends (g.S.ImageSource.held c.args.images.now) c.args.object c.loop-at.at (g.K.ImageSink.made c.args.out.now) (g.K.ImageSink.made c.loop-at.out)
+      (g.K.ImageSink.kept c.args.out.now) (g.K.ImageSink.kept c.loop-at.out) c.loop-at.at c.requires.absent c.loop-at.invariant.copied;
+}
 
 pub loop-at-preserved : goal.loop-at-preserved
 loop-at-preserved g c =
@@ -22,9 +32,9 @@ loop-at-preserved g c =
     record {
       within = let n = c.in_ok-at-2.ensures.next in let w = c.loop-at.invariant.within in omega (arith, n, w);
       room = c.in_ok-at-2.ensures.room;
-      same = c.in_ok-at-2.ensures.same ∙ c.loop-at.invariant.same;
-      later_read = let a = c.in_ok-at-2.ensures.later_read in let b = c.loop-at.invariant.later_read in omega arith;
-      later_written = let a = c.in_ok-at-2.ensures.later_written in let b = c.loop-at.invariant.later_written in omega arith;
+      same = c.in_ok-at-2.ensures.outside.same ∙ c.loop-at.invariant.same;
+      later_read = let a = c.in_ok-at-2.ensures.outside.later_read in let b = c.loop-at.invariant.later_read in omega arith;
+      later_written = let a = c.in_ok-at-2.ensures.outside.later_written in let b = c.loop-at.invariant.later_written in omega arith;
       copied = row_as (held c.args.images.now) c.args.object (at + count) next (made c.args.out.now) (made out) (kept c.args.out.now) (kept out) next next (sym c.in_ok-at-2.ensures.next)
           (row_more (held c.args.images.now) c.args.object at count (made c.args.out.now) (made c.loop-at.out) (made out) (kept c.args.out.now) (kept c.loop-at.out) (kept out) at (Ok next)
           c.loop-at.invariant.copied

@@ -71,9 +71,9 @@ loop-module-preserved g c =
     record {
       spelling = c.in_ok-copy_module.ensures.spelling;
       room = c.in_ok-copy_module.ensures.room;
-      same = c.in_ok-copy_module.ensures.same ∙ c.loop-module.invariant.same;
-      later_read = let a = c.in_ok-copy_module.ensures.later_read in let b = c.loop-module.invariant.later_read in omega arith;
-      later_written = let a = c.in_ok-copy_module.ensures.later_written in let b = c.loop-module.invariant.later_written in omega arith;
+      same = c.in_ok-copy_module.ensures.outside.same ∙ c.loop-module.invariant.same;
+      later_read = let a = c.in_ok-copy_module.ensures.outside.later_read in let b = c.loop-module.invariant.later_read in omega arith;
+      later_written = let a = c.in_ok-copy_module.ensures.outside.later_written in let b = c.loop-module.invariant.later_written in omega arith;
       copied = front_more {F = CopyStop} (held c.args.images.now) left m (option_map bytes_of area) count ranges
           (made c.args.out.now) (made c.loop-module.out) (made out) (kept c.args.out.now) (kept c.loop-module.out) (kept out) (tt {0}) (Ok (tt {0})) inside
           (ap (option_map bytes_of) area_is) (ap (λ xs. get_or xs m 0) c.as_slice-sizes.ensures) ranges_is c.loop-module.invariant.copied

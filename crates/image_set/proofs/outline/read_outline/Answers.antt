@@ -1,4 +1,4 @@
-use Rattle.std.proofs.Common.{◌≡◌, ℕ, length, map, sym, ap, ◌∙◌, arith}
+use Rattle.std.proofs.Common.{◌≡◌, ℕ, length, map, refl, sym, ap, ◌∙◌, arith}
 use Rattle.std.specs.List.{range_with_len}
 use Rattle.std.proofs.lemmas.List.{length-map}
 use Rattle.std.proofs.lemmas.Simd.{map-map}
@@ -9,21 +9,30 @@ use Rattle.image_set.specs.declared.sizes.Sizes.{Sizes}
 use Rattle.image_set.specs.Sizes.{contents_of}
 use Rattle.image_set.proofs.Chain.{outline_is}
 use Rattle.image_set.proofs.Counting.{contents_by}
+use Rattle.image_set.proofs.Filled.{known_still}
 use Rattle.image_set.proofs.outline.read_outline.Goals as goal
+
+pub read_areas-requires-clause-known : goal.read_areas-requires-clause-known
+read_areas-requires-clause-known g c = known_still (g.S.ImageSource.held c.args.images.now) _ c.args.nfit c.args.nfit_bytes.items c.args.sizes.now c.requires.checked refl
+
+pub read_bad-requires : goal.read_bad-requires
+read_bad-requires g c = record {
+  known = known_still (g.S.ImageSource.held c.args.images.now) _ c.args.nfit c.args.nfit_bytes.items c.args.sizes.now c.requires.checked c.read_areas.ensures.source.same;
+}
 
 pub returns-clause-told : goal.returns-clause-told
 returns-clause-told g c = λ set told.
     let long : length c.in_ok-of_contents.of_contents ≡ length c.args.sizes.now = ap length c.in_ok-of_contents.ensures ∙ length-map c.args.sizes.now (λ (s : Sizes). s.contents) in
-    outline_is set c.args.nfit (length c.args.sizes.now) (length c.in_ok-of_contents.of_contents) c.from_vec.result c.in_ok-labels.labels c.in_ok-of_contents.of_contents c.in_ok-bad.bad c.requires.count long
-    (c.from_vec.ensures ∙ c.requires.read set told)
+    outline_is set c.args.nfit (length c.args.sizes.now) (length c.in_ok-of_contents.of_contents) c.from_vec.result c.in_ok-labels.labels c.in_ok-of_contents.of_contents c.in_ok-bad.bad c.requires.checked.count long
+    (c.from_vec.ensures ∙ c.requires.checked.read set told)
     (c.in_ok-labels.ensures.told set told)
-    (c.in_ok-bad.ensures.told set (c.read_areas.ensures.same ∙ told))
+    (c.in_ok-bad.ensures.told set (c.read_areas.ensures.source.same ∙ told))
 
 pub returns-clause-sizes : goal.returns-clause-sizes
 returns-clause-sizes g c = λ set told.
     let sizes = c.args.sizes.now in
     let long : length c.in_ok-of_contents.of_contents ≡ length sizes = ap length c.in_ok-of_contents.ensures ∙ length-map sizes (λ (s : Sizes). s.contents) in
-    c.in_ok-of_contents.ensures ∙ ap contents_of (c.requires.there set told) ∙ contents_by set (range_with_len 0 (length sizes))
+    c.in_ok-of_contents.ensures ∙ ap contents_of (c.requires.checked.there set told) ∙ contents_by set (range_with_len 0 (length sizes))
     ∙ sym (map-map (λ row. length row) (λ (k : ℕ). bytes_of set (object.Contents k)) (range_with_len 0 (length sizes)))
     ∙ ap (λ n. map (λ row. length row) (map (λ (k : ℕ). bytes_of set (object.Contents k)) (range_with_len 0 n))) (sym long)
 
@@ -31,11 +40,11 @@ pub returns-clause-sound : goal.returns-clause-sound
 returns-clause-sound g c =
     let long : length c.in_ok-of_contents.of_contents ≡ length c.args.sizes.now = ap length c.in_ok-of_contents.ensures ∙ length-map c.args.sizes.now (λ (s : Sizes). s.contents) in
     record {
-      table = ap nfit_reading c.from_vec.ensures ∙ c.requires.table;
-      counted = c.requires.counted;
-      regions = c.requires.regions;
+      table = ap nfit_reading c.from_vec.ensures ∙ c.requires.checked.table;
+      counted = c.requires.checked.counted;
+      regions = c.requires.checked.few;
       labels = c.in_ok-labels.ensures.count ∙ sym long;
       bad = c.in_ok-bad.ensures.count ∙ sym long;
-      few = let f = c.requires.modules.few in let n = c.requires.count in omega arith;
+      few = let f = c.requires.checked.modules.few in let n = c.requires.checked.count in omega arith;
       areas = c.in_ok-labels.ensures.sound;
     }

@@ -14,4 +14,4 @@ returns-in_ok-read_object-in-Some-clause-told g c = λ set told.
 pub returns-in_ok-read_object-in-Some-clause-sound : goal.returns-in_ok-read_object-in-Some-clause-sound
 returns-in_ok-read_object-in-Some-clause-sound g c =
     area_sound c.in_ok-read_object-in-Some.field-0 c.in-Some.bytes c.in_ok-read_object-in-Some.ensures.count (c.requires.sized c.in-Some.bytes c.in-Some.is)
-    c.in_ok-read_object-in-Some.ensures.kept c.in_ok-read_object-in-Some.ensures.fit
+    c.in_ok-read_object-in-Some.ensures.settled.kept c.in_ok-read_object-in-Some.ensures.settled.fit

@@ -17,16 +17,16 @@ none = record { labels = None; contents = 0; bad = None }
 
 pub read_area-requires-clause-sized : goal.read_area-requires-clause-sized
 read_area-requires-clause-sized g c =
-    (All-get_or IsSized c.args.sizes.now c.loop-module.module none (omega arith) c.requires.sized).labels
+    (All-get_or IsSized c.args.sizes.now c.loop-module.module none (omega arith) c.requires.known.sized).labels
 
 pub read_area-requires-clause-there : goal.read_area-requires-clause-there
 read_area-requires-clause-there g c = λ set told.
-    ap (λ (s : Sizes). s.labels) (sizes_at set c.args.sizes.now c.loop-module.module none (c.requires.there set (sym c.loop-module.invariant.same ∙ told)) (omega arith))
+    ap (λ (s : Sizes). s.labels) (sizes_at set c.args.sizes.now c.loop-module.module none (c.requires.known.there set (sym c.loop-module.invariant.same ∙ told)) (omega arith))
 
 pub loop-module-preserved : goal.loop-module-preserved
 loop-module-preserved g c = record {
-  same = c.read_area.ensures.same ∙ c.loop-module.invariant.same;
-  later = let a = c.read_area.ensures.later in let b = c.loop-module.invariant.later in omega arith;
+  same = c.read_area.ensures.source.same ∙ c.loop-module.invariant.same;
+  later = let a = c.read_area.ensures.source.later in let b = c.loop-module.invariant.later in omega arith;
   within = omega arith;
   room = c.read_area.ensures.room;
   count = ap length c.in_ok-push.ensures.ok ∙ length-append c.loop-module.areas (c.in_ok-area.area ∷ []) ∙ (let a = c.loop-module.invariant.count in omega arith);

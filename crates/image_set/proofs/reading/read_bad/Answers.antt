@@ -14,12 +14,12 @@ none = record { labels = None; contents = 0; bad = None }
 
 pub read_ranges-requires-clause-there : goal.read_ranges-requires-clause-there
 read_ranges-requires-clause-there g c = λ set told.
-    ap (λ (s : Sizes). s.bad) (sizes_at set c.args.sizes.now c.loop-module.module none (c.requires.there set (sym c.loop-module.invariant.same ∙ told)) (omega arith))
+    ap (λ (s : Sizes). s.bad) (sizes_at set c.args.sizes.now c.loop-module.module none (c.requires.known.there set (sym c.loop-module.invariant.same ∙ told)) (omega arith))
 
 pub loop-module-preserved : goal.loop-module-preserved
 loop-module-preserved g c = record {
-  same = c.read_ranges.ensures.same ∙ c.loop-module.invariant.same;
-  later = let a = c.read_ranges.ensures.later in let b = c.loop-module.invariant.later in omega arith;
+  same = c.read_ranges.ensures.source.same ∙ c.loop-module.invariant.same;
+  later = let a = c.read_ranges.ensures.source.later in let b = c.loop-module.invariant.later in omega arith;
   within = omega arith;
   count = ap length c.in_ok-push.ensures.ok ∙ length-append c.loop-module.bad (c.in_ok-ranges.ranges ∷ []) ∙ (let a = c.loop-module.invariant.count in omega arith);
   sound = subst (All IsBadRanges) (sym c.in_ok-push.ensures.ok) (All-append IsBadRanges c.loop-module.bad (c.in_ok-ranges.ranges ∷ []) c.loop-module.invariant.sound

@@ -16,19 +16,19 @@ none = record { labels = None; contents = 0; bad = None }
 
 pub read_object-requires-clause-there : goal.read_object-requires-clause-there
 read_object-requires-clause-there g c = λ set told.
-    sym (ap (λ (s : Sizes). s.contents) (sizes_at set c.args.sizes.now c.loop-module.module none (c.requires.there set (sym c.loop-module.invariant.same ∙ told)) (omega arith)))
+    sym (ap (λ (s : Sizes). s.contents) (sizes_at set c.args.sizes.now c.loop-module.module none (c.requires.known.there set (sym c.loop-module.invariant.same ∙ told)) (omega arith)))
 
 pub loop-module-preserved : goal.loop-module-preserved
 loop-module-preserved g c = record {
-  same = c.read_object.ensures.same ∙ c.loop-module.invariant.same;
-  later = let a = c.read_object.ensures.later in let b = c.loop-module.invariant.later in omega arith;
+  same = c.read_object.ensures.source.same ∙ c.loop-module.invariant.same;
+  later = let a = c.read_object.ensures.source.later in let b = c.loop-module.invariant.later in omega arith;
   within = omega arith;
   room = c.read_object.ensures.room;
   sizes = ap (map size_of) c.in_ok-push.ensures.ok
       ∙ contents_on c.args.sizes.now c.loop-module.contents c.in_ok-words.words c.loop-module.module none c.loop-module.invariant.sizes (omega arith) c.in_ok-words.ensures.count;
   sound = subst (All IsContents) (sym c.in_ok-push.ensures.ok) (All-append IsContents c.loop-module.contents (c.in_ok-words.words ∷ []) c.loop-module.invariant.sound
       (all_one IsContents c.in_ok-words.words (contents_sound c.in_ok-words.words (get_or c.args.sizes.now c.loop-module.module none)
-      (All-get_or IsSized c.args.sizes.now c.loop-module.module none (omega arith) c.requires.sized) c.in_ok-words.ensures.count c.in_ok-words.ensures.kept c.in_ok-words.ensures.fit)));
+      (All-get_or IsSized c.args.sizes.now c.loop-module.module none (omega arith) c.requires.known.sized) c.in_ok-words.ensures.count c.in_ok-words.ensures.settled.kept c.in_ok-words.ensures.settled.fit)));
   told = λ set told.
       ap (map bytes_kept) c.in_ok-push.ensures.ok
       ∙ map_on bytes_kept (λ (m : ℕ). bytes_of set (object.Contents m)) c.loop-module.contents c.in_ok-words.words c.loop-module.module (c.loop-module.invariant.told set told)

@@ -12,8 +12,8 @@ loop-module-init g c = record {
 
 pub loop-module-preserved : goal.loop-module-preserved
 loop-module-preserved g c = record {
-  same = c.module_sizes.ensures.same ∙ c.loop-module.invariant.same;
-  later = let a = c.module_sizes.ensures.later in let b = c.loop-module.invariant.later in omega arith;
+  same = c.module_sizes.ensures.source.same ∙ c.loop-module.invariant.same;
+  later = let a = c.module_sizes.ensures.source.later in let b = c.loop-module.invariant.later in omega arith;
   counted = subst (λ all. Counted (g.S.ImageSource.held c.args.images.now) all (c.loop-module.before + c.in_ok-sizes.sizes.contents) (c.loop-module.module + 1) c.args.count)
       (sym c.in_ok-push.ensures.ok)
       (counted_on _ (g.S.ImageSource.held c.loop-module.images) c.loop-module.all c.loop-module.before c.loop-module.module c.args.count c.in_ok-sizes.sizes c.module_sizes.result

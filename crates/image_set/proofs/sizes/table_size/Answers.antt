@@ -15,4 +15,4 @@ pub returns-clause-told : goal.returns-clause-told
 unfolding table_fault
 returns-clause-told g c = λ set told no_read no_memory.
     goes_on _ _ _ _ _ c.find_mark.result c.find_table.result c.in_ok-find_mark.was (c.find_mark.ensures.told set told)
-    (last _ _ c.find_table.result (c.find_table.ensures.told set (c.find_mark.ensures.same ∙ told) no_read no_memory))
+    (last _ _ c.find_table.result (c.find_table.ensures.told set (c.find_mark.ensures.source.same ∙ told) no_read no_memory))

@@ -14,4 +14,4 @@ returns-clause-made g c =
 pub write_block-requires-clause-settled : goal.write_block-requires-clause-settled
 write_block-requires-clause-settled g c =
     run_leaves (g.W.WordSpace.words c.args.words.now) (g.W.WordSpace.words c.write_from.new.words) c.args.fuse.now c.write_from.new.fuse
-    c.args.label_at c.args.label.now c.args.block_at (length c.args.block.now) c.in_ok-write_from.ensures.made c.requires.block_settled
+    c.args.label_at c.args.label.now c.args.block_at (length c.args.block.now) c.in_ok-write_from.ensures.made c.requires.change.block_settled

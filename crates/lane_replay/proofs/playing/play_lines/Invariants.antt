@@ -1,6 +1,6 @@
 use Rattle.std.proofs.Common.{◌≡◌, ◌+◌, length}
 use Rattle.lane_core.specs.Held.{held_by}
-use Rattle.lane_replay.specs.Keeping.{Keeps}
+use Rattle.lane_core.specs.Keeping.{Keeps}
 use Rattle.lane_replay.specs.Playing.{played_all, replayed}
 use Rattle.lane_replay.specs.Steps.{and_text}
 use Rattle.lane_replay.proofs.playing.play_lines.Given as goal

@@ -1,5 +1,5 @@
 use Rattle.lane_core.specs.Held.{held_by}
-use Rattle.lane_replay.specs.Keeping.{Keeps}
+use Rattle.lane_core.specs.Keeping.{Keeps}
 use Rattle.lane_replay.proofs.Rounds.{IsAt}
 use Rattle.lane_replay.proofs.scanning.scan_round.Given as goal
 

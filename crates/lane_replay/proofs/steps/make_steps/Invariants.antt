@@ -1,6 +1,6 @@
 use Rattle.std.proofs.Common.{◌≡◌, false}
 use Rattle.lane_core.specs.Held.{held_by}
-use Rattle.lane_replay.specs.Keeping.{Keeps}
+use Rattle.lane_core.specs.Keeping.{Keeps}
 use Rattle.lane_replay.specs.Steps.{and_text, steps}
 use Rattle.lane_replay.proofs.steps.make_steps.Given as goal
 

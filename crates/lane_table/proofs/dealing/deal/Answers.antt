@@ -1,6 +1,6 @@
 use Rattle.std.proofs.Common.{◌<◌, length, ap, sym, ◌∙◌, subst, arith}
 use lib.ListN.{get_elem?}
-use Rattle.lane_table.specs.Begun.{state_at, IsFresh}
+use Rattle.lane_table.specs.Begun.{lane_at, IsFresh}
 use Rattle.lane_table.specs.Law.{opening_of, words_of, keeper}
 use Rattle.lane_table.proofs.Dealt.{waits, splits_as, seat_is, dealer_is, new_seat, fresh, fresh_push, count_push}
 use Rattle.lane_table.proofs.dealing.deal.Goals as goal
@@ -19,7 +19,7 @@ seated-requires c =
     let lt : c.loop-number.number < k.shape.lanes = omega (arith, c.loop-number-test.true, ap length c.requires.lanes, c.requires.arena.count) in
     new_seat k c.loop-number.number _ c.split_seat-seat.result.me c.requires.arena lt
     (seat_is c.split_seat-seat.result.me c.loop-number.dealer.me _ _ _ c.split_seat-seat.ensures.4 i.dealer (waits k c.loop-number.number k.shape.lanes lt))
-    (ap (λ ls. state_at ls c.loop-number.number) c.requires.lanes)
+    (ap (λ ls. lane_at ls c.loop-number.number) c.requires.lanes)
 
 pub loop-number-preserved : goal.loop-number-preserved
 loop-number-preserved c =

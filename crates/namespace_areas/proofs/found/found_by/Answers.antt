@@ -1,6 +1,6 @@
 use Rattle.std.proofs.Common.{ℕ, ◌∙◌, Ok, ap, sym, subst}
 use Rattle.namespace_map.specs.Commands.{is_complete, is_sector}
-use Rattle.namespace_areas.specs.Finding.{LiesIn}
+use Rattle.namespace_areas.specs.Finding.{LiesInSet}
 use Rattle.namespace_areas.proofs.Finding.{found_with, lies_with, sector_is}
 use Rattle.namespace_areas.proofs.found.found_by.Goals as goal
 
@@ -12,7 +12,7 @@ returns-clause-found c =
 
 pub returns-clause-lies : goal.returns-clause-lies
 returns-clause-lies c =
-    subst (λ (offset : ℕ). LiesIn c.args.sets.now (record { region = c.in-Some-region_of.region; offset = offset; raw = c.in-Some.first.now.label.raw; mode = c.mode-mode.result }))
+    subst (λ (offset : ℕ). LiesInSet c.args.sets.now (record { region = c.in-Some-region_of.region; offset = offset; raw = c.in-Some.first.now.label.raw; mode = c.mode-mode.result }))
     (sym c.relative.ensures)
     (lies_with c.args.sets.now c.in-Some-region_of.region c.in-Some-region_of.set.now c.args.labels.now c.in-Some.first.now c.in-Some.ensures.value c.in-Some-region_of.ensures
     (c.if-not-is_complete.ensures ∙ ap is_complete c.status.ensures) c.mode-mode.result)

@@ -7,13 +7,14 @@ use Rattle.arena_open.proofs.Apart.{ordered}
 use Rattle.arena_open.proofs.Bytes.{length_words}
 use Rattle.namespace_bytes.proofs.One.{block_inside}
 use Rattle.namespace_bytes.proofs.Sizes.{eights}
+use Rattle.power_cut.specs.Namespace.{words_of}
 use Rattle.namespace_bytes.proofs.putting.put_sector.Goals as goal
 
 pub put_bytes-requires-clause-whole : goal.put_bytes-requires-clause-whole
-put_bytes-requires-clause-whole g c = ap (λ (n : ℕ). n % 8) c.requires.piece.fits ∙ eights c.args.layout.now.sector c.requires.room.layout.sector
+put_bytes-requires-clause-whole c = ap (λ (n : ℕ). n % 8) c.requires.piece.fits ∙ eights c.args.layout.now.sector c.requires.room.layout.sector
 
 pub put_bytes-requires-clause-inside : goal.put_bytes-requires-clause-inside
-put_bytes-requires-clause-inside g c =
+put_bytes-requires-clause-inside c =
     let product : c.from.result * (c.from-2.result / 8) ≡ c.args.block * (c.args.layout.now.inner / 8) = (λ i. c.from.ensures i * (c.from-2.ensures i / 8)) in
     omega (
       arith,
@@ -26,11 +27,11 @@ put_bytes-requires-clause-inside g c =
     )
 
 pub put_entry-requires-clause-room : goal.put_entry-requires-clause-room
-put_entry-requires-clause-room g c =
+put_entry-requires-clause-room c =
     let product : c.from.result * (c.from-2.result / 8) ≡ c.args.block * (c.args.layout.now.inner / 8) = (λ i. c.from.ensures i * (c.from-2.ensures i / 8)) in
-    let long : length (g.W.WordSpace.words c.put_bytes.new.space).kept ≡ length (g.W.WordSpace.words c.args.space.now).kept =
+    let long : length (words_of c.put_bytes.new.space).kept ≡ length (words_of c.args.space.now).kept =
     ap (λ (w : Words). length w.kept) c.put_bytes.ensures.put
-    ∙ length_put (g.W.WordSpace.words c.args.space.now).kept _ (words_in c.args.bytes.now) (omega (
+    ∙ length_put (words_of c.args.space.now).kept _ (words_in c.args.bytes.now) (omega (
       arith,
       product,
       block_inside c.args.at c.args.layout.now c.args.block c.requires.room.layout c.requires.piece.named,
@@ -44,5 +45,5 @@ put_entry-requires-clause-room g c =
       layout = c.requires.room.layout;
       inside = omega (arith, long, c.requires.room.inside);
       small = omega (arith, long, c.requires.room.small);
-      settled = settled_at (g.W.WordSpace.words c.put_bytes.new.space) _ c.put_bytes.ensures.put;
+      settled = settled_at (words_of c.put_bytes.new.space) _ c.put_bytes.ensures.put;
     }

@@ -13,17 +13,17 @@ of-space-requires-clause-reach c =
     let rows_are : c.replace-rows.result.items ≡ c.args.modules.now.items = λ i. (c.replace-rows.ensures.value i).items in
     subst (λ (rows : List Words). ReachEnds c.args.set.now rows) (sym rows_are) c.requires.reach
 
-pub format_arena-formatted-requires-clause-inside : goal.format_arena-formatted-requires-clause-inside
-format_arena-formatted-requires-clause-inside c =
+pub format_arena-formatted-requires : goal.format_arena-formatted-requires
+format_arena-formatted-requires c =
     let rows_are : c.replace-rows.result.items ≡ c.args.modules.now.items = λ i. (c.replace-rows.ensures.value i).items in
     let space_is : c.of-space.result ≡ over c.args.set.now c.args.place.offset c.args.place.raw c.args.modules.now.items = c.of-space.ensures.made ∙ (λ i. over c.args.set.now c.args.place.offset c.args.place.raw (rows_are i)) in
-    omega (arith, c.first_arena-first.ensures, c.requires.room, count_is c.of-space.result, ap (λ (n : Namespace). count_of n) space_is)
-
-pub format_arena-formatted-requires-clause-settled : goal.format_arena-formatted-requires-clause-settled
-format_arena-formatted-requires-clause-settled c =
-    let rows_are : c.replace-rows.result.items ≡ c.args.modules.now.items = λ i. (c.replace-rows.ensures.value i).items in
-    let space_is : c.of-space.result ≡ over c.args.set.now c.args.place.offset c.args.place.raw c.args.modules.now.items = c.of-space.ensures.made ∙ (λ i. over c.args.set.now c.args.place.offset c.args.place.raw (rows_are i)) in
-    subst (λ (n : Namespace). IsSettled (words_of n)) (sym space_is) (view_settled (over c.args.set.now c.args.place.offset c.args.place.raw c.args.modules.now.items) c.requires.settled)
+    record {
+      format = record {
+        layout = c.requires.layout;
+        inside = omega (arith, c.first_arena-first.ensures, c.requires.room, count_is c.of-space.result, ap (λ (n : Namespace). count_of n) space_is);
+        settled = subst (λ (n : Namespace). IsSettled (words_of n)) (sym space_is) (view_settled (over c.args.set.now c.args.place.offset c.args.place.raw c.args.modules.now.items) c.requires.settled);
+      };
+    }
 
 pub returns : goal.returns
 returns c =

@@ -23,7 +23,7 @@ loop-preserved g c =
       call = o.call ∙ i.call;
       stopped = keeps_again c.args.caller.now.switch c.loop.caller.switch c.may_step.new.caller.switch i.stopped (c.if-not-may_step.ensures.yes refl).1;
       whole = λ e. o.whole (i.whole e);
-      calling = λ m e. calling.read_went (number_of c.args.pass.now) c.args.caller.now.call c.in-Ok-Some.lane c.args.sector m c.args.caller.now.left c.loop.caller.left c.may_step.new.caller.left c.loop.pass c.step_in_turn.new.pass (i.calling m e) (c.if-not-may_step.ensures.yes refl).0 c.in-Went.ensures.step;
+      calling = λ m e. calling.read_went (number_of c.args.pass.now) c.args.caller.now.call c.in-Ok-Some.lane c.args.sector m c.args.caller.now.left c.loop.caller.left c.may_step.new.caller.left c.loop.pass c.step_in_turn.new.pass c.in-Went.field-0 (i.calling m e) (c.if-not-may_step.ensures.yes refl).0 c.in-Went.ensures.step;
     }
 
 pub returns-in-Got-clause-done : goal.returns-in-Got-clause-done

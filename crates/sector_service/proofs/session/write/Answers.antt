@@ -9,23 +9,20 @@ use Rattle.sector_service.specs.Calls.{IsStopped, answered}
 use Rattle.sector_service.proofs.Sessions.{know_at, know_set}
 use Rattle.sector_service.proofs.session.write.Goals as goal
 
-pub write_at-wrote-requires-clause-outside : goal.write_at-wrote-requires-clause-outside
-write_at-wrote-requires-clause-outside g c =
+pub write_at-wrote-requires : goal.write_at-wrote-requires
+write_at-wrote-requires g c =
     let locks = map lock_id c.args.turns.now in
     let t = c.index-turns-place.result in
     let ps = c.args.session.now.passes.items in
     let inside : c.args.place < length locks = omega (arith, length-map c.args.turns.now lock_id, c.requires.place) in
-    let k = know_at locks c.args.session.now.number c.requires.may.0 ps c.args.place c.index_mut-pass.result.now (lock_id t) c.requires.may.1 inside (lock_at c.args.turns.now c.args.place t (lock_id t) c.requires.place c.index-turns-place.is) c.index_mut-pass.ensures.value in
-    (k.0, k.2)
-
-pub write_at-wrote-requires-clause-may : goal.write_at-wrote-requires-clause-may
-write_at-wrote-requires-clause-may g c =
-    let locks = map lock_id c.args.turns.now in
-    let t = c.index-turns-place.result in
-    let ps = c.args.session.now.passes.items in
-    let inside : c.args.place < length locks = omega (arith, length-map c.args.turns.now lock_id, c.requires.place) in
-    let k = know_at locks c.args.session.now.number c.requires.may.0 ps c.args.place c.index_mut-pass.result.now (lock_id t) c.requires.may.1 inside (lock_at c.args.turns.now c.args.place t (lock_id t) c.requires.place c.index-turns-place.is) c.index_mut-pass.ensures.value in
-    (c.requires.may.0 c.args.place, k.3, c.requires.may.2)
+    let k = know_at locks c.args.session.now.number c.requires.may.0 ps c.args.place c.index_mut-pass.result.now (lock_id t) c.requires.may.1 inside (lock_at c.args.turns.now c.args.place t (lock_id t) c.requires.place c.index-turns-place.is) c.index_mut-pass.ensures.value in (
+      c.type_bounds.sync-G,
+      record {
+        outside = (k.0, k.2);
+        may = (c.requires.may.0 c.args.place, k.3, c.requires.may.2);
+        can_ask = c.requires.can_ask;
+      },
+    )
 
 pub returns-clause-done : goal.returns-clause-done
 returns-clause-done g c = λ is parts row.
@@ -37,7 +34,7 @@ returns-clause-done g c = λ is parts row.
     let lock_is = λ (e : TableId). lock_at c.args.turns.now c.args.place t e c.requires.place c.index-turns-place.is in
     let k = know_at locks q parts ps c.args.place c.index_mut-pass.result.now (lock_id t) row inside (lock_is (lock_id t)) c.index_mut-pass.ensures.value in
     let w = c.write_at-wrote.ensures in
-    know_set locks q parts ps c.args.place c.write_at-wrote.new.pass (lock_id t) (answered (stand_at c.args.session.now.caller.call c.args.sector (act.Write c.args.words.now)) (parts c.args.place)) row inside lock_is (w.pass.0.0 ∙ k.0) (w.pass.0.1 ∙ k.1) w.pass.1 (w.done is (parts c.args.place) k.3)
+    know_set locks q parts ps c.args.place c.write_at-wrote.new.pass (lock_id t) (answered (stand_at c.args.session.now.caller.call c.args.sector (act.Write c.args.words.now)) (parts c.args.place)) row inside lock_is (w.same.pass.0.0 ∙ k.0) (w.same.pass.0.1 ∙ k.1) w.same.pass.1 (w.done is (parts c.args.place) k.3)
 
 pub returns-clause-paid : goal.returns-clause-paid
 returns-clause-paid g c = λ is parts row.
@@ -64,7 +61,7 @@ returns-clause-cut g c = λ is parts row.
     let s = w.cut is (parts c.args.place) k.3 in (
       s.0,
       subst (λ (n : ℕ). IsStopped n c.args.session.now.caller.call c.args.sector c.args.words.now (parts c.args.place) s.0) k.1 s.2,
-      know_set locks q parts ps c.args.place c.write_at-wrote.new.pass (lock_id t) s.0 row inside lock_is (w.pass.0.0 ∙ k.0) (w.pass.0.1 ∙ k.1) w.pass.1 s.1,
+      know_set locks q parts ps c.args.place c.write_at-wrote.new.pass (lock_id t) s.0 row inside lock_is (w.same.pass.0.0 ∙ k.0) (w.same.pass.0.1 ∙ k.1) w.same.pass.1 s.1,
     )
 
 pub returns-clause-refused : goal.returns-clause-refused
@@ -77,4 +74,4 @@ returns-clause-refused g c = λ is parts row.
     let lock_is = λ (e : TableId). lock_at c.args.turns.now c.args.place t e c.requires.place c.index-turns-place.is in
     let k = know_at locks q parts ps c.args.place c.index_mut-pass.result.now (lock_id t) row inside (lock_is (lock_id t)) c.index_mut-pass.ensures.value in
     let w = c.write_at-wrote.ensures in
-    know_set locks q parts ps c.args.place c.write_at-wrote.new.pass (lock_id t) (parts c.args.place) row inside lock_is (w.pass.0.0 ∙ k.0) (w.pass.0.1 ∙ k.1) w.pass.1 (w.refused is ∙ k.3)
+    know_set locks q parts ps c.args.place c.write_at-wrote.new.pass (lock_id t) (parts c.args.place) row inside lock_is (w.same.pass.0.0 ∙ k.0) (w.same.pass.0.1 ∙ k.1) w.same.pass.1 (w.refused is ∙ k.3)

@@ -23,17 +23,26 @@ returns-then-count-eq0-clause-refused c = λ f e finding.
     (ap (λ (n : Namespace). length (words_of n).kept) (sym c.of-words.ensures.made) ∙ sym c.count.ensures ∙ c.if-count-eq0.true)
     ∙ ap (λ (r : ChainRefused). Err r) (sym c.no_block.ensures ∙ same)
 
-pub open_chain-requires-clause-to : goal.open_chain-requires-clause-to
-open_chain-requires-clause-to c =
-    ap (λ (n : ℕ). n % 512) (ap (λ (n : Namespace). length (words_of n).kept) c.of-words.ensures.made
-    ∙ length_view (over c.args.set.now c.args.found.now.offset c.args.found.now.raw c.args.modules.items))
-    ∙ page_words (length c.args.set.now) c.args.found.now.raw
-    (pages_of c.args.found.now.raw (unit_of c.args.set.now) c.requires.usable.pages.0 c.requires.usable.pages.1 c.requires.within.to)
-
-pub open_chain-requires-clause-settled : goal.open_chain-requires-clause-settled
-open_chain-requires-clause-settled c =
-    view_settled c.of-words.result
-    (subst (λ (ws : List Words). All (λ w. w ≡ settled w.kept) ws) (sym (ap (λ (n : Namespace). n.modules) c.of-words.ensures.made)) c.requires.settled)
+pub open_chain-requires : goal.open_chain-requires
+open_chain-requires c =
+    let n : Namespace = over c.args.set.now c.args.found.now.offset c.args.found.now.raw c.args.modules.items in
+    let n_is : c.of-words.result ≡ n = c.of-words.ensures.made in
+    let count : length (words_of c.of-words.result).kept ≡ length (words_of n).kept = ap (λ (n : Namespace). length (words_of n).kept) n_is in
+    let wide : length c.args.set.now ≤ 65536 = omega (arith, c.ways-few.ensures.ways, c.ways-few.ensures.few) in
+    let long : c.args.found.now.raw ≤ 536870912 = omega (arith, c.requires.within.inside, c.requires.usable.short) in
+    let product : length c.args.set.now * c.args.found.now.raw ≤ 65536 * 536870912 = mul-le-mul wide long in
+    record {
+      chain = record {
+        from = ap (λ (first : ℕ). first % 512) c.first_arena-first.ensures;
+        to = ap (λ (n : ℕ). n % 512) (count ∙ length_view n)
+            ∙ page_words (length c.args.set.now) c.args.found.now.raw
+            (pages_of c.args.found.now.raw (unit_of c.args.set.now) c.requires.usable.pages.0 c.requires.usable.pages.1 c.requires.within.to);
+        inside = omega (arith, c.first_arena-first.ensures, c.count.ensures, c.if-count-eq0.false);
+        small = omega (arith, count, count_is n, product);
+        settled = view_settled c.of-words.result
+            (subst (λ (ws : List Words). All (λ w. w ≡ settled w.kept) ws) (sym (ap (λ (n : Namespace). n.modules) n_is)) c.requires.settled);
+      };
+    }
 
 pub returns-in-Ok-clause-served : goal.returns-in-Ok-clause-served
 returns-in-Ok-clause-served c =

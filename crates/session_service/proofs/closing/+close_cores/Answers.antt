@@ -6,7 +6,7 @@ use Rattle.turn_lock.specs.Passes.{lock_id, first_of}
 use Rattle.turn_lock.proofs.Places.{all_pop}
 use Rattle.session_service.specs.Closed.{AreShared, KnowAll}
 use Rattle.sector_service.specs.Rows.{Know}
-use Rattle.session_service.specs.Services.{IsNew, arena_of}
+use Rattle.session_service.specs.Services.{IsNewCore, arena_of}
 use Rattle.session_service.proofs.Locks as closing
 use Rattle.session_service.proofs.Seating.{rest_again}
 use Rattle.session_service.proofs.closing.+close_cores.Goals as goal
@@ -36,7 +36,7 @@ close-requires-clause-every t c = λ q h.
     let rs = c.args.runners.now in
     let b = c.in_ok-passes.ensures in
     let same : length c.take_back.new.runners ≡ length rs = omega arith in
-    let new = all_pop (IsNew (length rs)) c.args.turns.items xs turn c.in-Some.ensures.items c.requires.new in
+    let new = all_pop (IsNewCore (length rs)) c.args.turns.items xs turn c.in-Some.ensures.items c.requires.new in
     closing.every_one (map lock_id xs) (lock_id turn) rs c.take_back.new.runners c.in_ok-passes.passes.items (subst (λ ls. KnowAll ls rs) locks c.requires.known) same b.count b.passes b.rest q (omega (arith, h, new.1.0))
 
 pub close_cores-requires : goal.close_cores-requires
@@ -47,8 +47,8 @@ close_cores-requires t c =
     let rs = c.args.runners.now in
     let b = c.in_ok-passes.ensures in
     let same : length c.take_back.new.runners ≡ length rs = omega arith in
-    let new = all_pop (IsNew (length rs)) c.args.turns.items xs turn c.in-Some.ensures.items c.requires.new in
-    (omega (arith, ap length c.in-Some.ensures.items, length-append xs (turn ∷ [])), (subst (λ (n : ℕ). All (IsNew n) xs) (sym same) new.0, closing.known_before (map lock_id xs) (lock_id turn) rs c.take_back.new.runners c.in_ok-passes.passes.items (subst (λ ls. KnowAll ls rs) locks c.requires.known) same b.count b.passes b.rest))
+    let new = all_pop (IsNewCore (length rs)) c.args.turns.items xs turn c.in-Some.ensures.items c.requires.new in
+    (omega (arith, ap length c.in-Some.ensures.items, length-append xs (turn ∷ [])), (subst (λ (n : ℕ). All (IsNewCore n) xs) (sym same) new.0, closing.known_before (map lock_id xs) (lock_id turn) rs c.take_back.new.runners c.in_ok-passes.passes.items (subst (λ ls. KnowAll ls rs) locks c.requires.known) same b.count b.passes b.rest))
 
 pub returns-clause-shared : goal.returns-clause-shared
 returns-clause-shared t c =
@@ -57,7 +57,7 @@ returns-clause-shared t c =
     let arenas = ap (map arena_of) c.in-Some.ensures.items ∙ map-append arena_of xs (turn ∷ []) in
     let rs = c.args.runners.now in
     let same : length c.take_back.new.runners ≡ length rs = omega arith in
-    let new = all_pop (IsNew (length rs)) c.args.turns.items xs turn c.in-Some.ensures.items c.requires.new in
+    let new = all_pop (IsNewCore (length rs)) c.args.turns.items xs turn c.in-Some.ensures.items c.requires.new in
     let cores = c.in_ok-cores.cores.items in
     let core = c.into_core-core.result in
     let o = c.into_core-core.ensures in
@@ -80,7 +80,7 @@ returns-clause-parts t c = λ q d parts j e h know inside.
     let b = c.in_ok-passes.ensures in
     let same : length rs' ≡ length rs = omega arith in
     let known = subst (λ ls. KnowAll ls rs) locks c.requires.known in
-    let new = all_pop (IsNew (length rs)) c.args.turns.items xs turn c.in-Some.ensures.items c.requires.new in
+    let new = all_pop (IsNewCore (length rs)) c.args.turns.items xs turn c.in-Some.ensures.items c.requires.new in
     let cores = c.in_ok-cores.cores.items in
     let core = c.into_core-core.result in
     let long : length cores ≡ length (map arena_of xs) = c.in_ok-cores.ensures.count ∙ sym (length-map xs arena_of) in

@@ -1,6 +1,6 @@
-use Rattle.std.proofs.Common.{◌≡◌, ◌≤◌, ℕ, false, true, List, length, map, sym, ap, ◌∙◌, subst, arith}
+use Rattle.std.proofs.Common.{◌≡◌, ◌≤◌, ℕ, false, length, map, sym, ◌∙◌, subst}
 use Rattle.std.specs.Prelude.{All}
-use Rattle.turn_lock.specs.Passes.{callers_of, first_of, lock_id, IsOutside, HasEach, Knows as PassKnows}
+use Rattle.turn_lock.specs.Passes.{callers_of, IsOutside, HasEach, Knows as PassKnows}
 use Rattle.namespace_areas.specs.Seen.{areas_shown}
 use Rattle.namespace_ops.specs.Registered.{kept_of, opening_of, state_of}
 use Rattle.session_account.specs.Journal.{AreLeft, IsJournal}
@@ -11,13 +11,12 @@ use Rattle.registry_service.specs.Served.{AreKept, Served, answered}
 use Rattle.session_service.specs.declared.ending.Ran.{Ran}
 use Rattle.session_service.specs.Closed.{AreShared}
 use Rattle.session_service.specs.Namespaces.{arenas_in, servings_at}
-use Rattle.session_service.specs.Seated.{KeepRest}
-use Rattle.session_service.specs.Services.{IsNew, arenas_of, orders_of, power_of}
+use Rattle.session_service.specs.Services.{IsNewCore, arenas_of, orders_of, power_of}
 use Rattle.session_service.proofs.Accounting as all
 use Rattle.session_service.proofs.ending.close.Goals as goal
 
 pub closed-requires-clause-new : goal.closed-requires-clause-new
-closed-requires-clause-new c = subst (λ (n : ℕ). All (IsNew n) c.args.service.turns.items) (sym c.requires.count) c.requires.made.2.cores
+closed-requires-clause-new c = subst (λ (n : ℕ). All (IsNewCore n) c.args.service.turns.items) (sym c.requires.count) c.requires.made.2.cores
 
 pub closed-requires-clause-known : goal.closed-requires-clause-known
 closed-requires-clause-known c =
@@ -27,11 +26,12 @@ closed-requires-clause-known c =
 pub split-requires : goal.split-requires
 split-requires c = subst (λ ps. length (arenas_in (servings_at ps)) ≡ length c.in_ok-row.row.items) (sym c.as_slice-places.ensures.value) (all.many_cores c.requires.made.0 c.requires.made.1 c.args.script.now c.args.service c.requires.made.2 ∙ sym c.in_ok-row.ensures.count)
 
-pub close_registry-registry-requires-clause-passes : goal.close_registry-registry-requires-clause-passes
-close_registry-registry-requires-clause-passes c = subst (λ ps. All (λ p. IsOutside (orders_of c.args.service) p) ps) (sym c.in_ok-handed.ensures.orders) (all.all_outside (λ r. r.orders) (orders_of c.args.service) c.in_ok-row.runners.items (all.order_facts c.args.script.now c.args.service c.args.runners.items c.in_ok-row.runners.items c.requires.ended (subst (λ rs. All (λ r. r.refused ≡ false) rs) c.as_slice.ensures.value (c.lasted.ensures c.if-not-lasted.false)) c.in_ok-row.ensures.kept c.in_ok-row.ensures.rest))
-
-pub close_registry-registry-requires-clause-every : goal.close_registry-registry-requires-clause-every
-close_registry-registry-requires-clause-every c = subst (λ ps. HasEach (callers_of c.args.service.registry.turn) ps) (sym c.in_ok-handed.ensures.orders) (all.has_all (λ r. r.orders) (orders_of c.args.service) c.in_ok-row.runners.items (all.order_facts c.args.script.now c.args.service c.args.runners.items c.in_ok-row.runners.items c.requires.ended (subst (λ rs. All (λ r. r.refused ≡ false) rs) c.as_slice.ensures.value (c.lasted.ensures c.if-not-lasted.false)) c.in_ok-row.ensures.kept c.in_ok-row.ensures.rest) (callers_of c.args.service.registry.turn) (c.requires.made.2.orders ∙ sym c.requires.count ∙ sym c.in_ok-row.ensures.kept))
+pub close_registry-registry-requires-clause-all : goal.close_registry-registry-requires-clause-all
+close_registry-registry-requires-clause-all c =
+    record {
+      passes = subst (λ ps. All (λ p. IsOutside (orders_of c.args.service) p) ps) (sym c.in_ok-handed.ensures.orders) (all.all_outside (λ r. r.orders) (orders_of c.args.service) c.in_ok-row.runners.items (all.order_facts c.args.script.now c.args.service c.args.runners.items c.in_ok-row.runners.items c.requires.ended (subst (λ rs. All (λ r. r.refused ≡ false) rs) c.as_slice.ensures.value (c.lasted.ensures c.if-not-lasted.false)) c.in_ok-row.ensures.kept c.in_ok-row.ensures.rest));
+      every = subst (λ ps. HasEach (callers_of c.args.service.registry.turn) ps) (sym c.in_ok-handed.ensures.orders) (all.has_all (λ r. r.orders) (orders_of c.args.service) c.in_ok-row.runners.items (all.order_facts c.args.script.now c.args.service c.args.runners.items c.in_ok-row.runners.items c.requires.ended (subst (λ rs. All (λ r. r.refused ≡ false) rs) c.as_slice.ensures.value (c.lasted.ensures c.if-not-lasted.false)) c.in_ok-row.ensures.kept c.in_ok-row.ensures.rest) (callers_of c.args.service.registry.turn) (c.requires.made.2.orders ∙ sym c.requires.count ∙ sym c.in_ok-row.ensures.kept));
+    }
 
 pub close-power-requires-clause-passes : goal.close-power-requires-clause-passes
 close-power-requires-clause-passes c = subst (λ ps. All (λ p. IsOutside (power_of c.args.service) p) ps) (sym c.in_ok-handed.ensures.switches) (all.all_outside (λ r. r.session.caller.switch) (power_of c.args.service) c.in_ok-row.runners.items (all.switch_facts c.args.script.now c.args.service c.args.runners.items c.in_ok-row.runners.items c.requires.ended (subst (λ rs. All (λ r. r.refused ≡ false) rs) c.as_slice.ensures.value (c.lasted.ensures c.if-not-lasted.false)) c.in_ok-row.ensures.kept c.in_ok-row.ensures.rest))

@@ -1,4 +1,4 @@
-use Rattle.std.proofs.Common.{◌≡◌, ◌++◌, [], ◌∷◌, append_assoc, ap, ◌∙◌, sym}
+use Rattle.std.proofs.Common.{◌++◌, [], ◌∷◌, append_assoc, ap, ◌∙◌, sym}
 use Rattle.session_service.proofs.Making as making
 use Rattle.session_service.proofs.laying.lay.Goals as goal
 

@@ -1,10 +1,8 @@
-use Rattle.std.proofs.Common.{◌≡◌, ℕ, refl, sym, ap, ◌∙◌, subst}
-use Rattle.std.specs.Prelude.{IfOk}
+use Rattle.std.proofs.Common.{refl, subst}
 use Rattle.session_script.specs.declared.script.Line.{Line}
 use Rattle.session_script.specs.declared.script.Line.TheVariants as line
-use Rattle.session_script.specs.declared.script.Script.{Script}
 use Rattle.session_service.specs.declared.runner.Runner.{Runner}
-use Rattle.session_service.specs.Runners.{Goes, IsNext}
+use Rattle.session_service.specs.Runners.{IsNext}
 use Rattle.session_service.proofs.Steps as steps
 use Rattle.session_service.proofs.lines.make_line.Goals as goal
 
@@ -30,7 +28,7 @@ make_write-requires g c =
     let r = c.args.runner.now in
     let o = c.is_off.ensures in
     let after : Runner = record r { session = record r.session { caller = record r.session.caller { switch = c.is_off.new.switch } } } in
-    (c.requires.0, c.requires.1, subst (λ (l : Line). IsNext c.args.service.now c.requires.0 c.requires.1 l after) c.in-Write.is (steps.on_next c.args.service.now c.requires.0 c.requires.1 c.args.line.now r after c.requires.2 refl refl refl o.same o.can_ask refl refl refl refl o.stopped))
+    (c.type_bounds.sync-G, (c.requires.0, c.requires.1, subst (λ (l : Line). IsNext c.args.service.now c.requires.0 c.requires.1 l after) c.in-Write.is (steps.on_next c.args.service.now c.requires.0 c.requires.1 c.args.line.now r after c.requires.2 refl refl refl o.same o.can_ask refl refl refl refl o.stopped)))
 
 pub make_order-requires : goal.make_order-requires
 make_order-requires g c =

@@ -1,5 +1,4 @@
-use Rattle.std.proofs.Common.{◌≡◌, ℕ, ◌+◌, Ok, refl, sym, ap, ◌∙◌, subst, arith}
-use Rattle.session_script.specs.declared.script.Line.TheVariants as line
+use Rattle.std.proofs.Common.{◌+◌, Ok, refl, ap, arith}
 use Rattle.session_service.specs.declared.runner.Runner.{Runner}
 use Rattle.session_service.proofs.Steps as steps
 use Rattle.session_service.proofs.lines.make_order.Goals as goal

@@ -1,4 +1,4 @@
-use Rattle.std.proofs.Common.{◌≡◌, ◌<◌, ℕ, Some, length, map, refl, sym, ap, ◌∙◌, subst}
+use Rattle.std.proofs.Common.{◌≡◌, ◌<◌, Some, length, map, refl, sym, subst}
 use Rattle.turn_lock.specs.Passes.{lock_id}
 use Rattle.lane_core.specs.declared.history.Act.TheVariants as act
 use Rattle.session_parts.specs.Parts.{stand_at}
@@ -21,23 +21,20 @@ pub returns-in-Err-clause-goes : goal.returns-in-Err-clause-goes
 returns-in-Err-clause-goes g c = λ script q next.
     steps.read_refused c.args.service.now script q c.args.sector c.args.runner.now next c.in-Err.why c.refuse.result c.refuse.new.runner (λ further. subst (λ ps. on_open (servings_at ps) c.args.runner.now.held c.args.sector further ≡ Some c.in-Err.why) c.as_slice-places.ensures.value (c.in-Err.ensures.check c.in-Err.why further refl)) c.refuse.ensures.why c.refuse.ensures.counted
 
-pub read-requires-clause-place : goal.read-requires-clause-place
-read-requires-clause-place g c =
-    let found = subst (λ ps. IsFound (servings_at ps) c.args.runner.now.held c.args.sector c.in-Ok.found) c.as_slice-places.ensures.value c.in-Ok.ensures.found in
-    subst (λ ts. c.in-Ok.found.core < length ts) (sym c.as_slice-turns.ensures.value) (steps.inside c.args.service.now c.requires.0 c.requires.1 (line.Read c.args.sector) c.args.runner.now c.requires.2 c.args.sector c.in-Ok.found found)
-
-pub read-requires-clause-may : goal.read-requires-clause-may
-read-requires-clause-may g c =
-    let r = c.args.runner.now in
-    let f = c.in-Ok.found in
-    subst (λ ts. KnowsAt (map lock_id ts) r.session.number f.core (MayRead r.session.caller.call f.sector) r.session.passes.items) (sym c.as_slice-turns.ensures.value)
-    (steps.may_read c.args.service.now c.requires.0 c.requires.1 (line.Read c.args.sector) r c.requires.2 c.args.sector f (subst (λ ps. IsFound (servings_at ps) c.args.runner.now.held c.args.sector c.in-Ok.found) c.as_slice-places.ensures.value c.in-Ok.ensures.found))
-
-pub read-requires-clause-can_ask : goal.read-requires-clause-can_ask
-read-requires-clause-can_ask g c = c.requires.2.at.knows.can_ask
-
-pub read-requires-clause-calls : goal.read-requires-clause-calls
-read-requires-clause-calls g c = steps.few_left c.args.service.now c.requires.0 c.requires.1 (line.Read c.args.sector) c.args.runner.now c.requires.2
+pub read-requires : goal.read-requires
+read-requires g c =
+    record {
+      place =
+          let found = subst (λ ps. IsFound (servings_at ps) c.args.runner.now.held c.args.sector c.in-Ok.found) c.as_slice-places.ensures.value c.in-Ok.ensures.found in
+          subst (λ ts. c.in-Ok.found.core < length ts) (sym c.as_slice-turns.ensures.value) (steps.inside c.args.service.now c.requires.0 c.requires.1 (line.Read c.args.sector) c.args.runner.now c.requires.2 c.args.sector c.in-Ok.found found);
+      may =
+          let r = c.args.runner.now in
+          let f = c.in-Ok.found in
+          subst (λ ts. KnowsAt (map lock_id ts) r.session.number f.core (MayRead r.session.caller.call f.sector) r.session.passes.items) (sym c.as_slice-turns.ensures.value)
+          (steps.may_read c.args.service.now c.requires.0 c.requires.1 (line.Read c.args.sector) r c.requires.2 c.args.sector f (subst (λ ps. IsFound (servings_at ps) c.args.runner.now.held c.args.sector c.in-Ok.found) c.as_slice-places.ensures.value c.in-Ok.ensures.found));
+      can_ask = c.requires.2.at.knows.can_ask;
+      calls = steps.few_left c.args.service.now c.requires.0 c.requires.1 (line.Read c.args.sector) c.args.runner.now c.requires.2;
+    }
 
 pub returns-in-Got-clause-goes : goal.returns-in-Got-clause-goes
 returns-in-Got-clause-goes g c = λ script q next.
@@ -45,7 +42,7 @@ returns-in-Got-clause-goes g c = λ script q next.
     let f = c.in-Ok.found in
     let w = c.in-Got.ensures in
     let after : Runner = record r { session = c.read.new.session } in
-    steps.got_goes c.args.service.now script q (line.Read c.args.sector) r next c.args.sector f (subst (λ ps. IsFound (servings_at ps) c.args.runner.now.held c.args.sector c.in-Ok.found) c.as_slice-places.ensures.value c.in-Ok.ensures.found) after w.number w.caller refl refl c.in-Got.cell refl
+    steps.got_goes c.args.service.now script q (line.Read c.args.sector) r next c.args.sector f (subst (λ ps. IsFound (servings_at ps) c.args.runner.now.held c.args.sector c.in-Ok.found) c.as_slice-places.ensures.value c.in-Ok.ensures.found) after w.next.number w.next.caller refl refl c.in-Got.cell refl
     (subst (λ ts. OneBecomes (map lock_id ts) r.session.number f.core (answered (stand_at r.session.caller.call f.sector (act.Read c.in-Got.cell))) r.session.passes.items c.read.new.session.passes.items) c.as_slice-turns.ensures.value (w.done c.in-Got.cell refl))
     (w.paid c.in-Got.cell refl) (w.goes_on (λ e. steps.not_cut_heard e))
 
@@ -55,6 +52,6 @@ returns-in-Cut-clause-goes g c = λ script q next.
     let f = c.in-Ok.found in
     let w = c.in-Cut.ensures in
     let after : Runner = record r { session = c.read.new.session } in
-    steps.read_cut_goes c.args.service.now script q (line.Read c.args.sector) r next c.args.sector f (subst (λ ps. IsFound (servings_at ps) c.args.runner.now.held c.args.sector c.in-Ok.found) c.as_slice-places.ensures.value c.in-Ok.ensures.found) after w.number w.caller refl refl refl
+    steps.read_cut_goes c.args.service.now script q (line.Read c.args.sector) r next c.args.sector f (subst (λ ps. IsFound (servings_at ps) c.args.runner.now.held c.args.sector c.in-Ok.found) c.as_slice-places.ensures.value c.in-Ok.ensures.found) after w.next.number w.next.caller refl refl refl
     (subst (λ ts. OneGoes (map lock_id ts) r.session.number f.core (IsLeft r.session.number r.session.caller.call f.sector) r.session.passes.items c.read.new.session.passes.items) c.as_slice-turns.ensures.value (w.cut refl))
     (w.told refl).0 (w.told refl).1

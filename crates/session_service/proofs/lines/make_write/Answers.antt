@@ -23,16 +23,23 @@ returns-in-Err-clause-goes g c = λ script q next.
     steps.write_refused c.args.service.now script q c.args.sector c.args.runner.now c.args.value.now next c.in-Err.why c.refuse.result c.refuse.new.runner c.refuse.ensures.why c.refuse.ensures.counted
     (λ further. subst (λ ps. on_open (servings_at ps) c.args.runner.now.held c.args.sector further ≡ Some c.in-Err.why) c.as_slice-places.ensures.value (c.in-Err.ensures.check c.in-Err.why further refl))
 
-pub write-requires-clause-place : goal.write-requires-clause-place
-write-requires-clause-place g c =
-    let found = subst (λ ps. IsFound (servings_at ps) c.args.runner.now.held c.args.sector c.in-Ok.found) c.as_slice-places.ensures.value c.in-Ok.ensures.found in
-    subst (λ ts. c.in-Ok.found.core < length ts) (sym c.as_slice-turns.ensures.value) (steps.inside c.args.service.now c.requires.0 c.requires.1 (line.Write c.args.sector c.args.value.now) c.args.runner.now c.requires.2 c.args.sector c.in-Ok.found found)
-
-pub write-requires-clause-can_ask : goal.write-requires-clause-can_ask
-write-requires-clause-can_ask g c = c.requires.2.at.knows.can_ask
-
-pub write-requires-clause-calls : goal.write-requires-clause-calls
-write-requires-clause-calls g c = steps.few_left c.args.service.now c.requires.0 c.requires.1 (line.Write c.args.sector c.args.value.now) c.args.runner.now c.requires.2
+pub write-requires : goal.write-requires
+write-requires g c = (
+  c.type_bounds.sync-G,
+  record {
+    place =
+        let found = subst (λ ps. IsFound (servings_at ps) c.args.runner.now.held c.args.sector c.in-Ok.found) c.as_slice-places.ensures.value c.in-Ok.ensures.found in
+        subst (λ ts. c.in-Ok.found.core < length ts) (sym c.as_slice-turns.ensures.value) (steps.inside c.args.service.now c.requires.0 c.requires.1 (line.Write c.args.sector c.args.value.now) c.args.runner.now c.requires.2 c.args.sector c.in-Ok.found found);
+    may =
+        let r = c.args.runner.now in
+        let f = c.in-Ok.found in
+        let words = c.as_slice-slice.result.now in
+        subst (λ ts. KnowsAt (map lock_id ts) r.session.number f.core (MayWrite r.session.caller.call f.sector words) r.session.passes.items) (sym c.as_slice-turns.ensures.value)
+        (steps.may_write c.args.service.now c.requires.0 c.requires.1 (line.Write c.args.sector c.args.value.now) r c.requires.2 c.args.sector f (subst (λ ps. IsFound (servings_at ps) c.args.runner.now.held c.args.sector c.in-Ok.found) c.as_slice-places.ensures.value c.in-Ok.ensures.found) words (ap (λ (ws : List ℕ). 8 * length ws) c.as_slice-slice.ensures.value ∙ c.in_ok-words.ensures.count));
+    can_ask = c.requires.2.at.knows.can_ask;
+    calls = steps.few_left c.args.service.now c.requires.0 c.requires.1 (line.Write c.args.sector c.args.value.now) c.args.runner.now c.requires.2;
+  },
+)
 
 pub returns-in-Some-clause-goes : goal.returns-in-Some-clause-goes
 returns-in-Some-clause-goes g c = λ script q next.
@@ -40,14 +47,6 @@ returns-in-Some-clause-goes g c = λ script q next.
 
 pub value_words-requires-clause-whole : goal.value_words-requires-clause-whole
 value_words-requires-clause-whole g c = steps.whole_words c.args.service.now c.requires.2.laid c.args.runner.now.held c.args.sector c.in-Ok.found (subst (λ ps. IsFound (servings_at ps) c.args.runner.now.held c.args.sector c.in-Ok.found) c.as_slice-places.ensures.value c.in-Ok.ensures.found)
-
-pub write-requires-clause-may : goal.write-requires-clause-may
-write-requires-clause-may g c =
-    let r = c.args.runner.now in
-    let f = c.in-Ok.found in
-    let words = c.as_slice-slice.result.now in
-    subst (λ ts. KnowsAt (map lock_id ts) r.session.number f.core (MayWrite r.session.caller.call f.sector words) r.session.passes.items) (sym c.as_slice-turns.ensures.value)
-    (steps.may_write c.args.service.now c.requires.0 c.requires.1 (line.Write c.args.sector c.args.value.now) r c.requires.2 c.args.sector f (subst (λ ps. IsFound (servings_at ps) c.args.runner.now.held c.args.sector c.in-Ok.found) c.as_slice-places.ensures.value c.in-Ok.ensures.found) words (ap (λ (ws : List ℕ). 8 * length ws) c.as_slice-slice.ensures.value ∙ c.in_ok-words.ensures.count))
 
 pub returns-in-Done-clause-goes : goal.returns-in-Done-clause-goes
 returns-in-Done-clause-goes g c = λ script q next.
@@ -58,7 +57,7 @@ returns-in-Done-clause-goes g c = λ script q next.
     let value = c.args.value.now in
     let same = c.as_slice-slice.ensures.value ∙ c.in_ok-words.ensures.words ∙ sym (steps.value_is value f.bytes) in
     let after : Runner = record r { session = c.write.new.session } in
-    steps.done_goes c.args.service.now script q (line.Write c.args.sector value) r next c.args.sector f (subst (λ ps. IsFound (servings_at ps) c.args.runner.now.held c.args.sector c.in-Ok.found) c.as_slice-places.ensures.value c.in-Ok.ensures.found) after w.number w.caller refl refl value (sym c.in-None.ensures) refl
+    steps.done_goes c.args.service.now script q (line.Write c.args.sector value) r next c.args.sector f (subst (λ ps. IsFound (servings_at ps) c.args.runner.now.held c.args.sector c.in-Ok.found) c.as_slice-places.ensures.value c.in-Ok.ensures.found) after w.next.number w.next.caller refl refl value (sym c.in-None.ensures) refl
     (subst (λ (ws : List ℕ). OneBecomes (map lock_id c.args.service.now.turns.items) r.session.number f.core (answered (stand_at r.session.caller.call f.sector (act.Write ws))) r.session.passes.items c.write.new.session.passes.items) same
     (subst (λ ts. OneBecomes (map lock_id ts) r.session.number f.core (answered (stand_at r.session.caller.call f.sector (act.Write words))) r.session.passes.items c.write.new.session.passes.items) c.as_slice-turns.ensures.value (w.done refl)))
     (λ parts know. w.paid refl parts (subst (λ ts. Know (map lock_id ts) r.session.number parts r.session.passes.items) (sym c.as_slice-turns.ensures.value) know))
@@ -73,7 +72,7 @@ returns-in-Cut-clause-goes g c = λ script q next.
     let value = c.args.value.now in
     let same = c.as_slice-slice.ensures.value ∙ c.in_ok-words.ensures.words ∙ sym (steps.value_is value f.bytes) in
     let after : Runner = record r { session = c.write.new.session } in
-    steps.write_cut_goes c.args.service.now script q (line.Write c.args.sector value) r next c.args.sector f (subst (λ ps. IsFound (servings_at ps) c.args.runner.now.held c.args.sector c.in-Ok.found) c.as_slice-places.ensures.value c.in-Ok.ensures.found) after w.number w.caller refl refl value (sym c.in-None.ensures) refl
+    steps.write_cut_goes c.args.service.now script q (line.Write c.args.sector value) r next c.args.sector f (subst (λ ps. IsFound (servings_at ps) c.args.runner.now.held c.args.sector c.in-Ok.found) c.as_slice-places.ensures.value c.in-Ok.ensures.found) after w.next.number w.next.caller refl refl value (sym c.in-None.ensures) refl
     (subst (λ (ws : List ℕ). OneGoes (map lock_id c.args.service.now.turns.items) r.session.number f.core (core.IsStopped r.session.number r.session.caller.call f.sector ws) r.session.passes.items c.write.new.session.passes.items) same
     (subst (λ ts. OneGoes (map lock_id ts) r.session.number f.core (core.IsStopped r.session.number r.session.caller.call f.sector words) r.session.passes.items c.write.new.session.passes.items) c.as_slice-turns.ensures.value (w.cut refl)))
     (w.told refl).0 (w.told refl).1

@@ -1,4 +1,4 @@
-use Rattle.std.proofs.Common.{◌≡◌, ◌<◌, ◌+◌, ℕ, true, false, [], ◌∷◌, ◌++◌, length, length-append, get_or, refl, sym, ap, ◌∙◌, subst, arith}
+use Rattle.std.proofs.Common.{◌+◌, [], ◌∷◌, ◌++◌, length, length-append, get_or, refl, sym, ap, ◌∙◌, subst, arith}
 use Rattle.std.specs.Prelude.{vec_capacity}
 use Rattle.session_script.specs.declared.script.SessionLines.{SessionLines}
 use Rattle.session_service.specs.declared.runner.Runner.{Runner}
@@ -6,13 +6,13 @@ use Rattle.session_service.specs.Runners.{IsAt, IsDone}
 use Rattle.session_service.proofs.Steps as steps
 use Rattle.session_service.proofs.running.next_call.Goals as goal
 
-pub make_line-requires : goal.make_line-requires
-make_line-requires g c = (c.args.script.now, c.args.q, (steps.line_next c.args.service.now c.args.script.now c.args.q c.args.runner.now c.index-sessions-q.result c.as_slice-calls.result.now c.len-at.result c.index-calls-at.result c.requires.running c.requires.there (c.index-sessions-q.is ∙ ap (λ xs. get_or xs c.args.q c.index-sessions-q.result) c.as_slice-sessions.ensures) (c.as_slice-calls.ensures ∙ ap (λ (s : SessionLines). s.calls) (sym c.index-sessions-q.is)) (c.len-at.ensures ∙ c.args.runner.now.replies.ok.0) c.index-calls-at.is c.requires.next))
+pub make_line-made-requires : goal.make_line-made-requires
+make_line-made-requires g c = (c.type_bounds.sync-G, (c.args.script.now, c.args.q, (steps.line_next c.args.service.now c.args.script.now c.args.q c.args.runner.now c.index-sessions-q.result c.as_slice-calls.result.now c.len-at.result c.index-calls-at.result c.requires.running c.requires.there (c.index-sessions-q.is ∙ ap (λ xs. get_or xs c.args.q c.index-sessions-q.result) c.as_slice-sessions.ensures) (c.as_slice-calls.ensures ∙ ap (λ (s : SessionLines). s.calls) (sym c.index-sessions-q.is)) (c.len-at.ensures ∙ c.args.runner.now.replies.ok.0) c.index-calls-at.is c.requires.next)))
 
 pub returns-in-Ok-clause-on : goal.returns-in-Ok-clause-on
 returns-in-Ok-clause-on g c = λ yes.
     let r = c.args.runner.now in
-    let mid = c.make_line.new.runner in
+    let mid = c.make_line-made.new.runner in
     let after : Runner = record mid { replies = c.push_reserved.new.self } in
     let kept = c.in-Ok.ensures.kept in
     let goes = c.in-Ok.ensures.goes c.args.script.now c.args.q (steps.line_next c.args.service.now c.args.script.now c.args.q c.args.runner.now c.index-sessions-q.result c.as_slice-calls.result.now c.len-at.result c.index-calls-at.result c.requires.running c.requires.there (c.index-sessions-q.is ∙ ap (λ xs. get_or xs c.args.q c.index-sessions-q.result) c.as_slice-sessions.ensures) (c.as_slice-calls.ensures ∙ ap (λ (s : SessionLines). s.calls) (sym c.index-sessions-q.is)) (c.len-at.ensures ∙ c.args.runner.now.replies.ok.0) c.index-calls-at.is c.requires.next) in
@@ -32,7 +32,7 @@ returns-in-Ok-clause-on g c = λ yes.
 
 pub returns-in-Ok-clause-ended : goal.returns-in-Ok-clause-ended
 returns-in-Ok-clause-ended g c = λ no.
-    let mid = c.make_line.new.runner in
+    let mid = c.make_line-made.new.runner in
     let after : Runner = record mid { replies = c.push_reserved.new.self } in
     let kept = c.in-Ok.ensures.kept in
     let goes = c.in-Ok.ensures.goes c.args.script.now c.args.q (steps.line_next c.args.service.now c.args.script.now c.args.q c.args.runner.now c.index-sessions-q.result c.as_slice-calls.result.now c.len-at.result c.index-calls-at.result c.requires.running c.requires.there (c.index-sessions-q.is ∙ ap (λ xs. get_or xs c.args.q c.index-sessions-q.result) c.as_slice-sessions.ensures) (c.as_slice-calls.ensures ∙ ap (λ (s : SessionLines). s.calls) (sym c.index-sessions-q.is)) (c.len-at.ensures ∙ c.args.runner.now.replies.ok.0) c.index-calls-at.is c.requires.next) in
@@ -45,6 +45,6 @@ returns-in-Ok-clause-ended g c = λ no.
 
 pub returns-in-Err-clause-ended : goal.returns-in-Err-clause-ended
 returns-in-Err-clause-ended g c = λ _. record {
-  number = c.make_line.ensures.kept.0 ∙ c.requires.running.at.knows.number;
+  number = c.make_line-made.ensures.kept.0 ∙ c.requires.running.at.knows.number;
   done = λ e. absurd (cc);
 }

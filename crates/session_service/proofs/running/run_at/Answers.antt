@@ -1,4 +1,4 @@
-use Rattle.std.proofs.Common.{ap, length, refl, arith}
+use Rattle.std.proofs.Common.{ap, length}
 use Rattle.session_service.proofs.running.run_at.Goals as goal
 
 pub loop-call-init : goal.loop-call-init

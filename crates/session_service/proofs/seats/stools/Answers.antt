@@ -1,4 +1,4 @@
-use Rattle.std.proofs.Common.{◌≡◌, ◌<◌, ◌+◌, ℕ, suc, [], ◌∷◌, ◌++◌, length, length-append, get_or, append_assoc, refl, sym, ap, ◌∙◌, subst, arith}
+use Rattle.std.proofs.Common.{◌≡◌, ◌<◌, ◌+◌, ℕ, suc, [], ◌∷◌, ◌++◌, length, length-append, get_or, append_assoc, sym, ap, ◌∙◌, subst, arith}
 use Rattle.turn_lock.specs.Passes.{lock_id, first_of, IsFresh}
 use Rattle.turn_lock.proofs.Places.{at_seam}
 use Rattle.session_script.specs.declared.script.SessionLines.{SessionLines}

@@ -4,7 +4,7 @@ use mathlib.Core.List.{map-append}
 use Rattle.turn_lock.proofs.Places.{all_at_seam}
 use Rattle.arena_open.specs.declared.state.ArenaState.{ArenaState}
 use Rattle.sector_service.specs.Served.{Served, fresh}
-use Rattle.session_service.specs.Services.{IsNew, arena_of}
+use Rattle.session_service.specs.Services.{IsNewCore, arena_of}
 use Rattle.session_service.proofs.Seating.{rest_again}
 use Rattle.session_service.proofs.service.add_cores.Goals as goal
 
@@ -15,7 +15,7 @@ loop-core-init c = record {
   arenas = ap (map arena_of) c.requires.none;
   others = (refl, refl, refl);
   knows = c.requires.knows;
-  new = subst (λ l. All (IsNew (length c.args.runners.now)) l) (sym c.requires.none) (λ k d h. absurd (omega arith));
+  new = subst (λ l. All (IsNewCore (length c.args.runners.now)) l) (sym c.requires.none) (λ k d h. absurd (omega arith));
   kept = λ q d h. (refl, refl, refl, refl, refl, refl);
 }
 
@@ -27,7 +27,7 @@ add_core-requires-clause-fresh c =
 pub add_core-requires-clause-new : goal.add_core-requires-clause-new
 add_core-requires-clause-new c =
     let i = c.loop-core.invariant in
-    subst (λ (n : ℕ). All (IsNew n) c.loop-core.service.turns.items) (sym i.same) i.new
+    subst (λ (n : ℕ). All (IsNewCore n) c.loop-core.service.turns.items) (sym i.same) i.new
 
 pub loop-core-preserved : goal.loop-core-preserved
 loop-core-preserved c =
@@ -40,9 +40,9 @@ loop-core-preserved c =
     record {
       rest = append_assoc done (core ∷ []) c.next.new.self.rest.items ∙ behind;
       same = same;
-      arenas = a.arenas ∙ ap (λ (places : List ArenaState). places ++ core.first ∷ []) i.arenas ∙ sym (map-append (λ (s : Served). s.first) done (core ∷ []));
+      arenas = a.seated.arenas ∙ ap (λ (places : List ArenaState). places ++ core.first ∷ []) i.arenas ∙ sym (map-append (λ (s : Served). s.first) done (core ∷ []));
       others = (a.others.0 ∙ i.others.0, a.others.1 ∙ i.others.1, a.others.2 ∙ i.others.2);
-      knows = a.knows;
-      new = subst (λ (n : ℕ). All (IsNew n) c.add_core.new.service.turns.items) i.same a.new;
-      kept = rest_again c.args.runners.now c.loop-core.runners c.add_core.new.runners i.same i.kept a.rest;
+      knows = a.seated.knows;
+      new = subst (λ (n : ℕ). All (IsNewCore n) c.add_core.new.service.turns.items) i.same a.seated.new;
+      kept = rest_again c.args.runners.now c.loop-core.runners c.add_core.new.runners i.same i.kept a.seated.rest;
     }

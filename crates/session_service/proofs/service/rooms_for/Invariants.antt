@@ -1,4 +1,4 @@
-use Rattle.std.proofs.Common.{◌≡◌, ◌+◌, ◌^◌, ◌<◌, ℕ, get_or, length, map, take}
+use Rattle.std.proofs.Common.{◌≡◌, ◌+◌, ◌^◌, ◌<◌, ℕ, get_or, length, take}
 use Rattle.session_service.specs.Made.{rooms_of}
 use Rattle.session_service.proofs.service.rooms_for.Given as goal
 

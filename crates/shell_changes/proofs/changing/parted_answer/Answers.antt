@@ -7,7 +7,7 @@ use Rattle.namespace_areas.specs.Opening.{opened_as}
 use Rattle.namespace_areas.proofs.Opening.{held_all}
 use Rattle.interleave.specs.Sets.{set_reading}
 use Rattle.namespace_ops.specs.Registered.{Registered}
-use Rattle.namespace_ops.specs.Opening.{opening, set_in}
+use Rattle.namespace_ops.specs.Opening.{registry_opening, set_in}
 use Rattle.namespace_ops.specs.declared.registry.OpenFault.TheVariants.{OutOfMemory}
 use Rattle.shell_reports.specs.List.{open_outcome}
 use Rattle.shell_reports.proofs.More.{if_more}
@@ -34,7 +34,7 @@ open_all-requires-clause-held g c = subst (λ (xs : List Area). AreHeld xs) (sym
 
 pub opened_answer-requires-clause-fresh : goal.opened_answer-requires-clause-fresh
 opened_answer-requires-clause-fresh g c =
-    let is : Ok c.in-Ok.registry ≡ opening c.args.nfit c.in_ok-areas.areas = sym c.in-Ok.is ∙ c.open_all.ensures (λ e. absurd (let both = sym c.in-Ok.is ∙ e in cc)) in
+    let is : Ok c.in-Ok.registry ≡ registry_opening c.args.nfit c.in_ok-areas.areas = sym c.in-Ok.is ∙ c.open_all.ensures (λ e. absurd (let both = sym c.in-Ok.is ∙ e in cc)) in
     let was = (was_opened c.args.nfit c.in_ok-areas.areas c.in-Ok.registry is).is in
     record {
       running = ap (λ (r : Registered). r.stopped) was;
@@ -45,7 +45,7 @@ opened_answer-requires-clause-fresh g c =
 
 pub opened_answer-requires-clause-run : goal.opened_answer-requires-clause-run
 opened_answer-requires-clause-run g c =
-    let is : Ok c.in-Ok.registry ≡ opening c.args.nfit c.in_ok-areas.areas = sym c.in-Ok.is ∙ c.open_all.ensures (λ e. absurd (let both = sym c.in-Ok.is ∙ e in cc)) in
+    let is : Ok c.in-Ok.registry ≡ registry_opening c.args.nfit c.in_ok-areas.areas = sym c.in-Ok.is ∙ c.open_all.ensures (λ e. absurd (let both = sym c.in-Ok.is ∙ e in cc)) in
     let was = was_opened c.args.nfit c.in_ok-areas.areas c.in-Ok.registry is in
     let areas = sym c.in_ok-areas.ensures ∙ was.areas_are in
     record {
@@ -60,8 +60,8 @@ opened_answer-requires-clause-run g c =
 pub returns-in-Ok-clause-comes : goal.returns-in-Ok-clause-comes
 returns-in-Ok-clause-comes g c =
     let leaves = LeavesBy g.C.Chooser.begins g.C.Chooser.picks c.args.choose.now in
-    let is : Ok c.in-Ok.registry ≡ opening c.args.nfit c.in_ok-areas.areas = sym c.in-Ok.is ∙ c.open_all.ensures (λ e. absurd (let both = sym c.in-Ok.is ∙ e in cc)) in
-    let is' : Ok c.in-Ok.registry ≡ opening c.args.nfit (map opened_as c.args.labels) = is ∙ ap (opening c.args.nfit) c.in_ok-areas.ensures in
+    let is : Ok c.in-Ok.registry ≡ registry_opening c.args.nfit c.in_ok-areas.areas = sym c.in-Ok.is ∙ c.open_all.ensures (λ e. absurd (let both = sym c.in-Ok.is ∙ e in cc)) in
+    let is' : Ok c.in-Ok.registry ≡ registry_opening c.args.nfit (map opened_as c.args.labels) = is ∙ ap (registry_opening c.args.nfit) c.in_ok-areas.ensures in
     if_more _ (λ (answer : Answer). (contents : List (List ℕ)) → ChangeComes leaves c.args.change.now c.args.power (set_parted c.args.nfit c.args.labels c.args.beside contents) (outcome_with answer contents)) c.opened_answer.result
     (λ answer from contents.
     comes leaves c.args.nfit c.args.labels c.args.beside contents c.args.power c.args.change.now (outcome_with answer contents) c.requires.parted c.in-Ok.registry is' c.requires.whole (from contents))
@@ -73,8 +73,8 @@ returns-in-Err-clause-comes g c =
     if_both (λ (answer : Answer). (contents : List (List ℕ)) → outcome_with answer contents ≡ open_outcome c.in-Err.fault) (λ _. c.in-Err.fault ≢ OutOfMemory)
     (λ (answer : Answer). (contents : List (List ℕ)) → ChangeComes leaves c.args.change.now c.args.power (set_parted c.args.nfit c.args.labels c.args.beside contents) (outcome_with answer contents)) c.faulty_answer.result
     (λ answer said finding contents.
-    let is : Err c.in-Err.fault ≡ opening c.args.nfit c.in_ok-areas.areas = sym c.in-Err.is ∙ c.open_all.ensures (λ e. finding (let both = sym c.in-Err.is ∙ e in cc)) in
-    comes_not leaves c.args.nfit c.args.labels c.args.beside contents c.args.power c.args.change.now (outcome_with answer contents) c.requires.parted c.in-Err.fault (is ∙ ap (opening c.args.nfit) c.in_ok-areas.ensures) (said contents))
+    let is : Err c.in-Err.fault ≡ registry_opening c.args.nfit c.in_ok-areas.areas = sym c.in-Err.is ∙ c.open_all.ensures (λ e. finding (let both = sym c.in-Err.is ∙ e in cc)) in
+    comes_not leaves c.args.nfit c.args.labels c.args.beside contents c.args.power c.args.change.now (outcome_with answer contents) c.requires.parted c.in-Err.fault (is ∙ ap (registry_opening c.args.nfit) c.in_ok-areas.ensures) (said contents))
     c.faulty_answer.ensures.text c.faulty_answer.ensures.memory
 
 pub returns-in-Err-clause-fits : goal.returns-in-Err-clause-fits

@@ -16,8 +16,8 @@ loop-at-preserved g c =
     let after = c.print_piece.ensures.cause.later in
     record {
       inside = omega (arith, c.min-size.ensures, c.count-count.ensures, inv.inside);
-      words = c.print_piece.ensures.sizes.0 ∙ inv.words;
-      room = c.print_piece.ensures.sizes.1 ∙ inv.room;
+      words = c.print_piece.auto.words ∙ inv.words;
+      room = c.print_piece.auto.room ∙ inv.room;
       printed = piece_more (written c.args.text.now) (written c.loop-at.text) (written c.print_piece.new.text) (stored c.args.text.now) (stored c.loop-at.text) (stored c.print_piece.new.text)
           (bytes_of (take at kept)) (bytes_of (take size (drop at kept))) (bytes_of (take (at + size) kept)) (bytes_more kept at size) inv.printed c.in_ok-print_piece.ensures.all;
       later = omega (arith, before, after);

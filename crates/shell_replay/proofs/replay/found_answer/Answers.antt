@@ -10,7 +10,7 @@ use Rattle.shell_sectors.specs.Found.{HasModules, IsFoundIn}
 use Rattle.shell_sectors.proofs.Answered.{at_place, count_kept, settled_rows, usable_at, within_at}
 use Rattle.shell_sectors.proofs.Coming.{ok_then}
 use Rattle.shell_replay.specs.declared.replay.Replayed.{Replayed}
-use Rattle.shell_replay.specs.Answering.{IsTurnedDown, ReplaysOn}
+use Rattle.shell_replay.specs.Answering.{IsReplayRefused, ReplaysOn}
 use Rattle.shell_replay.specs.Replay.{ReplayComes}
 use Rattle.shell_replay.proofs.Coming.{comes_done, comes_not}
 use Rattle.shell_replay.proofs.replay.found_answer.Goals as goal
@@ -58,5 +58,5 @@ returns-in-Not-clause-comes g c = λ loaded f.
     comes_not (LeavesBy g.C.Chooser.begins g.C.Chooser.picks c.args.choose.now) loaded c.args.uuid.now c.args.schedule.now c.args.set f
     (over c.set-region.result.now c.args.set.found.offset c.args.set.found.raw c.into_vec-modules.result.items)
     (at_place loaded c.args.uuid.now c.args.set f c.set-region.result.now c.set-region.ensures c.into_vec-modules.result.items c.into_vec-modules.ensures) _
-    (subst (λ (o : Outcome). IsTurnedDown (over c.set-region.result.now c.args.set.found.offset c.args.set.found.raw c.into_vec-modules.result.items) c.args.uuid.now o) (sym (c.without_set.ensures.same []))
+    (subst (λ (o : Outcome). IsReplayRefused (over c.set-region.result.now c.args.set.found.offset c.args.set.found.raw c.into_vec-modules.result.items) c.args.uuid.now o) (sym (c.without_set.ensures.same []))
     (subst (λ (done : Replayed). ReplaysOn (LeavesBy g.C.Chooser.begins g.C.Chooser.picks c.args.choose.now) (over c.set-region.result.now c.args.set.found.offset c.args.set.found.raw c.into_vec-modules.result.items) c.args.uuid.now c.args.schedule.now done) c.in-Not.is c.in_ok-replayed.ensures))

@@ -1,7 +1,7 @@
 use Rattle.std.proofs.Common.{◌⊎◌, Option, Err, inl, inr, sym, ap, ◌∙◌, subst, arith}
 use Rattle.nvd_media.specs.Images.{Images}
 use Rattle.nvd_media.specs.Causes.{Rose}
-use Rattle.shell_reports.specs.declared.status.Stop.{Stop}
+use Rattle.shell_reports.specs.declared.status.RunStop.{RunStop}
 use Rattle.shell_changes.specs.Answers.{ComesFrom}
 use Rattle.shell_changes.specs.Remains.{LeavesBy}
 use Rattle.shell_changes.specs.Saved.{HasContentsOf, copies_contents}
@@ -31,7 +31,7 @@ returns-in-Ok-clause-ends g c =
 pub returns-in-Err-clause-ends : goal.returns-in-Err-clause-ends
 returns-in-Err-clause-ends g c =
     ends_stopped (Rose (g.S.ImageSource.faults c.args.images.now) (g.S.ImageSource.faults c.perform.new.images) ⊎ Rose (g.T.TextSource.faults c.args.script.now) (g.T.TextSource.faults c.perform.new.script)) (copies c.args.command) (ComesTold (LeavesBy g.C.Chooser.begins g.C.Chooser.picks c.args.choose.now) c.args.command (g.S.ImageSource.held c.args.images.now) (g.T.TextSource.left c.args.script.now))
-    (g.K.ImageSink.made c.args.out.now) (g.O.TextSink.written c.args.text.now) (g.O.TextSink.written c.stopped.new.text) c.stopped.result c.in-Err.stop (λ is. c.perform.ensures.failed (c.in-Err.is ∙ ap (λ (s : Stop). Err s) is)) c.stopped.ensures.memory c.stopped.ensures.read
+    (g.K.ImageSink.made c.args.out.now) (g.O.TextSink.written c.args.text.now) (g.O.TextSink.written c.stopped.new.text) c.stopped.result c.in-Err.stop (λ is. c.perform.ensures.failed (c.in-Err.is ∙ ap (λ (s : RunStop). Err s) is)) c.stopped.ensures.memory c.stopped.ensures.read
 
 pub returns-in-Ok-clause-stored : goal.returns-in-Ok-clause-stored
 returns-in-Ok-clause-stored g c =

@@ -30,7 +30,7 @@ returns-in-Err-ReadFault-clause-ends g c =
     let unread = c.save_if.ensures.unread (subst (λ (fault : CopyFault). c.save_if.result ≡ Err fault) c.in-Err-ReadFault.field-0-is c.in-Err-ReadFault.is) in
     let due = some_due held answer (some_copied answer.saved unread.0) in
     ends_unread (Rose (g.S.ImageSource.faults c.args.images.now) (g.S.ImageSource.faults c.save_if.new.images)) (copies_contents answer.saved) (ComesFrom held answer) (g.K.ImageSink.made c.args.out.now) (g.K.ImageSink.made c.save_if.new.out) (g.O.TextSink.written c.args.text.now) (g.O.TextSink.written c.stopped.new.text)
-    c.stopped.result due.0 (c.save_if.ensures.read (subst (λ (fault : CopyFault). c.save_if.result ≡ Err fault) c.in-Err-ReadFault.field-0-is c.in-Err-ReadFault.is)) unread.0 due.1 due.2 unread.1 (c.stopped.ensures.read refl)
+    c.stopped.result due.0 (c.save_if.ensures.outside.read (subst (λ (fault : CopyFault). c.save_if.result ≡ Err fault) c.in-Err-ReadFault.field-0-is c.in-Err-ReadFault.is)) unread.0 due.1 due.2 unread.1 (c.stopped.ensures.read refl)
 
 pub returns-in-Err-WriteFault-clause-ends : goal.returns-in-Err-WriteFault-clause-ends
 returns-in-Err-WriteFault-clause-ends g c =

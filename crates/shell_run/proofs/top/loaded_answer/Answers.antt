@@ -4,10 +4,10 @@ use Rattle.shell_changes.specs.Remains.{LeavesBy}
 use Rattle.shell_changes.specs.Saved.{copies_contents}
 use Rattle.shell_changes.proofs.Remains.{copies_none}
 use Rattle.image_set.specs.Load.{image_set_in}
-use Rattle.shell_run.specs.declared.words.Command.TheVariants.{Change, Info, Read, Write}
+use Rattle.shell_run.specs.declared.words.CommandLine.TheVariants.{Change, Info, Load, Read, Write}
 use Rattle.shell_changes.specs.Answers.{whole_outcome}
 use Rattle.shell_run.specs.Run.{LoadedComes, needs_contents, reads_script, streams}
-use Rattle.shell_run.specs.Words.{GivesGoodName}
+use Rattle.shell_run.specs.Words.{HasGoodValues}
 use Rattle.shell_run.proofs.Comes.{if_then, loaded_by}
 use Rattle.shell_run.proofs.top.loaded_answer.Goals as goal
 
@@ -56,7 +56,7 @@ returns-in-Write-clause-comes g c =
     loaded_by (LeavesBy g.C.Chooser.begins g.C.Chooser.picks c.args.choose.now) c.args.command (Write c.in-Write.uuid c.in-Write.sector c.in-Write.value) c.in-Write.is (image_set_in c.args.loaded) c.write_answer.result c.write_answer.ensures.comes
 
 pub change_answer-requires-clause-name : goal.change_answer-requires-clause-name
-change_answer-requires-clause-name g c = subst GivesGoodName c.in-Change.is c.requires.name
+change_answer-requires-clause-name g c = subst HasGoodValues c.in-Change.is c.requires.name
 
 pub change_answer-requires-clause-whole : goal.change_answer-requires-clause-whole
 change_answer-requires-clause-whole g c = sym (ap needs_contents c.in-Change.is) ∙ c.requires.whole
@@ -70,3 +70,18 @@ pub unreachable-requires-in-Export : goal.unreachable-requires-in-Export
 unreachable-requires-in-Export g c =
     let both = sym c.requires.plain.1 ∙ ap streams c.in-Export.is in
     (let e = both in cc)
+
+pub unreachable-requires-in-Serve : goal.unreachable-requires-in-Serve
+unreachable-requires-in-Serve g c =
+    let both = sym c.requires.plain.0 ∙ ap reads_script c.in-Serve.is in
+    (let e = both in cc)
+
+pub load_found-requires-clause-workers : goal.load_found-requires-clause-workers
+load_found-requires-clause-workers g c = λ κs lives. (subst HasGoodValues c.in-Load.is c.requires.name).1
+
+pub load_found-requires-clause-some : goal.load_found-requires-clause-some
+load_found-requires-clause-some g c = λ κs lives. (subst HasGoodValues c.in-Load.is c.requires.name).0
+
+pub returns-in-Load-clause-comes : goal.returns-in-Load-clause-comes
+returns-in-Load-clause-comes g c =
+    loaded_by (LeavesBy g.C.Chooser.begins g.C.Chooser.picks c.args.choose.now) c.args.command (Load c.in-Load.load c.in-Load.workers) c.in-Load.is (image_set_in c.args.loaded) c.load_found.result c.load_found.ensures.comes

@@ -5,10 +5,10 @@ use Rattle.shell_changes.specs.Answers.{HasSizes}
 use Rattle.shell_changes.specs.Remains.{LeavesBy}
 use Rattle.shell_changes.specs.Saved.{copies_contents}
 use Rattle.shell_changes.proofs.Remains.{copies_none, no_sizes}
-use Rattle.shell_run.specs.declared.words.Command.TheVariants.{Labels, Nfit, Init, Change, Info, Read}
-use Rattle.shell_run.specs.declared.words.Command.TheVariants as command
+use Rattle.shell_run.specs.declared.words.CommandLine.TheVariants.{Labels, Nfit, Init, Change}
+use Rattle.shell_run.specs.declared.words.CommandLine.TheVariants as command
 use Rattle.shell_run.specs.Run.{copies, needs_contents}
-use Rattle.shell_run.specs.Words.{GivesGoodName}
+use Rattle.shell_run.specs.Words.{HasGoodValues}
 use Rattle.shell_run.proofs.Comes.{copies_by_it, if_then, none_copied, outlined_by}
 use Rattle.shell_run.proofs.top.outlined_answer.Goals as goal
 
@@ -55,7 +55,7 @@ pub returns-in-Change-clause-copying : goal.returns-in-Change-clause-copying
 returns-in-Change-clause-copying g c = copies_by_it (LeavesBy g.C.Chooser.begins g.C.Chooser.picks c.args.choose.now) c.args.command (Change c.in-Change.change c.in-Change.power) c.in-Change.is c.change_answer.result (ap not (sym (ap needs_contents c.in-Change.is) ∙ c.requires.outlined))
 
 pub change_answer-requires-clause-name : goal.change_answer-requires-clause-name
-change_answer-requires-clause-name g c = subst GivesGoodName c.in-Change.is c.requires.name
+change_answer-requires-clause-name g c = subst HasGoodValues c.in-Change.is c.requires.name
 
 pub change_answer-requires-clause-whole : goal.change_answer-requires-clause-whole
 change_answer-requires-clause-whole g c = sym (ap needs_contents c.in-Change.is) ∙ c.requires.outlined

@@ -18,7 +18,7 @@ returns-then-reads_script-clause-there g c =
     if_then _ (λ (answer : Answer). HasContentsOf held answer.saved) c.perform_scripted.result (λ answer whole. whole_there held answer.saved whole) c.perform_scripted.ensures.whole
 
 pub perform_plain-requires-clause-plain : goal.perform_plain-requires-clause-plain
-perform_plain-requires-clause-plain g c = (sym c.reads_script.ensures ∙ c.if-reads_script.false, c.requires.asked.1)
+perform_plain-requires-clause-plain g c = λ κs lives. (sym c.reads_script.ensures ∙ c.if-reads_script.false, c.requires.asked.1)
 
 pub returns-else-reads_script-clause-told : goal.returns-else-reads_script-clause-told
 returns-else-reads_script-clause-told g c =

@@ -1,6 +1,6 @@
 use Rattle.std.proofs.Common.{◌≡◌, false, inl, inr}
 use Rattle.image_set.specs.declared.fault.LoadFault.TheVariants as fault
-use Rattle.shell_reports.specs.declared.status.Stop.TheVariants as stop
+use Rattle.shell_reports.specs.declared.status.RunStop.TheVariants as stop
 use Rattle.shell_run.specs.Printed.{IsReported, IsUnloaded}
 use Rattle.shell_run.proofs.Comes.{reported_unloaded}
 use Rattle.shell_run.proofs.Ending.{ends_stopped, holds_stopped, printing_more, stored_more}

@@ -1,8 +1,8 @@
 use Rattle.std.proofs.Common.{◌≡◌, ◌<◌, ◌≤◌, ℕ, ◌+◌, ◌-◌, [], ◌∷◌, ◌++◌, length, length-append, length-take, map, get_or, take, le_refl, refl, sym, ap, ◌∙◌, arith}
 use Rattle.std.proofs.lemmas.List.{take_more, take_all}
 use Rattle.turn_lock.specs.Passes.{lock_id}
-use Rattle.turn_callers.specs.declared.order.Order.{Order}
-use Rattle.turn_callers.specs.declared.register.Call.TheVariants.{Read}
+use Rattle.turn_callers.specs.declared.order.ShelfOrder.{ShelfOrder}
+use Rattle.turn_callers.specs.declared.register.RegisterCall.TheVariants.{Read}
 use Rattle.turn_callers.specs.Orders.{made_at, entry_at}
 use Rattle.turn_callers.proofs.Shelves.{seats_same, made_at-push}
 use Rattle.turn_callers.proofs.orders.run_session.Goals as goal
@@ -37,7 +37,7 @@ loop-order-preserved g c =
     let i = c.loop-order.invariant in
     let rs = c.loop-order.replies.items in
     let r : ℕ = c.make_order.result in
-    let o : Order = get_or orders k (record { place = 0; call = Read }) in
+    let o : ShelfOrder = get_or orders k (record { place = 0; call = Read }) in
     let es = λ (j : ℕ). made_at q j (take k orders) rs in
     let inside : k < length orders = omega arith in
     let n : ℕ = length orders - (k + 1) in

@@ -1,6 +1,6 @@
 use Rattle.std.proofs.Common.{◌<◌, ℕ, ◌+◌, ◌-◌, [], ◌∷◌, ◌++◌, Some, length, length-append, get_or, take, sym, ap, ◌∙◌, arith}
 use Rattle.turn_lock.specs.Passes.{number_of}
-use Rattle.turn_callers.specs.declared.register.Call.TheVariants.{Read}
+use Rattle.turn_callers.specs.declared.register.RegisterCall.TheVariants.{Read}
 use Rattle.turn_callers.specs.Replay.{made, entry}
 use Rattle.turn_callers.specs.Shares.{share}
 use Rattle.turn_callers.proofs.Journal.{next_part}

@@ -1,8 +1,8 @@
 use Rattle.std.proofs.Common.{◌≡◌, ◌≤◌, ◌<◌, ℕ, [], ◌∷◌, ◌++◌, length, length-append, get_or, append_assoc, vec_len, vec_capacity, sym, ap, ◌∙◌, subst, arith}
 use Rattle.turn_lock.specs.Passes.{lock_id, first_of, IsFresh}
-use Rattle.turn_callers.specs.declared.script.Session.{Session}
+use Rattle.turn_callers.specs.declared.script.ScriptSession.{ScriptSession}
 use Rattle.turn_lock.specs.Rows.{items_at}
-use Rattle.turn_callers.specs.Scripts.{AreReady}
+use Rattle.turn_callers.specs.Scripts.{AreScriptsReady}
 use Rattle.turn_lock.proofs.Places.{items_at_is, at_seam}
 use Rattle.turn_callers.proofs.Ready.{fresh_ready, ready_push}
 use Rattle.turn_callers.proofs.script.sit.Goals as goal
@@ -18,7 +18,7 @@ loop-pass-preserved c =
     let at = at_seam c.args.passes.items c.loop-pass.yielded c.next.new.self.rest.items p p behind in
     let sessions = c.loop-pass.sessions.items in
     let k : ℕ = length sessions in
-    let s : Session = record { pass = p; replies = c.in_ok-replies.replies } in
+    let s : ScriptSession = record { pass = p; replies = c.in_ok-replies.replies } in
     let items = c.in_ok-push.ensures.items in
     let fresh : IsFresh lock first (length c.loop-pass.yielded) p = subst (λ x. IsFresh lock first (length c.loop-pass.yielded) x) at.1 (c.requires.fresh (length c.loop-pass.yielded) p at.0) in
     let fresh_here : IsFresh lock first k p = subst (λ (q : ℕ). IsFresh lock first q p) (sym i.count) fresh in
@@ -31,5 +31,5 @@ loop-pass-preserved c =
     record {
       rest = append_assoc c.loop-pass.yielded (p ∷ []) c.next.new.self.rest.items ∙ behind;
       count = omega (arith, ap length items, length-append sessions (s ∷ []), length-append c.loop-pass.yielded (p ∷ []), i.count);
-      ready = subst (λ l. AreReady lock scripts l) (sym items) (ready_push lock scripts sessions s i.ready (fresh_ready lock first scripts k s c.requires.first.0 c.requires.first.1 fresh_here c.in_ok-replies.ensures.items room));
+      ready = subst (λ l. AreScriptsReady lock scripts l) (sym items) (ready_push lock scripts sessions s i.ready (fresh_ready lock first scripts k s c.requires.first.0 c.requires.first.1 fresh_here c.in_ok-replies.ensures.items room));
     }

@@ -1,6 +1,6 @@
 use Rattle.std.proofs.Common.{◌≡◌, ◌≤◌, ◌<◌, ℕ, [], ◌∷◌, length, length-append, vec_len, vec_capacity, refl, sym, ap, ◌∙◌, subst, arith}
 use Rattle.turn_lock.proofs.Places.{each_push, items_at_is}
-use Rattle.turn_callers.specs.declared.session.Session.{Session}
+use Rattle.turn_callers.specs.declared.session.ShelfSession.{ShelfSession}
 use Rattle.turn_lock.specs.Rows.{items_at}
 use Rattle.turn_callers.specs.Sessions.{IsReady, AreReady}
 use Rattle.turn_callers.proofs.seats.stools.Goals as goal
@@ -11,7 +11,7 @@ loop-i-preserved c =
     let inv = c.loop-i.invariant in
     let i : ℕ = c.loop-i.i in
     let ss = c.loop-i.sessions.items in
-    let s : Session = record { number = i; passes = c.new.result; replies = c.in_ok-replies.replies } in
+    let s : ShelfSession = record { number = i; passes = c.new.result; replies = c.in_ok-replies.replies } in
     let items = c.in_ok-push.ensures.items in
     let inside : i < length scripts = omega arith in
     let script = c.index-scripts-i.result in

@@ -1,7 +1,11 @@
 use Rattle.std.proofs.Common.{◌≡◌, ◌<◌, slice_get, slice_set, Some, sym, ap, ◌∙◌, subst, refl}
 use Rattle.lane_core.specs.declared.now.LaneNow.{LaneNow}
 use Rattle.lane_core.specs.After.{answer_after, lane_after, past_after, row_after}
+use Rattle.lane_core.specs.Cores.{ShowsSound}
 use Rattle.lane_core.specs.Fixed.{RowHasFixed}
+use Rattle.lane_core.specs.History.{Cells}
+use Rattle.lane_core.specs.Machine.{State}
+use Rattle.lane_core.specs.Machines.{IsCore}
 use Rattle.lane_core.specs.Reopening.{first_cells}
 use Rattle.lane_core.specs.Rows.{Recorded, RowWords}
 use Rattle.lane_core.specs.Sessions.{IsServed}
@@ -21,15 +25,6 @@ step_lane-requires c =
     let h = c.requires.core.1.1 in
     let at : slice_get core.lanes.items c.args.lane ≡ Some mine = lane_there core.lanes.items c.args.lane mine (subst (λ n. c.args.lane < n) (sym h.shown.count) c.requires.lane) c.index_mut-mine.ensures.value in
     record { ready = ready core.shape core.row core.lanes.items core.history c.requires.core.0 s c.args.lane mine h at }
-
-pub returns-clause-core : goal.returns-clause-core
-returns-clause-core c = λ o core_is.
-    let core = c.args.self.now in
-    let mine = c.index_mut-mine.result.now in
-    let s = core_is.0 in
-    let h = core_is.1 in
-    let at : slice_get core.lanes.items c.args.lane ≡ Some mine = lane_there core.lanes.items c.args.lane mine (subst (λ n. c.args.lane < n) (sym h.shown.count) c.requires.lane) c.index_mut-mine.ensures.value in
-    (_, stepped_parts core.shape core.row c.step_lane.new.row core.lanes.items core.history c.step_lane.new.history o s c.args.lane mine c.step_lane.new.mine h at c.step_lane.ensures.row c.step_lane.ensures.lane c.step_lane.ensures.history)
 
 pub returns-clause-line : goal.returns-clause-line
 returns-clause-line c = λ p here.
@@ -55,24 +50,34 @@ returns-clause-line c = λ p here.
       idle = λ e. answer ∙ ap (λ ph. answer_after core.shape c.args.lane core.row p ph) e;
     }
 
-pub returns-clause-arena : goal.returns-clause-arena
-returns-clause-arena c = λ state h.
+pub returns-clause-keeps : goal.returns-clause-keeps
+returns-clause-keeps c =
     let core = c.args.self.now in
     let mine = c.index_mut-mine.result.now in
-    let k = h.shows.1 in
-    let at : slice_get core.lanes.items c.args.lane ≡ Some mine = lane_there core.lanes.items c.args.lane mine (subst (λ n. c.args.lane < n) (sym k.shown.count) c.requires.lane) c.index_mut-mine.ensures.value in
-    let lane_is_ready = ready core.shape core.row core.lanes.items core.history (first_cells state) h.shows.0 c.args.lane mine k at in
+    let made = c.step_lane in
+    let lane_is_there : (s : State) (o : Cells) → ShowsSound core.shape core.row core.lanes.items core.history o s → slice_get core.lanes.items c.args.lane ≡ Some mine =
+    λ s o h. lane_there core.lanes.items c.args.lane mine (subst (λ n. c.args.lane < n) (sym h.shown.count) c.requires.lane) c.index_mut-mine.ensures.value in
+    let keeps : (o : Cells) → IsCore o core → (s : State) × ShowsSound core.shape made.new.row (slice_set core.lanes.items c.args.lane made.new.mine) made.new.history o s =
+    λ o is. (
+      _,
+      stepped_parts core.shape core.row made.new.row core.lanes.items core.history made.new.history o is.0 c.args.lane mine made.new.mine is.1 (lane_is_there is.0 o is.1)
+          made.ensures.row made.ensures.lane made.ensures.history,
+    ) in
     record {
-      opened = h.opened;
-      info = h.info;
-      shape = h.shape;
-      shows = returns-clause-core c (first_cells state) h.shows;
-      fixed = subst (λ (row : RowWords). RowHasFixed core.shape state.words row.words) (sym c.step_lane.ensures.row)
-          (line_keeps core.shape core.row c.args.lane mine core.history.room lane_is_ready state.words h.fixed mine.phase refl);
+      sound = (c.requires.core.0, keeps c.requires.core.0 c.requires.core.1);
+      core = keeps;
+      arena = λ state h.
+          let is_ready = ready core.shape core.row core.lanes.items core.history (first_cells state) h.shows.0 c.args.lane mine h.shows.1 (lane_is_there h.shows.0 (first_cells state) h.shows.1) in
+          record {
+            opened = h.opened;
+            info = h.info;
+            shape = h.shape;
+            shows = keeps (first_cells state) h.shows;
+            fixed = subst (λ (row : RowWords). RowHasFixed core.shape state.words row.words) (sym made.ensures.row)
+                (line_keeps core.shape core.row c.args.lane mine core.history.room is_ready state.words h.fixed mine.phase refl);
+          };
+      shape = refl;
     }
-
-pub returns-clause-sound : goal.returns-clause-sound
-returns-clause-sound c = (c.requires.core.0, returns-clause-core c c.requires.core.0 c.requires.core.1)
 
 pub returns-clause-serves : goal.returns-clause-serves
 returns-clause-serves c = λ served.

@@ -11,9 +11,9 @@ use Rattle.sector_service.proofs.served.ServedCore.into_core.Goals as goal
 pub returns-clause-legal : goal.returns-clause-legal
 returns-clause-legal c =
     subst (λ (v : Served). IsLegal (first_cells v.first) (answered_in v.held.lanes v.held.entries)) c.self.view_is
-    (played_is_legal c.self.inside.first.value (held_by c.self.inside.core) c.self.invariant.serves.played)
+    (played_is_legal c.self.inside.first.value (held_by c.self.inside.core.value) c.self.invariant.serves.played)
 
 pub returns-clause-end : goal.returns-clause-end
 returns-clause-end c =
     subst (λ (v : Served). end_of (first_cells v.first) (answered_in v.held.lanes v.held.entries) ≡ end_of (first_cells v.first) v.held.entries) c.self.view_is
-    (ends_same c.self.inside.first.value (held_by c.self.inside.core) c.self.invariant.serves.played)
+    (ends_same c.self.inside.first.value (held_by c.self.inside.core.value) c.self.invariant.serves.played)

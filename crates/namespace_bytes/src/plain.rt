@@ -1,0 +1,193 @@
+//! The words of a namespace as plain words, so that others can be put there.
+ghost use Rattle.std.specs.Prelude.{◌≡◌, ◌+◌, ◌*◌, ◌%◌, ◌<◌, ◌≤◌, IfOk, length, slice_index, slice_set};
+ghost use Rattle.arena_open.specs.Writes.{IsSettled};
+ghost use Rattle.cut_words.specs.Words.{settled};
+ghost use Rattle.interleave.specs.Places.{LiesAt, unit_of};
+ghost use Rattle.interleave.specs.Sound.{span_of};
+ghost use Rattle.power_cut.specs.Namespace.{ReachEnds, byte_at, count_of, over, row_of, words_of};
+ghost use Rattle.power_cut.specs.Placed.{beside_and_place};
+ghost use Rattle.sector_namespaces.specs.Creation.{AreSettled};
+
+use cut_words::CutWords;
+use interleave::InterleaveSet;
+use nvd_media::ListChooser;
+use nvd_words::Items;
+use std::alloc::{AllocError, Global};
+use std::marker::Model;
+
+/// The size of a word, in bytes.
+const WORD: u64 = 8;
+
+/// The words of a module. Contracts see them as words of which none is pending.
+#[derive(Debug, Drop)]
+struct Row {
+    words: Vec<u64>,
+}
+
+impl Model for Row {
+    ghost use Rattle.cut_words.specs.Words.{Words, settled};
+
+    ghost Value = { Words };
+
+    ghost view = { λ row. settled row.words.items };
+}
+
+impl Row {
+    fn of(words: Vec<u64>) -> Row
+        ensures { result ≡ settled words.items }
+    {
+        Row { words }
+    }
+
+    /// Returns the same words, as ones that can be stored and flushed.
+    fn into_cut(self, alloc: Global) -> Result<CutWords, AllocError>
+        ensures { IfOk result (λ words. words ≡ self) }
+    {
+        let Row { words } = self;
+        CutWords::new(alloc, words)
+    }
+
+    fn load(&self, i: u64) -> u64
+        requires { i < length self.now.kept }
+        ensures { result ≡ slice_index self.now.kept i }
+    {
+        self.words[i as usize]
+    }
+
+    fn put(&mut self, i: u64, word: u64)
+        requires { i < length self.old.kept }
+        ensures put { self.new ≡ settled (slice_set self.old.kept i word) }
+        ensures was { IsSettled self.old }
+    {
+        self.words[i as usize] = word;
+    }
+}
+
+/// Takes the words of all modules, of which none is pending, as plain words.
+fn plain_rows(alloc: Global, modules: Vec<CutWords>) -> Result<Vec<Row>, AllocError>
+    requires { AreSettled modules.items }
+    ensures { IfOk result (λ rows. rows.items ≡ modules.items) }
+{
+    let mut chooser = ListChooser::new(Vec::new(alloc));
+    let mut rows = Items::new(alloc);
+    for words in modules {
+        rows.push(Row::of(words.leave(&mut chooser)))?;
+    }
+    Ok(rows.into_vec())
+}
+
+/// Returns plain words as the words of all modules.
+fn cut_rows(alloc: Global, rows: Vec<Row>) -> Result<Vec<CutWords>, AllocError>
+    ensures { IfOk result (λ modules. modules.items ≡ rows.items) }
+{
+    let mut modules = Items::new(alloc);
+    for row in rows {
+        modules.push(row.into_cut(alloc)?)?;
+    }
+    Ok(modules.into_vec())
+}
+
+/// The words of a namespace on an interleave set, of which none is pending. It owns the words of all modules. Contracts see
+/// the same as of `SetWords` of crate `power_cut`.
+///
+/// A word is put in one step, which asks once for its place. No second value of a word is kept beside it, so that a namespace
+/// that is written as a whole takes no more memory than the loaded set.
+#[derive(Drop)]
+pub struct PlainWords<'a> {
+    set: &'a InterleaveSet,
+    /// The namespace's address in each mapping, in bytes from the mapping's start.
+    offset: u64,
+    /// Its size in each mapping, in bytes.
+    raw: u64,
+    /// The words of all modules, by number.
+    rows: Vec<Row>,
+}
+
+impl<'a> Model for PlainWords<'a> {
+    ghost use Rattle.power_cut.specs.Namespace.{Namespace, IsLaid, HasRows};
+
+    ghost Value = { Namespace };
+
+    ghost view = { λ words. record { set = words.set.now; offset = words.offset; raw = words.raw; modules = words.rows.items } };
+
+    ghost invariant = { λ words. IsLaid (record { set = words.set.now; offset = words.offset; raw = words.raw; modules = words.rows.items }) × HasRows words.set.now words.rows.items };
+}
+
+impl<'a> PlainWords<'a> {
+    /// Makes the words of the namespace that has `raw` bytes from the relative address `offset` on in each mapping of the set.
+    ///
+    /// Both must be multiples of the set's unit, and the namespace must end inside the mappings. `modules` must have the words
+    /// of all modules by number, at least up to the end of each of the set's mappings, and none of them may be pending. The
+    /// call takes a few bytes for each module; it fails only if memory runs out.
+    pub fn of(
+        alloc: Global,
+        set: &'a InterleaveSet,
+        offset: u64,
+        raw: u64,
+        modules: Vec<CutWords>,
+    ) -> Result<PlainWords<'a>, AllocError>
+        requires from { offset % unit_of set.now ≡ 0 }
+        requires to { raw % unit_of set.now ≡ 0 }
+        requires inside { offset + raw ≤ span_of set.now }
+        requires settled { AreSettled modules.items }
+        requires reach { ReachEnds set.now modules.items }
+        ensures made { IfOk result (λ words. words ≡ over set.now offset raw modules.items) }
+    {
+        let _unit = set.unit();
+        let _span = set.span();
+        let rows = plain_rows(alloc, modules)?;
+        Ok(PlainWords {
+            set,
+            offset,
+            raw,
+            rows,
+        })
+    }
+
+    /// Returns the words of the modules. It fails only if memory runs out.
+    pub fn into_modules(self, alloc: Global) -> Result<Vec<CutWords>, AllocError>
+        ensures { IfOk result (λ modules. modules.items ≡ self.entry.modules) }
+    {
+        let PlainWords { rows, .. } = self;
+        cut_rows(alloc, rows)
+    }
+
+    /// Returns the number of words.
+    pub fn count(&self) -> u64
+        ensures { result ≡ length (words_of self.now).kept }
+    {
+        u64::from(self.set.ways()) * self.raw / WORD
+    }
+
+    /// Returns the module of a word of the namespace, and the word's number there.
+    fn locate(&self, i: u64) -> (usize, u64)
+        requires { i < count_of self.now }
+        ensures there { LiesAt self.now.set (byte_at self.now i) result.0 (8 * result.1) }
+        ensures module { result.0 < length self.now.modules }
+        ensures word { result.1 < length (row_of self.now.modules result.0).kept }
+    {
+        let first = u64::from(self.set.ways()) * self.offset;
+        let (module, address) = self.set.place(first + WORD * i);
+        (module as usize, address / WORD)
+    }
+
+    /// Returns a word of the namespace, which must exist.
+    pub(crate) fn load(&self, i: u64) -> u64
+        requires { i < length (words_of self.now).kept }
+        ensures { result ≡ slice_index (words_of self.now).kept i }
+    {
+        let (module, word) = self.locate(i);
+        self.rows[module].load(word)
+    }
+
+    /// Puts a word at a place of the namespace, which must exist.
+    pub(crate) fn put(&mut self, i: u64, value: u64)
+        requires inside { i < length (words_of self.old).kept }
+        requires settled { IsSettled (words_of self.old) }
+        ensures put { words_of self.new ≡ settled (slice_set (words_of self.old).kept i value) }
+        ensures beside { beside_and_place self.new ≡ beside_and_place self.old }
+    {
+        let (module, word) = self.locate(i);
+        self.rows[module].put(word, value);
+    }
+}

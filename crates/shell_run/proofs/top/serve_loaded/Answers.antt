@@ -1,0 +1,30 @@
+use Rattle.std.proofs.Common.{◌≡◌, false}
+use Rattle.shell_changes.specs.declared.answer.Answer.{Answer}
+use Rattle.shell_changes.specs.Saved.{copies_contents}
+use Rattle.shell_changes.proofs.Remains.{copies_none}
+use Rattle.shell_serve.specs.Serve.{ServeComes}
+use Rattle.shell_run.proofs.Comes.{IsTold, if_both, if_same, if_then, if_told, loaded_told, unloaded_told}
+use Rattle.shell_run.proofs.top.serve_loaded.Goals as goal
+
+pub returns-in-Ok-clause-told : goal.returns-in-Ok-clause-told
+returns-in-Ok-clause-told g c =
+    let held = g.S.ImageSource.held c.args.images.now in
+    if_same (IsTold (ServeComes c.args.script.now) held) c.found_memory.result c.serve_answer.result c.found_memory.ensures.same
+    (if_both _ _ (IsTold (ServeComes c.args.script.now) held) c.serve_answer.result
+    (λ answer comes whole. loaded_told (ServeComes c.args.script.now) held c.load.result c.in-Ok.loaded answer c.in-Ok.is c.load.ensures.told whole comes)
+    c.serve_answer.ensures.comes c.serve_answer.ensures.whole)
+
+pub returns-in-Ok-clause-whole : goal.returns-in-Ok-clause-whole
+returns-in-Ok-clause-whole g c =
+    if_same (λ (answer : Answer). copies_contents answer.saved ≡ false) c.found_memory.result c.serve_answer.result c.found_memory.ensures.same c.serve_answer.ensures.whole
+
+pub returns-in-Err-clause-told : goal.returns-in-Err-clause-told
+returns-in-Err-clause-told g c =
+    let held = g.S.ImageSource.held c.args.images.now in
+    if_told (IsTold (ServeComes c.args.script.now) held) c.unloaded.result c.in-Err.why
+    (λ answer nothing says read memory. unloaded_told (ServeComes c.args.script.now) held c.load.result c.in-Err.why answer c.in-Err.is c.load.ensures.told nothing says read memory)
+    c.unloaded.ensures.saved c.unloaded.ensures.text c.unloaded.ensures.source c.unloaded.ensures.memory
+
+pub returns-in-Err-clause-whole : goal.returns-in-Err-clause-whole
+returns-in-Err-clause-whole g c =
+    if_then (λ (answer : Answer). _) (λ (answer : Answer). copies_contents answer.saved ≡ false) c.unloaded.result (λ answer none. copies_none answer none) c.unloaded.ensures.saved

@@ -1,0 +1,13 @@
+mod Rows
+mod Lists
+mod Journals
+mod Saves
+pub mod Causes
+mod Empty
+mod Recovering
+mod Served
+mod Coming
+pub mod TextLines
+pub mod Parting
+pub mod ScriptLines
+pub mod Opens

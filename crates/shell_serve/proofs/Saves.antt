@@ -1,0 +1,109 @@
+-- The set that is saved after sessions.
+use Rattle.std.proofs.Common.{◌≡◌, ℕ, zero, suc, ◌^◌, ◌<◌, List, [], ◌∷◌, length, map, get_or, Option, Some, None, refl, sym, ap, ◌∙◌, subst}
+use Rattle.std.specs.Option.{option_map}
+use Rattle.std.proofs.lemmas.List.Elements.{All-head, All-tail}
+use Rattle.std.proofs.lemmas.Option.{slice_get-map}
+use Rattle.cut_words.specs.Words.{Words, IsLeft, settled}
+use Rattle.cut_words.specs.WordBytes.{bytes_of}
+use Rattle.nvd_media.specs.declared.object.Object.TheVariants as object
+use Rattle.nvd_media.specs.Images.{IsSameSet}
+use Rattle.power_cut.specs.declared.leaving.Images.{Images as Left}
+use Rattle.power_cut.specs.Left.{Each, IsLeftOf, IsLeftOfAll}
+use Rattle.image_set.specs.Changed.{IsSavable, objects_of}
+use Rattle.image_set.specs.Load.{ImageSet}
+use Rattle.image_set.specs.Save.{set_of}
+use Rattle.image_set.proofs.Kept.{each_length}
+use Rattle.namespace_areas.specs.declared.area.Area.{Area}
+use Rattle.namespace_areas.specs.Seen.{AreLeft as AreasLeft, areas_shown, words_of as area_words}
+use Rattle.namespace_areas.proofs.Seen.{left_kept}
+use Rattle.sector_namespaces.specs.Creation.{AreSettled}
+use Rattle.shell_changes.specs.declared.answer.Left.{Left as SavedLeft}
+use Rattle.shell_changes.specs.declared.answer.Left.TheVariants.{Whole}
+use Rattle.shell_changes.specs.Areas.{area_in, with_labels}
+use Rattle.shell_changes.specs.Saved.{objects_saved}
+use Rattle.shell_changes.proofs.Areas.{rows_shown, sized_all, unread_all}
+use Rattle.shell_reports.specs.declared.outcome.Report.{Report}
+use Rattle.shell_reports.specs.declared.status.Ending.{Ending}
+use Rattle.shell_reports.specs.declared.status.Ending.TheVariants as ending
+use Rattle.shell_reports.specs.Outcome.{Outcome}
+use Rattle.shell_reports.specs.Saved.{IsSaving}
+use Rattle.shell_sectors.specs.declared.finding.Unchanged.{Unchanged}
+use Rattle.shell_sectors.specs.Found.{HasModules, with_contents}
+use Rattle.shell_serve.specs.Answering.{SavesLeft}
+use Rattle.shell_serve.specs.Recovered.{KeepsLabels}
+use Rattle.shell_serve.specs.Serving.{SavesParts}
+
+get_map : {A B : Type 0} (f : A → B) (xs : List A) (k : ℕ) (d : A) → get_or (map f xs) k (f d) ≡ f (get_or xs k d)
+get_map f [] k d = refl
+get_map f (x ∷ xs) zero d = refl
+get_map f (x ∷ xs) (suc k) d = get_map f xs k d
+
+-- ---- what is saved
+
+pub left_as : (rest : Unchanged) (contents : List Words) (images : Left) (labels : List (Option Words)) (rows : List Words) → labels ≡ map area_words rest.registry.areas → rows ≡ contents
+    → IsLeftOfAll labels rows images → IsLeftOfAll (map area_words rest.registry.areas) contents images
+left_as rest contents images labels rows are same left =
+    subst (λ (ls : List (Option Words)). IsLeftOfAll ls contents images) are (subst (λ (ws : List Words). IsLeftOfAll labels ws images) same left)
+
+module _ (rest : Unchanged) (contents : List Words) (images : Left) (left : IsLeftOfAll (map area_words rest.registry.areas) contents images) where
+  pub can_be_saved : HasModules rest (length contents) → IsSavable (record { nfit = rest.nfit_bytes; images = images; bad = rest.bad })
+  can_be_saved has =
+      let areas : length images.labels ≡ length (map area_words rest.registry.areas) = each_length IsLeftOf (map area_words rest.registry.areas) images.labels left.labels in
+      let rows : length images.contents ≡ length contents = each_length IsLeft contents images.contents left.contents in
+      record {
+        modules = record { labels = areas ∙ has.labels ∙ sym rows; ranges = has.bad ∙ sym rows };
+        few = subst (λ (n : ℕ). n < 2 ^ 32) (sym rows) has.few;
+      }
+
+  same_set : (loaded : ImageSet) → loaded.nfit_bytes ≡ rest.nfit_bytes → loaded.bad ≡ rest.bad
+      → IsSameSet (set_of rest.nfit_bytes images rest.bad) (objects_of (with_labels (with_contents loaded images.contents) (map (option_map bytes_of) images.labels)))
+  unfolding set_of objects_of
+  same_set loaded nfit bad object.Mark = refl
+  same_set loaded nfit bad object.Nfit = ap (λ (bytes : List ℕ). Some bytes) (sym nfit)
+  same_set loaded nfit bad (object.Labels k) = sym (get_map (option_map bytes_of) images.labels k None)
+  same_set loaded nfit bad (object.Contents k) = sym (slice_get-map bytes_of images.contents k)
+  same_set loaded nfit bad (object.BadRanges k) = ap (λ (ranges : List (Option (List ℕ))). get_or ranges k None) (sym bad)
+
+  pub saves_left : (report : Report) (saved : SavedLeft) → saved ≡ Whole (record { nfit = rest.nfit_bytes; images = images; bad = rest.bad })
+      → SavesLeft report rest contents (record { ending = report.ending; text = report.text.items; saved = Some (objects_saved [] saved) })
+  saves_left report saved is = record {
+    labels = images.labels;
+    areas = left.labels;
+    rows = images.contents;
+    words = left.contents;
+    saves = λ loaded nfit bad. record {
+      ends = refl;
+      says = refl;
+      saved = set_of rest.nfit_bytes images rest.bad;
+      saves = ap (λ (l : SavedLeft). Some (objects_saved [] l)) is;
+      same = same_set loaded nfit bad;
+    };
+  }
+
+-- ---- contents of which no word is pending are saved as they are kept
+
+pub rows_settled : (contents : List Words) (rows : List (List ℕ)) → AreSettled contents → Each IsLeft contents rows → map settled rows ≡ contents
+rows_settled [] rows all is = ap (map settled) is
+rows_settled (words ∷ contents) rows all (first, rest, is, here, more) =
+    let own : words ≡ settled words.kept = All-head (λ (w : Words). w ≡ settled w.kept) words contents all in
+    let one : settled first ≡ words = ap settled (left_kept words first own here) ∙ sym own in
+    let others : map settled rest ≡ contents = rows_settled contents rest (All-tail (λ (w : Words). w ≡ settled w.kept) words contents all) more in
+    ap (map settled) is ∙ (λ i. one i ∷ others i)
+
+-- ---- label areas
+
+-- the set that is saved has the label areas that are left
+pub saves_parts : (loaded : ImageSet) (areas : List Area) (keeps : KeepsLabels loaded.labels areas) (labels : List (Option (List ℕ))) (rows : List (List ℕ)) (end : Ending) (said text : List ℕ) (outcome : Outcome) → AreasLeft areas labels → end ≡ ending.Done → said ≡ text
+    → IsSaving end said (objects_of (with_labels (with_contents loaded rows) (map (option_map bytes_of) labels))) outcome → SavesParts text loaded (areas_shown labels) rows outcome
+saves_parts loaded areas keeps labels rows end said text outcome left ends says saves = record {
+  set = objects_of (with_labels (with_contents loaded rows) (map (option_map bytes_of) labels));
+  has = record {
+    labels = map (option_map bytes_of) labels;
+    shown = rows_shown labels;
+    unread = λ m none.
+        unread_all keeps.words areas labels keeps.beside left m (ap (λ (ls : List (Option (List ℕ))). area_in (get_or ls m None)) (sym keeps.are) ∙ none) ∙ ap (λ (ls : List (Option (List ℕ))). get_or ls m None) (sym keeps.are);
+    sizes = sized_all keeps.words areas labels keeps.beside keeps.sizes left ∙ ap (map (option_map length)) (sym keeps.are);
+    objects = λ object. refl;
+  };
+  saves = record { ends = saves.ends ∙ ends; says = saves.says ∙ says; saved = saves.saved; saves = saves.saves; same = saves.same };
+}

@@ -1,0 +1,277 @@
+-- From what sessions come to on cores to the set after the cut.
+use Rattle.std.proofs.Common.{◌≡◌, ℕ, ◌<◌, ◌^◌, Bool, true, false, List, [], ◌∷◌, length, map, get_or, Option, Some, refl, sym, ap, ◌∙◌, subst, Global, arith}
+use Rattle.std.specs.Prelude.{All, Contains, Vec, slice_get, slice_index_or}
+use Rattle.std.proofs.lemmas.List.{length-map}
+use Rattle.std.proofs.lemmas.Option.{get_or_from_slice_get, slice_get-get_or, slice_get_within}
+use Rattle.turn_lock.specs.Rows.{items_at}
+use Rattle.cut_words.specs.Words.{Words, settled}
+use Rattle.cut_words.specs.WordBytes.{words_in}
+use Rattle.nfit_reader.specs.declared.table.Mapping.{Mapping}
+use Rattle.arena_layout.specs.declared.info.Info.{Info}
+use Rattle.arena_open.specs.declared.state.ArenaState.{ArenaState}
+use Rattle.arena_open.specs.Moves.{IsOpenState}
+use Rattle.label_codec.specs.declared.mode.Mode.TheVariants as mode
+use Rattle.lane_core.specs.declared.machine.Core.{Core}
+use Rattle.lane_core.specs.declared.shape.Shape.{Shape}
+use Rattle.lane_core.specs.Held.{held_by}
+use Rattle.lane_core.specs.Machines.{IsSomeCore}
+use Rattle.lane_core.specs.Reopening.{first_cells}
+use Rattle.power_cut.specs.Left.{Each}
+use Rattle.image_set.specs.Load.{ImageSet}
+use Rattle.image_set.proofs.Kept.{each_length}
+use Rattle.namespace_areas.specs.declared.area.Area.{Area}
+use Rattle.namespace_areas.specs.Seen.{AreHeld, AreLeft as AreasLeft, areas_seen, areas_shown, words_of as area_words}
+use Rattle.namespace_areas.specs.Went.{size_of}
+use Rattle.namespace_areas.proofs.Seen.{left_shown}
+use Rattle.namespace_map.specs.Areas.{Area as SeenArea}
+use Rattle.namespace_ops.specs.Registered.{Registered}
+use Rattle.sector_namespaces.specs.View.{rows_of}
+use Rattle.served_namespaces.specs.declared.places.FoundNamespace.{FoundNamespace}
+use Rattle.served_namespaces.specs.declared.places.OpenedNamespace.{OpenedNamespace}
+use Rattle.served_namespaces.specs.declared.places.OpenedSet.{OpenedSet}
+use Rattle.served_namespaces.specs.Places.{words_at}
+use Rattle.served_namespaces.specs.Serving.{AreCut, AreServing, ArenaCut}
+use Rattle.served_namespaces.specs.Serving as put
+use Rattle.served_namespaces.specs.Steps.{IsReady}
+use Rattle.session_account.specs.Account.{Accounts, flights_on}
+use Rattle.session_account.specs.Journal.{AreLeft, IsJournal}
+use Rattle.session_account.specs.Serving.{Serving}
+use Rattle.session_account.specs.Survival.{Survives}
+use Rattle.session_script.specs.declared.script.Script.{Script}
+use Rattle.session_service.specs.declared.ending.Ran.{Ran}
+use Rattle.session_service.specs.declared.namespaces.ServedNamespace.{ServedNamespace}
+use Rattle.session_service.specs.Namespaces as service
+use Rattle.session_service.specs.Ran.{HasServed, IsRunCore, histories_of, journal_of, replies_of}
+use Rattle.shell_sectors.specs.declared.finding.Unchanged.{Unchanged}
+use Rattle.shell_serve.specs.Answering.{AreSame, IsCutOf, IsOpen, IsServed}
+use Rattle.shell_serve.specs.Serving.{AreLegal, ArenasSurvive, servings_of, unclaimed}
+use Rattle.shell_serve.proofs.Lists.{each_back, items_there, same_at}
+
+-- ---- the same namespaces, as sessions get them
+
+first_of : {X : Type 0} (x y : X) (xs ys : List X) → ◌≡◌ {A = List X} (x ∷ xs) (y ∷ ys) → x ≡ y
+first_of {X} x y xs ys is = ap (λ (zs : List X). get_or zs 0 x) is
+
+rest_of : {X : Type 0} (x y : X) (xs ys : List X) → ◌≡◌ {A = List X} (x ∷ xs) (y ∷ ys) → xs ≡ ys
+rest_of {X} x y xs ys is = let e = is in cc
+
+pub same_servings : (namespaces : List OpenedNamespace) (served : List ServedNamespace) → AreSame namespaces served → service.servings_of served ≡ servings_of namespaces
+same_servings [] [] same = refl
+same_servings [] (n ∷ served) same = absurd (let e = same.uuids in cc)
+same_servings (o ∷ namespaces) [] same = absurd (let e = same.uuids in cc)
+same_servings (o ∷ namespaces) (n ∷ served) same =
+    let uuid : n.uuid ≡ o.place.uuid = first_of n.uuid o.place.uuid (map (λ (x : ServedNamespace). x.uuid) served) (map (λ (x : OpenedNamespace). x.place.uuid) namespaces) same.uuids in
+    let arenas : n.arenas.items ≡ o.states = first_of n.arenas.items o.states (map (λ (x : ServedNamespace). x.arenas.items) served) (map (λ (x : OpenedNamespace). x.states) namespaces) same.arenas in
+    let rest : AreSame namespaces served = record {
+      uuids = rest_of n.uuid o.place.uuid (map (λ (x : ServedNamespace). x.uuid) served) (map (λ (x : OpenedNamespace). x.place.uuid) namespaces) same.uuids;
+      arenas = rest_of n.arenas.items o.states (map (λ (x : ServedNamespace). x.arenas.items) served) (map (λ (x : OpenedNamespace). x.states) namespaces) same.arenas;
+    } in
+    λ i. record { uuid = uuid i; arenas = map service.shape_by (arenas i) } ∷ same_servings namespaces served rest i
+
+pub same_count : (namespaces : List OpenedNamespace) (served : List ServedNamespace) → AreSame namespaces served → length served ≡ length namespaces
+same_count namespaces served same =
+    sym (length-map served (λ (n : ServedNamespace). n.uuid)) ∙ ap (λ (us : List (List ℕ)). length us) same.uuids ∙ length-map namespaces (λ (o : OpenedNamespace). o.place.uuid)
+
+-- the namespace at a place, as sessions got it
+same_there : (namespaces : List OpenedNamespace) (served : List ServedNamespace) (k : ℕ) (o : OpenedNamespace) → AreSame namespaces served → slice_get namespaces k ≡ Some o
+    → (n : ServedNamespace) × (slice_get served k ≡ Some n) × (n.arenas.items ≡ o.states)
+same_there namespaces served k o same at = same_at (λ (x : OpenedNamespace). x.states) (λ (n : ServedNamespace). n.arenas.items) namespaces served k o same.arenas at
+
+pub opened_all : (namespaces : List OpenedNamespace) (served : List ServedNamespace) → AreSame namespaces served → ((o : OpenedNamespace) → Contains namespaces o → All IsOpenState o.states) → All service.AreOpened served
+opened_all namespaces served same each k d lt =
+    let at : slice_get served k ≡ Some (get_or served k d) = slice_get-get_or served k d lt in
+    let (o, at_o, is) = same_at (λ (n : ServedNamespace). n.arenas.items) (λ (x : OpenedNamespace). x.states) served namespaces k (get_or served k d) (sym same.arenas) at in
+    subst (λ (states : List ArenaState). All IsOpenState states) is (each o (k, slice_get_within namespaces k o at_o, get_or_from_slice_get namespaces k o o at_o))
+
+-- ---- cores
+
+-- what stands for an arena that isn't there
+abbrev no_state : ArenaState
+no_state = record {
+  info = record {
+    uuid = [];
+    parent = [];
+    flags = 0;
+    major = 0;
+    minor = 0;
+    next = 0;
+    layout = record { size = 0; sector = 0; inner = 0; external = 0; internal = 0; lanes = 0; data_off = 0; map_off = 0; flog_off = 0; info_off = 0 };
+  };
+  words = [];
+  lanes = [];
+  made = 0;
+}
+
+module _ (namespaces : List OpenedNamespace) (served : List ServedNamespace) (same : AreSame namespaces served) (registry : Registered) (script : Script) (ran : Ran) (has : HasServed registry served script ran) where
+  -- the core of an arena
+  core_there : (place k : ℕ) (o : OpenedNamespace) (state : ArenaState) → slice_get namespaces place ≡ Some o → slice_get o.states k ≡ Some state → (own : _) → slice_get ran.cores.items place ≡ Some own
+      → (core : Core) → slice_get own.items k ≡ Some core
+      → IsRunCore state (histories_of ran.cores.items place k) (flights_on (service.servings_of served) place k script (replies_of ran.replies.items) (histories_of ran.cores.items)) core
+  core_there place k o state at_o at_state own at_own core at_core =
+      let (n, at_n, arenas) = same_there namespaces served place o same at_o in
+      let n_is : slice_index_or served place n ≡ n = get_or_from_slice_get served place n n at_n in
+      let states_is : (slice_index_or served place n).arenas.items ≡ o.states = ap (λ (x : ServedNamespace). x.arenas.items) n_is ∙ arenas in
+      let inside : k < length (slice_index_or served place n).arenas.items = subst (λ (states : List ArenaState). k < length states) (sym states_is) (slice_get_within o.states k state at_state) in
+      let run = has.cores place k n state core (slice_get_within served place n at_n) inside in
+      let state_is : slice_index_or (slice_index_or served place n).arenas.items k state ≡ state = ap (λ (states : List ArenaState). slice_index_or states k state) states_is ∙ get_or_from_slice_get o.states k state state at_state in
+      let core_is : slice_index_or (items_at ran.cores.items place) k core ≡ core = ap (λ (cs : List Core). slice_index_or cs k core) (items_there ran.cores.items place own at_own) ∙ get_or_from_slice_get own.items k core core at_core in
+      subst (λ (s : ArenaState). IsRunCore s (histories_of ran.cores.items place k) (flights_on (service.servings_of served) place k script (replies_of ran.replies.items) (histories_of ran.cores.items)) core) state_is
+      (subst (λ (c : Core). IsRunCore (slice_index_or (slice_index_or served place n).arenas.items k state) (histories_of ran.cores.items place k)
+      (flights_on (service.servings_of served) place k script (replies_of ran.replies.items) (histories_of ran.cores.items)) c) core_is run)
+
+  -- each namespace has as many cores as arenas
+  core_count : (place : ℕ) (o : OpenedNamespace) → slice_get namespaces place ≡ Some o → (own : _) → slice_get ran.cores.items place ≡ Some own → length own.items ≡ length o.states
+  core_count place o at_o own at_own =
+      let (n, at_n, arenas) = same_there namespaces served place o same at_o in
+      ap (λ (cs : List Core). length cs) (sym (items_there ran.cores.items place own at_own)) ∙ has.counts place n (slice_get_within served place n at_n)
+      ∙ ap (λ (x : ServedNamespace). length x.arenas.items) (get_or_from_slice_get served place n n at_n) ∙ ap (λ (states : List ArenaState). length states) arenas
+
+  -- power may be cut at each core
+  pub cores_shown : All (λ own. All IsSomeCore own.items) ran.cores.items
+  cores_shown place d lt k e inside =
+      let own = get_or ran.cores.items place d in
+      let at_own : slice_get ran.cores.items place ≡ Some own = slice_get-get_or ran.cores.items place d lt in
+      let lt_o : place < length namespaces = omega (arith, lt, has.places, same_count namespaces served same) in
+      let blank : OpenedNamespace = record { place = record { uuid = []; found = record { region = 0; offset = 0; raw = 0; mode = mode.Raw } }; states = [] } in
+      let o = get_or namespaces place blank in
+      let at_o : slice_get namespaces place ≡ Some o = slice_get-get_or namespaces place blank lt_o in
+      let core = get_or own.items k e in
+      let at_core : slice_get own.items k ≡ Some core = slice_get-get_or own.items k e inside in
+      let count = core_count place o at_o own at_own in
+      let state = get_or o.states k no_state in
+      let at_state : slice_get o.states k ≡ Some state = slice_get-get_or o.states k no_state (omega (arith, inside, count)) in
+      let run = core_there place k o state at_o at_state own at_own core at_core in
+      (first_cells state, run.of_arena.shows)
+
+  module _ (words : List (List (List ℕ))) (cut : Each (λ own parts. Each IsCutOf own.items parts) ran.cores.items words) where
+    part_there : (place k : ℕ) (o : OpenedNamespace) (state : ArenaState) (parts : List (List ℕ)) (part : List ℕ) → slice_get namespaces place ≡ Some o → slice_get o.states k ≡ Some state → slice_get words place ≡ Some parts
+        → slice_get parts k ≡ Some part
+        → (core : Core) × IsRunCore state (histories_of ran.cores.items place k) (flights_on (service.servings_of served) place k script (replies_of ran.replies.items) (histories_of ran.cores.items)) core × ArenaCut state (held_by core) part
+    part_there place k o state parts part at_o at_state at_parts at_part =
+        let (own, at_own, each) = each_back (λ own ps. Each IsCutOf own.items ps) ran.cores.items words place parts cut at_parts in
+        let (core, at_core, is) = each_back IsCutOf own.items parts k part each at_part in
+        let run = core_there place k o state at_o at_state own at_own core at_core in
+        (core, run, is state run.of_arena)
+
+    -- the words of all arenas may be put back
+    pub are_cut : AreCut namespaces words
+    are_cut = record {
+      count = each_length (λ own ps. Each IsCutOf own.items ps) ran.cores.items words cut ∙ has.places ∙ same_count namespaces served same;
+      each = λ place o parts at_o at_parts.
+          let (own, at_own, each) = each_back (λ own ps. Each IsCutOf own.items ps) ran.cores.items words place parts cut at_parts in
+          record {
+            count = each_length IsCutOf own.items parts each ∙ core_count place o at_o own at_own;
+            each = λ k state part at_state at_part. let (core, run, is) = part_there place k o state parts part at_o at_state at_parts at_part in (held_by core, is);
+          };
+    }
+
+    module _ (sets : List (List Mapping)) (loaded now : List Words) (left : put.AreLeft sets loaded namespaces words now) where
+      -- the sectors of a namespace survive
+      pub survives : (place : ℕ) (d : OpenedNamespace) → place < length namespaces
+          → ArenasSurvive (slice_index_or namespaces place d) (words_at sets (slice_index_or namespaces place d).place.found now) (histories_of ran.cores.items place)
+          (λ k. flights_on (servings_of namespaces) place k script (replies_of ran.replies.items) (histories_of ran.cores.items))
+      survives place d lt =
+          let o = slice_index_or namespaces place d in
+          let at_o : slice_get namespaces place ≡ Some o = slice_get-get_or namespaces place d lt in
+          let lt_words : place < length words = omega (arith, lt, are_cut.count) in
+          let parts = get_or words place [] in
+          let at_parts : slice_get words place ≡ Some parts = slice_get-get_or words place [] lt_words in
+          let is = left.each place o parts at_o at_parts in
+          let counted = are_cut.each place o parts at_o at_parts in
+          let news_count : length is.news ≡ length o.states =
+          sym (length-map is.news (λ (s : ArenaState). s.info)) ∙ ap (λ (infos : List Info). length infos) is.infos ∙ length-map o.states (λ (s : ArenaState). s.info) in
+          record {
+            news = is.news;
+            opens = is.opens;
+            infos = is.infos;
+            cells = λ k e inside.
+                let state = slice_index_or o.states k e in
+                let at_state : slice_get o.states k ≡ Some state = slice_get-get_or o.states k e inside in
+                let new = slice_index_or is.news k e in
+                let at_new : slice_get is.news k ≡ Some new = slice_get-get_or is.news k e (omega (arith, inside, news_count)) in
+                let part = get_or parts k [] in
+                let at_part : slice_get parts k ≡ Some part = slice_get-get_or parts k [] (omega (arith, inside, counted.count)) in
+                let (core, run, cut_is) = part_there place k o state parts part at_o at_state at_parts at_part in
+                let sectors : core.shape.sectors ≡ state.info.layout.external = ap (λ (x : Shape). x.sectors) run.of_arena.shape in
+                subst (λ (all : List Serving). Survives (first_cells state) (histories_of ran.cores.items place k)
+                (flights_on all place k script (replies_of ran.replies.items) (histories_of ran.cores.items)) state.info.layout.external (first_cells new)) (same_servings namespaces served same)
+                (subst (λ (n : ℕ). Survives (first_cells state) (histories_of ran.cores.items place k)
+                (flights_on (service.servings_of served) place k script (replies_of ran.replies.items) (histories_of ran.cores.items)) n (first_cells new)) sectors
+                (run.survives (first_cells new)
+                (λ t below. is.sectors k state new part at_state at_new at_part (held_by core) cut_is t (subst (λ (n : ℕ). t < n) sectors below))));
+          }
+
+      -- each history is legal
+      pub legal : (place : ℕ) (d : OpenedNamespace) → place < length namespaces → AreLegal (slice_index_or namespaces place d).states (histories_of ran.cores.items place)
+      legal place d lt k e inside =
+          let o = slice_index_or namespaces place d in
+          let at_o : slice_get namespaces place ≡ Some o = slice_get-get_or namespaces place d lt in
+          let lt_words : place < length words = omega (arith, lt, are_cut.count) in
+          let parts = get_or words place [] in
+          let at_parts : slice_get words place ≡ Some parts = slice_get-get_or words place [] lt_words in
+          let counted = are_cut.each place o parts at_o at_parts in
+          let at_state : slice_get o.states k ≡ Some (slice_index_or o.states k e) = slice_get-get_or o.states k e inside in
+          let at_part : slice_get parts k ≡ Some (get_or parts k []) = slice_get-get_or parts k [] (omega (arith, inside, counted.count)) in
+          (part_there place k o (slice_index_or o.states k e) parts (get_or parts k []) at_o at_state at_parts at_part).1.legal
+
+  -- ---- label areas
+
+  -- whatever their state after a crash
+  pub labels_left : registry.opening ≡ registry.areas → AreHeld registry.areas → (rows : List (Option (List ℕ))) → AreasLeft ran.registry.areas rows
+      → AreLeft registry.sets (unclaimed (areas_seen registry.areas)) script.labelcut (journal_of ran) (areas_shown rows)
+  labels_left same_areas held rows left = subst (λ (xs : List Area). AreLeft registry.sets (unclaimed (areas_seen xs)) script.labelcut (journal_of ran) (areas_shown rows)) same_areas (by ran.registry.stopped refl)
+    where
+      by : (b : Bool) → ran.registry.stopped ≡ b → AreLeft registry.sets (unclaimed (areas_seen registry.opening)) script.labelcut (journal_of ran) (areas_shown rows)
+      by true off = has.off off rows left
+      by false on = subst (λ (xs : List (Option SeenArea)). AreLeft registry.sets (unclaimed (areas_seen registry.opening)) script.labelcut (journal_of ran) xs) (sym (left_shown ran.registry.areas rows (has.areas.held held on) left)) (has.on on)
+
+-- ---- all of it
+
+module _ (loaded : ImageSet) (rest : Unchanged) (set : OpenedSet) (is : IsOpen loaded rest set) (served : List ServedNamespace) (same : AreSame set.namespaces served) (script : Script) (ran : Ran) (has : HasServed rest.registry served script ran)
+    (words : List (List (List ℕ))) (cut : Each (λ own parts. Each IsCutOf own.items parts) ran.cores.items words) where
+  -- the words may be put back
+  pub is_ready : (places : List FoundNamespace) (sets : List (List Mapping)) → places ≡ map (λ (o : OpenedNamespace). o.place) set.namespaces → sets ≡ ran.registry.sets → IsReady sets (rows_of loaded.contents) places set.namespaces words set.modules.items
+  is_ready places sets are held = record {
+    places_are = sym are;
+    serving = subst (λ (s : List (List Mapping)). AreServing s (rows_of loaded.contents) set.namespaces set.modules.items) (sym (held ∙ has.sets)) is.serving;
+    cut = are_cut set.namespaces served same rest.registry script ran has words cut;
+  }
+
+  counted : (now : List Words) → map (λ (w : Words). length w.kept) now ≡ map (λ (w : Words). length w.kept) (rows_of loaded.contents) → length now ≡ length loaded.contents
+  counted now sizes =
+      sym (length-map now (λ (w : Words). length w.kept)) ∙ ap (λ (ns : List ℕ). length ns) sizes ∙ length-map (rows_of loaded.contents) (λ (w : Words). length w.kept)
+      ∙ length-map loaded.contents (λ (bytes : List ℕ). settled (words_in bytes))
+
+  pub is_served : (now : Vec Words Global) (sets : List (List Mapping)) → sets ≡ ran.registry.sets → put.AreLeft sets (rows_of loaded.contents) set.namespaces words now.items
+      → IsServed loaded rest.registry.sets (areas_seen rest.registry.areas) set.namespaces script
+      (record { replies = ran.replies; rest = record { registry = ran.registry; nfit_bytes = rest.nfit_bytes; bad = rest.bad }; modules = now })
+  is_served now sets held left =
+      let here : put.AreLeft rest.registry.sets (rows_of loaded.contents) set.namespaces words now.items = subst (λ (s : List (List Mapping)). put.AreLeft s (rows_of loaded.contents) set.namespaces words now.items) (held ∙ has.sets) left in
+      let r = is.recovered in
+      record {
+        journal = journal_of ran;
+        histories = histories_of ran.cores.items;
+        commands = subst (λ (xs : List Area). IsJournal rest.registry.sets (unclaimed (areas_seen xs)) script.labelcut (journal_of ran)) r.opening has.commands;
+        legal = legal set.namespaces served same rest.registry script ran has words cut rest.registry.sets (rows_of loaded.contents) now.items here;
+        accounts = subst (λ (all : List Serving). Accounts all script (replies_of ran.replies.items) (journal_of ran) (histories_of ran.cores.items)) (same_servings set.namespaces served same) has.accounts;
+        labels = labels_left set.namespaces served same rest.registry script ran has r.opening r.held;
+        survive = survives set.namespaces served same rest.registry script ran has words cut rest.registry.sets (rows_of loaded.contents) now.items here;
+        beside = here.beside;
+        settled = here.settled;
+        keeps = record {
+          words = r.labels.words;
+          are = r.labels.are;
+          whole = r.labels.whole;
+          beside = has.areas.beside ∙ r.labels.beside;
+          sizes = has.areas.sizes ∙ r.labels.sizes;
+        };
+        nfit = r.nfit;
+        bad = r.bad;
+        modules = record {
+          labels =
+              length-map ran.registry.areas area_words ∙ sym (length-map ran.registry.areas size_of) ∙ ap (λ (ns : List ℕ). length ns) has.areas.sizes ∙ length-map rest.registry.areas size_of
+              ∙ sym (length-map rest.registry.areas area_words) ∙ r.modules.labels ∙ sym (counted now.items here.beside.sizes);
+          bad = r.modules.bad ∙ sym (counted now.items here.beside.sizes);
+          few = subst (λ (n : ℕ). n < 2 ^ 32) (sym (counted now.items here.beside.sizes)) r.modules.few;
+        };
+      }

@@ -1,0 +1,10 @@
+use Rattle.std.proofs.Common.{◌≡◌, ◌++◌}
+use Rattle.power_cut.specs.Left.{Each}
+use Rattle.shell_serve.specs.Answering.{IsCutOf}
+use Rattle.shell_serve.proofs.cutting.cut_cores.Given as goal
+
+abbrev pub invariant-loop-core : goal.invariant-loop-core
+invariant-loop-core g l = record {
+  rest : l.yielded ++ l.core-iterator.rest.items ≡ l.fn.cores.items;
+  each : Each IsCutOf l.yielded l.left;
+}

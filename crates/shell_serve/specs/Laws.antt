@@ -1,0 +1,40 @@
+-- Laws of `serve` and `load`.
+use Rattle.std.specs.Prelude.{◌≡◌, ℕ, Bool, true, false, List, [], None, Option}
+use Rattle.nfit_reader.specs.declared.table.Mapping.{Mapping}
+use Rattle.namespace_laws.specs.Apart.{EntriesApart}
+use Rattle.namespace_map.specs.Areas.{Area}
+use Rattle.namespace_map.specs.Changes.{namespaces_of}
+use Rattle.image_set.specs.Load.{ImageSet}
+use Rattle.session_account.specs.declared.reply.Reply.{Reply}
+use Rattle.session_script.specs.declared.script.Script.{Script}
+use Rattle.shell_changes.specs.Areas.{areas_in}
+use Rattle.shell_reports.specs.declared.status.Ending.{Ending}
+use Rattle.shell_reports.specs.declared.status.Ending.TheVariants as ending
+use Rattle.shell_reports.specs.Outcome.{Outcome}
+use Rattle.shell_serve.specs.declared.load.Load.{Load}
+use Rattle.shell_serve.specs.Causes.{breaks_load, breaks_serve, refuses_load}
+use Rattle.shell_serve.specs.Load.{LoadComes}
+use Rattle.shell_serve.specs.Serve.{ServeComes}
+use Rattle.shell_serve.specs.Serving.{Serves}
+
+abbrev pub no_sessions : Script
+no_sessions = record { labelcut = None; sessions = [] }
+
+-- a law: without sessions nothing is printed but the text for no reply, and a set is saved
+abbrev pub EmptyServes : Type 0
+EmptyServes =
+    (text : List (List Reply) → List ℕ) (sets : List (List Mapping)) (loaded : ImageSet) (areas : List (Option Area)) → areas_in loaded.labels ≡ areas → EntriesApart (namespaces_of sets areas)
+    → (outcome : Outcome) × Serves text sets loaded areas [] no_sessions outcome × (outcome.text ≡ text [])
+
+-- which ending is due, by whether the images are refused and whether the command is
+abbrev pub ending_by : Bool → Bool → Ending
+ending_by true barred = ending.Image
+ending_by false true = ending.Refused
+ending_by false false = ending.Done
+
+-- a law: the ending is the one that is due, whatever was cut
+abbrev pub ServeEndsDue : Type 0
+ServeEndsDue = (script : Script) (loaded : ImageSet) (outcome : Outcome) → ServeComes script loaded outcome → outcome.ending ≡ ending_by (breaks_serve loaded script) false
+
+abbrev pub LoadEndsDue : Type 0
+LoadEndsDue = (l : Load) (loaded : ImageSet) (outcome : Outcome) → LoadComes l loaded outcome → outcome.ending ≡ ending_by (breaks_load l loaded) (refuses_load l loaded)

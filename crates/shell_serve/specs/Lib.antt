@@ -1,0 +1,9 @@
+pub mod Texts
+pub mod Scripts
+pub mod Serving
+pub mod Serve
+pub mod Load
+pub mod Causes
+pub mod Laws
+pub mod Recovered
+pub mod Answering

@@ -1,0 +1,43 @@
+-- The command `serve`: the sessions of a script, on the namespaces that it opens. This project's rules.
+use Rattle.std.specs.Prelude.{◌≡◌, List, Option, Result, Ok, Err}
+use Rattle.nfit_reader.specs.declared.table.Mapping.{Mapping}
+use Rattle.namespace_map.specs.Areas.{Area}
+use Rattle.namespace_map.specs.Changes.{namespaces_of, recovered_areas}
+use Rattle.namespace_ops.specs.declared.registry.OpenFault.{OpenFault}
+use Rattle.image_set.specs.Load.{ImageSet}
+use Rattle.sector_namespaces.specs.View.{rows_of}
+use Rattle.served_namespaces.specs.declared.places.OpenedNamespace.{OpenedNamespace}
+use Rattle.served_namespaces.specs.Opening.{Broken, found_each, opened_each}
+use Rattle.session_script.specs.declared.script.Script.{Script}
+use Rattle.shell_changes.specs.Areas.{areas_in}
+use Rattle.shell_changes.specs.Namespaces.{sets_in}
+use Rattle.shell_reports.specs.Faults.{arena_outcome}
+use Rattle.shell_reports.specs.List.{open_outcome}
+use Rattle.shell_reports.specs.Outcome.{Outcome}
+use Rattle.shell_serve.specs.Scripts.{opened_by}
+use Rattle.shell_serve.specs.Serving.{Serves}
+use Rattle.shell_serve.specs.Texts.{serve_text}
+
+-- the namespaces that a script opens, of those that labels make: each that is found is opened, in order. One that isn't found is refused
+-- to the session that opens it.
+abbrev pub served_in : List (List Mapping) → List (Option Area) → ImageSet → Script → Result (List OpenedNamespace) Broken
+served_in sets areas loaded script = opened_each sets (rows_of loaded.contents) (found_each sets (namespaces_of sets areas) (opened_by script))
+
+-- on the namespaces that are open, or the first that has an arena that breaks the format
+abbrev pub OnOpened : (List OpenedNamespace → Outcome → Type 0) → Result (List OpenedNamespace) Broken → Outcome → Type 0
+OnOpened comes (Ok opened) outcome = comes opened outcome
+OnOpened comes (Err broken) outcome = outcome ≡ arena_outcome broken.uuid broken.fault
+
+-- on label areas that recovery has left
+abbrev pub OnRecovered : List (List Mapping) → ImageSet → List (Option Area) → Script → Outcome → Type 0
+OnRecovered sets loaded areas script outcome = OnOpened (λ opened. Serves serve_text sets loaded areas opened script) (served_in sets areas loaded script) outcome
+
+-- on interleave sets, or why there are none
+abbrev pub ServesOnSets : ImageSet → Script → Result (List (List Mapping)) OpenFault → Outcome → Type 0
+ServesOnSets loaded script (Ok sets) outcome = OnRecovered sets loaded (recovered_areas sets (areas_in loaded.labels)) script outcome
+ServesOnSets loaded script (Err fault) outcome = outcome ≡ open_outcome fault
+
+-- what `serve` may come to on a set that is loaded: the table and the labels are checked, labels are recovered with power that stays on,
+-- the namespaces are opened, and then the sessions run
+abbrev pub ServeComes : Script → ImageSet → Outcome → Type 0
+ServeComes script loaded outcome = ServesOnSets loaded script (sets_in loaded) outcome

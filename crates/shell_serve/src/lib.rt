@@ -1,0 +1,42 @@
+//! The commands `serve` and `load`: sessions open namespaces, read and write sectors, and create, rename and delete namespaces, at the
+//! same time; and power fails where the script says.
+//!
+//! ```text
+//! loaded set ──► labels recovered ──► namespaces of the `open` lines ──► their arenas, pending moves made
+//!                  image region ..                                          image arena UUID K FAULT
+//!                                                                            │
+//!              session 0   open, write, read, ..        ok, ok, ok fill:11   │ each step of a lane under its core's lock,
+//!              session 1   rename, open, cut            ok, ok, cut          │ each command under the registry's
+//!                                                                            ▼
+//! saved set ◄── label areas, contents ◄── arenas put back ◄── power is cut: a chooser decides for each unflushed word
+//! ```
+//!
+//! | promise of [`serve_answer`] and [`load_answer`] | field of `Serves` |
+//! |---|---|
+//! | commands on labels are one journal, cut after the steps that `labelcut` states | `commands` |
+//! | each arena has one history, legal from its contents | `legal` |
+//! | the replies are those of the sessions' calls, which stand once and in order | `accounts` |
+//! | label areas are those of the journal's end, or those after the cut in one command; no two namespaces meet | `labels`, `disjoint` |
+//! | each sector is as its history ends, or as one write that was cut | `survive` |
+//! | contents outside the served arenas are as loaded | `beside` |
+//!
+//! Definitions are in `specs/Serving.antt`, and the order of refusals in `specs/Serve.antt` and `specs/Load.antt`. `session_service` runs
+//! the sessions, `served_namespaces` opens their namespaces and puts the arenas back, and `session_account` defines journals and
+//! accounts. Scripts and texts are this project's own.
+#![tactic(auto)]
+
+mod cutting;
+mod law;
+mod load;
+mod opening;
+mod recovered;
+mod saving;
+mod scripts;
+mod serve;
+mod serving;
+mod texts;
+
+pub use law::{empty_serves, load_ends_due, serve_ends_due};
+pub use load::{Load, load_answer};
+pub use serve::serve_answer;
+pub use serving::Running;
