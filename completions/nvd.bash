@@ -111,7 +111,11 @@ _nvd() {
     --mode) _nvd_words 'raw sector' "$current" ;;
     --region) _nvd_words 0 "$current" ;;
     --sector) _nvd_words '512 520 528 4096 4104 4160 4224' "$current" ;;
-    --uuid | --name | --size | --lanes | --cut | --evict) ;;
+    --uuid)
+        # the one of `create` isn't there yet
+        [ "$command" = create ] || _nvd_words "$(_nvd_uuids "$set")" "$current"
+        ;;
+    --name | --size | --lanes | --cut | --evict | --workers | --sessions | --calls) ;;
     *)
         places=$(_nvd_table "\$1 == \"$command\" { print \$2 }")
         flags=$(_nvd_table "\$1 == \"$command\" { print \$5 }")

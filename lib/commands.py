@@ -48,7 +48,7 @@ def cases(text, name):
 def arguments_in(text):
     """The places, the options that must be given and the others, by the command's kind."""
     forms = {name: (word, form) for name, word, form in re.findall(r'const (\w+): Argument = Argument \{\s*name: "([\w-]+)",\s*form: Form::(\w+),', text)}
-    for kind, names in re.findall(r"Kind::(\w+) => &\[([^\]]*)\]", text):
+    for kind, names in re.findall(r"CommandKind::(\w+) => &\[([^\]]*)\]", text):
         said = [forms[it] for it in re.findall(r"\w+", names)]
         yield kind, ["".join(f",{word}" for word, form in said if form == it)[1:] or "-" for it in ("Place", "Required", "Optional", "Flag")]
 
@@ -68,12 +68,12 @@ def made():
     """The table as the sources have it."""
     table, run = source("shell_run", "src", "commands.rt"), source("shell_run", "specs", "Run.antt")
     arguments = dict(arguments_in(table))
-    variants = re.findall(r"(?m)^    (\w+)(?:\(.*\))?,$", re.search(r"pub enum Command \{(.*?)\n\}", source("shell_run", "src", "words.rt"), re.S)[1])
+    variants = re.findall(r"(?m)^    (\w+)(?:\(.*\))?,$", re.search(r"pub enum CommandLine \{(.*?)\n\}", source("shell_run", "src", "words.rt"), re.S)[1])
     words = cases(source("shell_run", "specs", "Words.antt").replace(" kind.", " "), "command_in")
     sectors = cases(source("namespace_ops", "specs", "Counted.antt"), "makes_sectors")
     comes, script, copies, loads = (cases(run, it) for it in ("LoadedComes", "reads_script", "copies", "needs_contents"))
     yield HEAD
-    for name, kind in re.findall(r'if name == "(\w+)" \{\s*return Some\(Kind::(\w+)\);', table):
+    for name, kind in re.findall(r'if name == "(\w+)" \{\s*return Some\(CommandKind::(\w+)\);', table):
         # the variant of the command: it has the kind's name, or the values of its arguments make it
         variant = kind if kind in variants else next(it for it in variants if re.search(rf"(?<![\w.]){it}\b", words(kind)))
         contents = contents_of(copies(variant), loads(variant), sectors(kind) != "false")

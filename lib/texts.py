@@ -4,6 +4,7 @@ import re
 NUMBER, UUID, HEX = r"(\d+)", r"([0-9a-f]{8}(?:-[0-9a-f]{4}){3}-[0-9a-f]{12})", r"([0-9a-f]{16})"
 NAME = r'("(?:[^"\\]|\\.)*"|hex:(?:[0-9a-f]{2})*)'
 MODE = r"(raw|sector1?|other:\S+)"
+VALUE = r"(?:fill:[0-9a-f]{2}|hex:(?:[0-9a-f]{2})*)"
 
 # Each kind of line: its keys, and its form with a group for each key.
 LINES = {
@@ -24,8 +25,12 @@ LINES = {
     "arena": (
         ["arena", "sector", "sectors", "blocks", "lanes", "moves"],
         f"arena {NUMBER} sector {NUMBER} sectors {NUMBER} blocks {NUMBER} lanes {NUMBER} moves {NUMBER}"),
+    "session": (["session"], f"session {NUMBER}"),
+    "reply": (["reply"], rf"(ok|ok {VALUE}|bad|cut|refused \w+(?: \d+)*)"),
+    "sessions": (["sessions", "calls", "reads", "writes"], f"sessions {NUMBER} calls {NUMBER} reads {NUMBER} writes {NUMBER}"),
+    "replies": (["replies"], f"replies {HEX}"),
 }
-TEXTS = {"uuid", "mode", "status", "fault", "cookie"}
+TEXTS = {"uuid", "mode", "status", "fault", "cookie", "reply", "replies"}
 
 
 class NoLine(Exception):

@@ -6,16 +6,21 @@ from commands import commands
 UUID = re.compile(r"(?:urn:uuid:)?[0-9a-fA-F]{8}(?:-[0-9a-fA-F]{4}){3}-[0-9a-fA-F]{12}|\{[0-9a-fA-F]{8}(?:-[0-9a-fA-F]{4}){3}-[0-9a-fA-F]{12}\}|[0-9a-fA-F]{32}")
 UNITS = {"K": 1 << 10, "M": 1 << 20, "G": 1 << 30}
 MOST = (1 << 64) - 1
-# What the value of a place (in capitals) or an option is: "UUID", "text", "value", or a number with its least and greatest value. A "flag" has none.
+# All calls of a load are so many at most; each session opens and closes the namespace, too.
+MOST_CALLS = 65536
+# A place is shown by its name in capitals, but for these.
+SHOWN = {"number": "SEED"}
+# What the value of a place (as it is shown) or an option is: "UUID", "text", "value", or a number with its least and greatest value. A "flag" has none.
 KINDS = {
-    "MODULE": ("a number", 0, 63), "SECTOR": ("a number", 0, MOST), "UUID": "UUID", "VALUE": "value",
+    "MODULE": ("a number", 0, 63), "SECTOR": ("a number", 0, MOST), "UUID": "UUID", "VALUE": "value", "SEED": ("a number", 0, MOST),
     "--uuid": "UUID", "--region": ("a number", 0, (1 << 32) - 1), "--size": ("a size", 0, MOST), "--mode": "mode",
     "--sector": ("a number", 0, (1 << 32) - 1), "--lanes": ("a number", 1, 256), "--cut": ("a number", 0, MOST), "--evict": ("a number", 0, MOST),
+    "--workers": ("a number", 1, 64), "--sessions": ("a number", 1, 1024), "--calls": ("a number", 1, MOST_CALLS - 2),
 }
 TABLE = commands()
 # each command: its places by name, and its options, with what their values are
 COMMANDS = {
-    it.name: ([(word.upper(), KINDS.get(word.upper(), "text")) for word in it.places],
+    it.name: ([(name, KINDS.get(name, "text")) for name in (SHOWN.get(word, word.upper()) for word in it.places)],
               {f"--{word}": KINDS.get(f"--{word}", "text") for word in it.needed + it.others} | {f"--{word}": "flag" for word in it.flags})
     for it in TABLE.values()
 }
@@ -115,7 +120,14 @@ def fault_of(command, words):
     for name in [*(it[0] for it in places), *(f"--{it}" for it in TABLE[command].needed)]:
         if name not in names:
             return f"{name} is missing"
-    return None
+    return fault_of_load({name: value for name, value, _, _ in got}) if command == "load" else None
+
+
+def fault_of_load(given):
+    """Returns what is wrong with the numbers of a load together; None if nothing is."""
+    sessions, calls = int(given.get("--sessions", 4)), int(given.get("--calls", 100))
+    most = MOST_CALLS // sessions - 2
+    return f"'--calls' takes at most {most} with {sessions} sessions, and {calls} is more" if calls > most else None
 
 
 def names_in(records):
@@ -133,7 +145,7 @@ def completed(command, words, ask, draw, note):
     out = list(words)
     for name, value, at, joined in got:
         new = None
-        if kind_of(command, name) == "UUID" and name == "UUID" and not is_uuid(value):
+        if command != "create" and kind_of(command, name) == "UUID" and not is_uuid(value):
             uuids = names_in(ask("list")).get(value, [])
             if len(uuids) > 1:
                 note(f"{len(uuids)} namespaces have the name '{value}': give one of the UUIDs {' '.join(uuids)}")

@@ -2,9 +2,9 @@
 # Shows what nvdimm_shell does: `nvd demo` runs this.
 #
 # It makes an image set of two blank modules in a temporary directory, initialises it, and creates, renames and deletes namespaces.
-# It cuts power in between, lists the state after the crash, and recovers. It runs a race of two lanes. If xz is there, it reads a sector namespace that Linux
-# wrote. Each command is shown with its output and its exit status. Nothing is left behind. The exit status is 0 only if
-# every command ended with the right status.
+# It cuts power in between, lists the state after the crash, and recovers. It runs a race of two lanes, and sessions at once. If xz
+# is there, it reads a sector namespace that Linux wrote. Each command is shown with its output and its exit status. Nothing is left
+# behind. The exit status is 0 only if every command ended with the right status.
 #
 # It shows colours on a terminal, unless NO_COLOR is set.
 set -eu
@@ -122,6 +122,14 @@ step 0 arena torn3 replay $first <"$top/samples/races/lost_write"
 step 0 torn3 - info $first
 step 0 torn3 later replay $first <"$top/samples/races/next_write"
 step 0 later - read $first 9
+
+tell 'Two sessions write one sector at once, as the script samples/scripts/two_writers says. Each reads its own value, or that of the other:'
+cat "$top/samples/scripts/two_writers"
+step 0 arena written serve <"$top/samples/scripts/two_writers"
+
+tell 'load makes sessions from a number. The checksum of their replies is the same with any number of workers:'
+step 0 arena loaded load 7 --uuid $first --workers 1
+step 0 arena again load 7 --uuid $first --workers 4
 
 if command -v xz >/dev/null 2>&1; then
     tell 'A set that Linux wrote, samples/linux/ns12: the arenas of a sector namespace, a sector, and one past the end.'

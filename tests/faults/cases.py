@@ -1,8 +1,8 @@
-"""The cases of tests/faults/run: each is an image set with one fault, the words after it, the exit status, the text (for `list`, `nfit` and
-`labels` with status 0 the end of a line), and a word that nvd must say, if any."""
+"""The cases of tests/faults/run: each is an image set with one fault, the words after it, the exit status, the text (for `list`, `nfit`,
+`labels` and `serve` with status 0 the end of a line), a word that nvd must say, if any, and the script, if there is one."""
 import struct
 
-from sets import FIRST, INNER, LINE, OUTER, SECOND, SIZE, SLOTS, THIRD, area, checked, control, info, interleave, mapping, of_version, pair, part
+from sets import FIRST, INNER, LANES, LINE, OUTER, SECOND, SIZE, SLOTS, THIRD, area, checked, control, info, interleave, mapping, of_version, pair, part
 from sets import chain, sectors, spa, table, two
 
 CREATE = ["OUT", "create", "--uuid", str(THIRD), "--name", "c", "--region", "0", "--size", "8192", "--mode", "raw"]
@@ -11,6 +11,8 @@ WRITE = ["OUT", "write", str(FIRST), "0", "fill:5a"]
 REPLAY = ["OUT", "replay", str(FIRST)]
 EXPORT = ["-", "export", str(FIRST)]
 IMPORT = ["OUT", "import", str(FIRST)]
+SERVE = ["OUT", "serve"]
+LOAD = ["OUT", "load", "0", "--uuid", str(FIRST)]
 RENAME, DELETE, INIT = ["OUT", "rename", str(FIRST), "b"], ["OUT", "delete", str(FIRST)], ["OUT", "init", "0"]
 
 
@@ -49,6 +51,7 @@ def usage():
     for words in (["-", "lsit"], ["-", "--help", "list"]):
         yield whole(), words, 2, "usage", "they are labels"
     for words in (["-", "labels"], ["-", "labels", "64"], ["-", "labels", "007"], ["-", "nfit", "x"], create("--mode", "fsdax"), [*CREATE[:-4], *CREATE[-2:]],
+                  ["OUT", "serve", "--workers", "0"], LOAD[:-2], [*LOAD, "--sessions", "1024", "--calls", "63"],
                   ["OUT", "delete", "no-uuid"], [*DELETE, "--cut", "-1"], [*DELETE, "--cut", "1", "--cut", "2"], [*INIT, "--force"]):
         yield whole(), words, 2, "usage", f"nvd help {words[1]}"
 
@@ -112,9 +115,10 @@ def regions():
             ("Cover 0", two(spa(), mapping(0), mapping(1), interleave((0, 0))))):
         files = {**pair(nfit=nfit), "contents-0.bin": 2 * SIZE}
         yield files, NFIT, 0, f"fault {text}", None
-        yield image(f"region 0 {text}", files, LIST)
-        yield image(f"region 0 {text}", files, CREATE)
-    yield image(f"labels Overlap {FIRST} {SECOND}", pair(area([part(0), part(0, SECOND, 1)]), area([part(1)])), LIST)
+        for words in (LIST, CREATE, SERVE, LOAD):
+            yield image(f"region 0 {text}", files, words)
+    for words in (LIST, SERVE, LOAD):
+        yield image(f"labels Overlap {FIRST} {SECOND}", pair(area([part(0), part(0, SECOND, 1)]), area([part(1)])), words)
 
 
 def statuses():
@@ -152,10 +156,10 @@ def refusals():
             ("BadSize 4096", whole(), create("--size", "4096")),
             ("BadSize 8192", whole(), create("--mode", "sector")), (f"NoSpace {SIZE}", whole(), create("--size", str(2 * SIZE))),
             ("NoSlot 0", full, CREATE), ("NoSlot 0", full, RENAME), ("NoSlot 0", full, DELETE),
-            ("NoSuch", pair(), DELETE), ("NoSuch", pair(), RENAME), ("NoSuch", pair(), INFO), ("NoSuch", pair(), READ), ("NoSuch", pair(), WRITE), ("NoSuch", pair(), REPLAY), ("NoSuch", pair(), EXPORT), ("NoSuch", pair(), IMPORT),
-            ("NotComplete", half, DELETE), ("NotComplete", half, RENAME), ("NotComplete", half, INFO), ("NotComplete", half, READ), ("NotComplete", half, WRITE), ("NotComplete", half, REPLAY), ("NotComplete", half, EXPORT), ("NotComplete", half, IMPORT),
+            ("NoSuch", pair(), DELETE), ("NoSuch", pair(), RENAME), ("NoSuch", pair(), INFO), ("NoSuch", pair(), READ), ("NoSuch", pair(), WRITE), ("NoSuch", pair(), REPLAY), ("NoSuch", pair(), EXPORT), ("NoSuch", pair(), IMPORT), ("NoSuch", pair(), LOAD),
+            ("NotComplete", half, DELETE), ("NotComplete", half, RENAME), ("NotComplete", half, INFO), ("NotComplete", half, READ), ("NotComplete", half, WRITE), ("NotComplete", half, REPLAY), ("NotComplete", half, EXPORT), ("NotComplete", half, IMPORT), ("NotComplete", half, LOAD),
             ("ReadOnlyLabel 1", locked, DELETE), ("ReadOnlyLabel 1", locked, RENAME),
-            ("NotSector", whole(), INFO), ("NotSector", whole(), READ), ("NotSector", whole(), WRITE), ("NotSector", whole(), REPLAY),
+            ("NotSector", whole(), INFO), ("NotSector", whole(), READ), ("NotSector", whole(), WRITE), ("NotSector", whole(), REPLAY), ("NotSector", whole(), LOAD), ("Range 3", small(3), LOAD),
             ("BadSector 1", sectors(entries={1: 1 << 30 | 1, 2: 1 << 30 | 2}), EXPORT),
             (f"Range {OUTER}", sectors(), [*READ[:-1], str(OUTER)]), (f"Range {OUTER}", sectors(), [*WRITE[:-2], str(OUTER), "hex:"]),
             ("Length 0 4096", sectors(), [*WRITE[:-1], "hex:"]), ("Length 513 4096", sectors(), [*WRITE[:-1], "hex:" + 513 * "5a"]),
@@ -164,9 +168,39 @@ def refusals():
     yield refused(f"Length 0 {OUTER * 4096}", sectors(), IMPORT, f"the namespace, which has {OUTER * 4096};")
 
 
+def session(*lines):
+    """Returns a script of one session."""
+    return "".join(f"{it}\n" for it in ("session 0", *lines))
+
+
+def replies():
+    """Replies of `serve` to single calls. The status is 0."""
+    long = "n" * 64
+    full = pair(area([part(0)], used=SLOTS), area([part(1)], used=SLOTS))
+    half = pair(area([part(0)]))
+    locked = pair(area([part(0)]), area([part(1, flags=1)]))
+    made, other, first = f"create {THIRD}", f"rename {FIRST}", f"open {FIRST}"
+    for text, files, *lines in (
+            ("NotOpen", sectors(), "close"), ("NotOpen", sectors(), "read 0"), ("NotOpen", sectors(), "write 0 hex:"),
+            ("IsOpen", sectors(), first, first), ("Busy 1", sectors(), first, f"delete {FIRST}"),
+            (f"Range {OUTER}", sectors(), first, f"read {OUTER}"), (f"Range {OUTER}", sectors(), first, f"write {OUTER} hex:"),
+            ("Length 0 4096", sectors(), first, "write 0 hex:"), ("NoSuch", sectors(), f"open {SECOND}"), ("NoSuch", pair(), f"delete {FIRST}"), ("NoSuch", pair(), f"{other} b"),
+            ("NotComplete", half, first), ("NotComplete", half, f"delete {FIRST}"), ("NotComplete", half, f"{other} b"), ("NotSector", whole(), first),
+            ("BadName 64", whole(), f"{made} 0 8192 {long}"), ("BadName 64", whole(), f"{other} {long}"), ("NoRegion 7", whole(), f"{made} 7 8192 c"),
+            ("ModuleLabels 0", blank(), f"{made} 0 8192 c"), ("Exists", whole(), f"create {FIRST} 0 8192 c"), ("BadSize 0", whole(), f"{made} 0 0 c"),
+            (f"NoSpace {SIZE}", whole(), f"{made} 0 {2 * SIZE} c"), ("NoSlot 0", full, f"{made} 0 8192 c"), ("NoSlot 0", full, f"{other} b"), ("NoSlot 0", full, f"delete {FIRST}"),
+            ("ReadOnlyLabel 1", locked, f"delete {FIRST}"), ("ReadOnlyLabel 1", locked, f"{other} b")):
+        yield files, SERVE, 0, f"refused {text}", None, session(*lines)
+
+
 def group(old, new, seq, padding=bytes(32)):
     """Returns a lane's log group with only the first half written."""
     return struct.pack("<IIII16x", 0, old, new, seq) + padding
+
+
+def small(count):
+    """Returns a set with a sector namespace of so many sectors."""
+    return sectors(info(outer=count, inner=count + LANES), halves={lane: group(count + lane, count + lane, 1) for lane in range(LANES)})
 
 
 def arenas():
@@ -185,19 +219,32 @@ def arenas():
             (f"Flog 0 Range {INNER}", {"halves": {0: group(INNER, INNER, 1)}}), (f"Block Range {INNER}", {"entries": {0: 1 << 31 | INNER}}),
             ("Block Twice 1", {"entries": {0: 1 << 31 | 1}})):
         yield image(f"arena {FIRST} 0 {text}", sectors(**other), INFO)
+    broken = sectors(info(signature=bytes(16)))
+    yield image(f"arena {FIRST} 0 Info Signature", broken, LOAD)
+    yield *image(f"arena {FIRST} 0 Info Signature", broken, SERVE, "'nvd IN - info UUID' says which"), session(f"open {SECOND}", f"open {FIRST}")
 
 
 def scripts():
-    """Schedules that aren't taken, which is told before any image is looked at."""
-    yield "step 0 1\r\n", "Line 1 Encoding"
-    yield "step 0 1\nstep 0\n", "Line 2 Word"
-    yield "step 01 1\n", "Line 1 Number"
-    yield "call 0 write 1 fill:1\n", "Line 1 Value"
-    yield "call 0 read 1\n" * 65537, "TooMany Calls"
-    yield "call 0 write 1 hex:" + "00" * 16385 + "\n", "TooMany Bytes"
-    yield "step 0 1\n" * 1864136, "TooLong 16777216"
+    """Scripts that aren't taken, which is told before any image is looked at."""
+    yield REPLAY, "step 0 1\r\n", "Line 1 Encoding"
+    yield REPLAY, "step 0 1\nstep 0\n", "Line 2 Word"
+    yield REPLAY, "step 01 1\n", "Line 1 Number"
+    yield REPLAY, "call 0 write 1 fill:1\n", "Line 1 Value"
+    yield REPLAY, "call 0 read 1\n" * 65537, "TooMany Calls"
+    yield REPLAY, "call 0 write 1 hex:" + "00" * 16385 + "\n", "TooMany Bytes"
+    yield REPLAY, "step 0 1\n" * 1864136, "TooLong 16777216"
+    for kind, line in (("Encoding", "close\r"), ("Word", ""), ("Word", "nope"), ("Word", "read 1 2"), ("Word", "read"), ("Number", "read 01"), ("Number", "write x fill:00"),
+                       ("Value", "write 1 fill:1"), ("Uuid", "open a"), ("Uuid", f"delete {FIRST.hex}"), ("Name", f"rename {FIRST}"), ("Name", f"create {FIRST} 0 8192"),
+                       ("Order", "labelcut 1"), ("Order", "session 2"), ("Order", "session 0")):
+        yield SERVE, session(line), f"Line 2 {kind}"
+    yield SERVE, "read 0\n", "Line 1 Order"
+    yield SERVE, session("close", "cut 1"), "Line 3 Order"
+    yield SERVE, "".join(f"session {it}\n" for it in range(1025)), "TooMany Sessions"
+    yield SERVE, session(*["close"] * 65537), "TooMany Calls"
+    yield SERVE, session("write 1 hex:" + "00" * 16385), "TooMany Bytes"
+    yield SERVE, "session 0\n" * 1677722, "TooLong 16777216"
 
 
 def cases():
-    for some in (usage, objects, areas, regions, statuses, refusals, arenas):
+    for some in (usage, objects, areas, regions, statuses, refusals, replies, arenas):
         yield from some()

@@ -146,7 +146,11 @@ def command_lines():
             ["write", NONE, "0", "fill:00", "--cut", "1"], ["replay"], ["replay", "9"], ["replay", NONE, "0"], ["replay", NONE, "--cut", "1"],
             ["replay", NONE, "--evict", "01"], ["replay", NONE, "--evict"], ["export"], ["export", "a"], ["export", NONE, "0"],
             ["export", NONE, "--bad-as-zeros", "--bad-as-zeros"], ["export", NONE, "--bad-as-zeros=true"], ["export", NONE, "--bad-as-zeros", "true"],
-            ["export", NONE, "--evict", "1"], ["delete", "1"], ["rename", FIRST], ["create", "--uuid", SECOND, "--name", "v"],
+            ["export", NONE, "--evict", "1"], ["serve", NONE], ["serve", "--workers", "0"], ["serve", "--workers", "65"], ["serve", "--cut", "1"],
+            ["serve", "--evict", "01"], ["load"], ["load", "1"], ["load", "--uuid", NONE], ["load", "01", "--uuid", NONE], ["load", "1", NONE],
+            ["load", "1", "--uuid", NONE, "--sessions", "0"], ["load", "1", "--uuid", NONE, "--sessions", "1025"], ["load", "1", "--uuid", NONE, "--calls", "65535"],
+            ["load", "1", "--uuid", NONE, "--sessions", "1024", "--calls", "63"], ["load", "1", "--uuid", NONE, "--workers", "65"],
+            ["load", "1", "--uuid", NONE, "--evict", "1"], ["delete", "1"], ["rename", FIRST], ["create", "--uuid", SECOND, "--name", "v"],
             create(SECOND, mode="Raw")[1:])
     for words in none:
         yield pair(), ["OUT", *words], USAGE, "usage\n"
