@@ -10,7 +10,7 @@ use Rattle.atomic_table.specs.Table.{State, Me, Step, step, keeps, takes, gives,
 use Rattle.atomic_table.proofs.Lists.{at_set, at_snoc, set_again}
 use Rattle.turn_lock.specs.declared.table.Role.{Role}
 use Rattle.turn_lock.specs.declared.table.Role.TheVariants.{Spent, Dealer, Caller, Keeper}
-use Rattle.turn_lock.specs.Turns.{Place, free, taken, word_of, home_at, out_at, IsHeld, Fits, Turning, dealt, next_pass, gathered, TookIf, Takes, Frees, Comes}
+use Rattle.turn_lock.specs.Turns.{spare_words, spare_slots, spare_homes, Place, free, taken, word_of, home_at, out_at, IsHeld, Fits, Turning, dealt, next_pass, gathered, TookIf, Takes, Frees, Comes}
 
 module _ {T D : Type 0} (part : T → ℕ → D) (callers : ℕ) (first : T) where
   abbrev R : Type 0
@@ -30,7 +30,7 @@ module _ {T D : Type 0} (part : T → ℕ → D) (callers : ℕ) (first : T) whe
       (λ (t : (j ≢ me) × (get_elem? views j ≡ some u)). others j u t.0 t.1)
       (at_set views me j w u e)
 
-  pub begins : Rule (opening (0 ∷ []) (Some first ∷ []) (Dealer 0 first))
+  pub begins : Rule (opening (0 ∷ spare_words) (Some first ∷ spare_slots) (Dealer 0 first))
   begins = record {
     at = free;
     value = first;
@@ -143,7 +143,7 @@ module _ {T D : Type 0} (part : T → ℕ → D) (callers : ℕ) (first : T) whe
       let is_free = free_word r.at zero_word in
       let n : get_or s.words 0 0 ≡ 0 = ap (λ ws. get_or ws 0 0) r.word_is ∙ zero_word in
       let mine = r.each id (Caller q d None) there in
-      let here : s.homes ≡ some (Some r.value) ∷ [] = r.home_is ∙ ap (λ (a : Place). home_at a r.value ∷ []) is_free in
+      let here : s.homes ≡ some (Some r.value) ∷ spare_homes = r.home_is ∙ ap (λ (a : Place). home_at a r.value ∷ spare_homes) is_free in
       let w : R = Caller q d (Some r.value) in
       let K : ℕ → R → Type 0 = Fits part (taken q) first r.value r.seat r.made in (
         w,
@@ -351,6 +351,21 @@ module _ {T D : Type 0} (part : T → ℕ → D) (callers : ℕ) (first : T) whe
       at_home : {x : T} {seat : ℕ → maybe.Option ℕ} (at : Place) → IsHeld seat at → ((q j : ℕ) → seat q ≡ some j → ⊥) → home_at at x ≡ some (Some x)
       at_home free h never = refl
       at_home (taken q) h never = absurd (never q h.0 h.1)
+
+  -- no slot but the first has a value
+  pub spares : (id : ℕ) (v : R) (ws : List ℕ) (xs : List (Option T)) → Final (Seen Rule id v) ws xs → (k : ℕ) → 0 < k → k < 8 → get_elem? xs k ≡ some None
+  spares id v ws xs f k above below = f.4 k None (ap (λ hs. get_elem? hs k) f.1.0.home_is ∙ at_spare (home_at f.1.0.at f.1.0.value) k above below)
+    where
+      at_spare : (home : maybe.Option (Option T)) (k : ℕ) → 0 < k → k < 8 → get_elem? (home ∷ spare_homes) k ≡ some (some None)
+      at_spare home zero above below = absurd (omega arith)
+      at_spare home (suc zero) above below = refl
+      at_spare home (suc (suc zero)) above below = refl
+      at_spare home (suc (suc (suc zero))) above below = refl
+      at_spare home (suc (suc (suc (suc zero)))) above below = refl
+      at_spare home (suc (suc (suc (suc (suc zero))))) above below = refl
+      at_spare home (suc (suc (suc (suc (suc (suc zero)))))) above below = refl
+      at_spare home (suc (suc (suc (suc (suc (suc (suc zero))))))) above below = refl
+      at_spare home (suc (suc (suc (suc (suc (suc (suc (suc k)))))))) above below = absurd (omega arith)
 
   -- if the word was free, the caller has the value; otherwise nothing changed
   pub took : (q : ℕ) (d : D) (me m' : Me (Option T) R) (n : ℕ) → Takes part any_step me n m' → me ≡ (Caller q d None, []) → n ≡ 0 → TookIf part q d true m'

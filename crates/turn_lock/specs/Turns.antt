@@ -10,9 +10,19 @@ use Rattle.turn_lock.specs.declared.table.Role.TheVariants.{Spent, Dealer, Calle
 
 -- ---- the table
 
--- one word and one slot
+-- the words and the slots behind the first: no step touches them
+abbrev pub spare_words : List ℕ
+spare_words = 0 ∷ 0 ∷ 0 ∷ 0 ∷ 0 ∷ 0 ∷ 0 ∷ 0 ∷ 0 ∷ 0 ∷ 0 ∷ 0 ∷ 0 ∷ 0 ∷ 0 ∷ []
+
+abbrev pub spare_slots : {T : Type 0} → List (Option T)
+spare_slots = None ∷ None ∷ None ∷ None ∷ None ∷ None ∷ None ∷ []
+
+abbrev pub spare_homes : {T : Type 0} → List (maybe.Option (Option T))
+spare_homes = some None ∷ some None ∷ some None ∷ some None ∷ some None ∷ some None ∷ some None ∷ []
+
+-- 16 words and 8 slots, of which the first are used
 abbrev pub IsTurnTable : TableId → Type 0
-IsTurnTable z = (z.words ≡ 1) × (z.slots ≡ 1)
+IsTurnTable z = (z.words ≡ 16) × (z.slots ≡ 8)
 
 -- who has the value
 pub data Place : Type 0 where
@@ -59,8 +69,8 @@ pub record Turning {T D : Type 0} (part : T → ℕ → D) (callers : ℕ) (firs
   pub seat : ℕ → maybe.Option ℕ
   -- how many passes were made
   pub made : ℕ
-  pub word_is : s.words ≡ word_of at ∷ []
-  pub home_is : s.homes ≡ home_at at value ∷ []
+  pub word_is : s.words ≡ word_of at ∷ spare_words
+  pub home_is : s.homes ≡ home_at at value ∷ spare_homes
   pub held : IsHeld seat at
   pub seated : (q id : ℕ) → seat q ≡ some id → q < made
   pub few : made ≤ callers

@@ -12,6 +12,12 @@ use atomic_table::Table;
 use std::alloc::{AllocError, Global};
 use std::snapshot::Snapshot;
 
+// Only the first word and the first slot are used. The others fill cache lines of 64 bytes, so that
+// the callers of one lock don't slow those of another down.
+const WORDS: usize = 16;
+
+const SPARE_SLOTS: usize = 7;
+
 // Makes the table, with the value in its slot, and the seat that makes the passes.
 pub(crate) fn lay<T: Parted + Drop>(
     alloc: Global,
@@ -28,7 +34,10 @@ pub(crate) fn lay<T: Parted + Drop>(
     };
     let mut slots = Vec::new(alloc);
     slots.push(Some(value))?;
-    match Table::new(alloc, &[0], slots, &about) {
+    for _ in 0..SPARE_SLOTS {
+        slots.push(None)?;
+    }
+    match Table::new(alloc, &[0; WORDS], slots, &about) {
         Ok(laid) => Ok(laid),
         Err(_) => Err(AllocError),
     }

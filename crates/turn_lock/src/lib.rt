@@ -19,13 +19,16 @@
 //!
 //! # The table
 //!
-//! The lock is a table (of the crate `atomic_table`) with one word and one slot.
+//! The lock is a table (of the crate `atomic_table`) whose first word and first slot are used:
 //!
 //! ```text
 //!     word     slot        who has the value
 //!     0        the value   no one: the turn is free
 //!     q + 1    empty       caller q
 //! ```
+//!
+//! Behind them lie 15 words and 7 slots that no step touches. So two locks share no cache line of 64
+//! bytes, and threads at different locks don't slow each other down.
 //!
 //! Each pass is a seat at this table. A seat has a view, what it knows (`Role`). A rule (`Turning`
 //! of specs/Turns.antt) ties the word, the slot and all views together: a caller's view has its
@@ -60,6 +63,7 @@
 
 mod bell;
 mod dealing;
+mod freeing;
 mod gathering;
 mod kinds;
 mod parted;

@@ -4,6 +4,7 @@ ghost use Rattle.turn_lock.specs.Turns.{IsTurnTable};
 
 use crate::bell::Bell;
 use crate::dealing::{deal, lay};
+use crate::freeing::take_first;
 use crate::gathering::gather;
 use crate::parted::Parted;
 use crate::pass::TurnPass;
@@ -106,10 +107,8 @@ impl<T: Parted> Turn<T> {
     {
         let Turn { table, bell: _ } = self;
         let keeper = gather(&table.shared, passes);
-        let mut closed = table.close_with(keeper);
-        let value = closed.take(0);
-        closed.free();
-        match value {
+        let closed = table.close_with(keeper);
+        match take_first(closed) {
             Some(value) => value,
             None => unreachable!(),
         }
