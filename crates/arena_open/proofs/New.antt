@@ -11,7 +11,7 @@ use Rattle.arena_layout.specs.declared.layout.Layout.{Layout}
 use Rattle.arena_layout.specs.Layout.{IsLayout}
 use Rattle.arena_layout.specs.Info.{info_reading, ReadsBack}
 use Rattle.flog.specs.Group.{place_of, is_padded, are_ordered, out_of_range, current_side, group_reading}
-use Rattle.map_table.specs.declared.kinds.Entry.{Entry}
+use Rattle.map_table.specs.declared.kinds.MapEntry.{MapEntry}
 use Rattle.map_table.specs.Entry.{entry_of, zero_of, entry_in}
 use Rattle.map_table.specs.Blocks.{blocks_from, blocks_of, block_check}
 use Rattle.map_table.proofs.Entries.{zero_back}
@@ -162,7 +162,7 @@ entry_new external sector few lt = elim (cases_eq (sector % 2) 0) [ inl even ↦
 blocks_new : (a n : ℕ) → a + n ≤ 2 ^ 30 → blocks_from a (map zero_of (range_with_len a n)) ≡ range_with_len a n
 blocks_new a zero few = refl
 blocks_new a (suc n) few =
-    let here : (entry_of (zero_of a) a).block ≡ a = ap (λ (e : Entry). e.block) (zero_back a a (omega arith)) in
+    let here : (entry_of (zero_of a) a).block ≡ a = ap (λ (e : MapEntry). e.block) (zero_back a a (omega arith)) in
     let rest : blocks_from (a + 1) (map zero_of (range_with_len (a + 1) n)) ≡ range_with_len (a + 1) n = blocks_new (a + 1) n (omega arith) in
     λ i. here i ∷ rest i
 

@@ -7,7 +7,7 @@ use Rattle.std.proofs.lemmas.Bool.{and_parts, eqb-true, eq-eqb, ne_eqb, cases_eq
 use Rattle.std.proofs.lemmas.List.{get_or-set_same, get_or-set_other, get_or-append_right, length-set, length-append}
 use Rattle.std.proofs.lemmas.List.Elements.{All-nil, All-cons, All-head, All-tail, All-filter, filter_passes}
 use Rattle.flog.specs.declared.half.Half.{Half}
-use Rattle.map_table.specs.declared.kinds.Entry.{Entry}
+use Rattle.map_table.specs.declared.kinds.MapEntry.{MapEntry}
 use Rattle.map_table.specs.Entry.{entry_of, normal_of}
 use Rattle.map_table.specs.Blocks.{blocks_from, blocks_of, count_of, NamesEachOnce}
 use Rattle.map_table.proofs.Entries.{normal_back}
@@ -100,7 +100,7 @@ module _ (entries : List ℕ) (half : Half) (inside : half.lba < length entries)
   made_block : (entry_of (get_or made half.lba 0) half.lba).block ≡ half.new
   made_block =
       ap (λ (e : ℕ). (entry_of e half.lba).block) (get_or-set_same entries half.lba (normal_of half.new) 0 inside)
-      ∙ ap (λ (e : Entry). e.block) (normal_back half.new half.lba small)
+      ∙ ap (λ (e : MapEntry). e.block) (normal_back half.new half.lba small)
 
   -- a half for the move's sector isn't pending
   not_here : (other : Half) → other.lba ≡ half.lba → half.new ≢ other.old → is_pending made other ≡ false

@@ -14,7 +14,7 @@ use Rattle.arena_layout.specs.Info.{info_reading}
 use Rattle.flog.specs.declared.half.Half.{Half}
 use Rattle.flog.specs.declared.group.Group.{Group}
 use Rattle.flog.specs.Group.{group_reading}
-use Rattle.map_table.specs.declared.kinds.Entry.{Entry}
+use Rattle.map_table.specs.declared.kinds.MapEntry.{MapEntry}
 use Rattle.map_table.specs.Entry.{entry_of, normal_of, entry_in, with_entry}
 use Rattle.map_table.specs.Blocks.{blocks_of, block_check}
 use Rattle.map_table.proofs.Entries.{put_back, other_stays, normal_back}
@@ -152,7 +152,7 @@ module _ (words parent : List ℕ) (opened : Opened) (half : Half) (rest : List 
       ap (λ (es : List ℕ). (entry_of (get_or es half.lba 0) half.lba).block) final
       ∙ ap (λ (e : ℕ). (entry_of e half.lba).block) (moved_keeps (set entries half.lba (normal_of half.new)) rest half.lba elsewhere
       ∙ get_or-set_same entries half.lba (normal_of half.new) 0 lba_in)
-      ∙ ap (λ (e : Entry). e.block) (normal_back half.new half.lba move.block)
+      ∙ ap (λ (e : MapEntry). e.block) (normal_back half.new half.lba move.block)
 
   final_in : half.lba < length opened.entries
   final_in = omega (arith, lba_in, ap length p.entries_is, length_moved entries opened.moves)

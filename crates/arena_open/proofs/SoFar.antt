@@ -13,7 +13,7 @@ use Rattle.arena_open.specs.Writes.{IsSettled, written_over}
 use Rattle.arena_open.specs.Reading.{opening}
 use Rattle.arena_open.specs.Moves.{IsOpenState, move_writes, open_answer, opened_steps, recovered, steps_if, state_of, with_all_made}
 use Rattle.arena_open.specs.Moves as arena
-use Rattle.arena_open.specs.Chain.{Link, Links, chain_of, chain_steps, state_at, link_made, chain_answer, Recovers, RecoversFirst, OpensAgain, link_steps, states_from, chain_within, found_again}
+use Rattle.arena_open.specs.Chain.{Link, Links, chain_of, chain_steps, state_at, link_made, chain_answer, RecoversChain, RecoversFirst, OpensAgain, link_steps, states_from, chain_within, found_again}
 use Rattle.cut_words.proofs.Making.{makes_none, makes_both, makes_cut, makes_length}
 use Rattle.arena_open.specs.declared.refused.OpenRefused.TheVariants as open_refused
 use Rattle.arena_open.proofs.Written.{made_settled}
@@ -82,7 +82,7 @@ made_of now new left left' at parent opened b is e made =
 
 -- which of a chain's steps were made, and whether all were
 all_made_by : (old new : Words) (fuse left : Option ℕ) (parent : List ℕ) (first : ℕ) (links : List Link) (fault : Option OpenRefused) (b : Bool)
-    → chain_of old.kept parent first ≡ record { links = links; refused = fault } → Makes old new fuse left (chain_steps old.kept links) b → Recovers old new fuse left parent first
+    → chain_of old.kept parent first ≡ record { links = links; refused = fault } → Makes old new fuse left (chain_steps old.kept links) b → RecoversChain old new fuse left parent first
 all_made_by old new fuse left parent first links fault b is m =
     let m' : Makes old new fuse left (chain_steps old.kept links) (lasts fuse (length (chain_steps old.kept links))) =
     subst (λ (x : Bool). Makes old new fuse left (chain_steps old.kept links) x) m.all_made m in
@@ -241,7 +241,7 @@ module _ (old : Words) (fuse : Option ℕ) (first : ℕ) (parent : List ℕ) (no
           ∙ with_ok states (state ∷ [])
           )
 
-      pub last_made : Recovers old new fuse left' parent first
+      pub last_made : RecoversChain old new fuse left' parent first
       last_made = all_made_by old new fuse left' parent first (s.links ++ record { at = at; opened = a.opened } ∷ []) None true chain_is (steps_one new left' a.opened made)
 
       pub last_again : OpensAgain old.kept new.kept parent first
@@ -274,7 +274,7 @@ module _ (old : Words) (fuse : Option ℕ) (first : ℕ) (parent : List ℕ) (no
         ∙ with_err states (record { arena = length states; fault = fault })
         )
 
-    made_broken : opening (drop at now.kept) parent ≡ Err fault → Recovers old new fuse left' parent first
+    made_broken : opening (drop at now.kept) parent ≡ Err fault → RecoversChain old new fuse left' parent first
     made_broken e =
         let m : Makes now new left left' [] (lasts left 0) =
         subst (λ (o : Result Opened OpenRefused). Makes now new left left' (steps_if at (drop at now.kept) o) (lasts left (length (steps_if at (drop at now.kept) o)))) e made in
@@ -294,7 +294,7 @@ module _ (old : Words) (fuse : Option ℕ) (first : ℕ) (parent : List ℕ) (no
           ∙ with_err states (record { arena = length states; fault = open_refused.PowerCut })
           )
 
-      made_cut : Recovers old new fuse left' parent first
+      made_cut : RecoversChain old new fuse left' parent first
       made_cut =
           let m : Makes now new left left' (opened_steps at (drop at now.kept) opened) false = made_of now new left left' at parent opened false is short made in
           let steps_are : (chain_steps old.kept s.links ++ link_steps old.kept (record { at = at; opened = opened })) ++ chain_steps old.kept b.more
@@ -311,7 +311,7 @@ module _ (old : Words) (fuse : Option ℕ) (first : ℕ) (parent : List ℕ) (no
       | cut opened is short fault_is ↦ ap (λ (f : OpenRefused). Err (record { arena = length states; fault = f })) fault_is ∙ answer_cut opened is short
     ]
 
-    pub refused_made : Recovers old new fuse left' parent first
+    pub refused_made : RecoversChain old new fuse left' parent first
     refused_made = elim why [ broken e ↦ made_broken e | cut opened is short fault_is ↦ made_cut opened is short ]
 
   -- ---- memory ran out

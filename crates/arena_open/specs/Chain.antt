@@ -72,8 +72,8 @@ abbrev pub chain_steps : List ℕ → List Link → List Step
 chain_steps words links = flat_map (link_steps words) links
 
 -- the effect on a namespace's words and on a fuse
-abbrev pub Recovers : Words → Words → Option ℕ → Option ℕ → List ℕ → ℕ → Type 0
-Recovers old new fuse left parent first =
+abbrev pub RecoversChain : Words → Words → Option ℕ → Option ℕ → List ℕ → ℕ → Type 0
+RecoversChain old new fuse left parent first =
     let steps = chain_steps old.kept (chain_of old.kept parent first).links in
     Makes old new fuse left steps (lasts fuse (length steps))
 

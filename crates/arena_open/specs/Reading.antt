@@ -14,7 +14,7 @@ use Rattle.flog.specs.Group.{group_reading}
 use Rattle.map_table.specs.declared.check.BlockFault.{BlockFault}
 use Rattle.map_table.specs.declared.kinds.Kind.{Kind}
 use Rattle.map_table.specs.declared.kinds.Kind.TheVariants as kind
-use Rattle.map_table.specs.declared.kinds.Entry.{Entry}
+use Rattle.map_table.specs.declared.kinds.MapEntry.{MapEntry}
 use Rattle.map_table.specs.Entry.{entry_of, normal_of, entry_in}
 use Rattle.map_table.specs.Blocks.{blocks_of, block_check}
 use Rattle.arena_open.specs.declared.opened.Opened.{Opened}
@@ -108,7 +108,7 @@ cell_by l words kind.Bad block = cell.Bad
 cell_by l words kind.Initial block = cell.Bytes (block_words l words block (l.sector / 8))
 cell_by l words kind.Normal block = cell.Bytes (block_words l words block (l.sector / 8))
 
-abbrev pub cell_with : Layout → List ℕ → Entry → Cell
+abbrev pub cell_with : Layout → List ℕ → MapEntry → Cell
 cell_with l words entry = cell_by l words entry.kind entry.block
 
 -- the cell of a sector

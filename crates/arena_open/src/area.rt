@@ -10,7 +10,7 @@ use map_table::zero;
 use nvd_words::word_at;
 
 /// The words of an area, by index.
-pub(crate) trait Area {
+pub(crate) trait AreaWords {
     ghost values: { Self → List ℕ };
 
     ghost sound: { Self → Type 0 };
@@ -60,7 +60,7 @@ fn new_entry(external: u32, sector: u64) -> u32
     }
 }
 
-impl Area for NewMap {
+impl AreaWords for NewMap {
     ghost values = { λ map. new_map map.external map.count };
 
     ghost sound = { λ map. (map.external ≤ 2 ^ 30) × (map.count < 2 ^ 60) };
@@ -90,7 +90,7 @@ fn new_group_word(external: u32, lane: u32, k: u64) -> u64
     }
 }
 
-impl Area for NewLog {
+impl AreaWords for NewLog {
     ghost values = { λ log. new_log log.external log.lanes log.count };
 
     ghost sound = { λ log. (log.external ≤ 2 ^ 30) × (log.lanes ≤ 256) };
@@ -108,7 +108,7 @@ impl Area for NewLog {
     }
 }
 
-impl Area for InfoBlock {
+impl AreaWords for InfoBlock {
     ghost values = { λ block. words_in block.bytes };
 
     ghost sound = { λ block. length (words_in block.bytes) ≡ 512 };
@@ -126,7 +126,7 @@ impl Area for InfoBlock {
 ///
 /// No word of the space may be pending. It returns `PowerCut` exactly if fewer steps are left than
 /// two for each word. Then it has made as many as there were.
-pub(crate) fn write_area<W: WordSpace, A: Area>(
+pub(crate) fn write_area<W: WordSpace, A: AreaWords>(
     space: &mut W,
     fuse: &mut Fuse,
     base: u64,

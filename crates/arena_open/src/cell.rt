@@ -8,7 +8,7 @@ ghost use Rattle.arena_open.specs.Moves.{IsOpenState};
 
 use crate::state::ArenaState;
 use arena_layout::Layout;
-use map_table::{Entry, Kind, entry, entry_in};
+use map_table::{Kind, MapEntry, entry, entry_in};
 use nvd_words::Items;
 
 /// The contents of a sector.
@@ -30,7 +30,7 @@ pub enum CellKind {
 }
 
 /// Returns the entry of a sector in the words of an arena.
-fn sector_entry(words: &[u64], layout: &Layout, sector: u32) -> Entry
+fn sector_entry(words: &[u64], layout: &Layout, sector: u32) -> MapEntry
     requires layout { IsLayout layout.now }
     requires sector { sector < layout.now.external }
     requires count { length words.now ≡ layout.now.size / 8 }
@@ -69,7 +69,7 @@ fn copy_block(words: &[u64], layout: &Layout, block: u32, into: &mut [u64])
 }
 
 /// Copies the cell of an entry.
-fn read_cell(words: &[u64], layout: &Layout, entry: Entry, into: &mut [u64]) -> CellKind
+fn read_cell(words: &[u64], layout: &Layout, entry: MapEntry, into: &mut [u64]) -> CellKind
     requires layout { IsLayout layout.now }
     requires block { entry.block < layout.now.internal }
     requires count { length words.now ≡ layout.now.size / 8 }

@@ -1,6 +1,6 @@
 ghost use Rattle.std.specs.Prelude.{◌≡◌, ◌≢◌, ℕ, ◌+◌, ◌*◌, None, Ok, map, IfOk, OnOk};
 ghost use Rattle.arena_open.specs.Writes.{IsSettled};
-ghost use Rattle.arena_open.specs.Chain.{CanOpenChain, HasMemory, OpensAgain, Recovers, RecoversFirst, chain_answer, found_again, wants_memory};
+ghost use Rattle.arena_open.specs.Chain.{CanOpenChain, HasMemory, OpensAgain, RecoversChain, RecoversFirst, chain_answer, found_again, wants_memory};
 
 use crate::chain::Chain;
 use crate::chain_refused::ChainRefused;
@@ -33,7 +33,7 @@ pub fn open_chain<W: WordSpace>(
 ) -> Result<Chain, ChainRefused>
     requires chain { CanOpenChain first (W.words space.old) }
     ensures answer { HasMemory result → result ≡ chain_answer fuse.old (W.words space.old).kept parent.now first }
-    ensures made { HasMemory result → Recovers (W.words space.old) (W.words space.new) fuse.old fuse.new parent.now first }
+    ensures made { HasMemory result → RecoversChain (W.words space.old) (W.words space.new) fuse.old fuse.new parent.now first }
     ensures memory { (k : ℕ) → result ≡ Err (wants_memory k) → RecoversFirst k (W.words space.old) (W.words space.new) fuse.old fuse.new parent.now first }
     ensures beside { W.beside space.new ≡ W.beside space.old }
     ensures settles { OnOk result (IsSettled (W.words space.new)) }

@@ -11,7 +11,7 @@ use crate::cell::{CellKind, put_zeros};
 use crate::opened::Opened;
 use arena_layout::Layout;
 use cut_words::WordSpace;
-use map_table::{Entry, Kind, entry};
+use map_table::{Kind, MapEntry, entry};
 
 /// Loads words of a space from `first` on.
 fn load_words<W: WordSpace>(space: &W, first: u64, into: &mut [u64])
@@ -46,7 +46,7 @@ fn load_cell<W: WordSpace>(
     space: &W,
     at: u64,
     layout: &Layout,
-    entry: Entry,
+    entry: MapEntry,
     into: &mut [u64],
 ) -> CellKind
     requires layout { IsLayout layout.now }

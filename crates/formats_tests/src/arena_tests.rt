@@ -1,6 +1,6 @@
 use arena_layout::{plan, read_info, write_info};
 use flog::{Group, Half, half_words, next_half, read_group};
-use map_table::{Entry, Kind, check_blocks, entry, entry_in, normal, with_entry, zero};
+use map_table::{Kind, MapEntry, check_blocks, entry, entry_in, normal, with_entry, zero};
 use std::alloc::{AllocError, Global};
 use std::test::Fail;
 use uuid::Uuid;
@@ -65,7 +65,7 @@ fn map_entries_and_words(rt: HostRuntime) {
         (5, Kind::Initial, 7),
         (0xFFFF_FFFF, Kind::Normal, 0x3FFF_FFFF),
     ] {
-        assert_eq!(rt; entry(word, 7), Entry { kind, block });
+        assert_eq!(rt; entry(word, 7), MapEntry { kind, block });
     }
     assert_eq!(rt; (normal(5), zero(5)), (0xC000_0005, 0x8000_0005));
     let word = 0xC000_0002_8000_0001u64;

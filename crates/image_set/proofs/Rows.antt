@@ -7,7 +7,7 @@ use Rattle.nvd_media.specs.declared.object.Object.TheVariants.{Mark, Nfit, Label
 use Rattle.nvd_media.specs.Images.{Images}
 use Rattle.nfit_reader.specs.declared.table.NfitFault.TheVariants as table_fault_of
 use Rattle.nfit_reader.specs.Structures.{persistent_memory, spans_from, structure_of, range_structure, interleave_structure, control_structure, least_length, is_structure, has_lines, range_of, link_of, lines_of, identity_of}
-use Rattle.nfit_reader.specs.Table.{distinct_after, twice_in, alias_in, is_alias, mapping_of, region_of, regions_of, missing_of, lacks_range, lacks_identity, lacks_lines, extent_of, table_reading, said_of, header_fault}
+use Rattle.nfit_reader.specs.Table.{distinct_after, twice_in, alias_in, is_alias, mapping_of, region_of, regions_of, missing_of, lacks_range, lacks_identity, lacks_lines, dpa_range_of, table_reading, said_of, header_fault}
 use Rattle.image_set.specs.declared.fault.LoadFault.TheVariants as fault
 use Rattle.image_set.specs.Load.{table_fault, module_fault, modules_fault, mapping_fault, mappings_fault, image_set_of, loading}
 
@@ -54,14 +54,14 @@ no_module = refl
 
 -- a label area's size is checked before the missing contents
 pub labels_first : loading (set_of (table_of 88 (mapping 0 0)) (Some (1 ∷ 2 ∷ 3 ∷ [])) None None) ≡ Err (fault.Size (Labels 0) 3)
-unfolding first_fault table_fault loading modules_fault module_fault mappings_fault image_set_of number_at said_of header_fault spans_from structure_of least_length is_structure has_lines link_of distinct_after twice_in alias_in regions_of table_reading missing_of lacks_range lacks_identity lacks_lines extent_of
+unfolding first_fault table_fault loading modules_fault module_fault mappings_fault image_set_of number_at said_of header_fault spans_from structure_of least_length is_structure has_lines link_of distinct_after twice_in alias_in regions_of table_reading missing_of lacks_range lacks_identity lacks_lines dpa_range_of
 labels_first = refl
 
 pub no_contents : loading (set_of (table_of 88 (mapping 0 0)) None None (Some (1 ∷ []))) ≡ Err (fault.Missing (Contents 0))
-unfolding first_fault table_fault loading modules_fault module_fault mappings_fault image_set_of number_at said_of header_fault spans_from structure_of least_length is_structure has_lines link_of distinct_after twice_in alias_in regions_of table_reading missing_of lacks_range lacks_identity lacks_lines extent_of
+unfolding first_fault table_fault loading modules_fault module_fault mappings_fault image_set_of number_at said_of header_fault spans_from structure_of least_length is_structure has_lines link_of distinct_after twice_in alias_in regions_of table_reading missing_of lacks_range lacks_identity lacks_lines dpa_range_of
 no_contents = refl
 
 -- the mapping passes the contents' end by one byte
 pub past_the_end : loading (set_of (table_of 176 (mapping 1 4097 ++ region)) None (Some (replicate 4096 0)) (Some [])) ≡ Err (fault.Size (Contents 0) 4096)
-unfolding first_fault table_fault loading modules_fault module_fault mappings_fault mapping_fault image_set_of number_at said_of header_fault spans_from structure_of range_structure interleave_structure control_structure least_length is_structure has_lines range_of link_of lines_of identity_of distinct_after twice_in alias_in is_alias mapping_of region_of regions_of missing_of lacks_range lacks_identity lacks_lines extent_of table_reading
+unfolding first_fault table_fault loading modules_fault module_fault mappings_fault mapping_fault image_set_of number_at said_of header_fault spans_from structure_of range_structure interleave_structure control_structure least_length is_structure has_lines range_of link_of lines_of identity_of distinct_after twice_in alias_in is_alias mapping_of region_of regions_of missing_of lacks_range lacks_identity lacks_lines dpa_range_of table_reading
 past_the_end = refl

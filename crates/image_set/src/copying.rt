@@ -19,6 +19,15 @@ use std::alloc::Global;
 /// How many bytes are copied at a time: few calls, and a buffer that fits the caches.
 const PIECE: u64 = 256 << 10;
 
+/// The buffers of a copy.
+#[derive(Drop)]
+struct Buffers {
+    /// The bytes of up to 32,768 words.
+    spelling: Vec<[u8; 8]>,
+    /// A piece of an object: 256 KiB.
+    room: Vec<u8>,
+}
+
 /// Copies one piece of an object of `bytes` bytes, from `at` on, and returns the offset after it.
 /// The last piece may be shorter.
 fn copy_piece<S: ImageSource, K: ImageSink>(
@@ -80,21 +89,26 @@ fn copy_module<S: ImageSource, K: ImageSink>(
     area: &Option<Items<u64>>,
     bytes: u64,
     ranges: &Option<Items<u8>>,
-    spelling: &mut Vec<[u8; 8]>,
-    room: &mut Vec<u8>,
+    buffers: &mut Buffers,
 ) -> Result<(), CopyStop>
-    requires spelling { 32768 ≤ vec_capacity spelling.old }
-    requires room { vec_len room.old ≡ 262144 }
+    requires spelling { 32768 ≤ vec_capacity buffers.old.spelling }
+    requires room { vec_len buffers.old.room ≡ 262144 }
     requires there { ForSome (S.held images.old) (λ set. length (bytes_in set (Object.Contents «module»)) ≡ bytes) }
     requires absent { ForSome (K.made out.old) (HasNone «module») }
     ensures copied { CopiesModule (S.held images.old) «module» (option_map bytes_of area.now) bytes ranges.now (K.made out.old) (K.made out.new) (K.kept out.old) (K.kept out.new) result }
-    ensures spelling { 32768 ≤ vec_capacity spelling.new }
-    ensures room { vec_len room.new ≡ 262144 }
+    ensures spelling { 32768 ≤ vec_capacity buffers.new.spelling }
+    ensures room { vec_len buffers.new.room ≡ 262144 }
     ensures outside { LeavesOutside (S.held images.old) (S.held images.new) (S.faults images.old) (S.faults images.new)
         (K.faults out.old) (K.faults out.new) result CopyStop.ReadFault CopyStop.WriteFault }
 {
-    write_area(out, module, area, spelling)?;
-    copy_object(images, out, Object::Contents(module), bytes, room)?;
+    write_area(out, module, area, &mut buffers.spelling)?;
+    copy_object(
+        images,
+        out,
+        Object::Contents(module),
+        bytes,
+        &mut buffers.room,
+    )?;
     write_ranges(out, module, ranges)?;
     Ok(())
 }
@@ -104,11 +118,10 @@ fn copy_objects<S: ImageSource, K: ImageSink>(
     left: &OutlineLeft,
     images: &mut S,
     out: &mut K,
-    spelling: &mut Vec<[u8; 8]>,
-    room: &mut Vec<u8>,
+    buffers: &mut Buffers,
 ) -> Result<(), CopyStop>
-    requires spelling { 32768 ≤ vec_capacity spelling.old }
-    requires room { vec_len room.old ≡ 262144 }
+    requires spelling { 32768 ≤ vec_capacity buffers.old.spelling }
+    requires room { vec_len buffers.old.room ≡ 262144 }
     requires empty { ForSome (K.made out.old) IsEmptySet }
     requires copyable { IsCopyable left.now }
     requires there { ForSome (S.held images.old) (HasContents left.now.sizes) }
@@ -129,8 +142,7 @@ fn copy_objects<S: ImageSource, K: ImageSink>(
             &labels[at],
             sizes[at],
             &bad[at],
-            spelling,
-            room,
+            buffers,
         )?;
     }
     Ok(())
@@ -165,9 +177,10 @@ impl OutlineLeft {
             (K.faults out.old) (K.faults out.new) result CopyFault.ReadFault CopyFault.WriteFault }
         ensures untouched { result ≡ Err CopyFault.OutOfMemory → out.new ≡ out.old }
     {
-        let mut spelling = spelling_room(alloc)?;
-        let mut room = piece_room(alloc)?;
-        copy_objects(self, images, out, &mut spelling, &mut room)?;
+        let spelling = spelling_room(alloc)?;
+        let room = piece_room(alloc)?;
+        let mut buffers = Buffers { spelling, room };
+        copy_objects(self, images, out, &mut buffers)?;
         out.finish()?;
         Ok(())
     }

@@ -32,7 +32,7 @@ use Rattle.lane_core.specs.declared.shape.Shape.{Shape}
 use Rattle.lane_core.specs.Areas.{Areas, IsNewer, block_in, entry_at, half_in, mapped, put, seq_in}
 use Rattle.lane_core.specs.Arenas.{areas_of}
 use Rattle.lane_core.specs.Cores.{ShowsSound}
-use Rattle.lane_core.specs.Cut.{AreLeft, IsCurrent, Recovers, half_at, is_open}
+use Rattle.lane_core.specs.Cut.{AreLeft, IsCurrent, IsRecoverable, half_at, is_open}
 use Rattle.lane_core.specs.Fixed.{SameFixed}
 use Rattle.lane_core.specs.Held.{held_by}
 use Rattle.lane_core.specs.History.{Cells, end_of, left_of}
@@ -165,7 +165,7 @@ module _ (state : ArenaState) (own : ℕ) (words : List ℕ) (core : Core) (left
   currents : (i : ℕ) → i < core.shape.lanes → IsCurrent (areas_of core.shape left) i (t.arena.shows.0.lanes i).side
   currents i lt = current (first_cells state) core t.arena.shows.0 left t.arena.shows.1 idle are i lt
 
-  r : Recovers (geometry core.shape) (first_cells state) t.arena.shows.0 (areas_of core.shape left) (λ i. (t.arena.shows.0.lanes i).side)
+  r : IsRecoverable (geometry core.shape) (first_cells state) t.arena.shows.0 (areas_of core.shape left) (λ i. (t.arena.shows.0.lanes i).side)
   r = cut.recovers (first_cells state) t.arena.shows.0 t.arena.shows.1 (λ i. (t.arena.shows.0.lanes i).side) currents
 
   left_size : length left ≡ state.info.layout.size / 8
@@ -177,8 +177,8 @@ module _ (state : ArenaState) (own : ℕ) (words : List ℕ) (core : Core) (left
   current' : (i : ℕ) → i < state.info.layout.lanes → IsCurrent (areas_of (shape_of state.info.layout) left) i (t.arena.shows.0.lanes i).side
   current' = subst (λ (x : Shape). (i : ℕ) → i < x.lanes → IsCurrent (areas_of x left) i (t.arena.shows.0.lanes i).side) t.arena.shape currents
 
-  r' : Recovers (geometry (shape_of state.info.layout)) (first_cells state) t.arena.shows.0 (areas_of (shape_of state.info.layout) left) (λ i. (t.arena.shows.0.lanes i).side)
-  r' = subst (λ (x : Shape). Recovers (geometry x) (first_cells state) t.arena.shows.0 (areas_of x left) (λ i. (t.arena.shows.0.lanes i).side)) t.arena.shape r
+  r' : IsRecoverable (geometry (shape_of state.info.layout)) (first_cells state) t.arena.shows.0 (areas_of (shape_of state.info.layout) left) (λ i. (t.arena.shows.0.lanes i).side)
+  r' = subst (λ (x : Shape). IsRecoverable (geometry x) (first_cells state) t.arena.shows.0 (areas_of x left) (λ i. (t.arena.shows.0.lanes i).side)) t.arena.shape r
 
   abbrev halve : ℕ → Half
   halve i = half_at (areas_of (shape_of state.info.layout) left) i (t.arena.shows.0.lanes i).side

@@ -26,7 +26,7 @@ use Rattle.arena_open.proofs.Opening.{length_map, opening_map}
 use Rattle.arena_open.proofs.Ranges.{map_map}
 use Rattle.lane_core.specs.Areas.{Areas, IsNewer, block_in, entry_at, half_in, mapped, normal, seq_in}
 use Rattle.lane_core.specs.Arenas.{areas_of, no_group}
-use Rattle.lane_core.specs.Cut.{EachOnce, IsCurrent, half_at, is_pending, recovered}
+use Rattle.lane_core.specs.Cut.{EachOnce, IsCurrent, half_at, is_pending, recovered_entry}
 use Rattle.lane_core.specs.Fixed.{IsFixed, SameFixed}
 use Rattle.lane_core.specs.Invariant.{Sized}
 use Rattle.lane_core.specs.Machine.{other}
@@ -204,15 +204,15 @@ module _ (l : Layout) (ok : IsLayout l) (was left behind : List ℕ) (was_size :
     made_length : (n : ℕ) → length (moved entries (moves_at n)) ≡ l.external
     made_length n = length_moved entries (moves_at n) ∙ length_map l all
 
-    made_index : (n : ℕ) → n ≤ l.lanes → (t : ℕ) → t < l.external → get_or (moved entries (moves_at n)) t 0 ≡ recovered areas sides n t
-    unfolding recovered normal
+    made_index : (n : ℕ) → n ≤ l.lanes → (t : ℕ) → t < l.external → get_or (moved entries (moves_at n)) t 0 ≡ recovered_entry areas sides n t
+    unfolding recovered_entry normal
     made_index zero le t lt = entry_index t lt
     made_index (suc n) le t lt =
         ap (λ ms. get_or (moved entries ms) t 0) (moves_grown n) ∙ ap (λ b. get_or (moved entries (moves_at n ++ cond b (half n ∷ []) [])) t 0) (pending_same n (omega arith))
         ∙ go (is_pending areas (half n)) (made_index n (omega arith) t lt)
       where
-        go : (b : Bool) → get_or (moved entries (moves_at n)) t 0 ≡ recovered areas sides n t
-            → get_or (moved entries (moves_at n ++ cond b (half n ∷ []) [])) t 0 ≡ (if b && ((half n).lba == t) then normal (half n).new else recovered areas sides n t)
+        go : (b : Bool) → get_or (moved entries (moves_at n)) t 0 ≡ recovered_entry areas sides n t
+            → get_or (moved entries (moves_at n ++ cond b (half n ∷ []) [])) t 0 ≡ (if b && ((half n).lba == t) then normal (half n).new else recovered_entry areas sides n t)
         go false before = ap (λ ms. get_or (moved entries ms) t 0) (append-nil (moves_at n)) ∙ before
         go true before = ap (λ es. get_or es t 0) (moved_grown entries (moves_at n) (half n)) ∙ elim (same_or_not t (half n).lba) [
           | inl e ↦ ap (λ i. get_or (slice_set (moved entries (moves_at n)) (half n).lba (normal_of (half n).new)) i 0) e
@@ -223,7 +223,7 @@ module _ (l : Layout) (ok : IsLayout l) (was left behind : List ℕ) (was_size :
 
     -- ---- the blocks
 
-    module _ (once : EachOnce (geometry (shape_of l)) (λ t. block_in (recovered areas sides l.lanes t) t) (λ k. (half_at areas k (sides k)).old)) where
+    module _ (once : EachOnce (geometry (shape_of l)) (λ t. block_in (recovered_entry areas sides l.lanes t) t) (λ k. (half_at areas k (sides k)).old)) where
       abbrev made : List ℕ
       made = moved entries (moves_at l.lanes)
 
@@ -239,13 +239,13 @@ module _ (l : Layout) (ok : IsLayout l) (was left behind : List ℕ) (was_size :
       all_length : length blocks ≡ l.internal
       all_length = length-append (blocks_from 0 made) (free_of found_groups) ∙ omega (arith, from_length, length-map found_groups (λ (g : Group). g.half.old), lanes_length, ok.internal_is)
 
-      sector_block : (t : ℕ) → t < l.external → get_or blocks t 0 ≡ block_in (recovered areas sides l.lanes t) t
+      sector_block : (t : ℕ) → t < l.external → get_or blocks t 0 ≡ block_in (recovered_entry areas sides l.lanes t) t
       unfolding block_in
       sector_block t lt =
           get_or_append_left (blocks_from 0 made) (free_of found_groups) 0 t (omega (arith, from_length))
           ∙ block_index 0 made t (omega (arith, made_length l.lanes))
           ∙ ap (λ (e : ℕ). (entry_of e (0 + t)).block) (made_index l.lanes (omega arith) t lt)
-          ∙ ap (λ (i : ℕ). (entry_of (recovered areas sides l.lanes t) i).block) (let e : 0 + t ≡ t = omega arith in e)
+          ∙ ap (λ (i : ℕ). (entry_of (recovered_entry areas sides l.lanes t) i).block) (let e : 0 + t ≡ t = omega arith in e)
 
       lane_block : (k : ℕ) → k < l.lanes → get_or blocks (l.external + k) 0 ≡ (half k).old
       lane_block k lk =
@@ -293,10 +293,10 @@ module _ (l : Layout) (ok : IsLayout l) (was left behind : List ℕ) (was_size :
           ∙ ap (on_blocks (found_arena info)) (once_checked l.internal blocks all_length below one_place)
 
       -- the cell of a sector there is that of its recovered entry
-      pub found_cell_is : (t : ℕ) → t < l.external → cell_with l all (entry_of (get_or made t 0) t) ≡ cell_in (l.sector / 8) areas.data_at (recovered areas sides l.lanes t) t
+      pub found_cell_is : (t : ℕ) → t < l.external → cell_with l all (entry_of (get_or made t 0) t) ≡ cell_in (l.sector / 8) areas.data_at (recovered_entry areas sides l.lanes t) t
       found_cell_is t lt =
-          ap (λ e. cell_with l all (entry_of e t)) (made_index l.lanes (omega arith) t lt) ∙ cell_is l all (recovered areas sides l.lanes t) t
-          ∙ cell_in-words (l.sector / 8) (areas_of (shape_of l) all).data_at areas.data_at (recovered areas sides l.lanes t) t (λ j lj.
-          let a = data_in (shape_of l) (shape_is l ok) (block_in (recovered areas sides l.lanes t) t) j (once.sector_in t lt) lj in
+          ap (λ e. cell_with l all (entry_of e t)) (made_index l.lanes (omega arith) t lt) ∙ cell_is l all (recovered_entry areas sides l.lanes t) t
+          ∙ cell_in-words (l.sector / 8) (areas_of (shape_of l) all).data_at areas.data_at (recovered_entry areas sides l.lanes t) t (λ j lj.
+          let a = data_in (shape_of l) (shape_is l ok) (block_in (recovered_entry areas sides l.lanes t) t) j (once.sector_in t lt) lj in
           let o = in_order (shape_of l) (shape_is l ok) in
-          in_left (l.data_off / 8 + block_in (recovered areas sides l.lanes t) t * (l.inner / 8) + j) (omega (arith, a, o)))
+          in_left (l.data_off / 8 + block_in (recovered_entry areas sides l.lanes t) t * (l.inner / 8) + j) (omega (arith, a, o)))

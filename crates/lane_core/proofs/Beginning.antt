@@ -6,7 +6,7 @@ use Rattle.lane_core.specs.Invariant.{IsSound, Sized}
 use Rattle.lane_core.specs.Machine.{State, other}
 use Rattle.lane_core.proofs.Put.{never}
 use Rattle.lane_core.specs.History.{cell_of, end_of, IsLegal}
-use Rattle.lane_core.specs.Cut.{IsCurrent, AreLeft, Recovers, half_at, recovered, Survives}
+use Rattle.lane_core.specs.Cut.{IsCurrent, AreLeft, IsRecoverable, half_at, recovered_entry, Survives}
 use Rattle.lane_core.specs.Opening.{opened, IsOpen}
 use Rattle.lane_core.specs.Runs.{Event, run, AllFit}
 use Rattle.lane_core.proofs.Whole.{run_sound}
@@ -56,7 +56,7 @@ opened_sound g areas sides h =
 -- whatever lanes do after opening, and whenever power is cut then
 pub every_cut : (g : Geometry) (areas : Areas) (sides : ℕ → ℕ) (events : List Event) (left : Areas) → IsOpen g areas sides → AllFit g events → AreLeft g (run g (opened areas sides) events).seen (run g (opened areas sides) events).kept left
     → ((l : ℕ) → l < g.lanes → (side : ℕ) × IsCurrent left l side)
-    × ((after : ℕ → ℕ) → ((l : ℕ) → l < g.lanes → IsCurrent left l (after l)) → Recovers g (cell_of g areas.data_at areas.map_at) (run g (opened areas sides) events) left after)
+    × ((after : ℕ → ℕ) → ((l : ℕ) → l < g.lanes → IsCurrent left l (after l)) → IsRecoverable g (cell_of g areas.data_at areas.map_at) (run g (opened areas sides) events) left after)
 every_cut g areas sides events left h f hl =
     let s = run g (opened areas sides) events in
     let o = cell_of g areas.data_at areas.map_at in
@@ -66,11 +66,11 @@ every_cut g areas sides events left h f hl =
 -- Opening after a power cut: if the map has the recovered entries, the arena is open again, and its
 -- cells are those that survive
 pub reopened : (g : Geometry) (o : ℕ → Cell) (s : State) (left again : Areas) (sides : ℕ → ℕ) → IsSound g o s → AreLeft g s.seen s.kept left → ((l : ℕ) → l < g.lanes → IsCurrent left l (sides l))
-    → again.log_a ≡ left.log_a → again.log_b ≡ left.log_b → again.data_at ≡ left.data_at → ((t : ℕ) → t < g.sectors → entry_at again.map_at t ≡ recovered left sides g.lanes t)
+    → again.log_a ≡ left.log_a → again.log_b ≡ left.log_b → again.data_at ≡ left.data_at → ((t : ℕ) → t < g.sectors → entry_at again.map_at t ≡ recovered_entry left sides g.lanes t)
     → IsOpen g again sides × ((t : ℕ) → t < g.sectors → Survives g o s t (cell_of g again.data_at again.map_at t))
 reopened g o s left again sides h hl hs ea eb ed em =
     let r = recovers g o s h left hl sides hs in
-    let same : (t : ℕ) → t < g.sectors → mapped again.map_at t ≡ block_in (recovered left sides g.lanes t) t = λ t lt. ap (λ e. block_in e t) (em t lt) in
+    let same : (t : ℕ) → t < g.sectors → mapped again.map_at t ≡ block_in (recovered_entry left sides g.lanes t) t = λ t lt. ap (λ e. block_in e t) (em t lt) in
     let half : (l : ℕ) → half_at again l (sides l) ≡ half_at left l (sides l) = λ l. ap (λ f. half_in (f l (sides l)) (again.log_b l (sides l))) ea ∙ ap (λ f. half_in (left.log_a l (sides l)) (f l (sides l))) eb in (
       record {
         geometry = h.geometry;
@@ -84,5 +84,5 @@ reopened g o s left again sides h hl hs ea eb ed em =
           apart = λ t l lt ll e. r.sound.apart t l lt ll (sym (same t lt) ∙ e ∙ ap (λ (x : Half). x.old) (half l));
         };
       },
-      λ t lt. subst (Survives g o s t) (ap (λ d. cell_in g.width d (recovered left sides g.lanes t) t) (sym ed) ∙ ap (λ e. cell_in g.width again.data_at e t) (sym (em t lt))) (r.contents t lt),
+      λ t lt. subst (Survives g o s t) (ap (λ d. cell_in g.width d (recovered_entry left sides g.lanes t) t) (sym ed) ∙ ap (λ e. cell_in g.width again.data_at e t) (sym (em t lt))) (r.contents t lt),
     )

@@ -7,7 +7,7 @@ use Rattle.lane_core.specs.Invariant.{IsSound, has_words, is_locked, is_switched
 use Rattle.lane_core.proofs.Put.{same_or_not, never}
 use Rattle.std.proofs.Common.{◌&&◌, take_all, lt-suc_self}
 use Rattle.lane_core.specs.History.{Cell, cell_in}
-use Rattle.lane_core.specs.Cut.{AreLeft, IsCurrent, half_at, is_pending, recovered, EachOnce, is_open, Survives, Recovers}
+use Rattle.lane_core.specs.Cut.{AreLeft, IsCurrent, half_at, is_pending, recovered_entry, EachOnce, is_open, Survives, IsRecoverable}
 use Rattle.lane_core.proofs.Own.{switched_locked}
 use Rattle.lane_core.proofs.Switching.{the_lock}
 use Rattle.lane_core.proofs.Entries.{block_in-normal}
@@ -76,11 +76,11 @@ neither false b q t = never t
 
 -- the last pending move of a sector, or none
 abbrev pub Last : Areas → (ℕ → ℕ) → ℕ → ℕ → Type 0
-Last left sides k t = ((recovered left sides k t ≡ entry_at left.map_at t) × ((i : ℕ) → i < k → is_pending left (half_at left i (sides i)) ≡ true → (half_at left i (sides i)).lba ≢ t))
-    ⊎ ((i : ℕ) × (i < k) × (is_pending left (half_at left i (sides i)) ≡ true) × ((half_at left i (sides i)).lba ≡ t) × (recovered left sides k t ≡ normal (half_at left i (sides i)).new))
+Last left sides k t = ((recovered_entry left sides k t ≡ entry_at left.map_at t) × ((i : ℕ) → i < k → is_pending left (half_at left i (sides i)) ≡ true → (half_at left i (sides i)).lba ≢ t))
+    ⊎ ((i : ℕ) × (i < k) × (is_pending left (half_at left i (sides i)) ≡ true) × ((half_at left i (sides i)).lba ≡ t) × (recovered_entry left sides k t ≡ normal (half_at left i (sides i)).new))
 
 pub last : (left : Areas) (sides : ℕ → ℕ) (k t : ℕ) → Last left sides k t
-unfolding recovered
+unfolding recovered_entry
 last left sides zero t = inl (refl, λ i li. absurd (omega arith))
 last left sides (suc k) t = go (last left sides k t) (is_pending left (half_at left k (sides k)) && ((half_at left k (sides k)).lba == t)) refl
   where
@@ -91,8 +91,8 @@ last left sides (suc k) t = go (last left sides k t) (is_pending left (half_at l
     miss q = grind arith
 
     go : Last left sides k t → (b : Bool) → (is_pending left (half_at left k (sides k)) && ((half_at left k (sides k)).lba == t)) ≡ b
-        → (((if b then normal (half_at left k (sides k)).new else recovered left sides k t) ≡ entry_at left.map_at t) × ((i : ℕ) → i < suc k → is_pending left (half_at left i (sides i)) ≡ true → (half_at left i (sides i)).lba ≢ t))
-        ⊎ ((i : ℕ) × (i < suc k) × (is_pending left (half_at left i (sides i)) ≡ true) × ((half_at left i (sides i)).lba ≡ t) × ((if b then normal (half_at left k (sides k)).new else recovered left sides k t) ≡ normal (half_at left i (sides i)).new))
+        → (((if b then normal (half_at left k (sides k)).new else recovered_entry left sides k t) ≡ entry_at left.map_at t) × ((i : ℕ) → i < suc k → is_pending left (half_at left i (sides i)) ≡ true → (half_at left i (sides i)).lba ≢ t))
+        ⊎ ((i : ℕ) × (i < suc k) × (is_pending left (half_at left i (sides i)) ≡ true) × ((half_at left i (sides i)).lba ≡ t) × ((if b then normal (half_at left k (sides k)).new else recovered_entry left sides k t) ≡ normal (half_at left i (sides i)).new))
     go was true q = let two = both _ _ q in inr (k, lt-suc_self k, two.0, hit two.1, refl)
     go was false q = elim was [
       | inl a ↦ inl (
@@ -127,10 +127,10 @@ module _ (g : Geometry) (o : ℕ → Cell) (s : State) (h : IsSound g o s) (left
 
   -- what stands in the recovered map for a sector
   Stays : ℕ → Type 0
-  Stays t = (recovered left sides g.lanes t ≡ entry_at s.seen.map_at t) × ((i : ℕ) → i < g.lanes → (is_pending left (half_at left i (sides i)) ≡ true) × (is_open (s.lanes i).phase ≡ true) → (s.lanes i).sector ≢ t)
+  Stays t = (recovered_entry left sides g.lanes t ≡ entry_at s.seen.map_at t) × ((i : ℕ) → i < g.lanes → (is_pending left (half_at left i (sides i)) ≡ true) × (is_open (s.lanes i).phase ≡ true) → (s.lanes i).sector ≢ t)
 
   Changed : ℕ → Type 0
-  Changed t = (i : ℕ) × (i < g.lanes) × ((is_pending left (half_at left i (sides i)) ≡ true) × (is_open (s.lanes i).phase ≡ true)) × ((s.lanes i).sector ≡ t) × (recovered left sides g.lanes t ≡ normal (s.lanes i).block)
+  Changed t = (i : ℕ) × (i < g.lanes) × ((is_pending left (half_at left i (sides i)) ≡ true) × (is_open (s.lanes i).phase ≡ true)) × ((s.lanes i).sector ≡ t) × (recovered_entry left sides g.lanes t ≡ normal (s.lanes i).block)
 
   mover_lba : (i : ℕ) → i < g.lanes → (is_pending left (half_at left i (sides i)) ≡ true) × (is_open (s.lanes i).phase ≡ true)
       → ((half_at left i (sides i)).lba ≡ (s.lanes i).sector) × ((half_at left i (sides i)).old ≡ mapped s.seen.map_at (s.lanes i).sector) × ((half_at left i (sides i)).new ≡ (s.lanes i).block)
@@ -155,10 +155,10 @@ module _ (g : Geometry) (o : ℕ → Cell) (s : State) (h : IsSound g o s) (left
     | inr a ↦ go a.0 a.1 a.2 a.3 a.4 (outcome g o s h left hl a.0 a.1 (sides a.0) (hs a.0 a.1))
   ]
     where
-      go : (i : ℕ) → i < g.lanes → is_pending left (half_at left i (sides i)) ≡ true → (half_at left i (sides i)).lba ≡ t → recovered left sides g.lanes t ≡ normal (half_at left i (sides i)).new
+      go : (i : ℕ) → i < g.lanes → is_pending left (half_at left i (sides i)) ≡ true → (half_at left i (sides i)).lba ≡ t → recovered_entry left sides g.lanes t ≡ normal (half_at left i (sides i)).new
           → Outcome g s left (s.lanes i) (half_at left i (sides i))
-          → ((recovered left sides g.lanes t ≡ entry_at s.seen.map_at t) × ((i : ℕ) → i < g.lanes → (is_pending left (half_at left i (sides i)) ≡ true) × (is_open (s.lanes i).phase ≡ true) → (s.lanes i).sector ≢ t))
-          ⊎ ((i : ℕ) × (i < g.lanes) × ((is_pending left (half_at left i (sides i)) ≡ true) × (is_open (s.lanes i).phase ≡ true)) × ((s.lanes i).sector ≡ t) × (recovered left sides g.lanes t ≡ normal (s.lanes i).block))
+          → ((recovered_entry left sides g.lanes t ≡ entry_at s.seen.map_at t) × ((i : ℕ) → i < g.lanes → (is_pending left (half_at left i (sides i)) ≡ true) × (is_open (s.lanes i).phase ≡ true) → (s.lanes i).sector ≢ t))
+          ⊎ ((i : ℕ) × (i < g.lanes) × ((is_pending left (half_at left i (sides i)) ≡ true) × (is_open (s.lanes i).phase ≡ true)) × ((s.lanes i).sector ≡ t) × (recovered_entry left sides g.lanes t ≡ normal (s.lanes i).block))
       go i li p lba r (Rests n e) = never (sym n ∙ p)
       go i li p lba r (Redoes _ e sw a b) = inl (
         r ∙ sym b ∙ ap (entry_at s.seen.map_at) (sym a ∙ lba),
@@ -179,11 +179,11 @@ module _ (g : Geometry) (o : ℕ → Cell) (s : State) (h : IsSound g o s) (left
       go (Redoes p e sw a b) = inl (e, λ m. never (sym (is_open_locked (s.lanes l).phase m.1).1 ∙ sw))
       go (Moves p op a b c) = inr ((p, op), (h.each l ll).knows.in_range (is_open_locked (s.lanes l).phase op).2, b)
 
-  stays_entry : (t : ℕ) → Stays t → recovered left sides g.lanes t ≡ entry_at s.seen.map_at t
+  stays_entry : (t : ℕ) → Stays t → recovered_entry left sides g.lanes t ≡ entry_at s.seen.map_at t
   unfolding Stays
   stays_entry t a = a.0
 
-  sound_left : EachOnce g (λ t. block_in (recovered left sides g.lanes t) t) (λ l. (half_at left l (sides l)).old)
+  sound_left : EachOnce g (λ t. block_in (recovered_entry left sides g.lanes t) t) (λ l. (half_at left l (sides l)).old)
   unfolding Stays Changed IsMover
   sound_left =
       swapped g (mapped s.seen.map_at) _ (λ l. (s.lanes l).block) _ (λ l. (s.lanes l).sector) (λ l. (is_pending left (half_at left l (sides l)) ≡ true) × (is_open (s.lanes l).phase ≡ true))
@@ -199,7 +199,7 @@ module _ (g : Geometry) (o : ℕ → Cell) (s : State) (h : IsSound g o s) (left
   row_left : (t : ℕ) → t < g.sectors → (j : ℕ) → j < g.width → left.data_at (mapped s.seen.map_at t) j ≡ s.seen.data_at (mapped s.seen.map_at t) j
   row_left t lt j lj = elim (hl.data_left (mapped s.seen.map_at t) j (h.blocks.map_in t lt) lj) [ inl q ↦ q ∙ h.settled t j lt lj | inr q ↦ q ]
 
-  contents_left : (t : ℕ) → t < g.sectors → Survives g o s t (cell_in g.width left.data_at (recovered left sides g.lanes t) t)
+  contents_left : (t : ℕ) → t < g.sectors → Survives g o s t (cell_in g.width left.data_at (recovered_entry left sides g.lanes t) t)
   unfolding Stays Changed
   contents_left t lt =
       elim (sector_end t lt) [
@@ -219,5 +219,5 @@ module _ (g : Geometry) (o : ℕ → Cell) (s : State) (h : IsSound g o s) (left
           ])
           ∙ take_all g.width (s.lanes i).words (omega (arith, size))
 
-  pub recovers : Recovers g o s left sides
+  pub recovers : IsRecoverable g o s left sides
   recovers = record { sized = λ l ll. sized_left g o s h left hl l ll (sides l) (hs l ll); sound = sound_left; contents = contents_left }

@@ -34,7 +34,7 @@ use Rattle.lane_core.specs.After.{uses_words}
 use Rattle.lane_core.specs.Areas.{Areas}
 use Rattle.lane_core.specs.Arenas.{shape_in, sides_in}
 use Rattle.lane_core.specs.Cores.{ShowsSound}
-use Rattle.lane_core.specs.Cut.{AreLeft, IsCurrent, Recovers, Survives, is_open, recovered}
+use Rattle.lane_core.specs.Cut.{AreLeft, IsCurrent, IsRecoverable, Survives, is_open, recovered_entry}
 use Rattle.lane_core.specs.Fixed.{RowHasFixed, SameFixed}
 use Rattle.lane_core.specs.Held.{Held, held_by, recorded}
 use Rattle.lane_core.specs.Invariant.{stored}
@@ -153,7 +153,7 @@ module _ (state : ArenaState) (held : Held) (left : List ℕ) (h : IsHeldOf stat
   sides : (f : ℕ → ℕ) × ((i : ℕ) → i < held.shape.lanes → IsCurrent (areas_of held.shape left) i (f i))
   sides = sides_of (areas_of held.shape left) held.shape.lanes (λ i li. let side = some_side (geometry held.shape) (first_cells state) h.s k.sound (areas_of held.shape left) were_left i li in (side.0, side.1))
 
-  r : Recovers (geometry held.shape) (first_cells state) h.s (areas_of held.shape left) sides.0
+  r : IsRecoverable (geometry held.shape) (first_cells state) h.s (areas_of held.shape left) sides.0
   r = recovers (geometry held.shape) (first_cells state) h.s k.sound (areas_of held.shape left) were_left sides.0 sides.1
 
   module _ (behind parent : List ℕ) (arena : Opened) (opens : opening (state.words ++ behind) parent ≡ Ok arena) where
@@ -172,8 +172,8 @@ module _ (state : ArenaState) (held : Held) (left : List ℕ) (h : IsHeldOf stat
     current : (i : ℕ) → i < state.info.layout.lanes → IsCurrent (areas_of (shape_of state.info.layout) left) i (sides.0 i)
     current = subst (λ (x : Shape). (i : ℕ) → i < x.lanes → IsCurrent (areas_of x left) i (sides.0 i)) h.shape sides.1
 
-    r' : Recovers (geometry (shape_of state.info.layout)) (first_cells state) h.s (areas_of (shape_of state.info.layout) left) sides.0
-    r' = subst (λ (x : Shape). Recovers (geometry x) (first_cells state) h.s (areas_of x left) sides.0) h.shape r
+    r' : IsRecoverable (geometry (shape_of state.info.layout)) (first_cells state) h.s (areas_of (shape_of state.info.layout) left) sides.0
+    r' = subst (λ (x : Shape). IsRecoverable (geometry x) (first_cells state) h.s (areas_of x left) sides.0) h.shape r
 
     abbrev found : Opened
     found = found_arena state.info.layout ok state.words left behind h.opened.count left_size fixed_left (groups_of_lanes state.lanes) h.opened.groups sides.0 current r'.sized r'.sound state.info
@@ -188,7 +188,7 @@ module _ (state : ArenaState) (held : Held) (left : List ℕ) (h : IsHeldOf stat
         subst (λ (c : Cell). MaySurvive (first_cells state) held t c)
         (sym (cell_same (left ++ behind) parent found found_opens t below ∙ found_cell_is state.info.layout ok state.words left behind h.opened.count left_size fixed_left (groups_of_lanes state.lanes) h.opened.groups sides.0 current r'.sized r'.sound t below))
         (may_survive (first_cells state) held h.room h.s k t _ (subst (λ (c : Cell). Survives (geometry held.shape) (first_cells state) h.s t c)
-        (ap (λ (x : Shape). cell_in x.width (areas_of x left).data_at (recovered (areas_of x left) sides.0 x.lanes t) t) h.shape) (r.contents t lt)))
+        (ap (λ (x : Shape). cell_in x.width (areas_of x left).data_at (recovered_entry (areas_of x left) sides.0 x.lanes t) t) h.shape) (r.contents t lt)))
 
     found_again : IsFoundAgain state held (left ++ behind) parent
     found_again = record { arena = found; opens = found_opens; info = refl; contents = contents }

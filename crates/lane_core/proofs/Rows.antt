@@ -8,7 +8,7 @@ use Rattle.lane_core.specs.Areas.{Geometry, put, kind_in, block_in, normal, word
 use Rattle.lane_core.specs.History.{cell_in, cell_of, listed}
 use Rattle.lane_core.specs.Machine.{Scanning, Staging, Staged, Locked, Logged, Reading, State, lock_of, data_store, data_load}
 use Rattle.lane_core.specs.Runs.{Event, Write, Store, Take, Read, Step, run}
-use Rattle.lane_core.specs.Cut.{recovered}
+use Rattle.lane_core.specs.Cut.{recovered_entry}
 use Rattle.lane_core.specs.Opening.{formatted, opened}
 
 -- two sectors and two lanes: the sectors have the blocks 0 and 1, the lanes 2 and 3
@@ -42,30 +42,30 @@ abbrev raced : State
 raced = run two new_arena race
 
 reader_is_in : (raced.lanes 0).phase ≡ Reading 0
-unfolding run put entry_in with_entry kind_in block_in entry_of normal lba_in old_in new_in seq_in word_a word_b next_seq lock_of cell_in listed recovered
+unfolding run put entry_in with_entry kind_in block_in entry_of normal lba_in old_in new_in seq_in word_a word_b next_seq lock_of cell_in listed recovered_entry
 reader_is_in = refl
 
 its_block_is_free : raced.readers 0 ≡ (raced.lanes 1).block + 1
-unfolding run put entry_in with_entry kind_in block_in entry_of normal lba_in old_in new_in seq_in word_a word_b next_seq lock_of cell_in listed recovered
+unfolding run put entry_in with_entry kind_in block_in entry_of normal lba_in old_in new_in seq_in word_a word_b next_seq lock_of cell_in listed recovered_entry
 its_block_is_free = refl
 
 -- the scan begins again, however often lane 1 steps
 writer_waits : ((run two raced (steps 3 1)).lanes 1).phase ≡ Scanning 0
-unfolding run put entry_in with_entry kind_in block_in entry_of normal lba_in old_in new_in seq_in word_a word_b next_seq lock_of cell_in listed recovered
+unfolding run put entry_in with_entry kind_in block_in entry_of normal lba_in old_in new_in seq_in word_a word_b next_seq lock_of cell_in listed recovered_entry
 writer_waits = refl
 
 -- when the read is answered, it has what its entry says, and the writer goes on
 reader_has_seven : ((run two raced (steps 2 0)).lanes 0).log ≡ record { lane = 0; tag = tag 1; sector = 0; act = act.Read (cell.Bytes (7 ∷ [])) } ∷ []
-unfolding run put entry_in with_entry kind_in block_in entry_of normal lba_in old_in new_in seq_in word_a word_b next_seq lock_of cell_in listed recovered
+unfolding run put entry_in with_entry kind_in block_in entry_of normal lba_in old_in new_in seq_in word_a word_b next_seq lock_of cell_in listed recovered_entry
 reader_has_seven = refl
 
 writer_goes_on : ((run two raced (steps 2 0 ++ steps 1 1)).lanes 1).phase ≡ Staging 0
-unfolding run put entry_in with_entry kind_in block_in entry_of normal lba_in old_in new_in seq_in word_a word_b next_seq lock_of cell_in listed recovered
+unfolding run put entry_in with_entry kind_in block_in entry_of normal lba_in old_in new_in seq_in word_a word_b next_seq lock_of cell_in listed recovered_entry
 writer_goes_on = refl
 
 -- without the scan the writer's word would be read, though the history says 7
 without_scan : ((data_load two (data_store two raced 1 0 9) 0 0).lanes 0).got ≡ 9 ∷ []
-unfolding run put entry_in with_entry kind_in block_in entry_of normal lba_in old_in new_in seq_in word_a word_b next_seq lock_of cell_in listed recovered
+unfolding run put entry_in with_entry kind_in block_in entry_of normal lba_in old_in new_in seq_in word_a word_b next_seq lock_of cell_in listed recovered_entry
 without_scan = refl
 
 -- ---- one lock for both entries of a map word
@@ -81,25 +81,25 @@ abbrev stopped : List Event
 stopped = (Write 1 ∷ Step 1 ∷ Store 1 7 ∷ Step 1 ∷ Take 1 (tag 0) 9 ∷ steps 5 1) ++ (Write 0 ∷ Step 0 ∷ Store 0 8 ∷ Step 0 ∷ [])
 
 logged : ((run twelve new_twelve stopped).lanes 1).phase ≡ Logged
-unfolding run put entry_in with_entry kind_in block_in entry_of normal lba_in old_in new_in seq_in word_a word_b next_seq lock_of cell_in listed recovered
+unfolding run put entry_in with_entry kind_in block_in entry_of normal lba_in old_in new_in seq_in word_a word_b next_seq lock_of cell_in listed recovered_entry
 logged = refl
 
 -- sector 8 has its entry in the same word, sector 10 has not
 eight_waits : ((run twelve new_twelve (stopped ++ (Take 0 (tag 1) 8 ∷ Take 0 (tag 1) 8 ∷ []))).lanes 0).phase ≡ Staged
-unfolding run put entry_in with_entry kind_in block_in entry_of normal lba_in old_in new_in seq_in word_a word_b next_seq lock_of cell_in listed recovered
+unfolding run put entry_in with_entry kind_in block_in entry_of normal lba_in old_in new_in seq_in word_a word_b next_seq lock_of cell_in listed recovered_entry
 eight_waits = refl
 
 ten_goes_on : ((run twelve new_twelve (stopped ++ (Take 0 (tag 1) 10 ∷ []))).lanes 0).phase ≡ Locked
-unfolding run put entry_in with_entry kind_in block_in entry_of normal lba_in old_in new_in seq_in word_a word_b next_seq lock_of cell_in listed recovered
+unfolding run put entry_in with_entry kind_in block_in entry_of normal lba_in old_in new_in seq_in word_a word_b next_seq lock_of cell_in listed recovered_entry
 ten_goes_on = refl
 
 -- ---- a cut
 
 -- in Logged the sector's cell is still zeros, and the words that are kept recover to the write's
 before_switch : cell_of twelve (run twelve new_twelve stopped).kept.data_at (run twelve new_twelve stopped).kept.map_at 9 ≡ cell.Bytes (0 ∷ [])
-unfolding run put entry_in with_entry kind_in block_in entry_of normal lba_in old_in new_in seq_in word_a word_b next_seq lock_of cell_in listed recovered
+unfolding run put entry_in with_entry kind_in block_in entry_of normal lba_in old_in new_in seq_in word_a word_b next_seq lock_of cell_in listed recovered_entry
 before_switch = refl
 
-recovered_write : cell_in 1 (run twelve new_twelve stopped).kept.data_at (recovered (run twelve new_twelve stopped).kept (λ l. l) 2 9) 9 ≡ cell.Bytes (7 ∷ [])
-unfolding run put entry_in with_entry kind_in block_in entry_of normal lba_in old_in new_in seq_in word_a word_b next_seq lock_of cell_in listed recovered
+recovered_write : cell_in 1 (run twelve new_twelve stopped).kept.data_at (recovered_entry (run twelve new_twelve stopped).kept (λ l. l) 2 9) 9 ≡ cell.Bytes (7 ∷ [])
+unfolding run put entry_in with_entry kind_in block_in entry_of normal lba_in old_in new_in seq_in word_a word_b next_seq lock_of cell_in listed recovered_entry
 recovered_write = refl

@@ -26,9 +26,9 @@ is_pending areas half = not (half.old == half.new) && (mapped areas.map_at half.
 
 -- The entry of sector t with the pending moves of the first n lanes made. If two lanes have one,
 -- the greater lane's counts
-unfoldable pub recovered : Areas → (ℕ → ℕ) → ℕ → ℕ → ℕ
-recovered areas sides zero t = entry_at areas.map_at t
-recovered areas sides (suc l) t = if is_pending areas (half_at areas l (sides l)) && ((half_at areas l (sides l)).lba == t) then normal (half_at areas l (sides l)).new else recovered areas sides l t
+unfoldable pub recovered_entry : Areas → (ℕ → ℕ) → ℕ → ℕ → ℕ
+recovered_entry areas sides zero t = entry_at areas.map_at t
+recovered_entry areas sides (suc l) t = if is_pending areas (half_at areas l (sides l)) && ((half_at areas l (sides l)).lba == t) then normal (half_at areas l (sides l)).new else recovered_entry areas sides l t
 
 -- the sectors and the lanes name each block once
 pub record EachOnce (g : Geometry) (of_sector of_lane : ℕ → ℕ) : Type 0 where
@@ -48,7 +48,7 @@ is_open _ = false
 abbrev pub Survives : Geometry → (ℕ → Cell) → State → ℕ → Cell → Type 0
 Survives g opening s t c = (c ≡ end_of opening s.history t) ⊎ ((l : ℕ) × (l < g.lanes) × (is_open (s.lanes l).phase ≡ true) × ((s.lanes l).sector ≡ t) × (c ≡ cell.Bytes (s.lanes l).words))
 
-pub record Recovers (g : Geometry) (opening : ℕ → Cell) (s : State) (left : Areas) (sides : ℕ → ℕ) : Type 0 where
+pub record IsRecoverable (g : Geometry) (opening : ℕ → Cell) (s : State) (left : Areas) (sides : ℕ → ℕ) : Type 0 where
   pub sized : (l : ℕ) → l < g.lanes → Sized g (half_at left l (sides l))
-  pub sound : EachOnce g (λ t. block_in (recovered left sides g.lanes t) t) (λ l. (half_at left l (sides l)).old)
-  pub contents : (t : ℕ) → t < g.sectors → Survives g opening s t (cell_in g.width left.data_at (recovered left sides g.lanes t) t)
+  pub sound : EachOnce g (λ t. block_in (recovered_entry left sides g.lanes t) t) (λ l. (half_at left l (sides l)).old)
+  pub contents : (t : ℕ) → t < g.sectors → Survives g opening s t (cell_in g.width left.data_at (recovered_entry left sides g.lanes t) t)

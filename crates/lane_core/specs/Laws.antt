@@ -8,7 +8,7 @@ use Rattle.lane_core.specs.History.{Cells, Tag, Entry, cell_in, cell_of, end_of}
 use Rattle.lane_core.specs.Machine.{Phase, Idle, Scanning, Staging, Staged, Locked, Known, LogAStored, LogA, LogBStored, Logged, Switched, Kept, Called, Looking, Published, Moved, Reading, State, lock_of, other_lane, begin_write, give_up, scan_again, scan_on, data_store, data_keep, lock_take, map_load, log_a_store, log_a_keep, log_b_store, log_b_keep, map_store, map_keep, lock_free, begin_read, look, look_cell, rtt_set, check_same, check_moved, clear_moved, data_load, clear_done}
 use Rattle.lane_core.specs.Invariant.{IsSound}
 use Rattle.lane_core.specs.Runs.{Event, AllFit, run}
-use Rattle.lane_core.specs.Cut.{AreLeft, IsCurrent, EachOnce, Recovers, Survives, is_open, recovered}
+use Rattle.lane_core.specs.Cut.{AreLeft, IsCurrent, EachOnce, IsRecoverable, Survives, is_open, recovered_entry}
 use Rattle.lane_core.specs.Opening.{IsOpen, opened, formatted}
 use Rattle.lane_core.specs.Finished.{IsAccount}
 
@@ -117,7 +117,7 @@ EveryCut =
     (g : Geometry) (areas : Areas) (sides : ℕ → ℕ) (events : List Event) (left : Areas) → IsOpen g areas sides → AllFit g events
     → AreLeft g (run g (opened areas sides) events).seen (run g (opened areas sides) events).kept left
     → ((l : ℕ) → l < g.lanes → (side : ℕ) × IsCurrent left l side)
-    × ((after : ℕ → ℕ) → ((l : ℕ) → l < g.lanes → IsCurrent left l (after l)) → Recovers g (cell_of g areas.data_at areas.map_at) (run g (opened areas sides) events) left after)
+    × ((after : ℕ → ℕ) → ((l : ℕ) → l < g.lanes → IsCurrent left l (after l)) → IsRecoverable g (cell_of g areas.data_at areas.map_at) (run g (opened areas sides) events) left after)
 
 -- a lane has one current half at most
 abbrev pub OneIsCurrent : Type 0
@@ -130,7 +130,7 @@ abbrev pub UnloggedWritesAreLost : Type 0
 UnloggedWritesAreLost =
     (g : Geometry) (o : Cells) (s : State) (left : Areas) (sides : ℕ → ℕ) (t : ℕ) → IsSound g o s → AreLeft g s.seen s.kept left → ((l : ℕ) → l < g.lanes → IsCurrent left l (sides l)) → t < g.sectors
     → ((l : ℕ) → l < g.lanes → (s.lanes l).sector ≡ t → is_open (s.lanes l).phase ≡ false)
-    → cell_in g.width left.data_at (recovered left sides g.lanes t) t ≡ end_of o s.history t
+    → cell_in g.width left.data_at (recovered_entry left sides g.lanes t) t ≡ end_of o s.history t
 
 -- if the sectors and the lanes name no block twice, they name each block exactly once
 abbrev pub EachIsNamed : Type 0
@@ -150,7 +150,7 @@ pub record HasMovesMade (g : Geometry) (left again : Areas) (sides : ℕ → ℕ
   pub log_a : again.log_a ≡ left.log_a
   pub log_b : again.log_b ≡ left.log_b
   pub blocks : again.data_at ≡ left.data_at
-  pub map : (t : ℕ) → t < g.sectors → entry_at again.map_at t ≡ recovered left sides g.lanes t
+  pub map : (t : ℕ) → t < g.sectors → entry_at again.map_at t ≡ recovered_entry left sides g.lanes t
 
 abbrev pub CutsReopen : Type 0
 CutsReopen =

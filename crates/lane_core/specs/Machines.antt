@@ -7,7 +7,7 @@ use Rattle.lane_core.specs.declared.stepped.Stepped.{Stepped}
 use Rattle.lane_core.specs.declared.stepped.Stepped.TheVariants as stepped
 use Rattle.arena_open.specs.declared.state.ArenaState.{ArenaState}
 use Rattle.lane_core.specs.Arenas.{areas_of, shape_in}
-use Rattle.lane_core.specs.Cut.{AreLeft, IsCurrent, Recovers}
+use Rattle.lane_core.specs.Cut.{AreLeft, IsCurrent, IsRecoverable}
 use Rattle.lane_core.specs.Places.{geometry}
 use Rattle.lane_core.specs.Idle.{idle_of}
 use Rattle.lane_core.specs.Rows.{new_row}
@@ -60,4 +60,4 @@ pub record CutSurvives (core : Core) (left : List ℕ) : Type 0 where
   pub words : (s : State) → CoreShows core s → AreLeft (geometry core.shape) s.seen s.kept (areas_of core.shape left)
   pub current : (l : ℕ) → l < core.shape.lanes → (side : ℕ) × IsCurrent (areas_of core.shape left) l side
   pub recovers : (opening : Cells) (s : State) → ShowsSound core.shape core.row core.lanes.items core.history opening s → (sides : ℕ → ℕ)
-      → ((l : ℕ) → l < core.shape.lanes → IsCurrent (areas_of core.shape left) l (sides l)) → Recovers (geometry core.shape) opening s (areas_of core.shape left) sides
+      → ((l : ℕ) → l < core.shape.lanes → IsCurrent (areas_of core.shape left) l (sides l)) → IsRecoverable (geometry core.shape) opening s (areas_of core.shape left) sides

@@ -39,7 +39,7 @@
 //! |---|---|---|
 //! | each line keeps the invariant | [`data_store_keeps_the_invariant`] and 19 more | `IsSound` |
 //! | whatever lanes step in whatever order, the history is legal and gives the sectors' cells | [`every_run_keeps_the_invariant`] | `IsLegal`, `end_of` |
-//! | whenever power is cut, each sector is as at the end of the history, or has the words of one write in flight | [`every_cut_survives`] | `Recovers`, `Survives` |
+//! | whenever power is cut, each sector is as at the end of the history, or has the words of one write in flight | [`every_cut_survives`] | `IsRecoverable`, `Survives` |
 //! | a write whose second log word was never stored is lost | [`unlogged_writes_are_lost`] | the same |
 //! | the state after a crash opens again, with these contents | [`cuts_reopen`] | `IsReopened` |
 //! | unfinished reads may be left out | [`every_account`], [`some_calls_may_be_left_out`] | `IsAccount`, `SomeMayGo` |

@@ -3,7 +3,7 @@ use Rattle.std.proofs.Common.{◌≡◌, ℕ, ◌+◌, true, List, [], refl, sym
 use Rattle.atomic_table.specs.Table.{Me}
 use Rattle.map_table.specs.declared.kinds.Kind.{Kind}
 use Rattle.map_table.specs.declared.kinds.Kind.TheVariants as kind
-use Rattle.map_table.specs.declared.kinds.Entry.{Entry}
+use Rattle.map_table.specs.declared.kinds.MapEntry.{MapEntry}
 use Rattle.map_table.specs.Entry.{entry_in, entry_of}
 use Rattle.lane_core.specs.Areas.{block_in, has_bytes, kind_in}
 use Rattle.lane_table.specs.declared.fuse.Fuse.{Fuse}
@@ -16,9 +16,9 @@ use Rattle.lane_table.specs.Reads.{found_by, cell_of_kind, calling, BlockEnds, A
 use Rattle.lane_table.specs.Told.{answered, called, looking, looked_at}
 
 -- what an entry says, by its kind and its block
-pub found_is : (e t : ℕ) (r : Entry) (k : Kind) → r ≡ entry_of e t → r.kind ≡ k → found_by k r.block ≡ found_by (kind_in e) (block_in e t)
+pub found_is : (e t : ℕ) (r : MapEntry) (k : Kind) → r ≡ entry_of e t → r.kind ≡ k → found_by k r.block ≡ found_by (kind_in e) (block_in e t)
 unfolding kind_in block_in entry_of
-found_is e t r k q z = ap (λ k. found_by k r.block) (sym z) ∙ ap (λ (r : Entry). found_by r.kind r.block) q
+found_is e t r k q z = ap (λ k. found_by k r.block) (sym z) ∙ ap (λ (r : MapEntry). found_by r.kind r.block) q
 
 -- what was found tells whether the block has the bytes
 pub block_found : (k : Kind) (b c : ℕ) → found_by k b ≡ found.Block c → has_bytes k ≡ true

@@ -22,7 +22,7 @@ use Rattle.lane_core.specs.declared.lane.Lane.{Lane}
 use Rattle.lane_core.specs.declared.shape.Shape.{Shape}
 use Rattle.lane_core.specs.Areas.{Areas, put}
 use Rattle.lane_core.specs.Arenas.{areas_of}
-use Rattle.lane_core.specs.Cut.{AreLeft, IsCurrent, Recovers, Survives, is_open, recovered}
+use Rattle.lane_core.specs.Cut.{AreLeft, IsCurrent, IsRecoverable, Survives, is_open, recovered_entry}
 use Rattle.lane_core.specs.Fixed.{SameFixed}
 use Rattle.lane_core.specs.History.{Cells, cell_in, end_of}
 use Rattle.lane_core.specs.Places.{IsShape, SeenData, KeptData, SeenMap, KeptMap, SeenA, KeptA, SeenB, KeptB, word_of, geometry, shape_of}
@@ -104,7 +104,7 @@ module _ (state : ArenaState) (k : Key) (ends : List LaneEnd) (c : Closed) (left
   sides : (f : ℕ → ℕ) × ((i : ℕ) → i < x.lanes → IsCurrent (areas_of x left) i (f i))
   sides = sides_of (areas_of x left) x.lanes (closed.survives (areas_of x left) were_left).0
 
-  r : Recovers (geometry x) (opening_of k) closed.state (areas_of x left) sides.0
+  r : IsRecoverable (geometry x) (opening_of k) closed.state (areas_of x left) sides.0
   r = (closed.survives (areas_of x left) were_left).1 sides.0 sides.1
 
   -- a write in flight is that of a lane that stopped
@@ -138,8 +138,8 @@ module _ (state : ArenaState) (k : Key) (ends : List LaneEnd) (c : Closed) (left
     current : (i : ℕ) → i < l.lanes → IsCurrent (areas_of (shape_of l) left) i (sides.0 i)
     current = subst (λ (x : Shape). (i : ℕ) → i < x.lanes → IsCurrent (areas_of x left) i (sides.0 i)) shape sides.1
 
-    r' : Recovers (geometry (shape_of l)) (opening_of k) closed.state (areas_of (shape_of l) left) sides.0
-    r' = subst (λ (x : Shape). Recovers (geometry x) (opening_of k) closed.state (areas_of x left) sides.0) shape r
+    r' : IsRecoverable (geometry (shape_of l)) (opening_of k) closed.state (areas_of (shape_of l) left) sides.0
+    r' = subst (λ (x : Shape). IsRecoverable (geometry x) (opening_of k) closed.state (areas_of x left) sides.0) shape r
 
     abbrev found : Opened
     found = found_arena l ok state.words left behind h.count left_size fixed_left (groups_of_lanes state.lanes) h.groups sides.0 current r'.sized r'.sound state.info
@@ -154,7 +154,7 @@ module _ (state : ArenaState) (k : Key) (ends : List LaneEnd) (c : Closed) (left
         subst (λ (found : Cell). MaySurvive state ends closed.history t found)
         (sym (cell_same (left ++ behind) parent found found_opens t lt ∙ found_cell_is l ok state.words left behind h.count left_size fixed_left (groups_of_lanes state.lanes) h.groups sides.0 current r'.sized r'.sound t lt))
         (may_survive t _ below (subst (λ (found : Cell). Survives (geometry x) (opening_of k) closed.state t found)
-        (ap (λ (x : Shape). cell_in x.width (areas_of x left).data_at (recovered (areas_of x left) sides.0 x.lanes t) t) shape) (r.contents t below)))
+        (ap (λ (x : Shape). cell_in x.width (areas_of x left).data_at (recovered_entry (areas_of x left) sides.0 x.lanes t) t) shape) (r.contents t below)))
 
     pub found_again : IsFoundAgain state ends closed.history (left ++ behind) parent
     found_again = record { arena = found; opens = found_opens; info = refl; contents = contents }

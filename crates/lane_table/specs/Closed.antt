@@ -4,7 +4,7 @@ use mathlib.Core.Option.{some}
 use lib.ListN.{get_elem?}
 use Rattle.lane_core.specs.declared.history.Entry.{Entry}
 use Rattle.lane_core.specs.Areas.{Areas}
-use Rattle.lane_core.specs.Cut.{AreLeft, IsCurrent, Recovers}
+use Rattle.lane_core.specs.Cut.{AreLeft, IsCurrent, IsRecoverable}
 use Rattle.lane_core.specs.Fixed.{SameFixed}
 use Rattle.lane_core.specs.History.{end_of, of_lane, IsLegal}
 use Rattle.lane_core.specs.Invariant.{IsSound}
@@ -51,4 +51,4 @@ pub record IsClosed (k : Key) (ends : List LaneEnd) (c : Closed) : Type 0 where
   -- the end of the history or has the words of one write in flight
   pub survives : (left : Areas) → AreLeft (geometry k.shape) state.seen state.kept left
       → ((l : ℕ) → l < k.shape.lanes → (side : ℕ) × IsCurrent left l side)
-      × ((after : ℕ → ℕ) → ((l : ℕ) → l < k.shape.lanes → IsCurrent left l (after l)) → Recovers (geometry k.shape) (opening_of k) state left after)
+      × ((after : ℕ → ℕ) → ((l : ℕ) → l < k.shape.lanes → IsCurrent left l (after l)) → IsRecoverable (geometry k.shape) (opening_of k) state left after)

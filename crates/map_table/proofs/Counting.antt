@@ -3,7 +3,7 @@ use Rattle.std.proofs.Common.{◌≡◌, ◌≢◌, ℕ, ◌+◌, ◌<◌, ◌�
 use Rattle.std.proofs.lemmas.Bool.{eqb-true, eqb-false, le-leb, lt-leb}
 use Rattle.std.proofs.lemmas.List.Sums.{sum_by-cons, sum_by-append}
 use Rattle.std.proofs.lemmas.List.{get_or-set_same, get_or-set_other, length-set}
-use Rattle.map_table.specs.declared.kinds.Entry.{Entry}
+use Rattle.map_table.specs.declared.kinds.MapEntry.{MapEntry}
 use Rattle.map_table.specs.Entry.{entry_of}
 use Rattle.map_table.specs.Blocks.{blocks_from, count_of, first_outside, IsCounted}
 
@@ -82,7 +82,7 @@ going_done n now before all rest e was block below =
 pub rest_of : (xs : List ℕ) (i : ℕ) → i < length xs → drop i xs ≡ get_or xs i 0 ∷ drop (i + 1) xs
 rest_of xs i lt = rw add-one (drop-cons xs i 0 lt)
 
-pub entries_rest : (xs : List ℕ) (i : ℕ) (e : Entry) → i < length xs → e ≡ entry_of (get_or xs i 0) i
+pub entries_rest : (xs : List ℕ) (i : ℕ) (e : MapEntry) → i < length xs → e ≡ entry_of (get_or xs i 0) i
     → blocks_from i (drop i xs) ≡ e.block ∷ blocks_from (i + 1) (drop (i + 1) xs)
 entries_rest xs i e lt is =
-    ap (blocks_from i) (rest_of xs i lt) ∙ ap (λ (k : Entry). k.block ∷ blocks_from (i + 1) (drop (i + 1) xs)) (sym is)
+    ap (blocks_from i) (rest_of xs i lt) ∙ ap (λ (k : MapEntry). k.block ∷ blocks_from (i + 1) (drop (i + 1) xs)) (sym is)

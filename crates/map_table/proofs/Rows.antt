@@ -1,7 +1,7 @@
 -- Worked examples, computed on the definitions.
 use Rattle.std.proofs.Common.{◌≡◌, ℕ, [], ◌∷◌, Result, Ok, Err, refl}
 use Rattle.nvd_words.specs.Checks.{first_fault}
-use Rattle.map_table.specs.declared.kinds.Entry.{Entry}
+use Rattle.map_table.specs.declared.kinds.MapEntry.{MapEntry}
 use Rattle.map_table.specs.declared.kinds.Kind.{Kind}
 use Rattle.map_table.specs.declared.kinds.Kind.TheVariants as kind
 use Rattle.map_table.specs.declared.check.BlockFault.{BlockFault}
@@ -9,7 +9,7 @@ use Rattle.map_table.specs.declared.check.BlockFault.TheVariants.{Range, Twice, 
 use Rattle.map_table.specs.Entry.{entry_of, entry_in, with_entry}
 use Rattle.map_table.specs.Blocks.{blocks_of, block_check, first_outside, least_twice}
 
-abbrev means : Kind → ℕ → Entry
+abbrev means : Kind → ℕ → MapEntry
 means k block = record { kind = k; block = block }
 
 -- words of sector 7

@@ -1,6 +1,6 @@
 -- A map entry: UEFI 2.10, section 6.2, BTT Map Entry.
 use Rattle.std.specs.Prelude.{ℕ, ◌+◌, ◌*◌, ◌/◌, ◌%◌, ◌^◌, ◌==◌, Bool, true, false, if◌then◌else◌}
-use Rattle.map_table.specs.declared.kinds.Entry.{Entry}
+use Rattle.map_table.specs.declared.kinds.MapEntry.{MapEntry}
 use Rattle.map_table.specs.declared.kinds.Kind.{Kind}
 use Rattle.map_table.specs.declared.kinds.Kind.TheVariants as kind
 
@@ -31,7 +31,7 @@ block_of kind.Bad word sector = block_bits word
 block_of kind.Normal word sector = block_bits word
 
 -- decodes the entry of a sector
-unfoldable pub entry_of : ℕ → ℕ → Entry
+unfoldable pub entry_of : ℕ → ℕ → MapEntry
 entry_of word sector =
     let k = kind_of (has_zero word) (has_error word) in
     record { kind = k; block = block_of k word sector }

@@ -14,7 +14,7 @@ pub enum Kind {
 
 /// What an entry means.
 #[derive(Clone, Copy, Debug, PartialEq, Eq)]
-pub struct Entry {
+pub struct MapEntry {
     pub kind: Kind,
     /// The sector's block, whatever the kind.
     pub block: u32,

@@ -30,5 +30,5 @@ mod kinds;
 mod words;
 
 pub use check::{BlockFault, check_blocks};
-pub use kinds::{Entry, Kind};
+pub use kinds::{Kind, MapEntry};
 pub use words::{entry, entry_in, normal, with_entry, zero};

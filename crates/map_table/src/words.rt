@@ -1,7 +1,7 @@
 ghost use Rattle.std.specs.Prelude.{◌≡◌, ◌≢◌, ℕ, ◌%◌, ◌^◌, ◌<◌};
 ghost use Rattle.map_table.specs.Entry.{entry_of, normal_of, zero_of, entry_in, with_entry};
 
-use crate::kinds::{Entry, Kind};
+use crate::kinds::{Kind, MapEntry};
 
 /// Bits 0 to 29 are the block's number.
 const BLOCK: u32 = (1 << 30) - 1;
@@ -15,24 +15,24 @@ const NORMAL: u32 = ZERO | ERROR;
 /// Decodes the entry of a sector. The low bits of an initial entry are ignored.
 #[inline]
 #[tactic(auto, unfolding(crate::specs::Entry::entry_of))]
-pub fn entry(word: u32, sector: u32) -> Entry
+pub fn entry(word: u32, sector: u32) -> MapEntry
     ensures { result ≡ entry_of word sector }
 {
     let block = word & BLOCK;
     match word >> 30 {
-        0 => Entry {
+        0 => MapEntry {
             kind: Kind::Initial,
             block: sector,
         },
-        1 => Entry {
+        1 => MapEntry {
             kind: Kind::Bad,
             block,
         },
-        2 => Entry {
+        2 => MapEntry {
             kind: Kind::Zero,
             block,
         },
-        _ => Entry {
+        _ => MapEntry {
             kind: Kind::Normal,
             block,
         },

@@ -12,7 +12,7 @@ use Rattle.arena_layout.specs.Layout.{IsLayout}
 use Rattle.arena_layout.specs.Info.{info_reading}
 use Rattle.flog.specs.declared.half.Half.{Half}
 use Rattle.flog.specs.declared.group.Group.{Group}
-use Rattle.map_table.specs.declared.kinds.Entry.{Entry}
+use Rattle.map_table.specs.declared.kinds.MapEntry.{MapEntry}
 use Rattle.map_table.specs.declared.kinds.Kind.TheVariants as kind
 use Rattle.map_table.specs.Blocks.{block_check, blocks_from, blocks_of}
 use Rattle.map_table.specs.Entry.{entry_in, entry_of, normal_of}
@@ -194,7 +194,7 @@ module _ (at : ℕ) (o : Opened) (bytes words parent : List ℕ) (opens : openin
 
   map_block : (own sector : ℕ) → own < o.info.layout.external → (entry_of (get_or (map_in o.info.layout (drop at (put_arena at o bytes words))) own 0) sector).block ≡ block_at o.entries own
   map_block own sector lt =
-      ap (λ (w : ℕ). (entry_of w sector).block) (map_at own lt) ∙ ap (λ (e : Entry). e.block) (normal_back (block_at o.entries own) sector (small own lt))
+      ap (λ (w : ℕ). (entry_of w sector).block) (map_at own lt) ∙ ap (λ (e : MapEntry). e.block) (normal_back (block_at o.entries own) sector (small own lt))
 
   blocks_same : blocks_from 0 (map_in o.info.layout (drop at (put_arena at o bytes words))) ≡ blocks_from 0 o.entries
   blocks_same =
@@ -351,5 +351,5 @@ module _ (at : ℕ) (o : Opened) (bytes words parent : List ℕ) (opens : openin
   pub cell_is : (own : ℕ) → own < o.info.layout.external
       → cell_at o.info.layout (take (o.info.layout.size / 8) (drop at (put_arena at o bytes words))) own ≡ cell.Bytes (words_in (piece o.info.layout.sector own bytes))
   cell_is own lt =
-      ap (λ (e : Entry). cell_with o.info.layout (take (o.info.layout.size / 8) (drop at (put_arena at o bytes words))) e) (entry_own own lt)
+      ap (λ (e : MapEntry). cell_with o.info.layout (take (o.info.layout.size / 8) (drop at (put_arena at o bytes words))) e) (entry_own own lt)
       ∙ ap (λ (ws : List ℕ). cell.Bytes ws) (block_words_are own lt)

@@ -1,4 +1,4 @@
--- No two ranges of a table have one index, and a mapping's extent is of the region of its range.
+-- No two ranges of a table have one index, and a mapping's DPA range is of the region of its range.
 use Rattle.std.proofs.Common.{◌≡◌, ◌≢◌, ℕ, zero, suc, ◌+◌, ◌-◌, ◌<◌, ◌≤◌, Bool, true, false, ◌&&◌, List, [], ◌∷◌, map, filter, length, get_or, Option, Some, None, refl, sym, ap, ◌∙◌, subst, arith, inl, inr}
 use Rattle.std.specs.Prelude.{Contains, ◌==◌, ◌⊎◌, slice_get}
 use Rattle.std.specs.List.{list_any, filter_map, position_from, AllByRecursion}

@@ -4,7 +4,7 @@ pub mod Firsts
 pub mod Twice
 pub mod Numbers
 pub mod Groups
-pub mod Extents
+pub mod DpaRanges
 pub mod Apart
 pub mod Lengths
 pub mod Readings

@@ -6,7 +6,7 @@ use Rattle.nvd_words.specs.Checks.{first_fault}
 use Rattle.nfit_reader.specs.declared.table.Mapping.{Mapping}
 use Rattle.nfit_reader.specs.declared.table.NfitFault.TheVariants.{Length, Signature, Structure, MissingIndex, TwiceIndex, Alias}
 use Rattle.nfit_reader.specs.Structures.{spans_from, structure_of, range_structure, interleave_structure, control_structure, least_length, is_structure, has_lines, range_of, link_of, lines_of, identity_of}
-use Rattle.nfit_reader.specs.Table.{nfit_reading, distinct_after, twice_in, alias_in, is_alias, mapping_of, region_of, regions_of, missing_of, lacks_range, lacks_identity, lacks_lines, extent_of, table_reading, said_of, header_fault}
+use Rattle.nfit_reader.specs.Table.{nfit_reading, distinct_after, twice_in, alias_in, is_alias, mapping_of, region_of, regions_of, missing_of, lacks_range, lacks_identity, lacks_lines, dpa_range_of, table_reading, said_of, header_fault}
 use Rattle.nfit_reader.specs.Structures.{persistent_memory}
 
 -- an SPA range: index, base, length
@@ -50,7 +50,7 @@ pub pair_read : nfit_reading (table_of 276 structures) ≡ Ok (record {
   modules = 1 ∷ 2 ∷ [];
   regions = record { index = 1; base = 4294967296; length = 67108864; mappings = pair_mapping 0 0 1 ∷ pair_mapping 1 4096 2 ∷ [] } ∷ [];
 })
-unfolding number_at first_fault spans_from structure_of range_structure interleave_structure control_structure least_length is_structure has_lines range_of link_of lines_of identity_of distinct_after twice_in alias_in is_alias mapping_of region_of regions_of missing_of lacks_range lacks_identity lacks_lines extent_of table_reading said_of header_fault
+unfolding number_at first_fault spans_from structure_of range_structure interleave_structure control_structure least_length is_structure has_lines range_of link_of lines_of identity_of distinct_after twice_in alias_in is_alias mapping_of region_of regions_of missing_of lacks_range lacks_identity lacks_lines dpa_range_of table_reading said_of header_fault
 pair_read = refl
 
 -- four bytes short
@@ -73,12 +73,12 @@ short_structure = refl
 
 -- of the indices 1, 2, 2, 1 the first that occurs again is 1
 pub doubled : nfit_reading (table_of 264 (range 1 0 4096 ++ range 2 0 4096 ++ range 2 0 4096 ++ range 1 0 4096)) ≡ Err (TwiceIndex 0 1)
-unfolding number_at first_fault spans_from structure_of range_structure interleave_structure control_structure least_length is_structure has_lines range_of link_of lines_of identity_of distinct_after twice_in alias_in is_alias mapping_of region_of regions_of missing_of lacks_range lacks_identity lacks_lines extent_of table_reading said_of header_fault
+unfolding number_at first_fault spans_from structure_of range_structure interleave_structure control_structure least_length is_structure has_lines range_of link_of lines_of identity_of distinct_after twice_in alias_in is_alias mapping_of region_of regions_of missing_of lacks_range lacks_identity lacks_lines dpa_range_of table_reading said_of header_fault
 doubled = refl
 
 -- control index 0 names nothing, which a mapping into persistent memory must not do
 pub no_control : nfit_reading (table_of 144 (range 1 0 4096 ++ mapping 1 1 0 0 0 0)) ≡ Err (MissingIndex 4 0)
-unfolding number_at first_fault spans_from structure_of range_structure interleave_structure control_structure least_length is_structure has_lines range_of link_of lines_of identity_of distinct_after twice_in alias_in is_alias mapping_of region_of regions_of missing_of lacks_range lacks_identity lacks_lines extent_of table_reading said_of header_fault
+unfolding number_at first_fault spans_from structure_of range_structure interleave_structure control_structure least_length is_structure has_lines range_of link_of lines_of identity_of distinct_after twice_in alias_in is_alias mapping_of region_of regions_of missing_of lacks_range lacks_identity lacks_lines dpa_range_of table_reading said_of header_fault
 no_control = refl
 
 -- an interleave structure with no lines is invalid, even with index 0
@@ -88,7 +88,7 @@ no_lines = refl
 
 -- the mapping into region 1 comes first, and is named first
 pub crossed : nfit_reading (table_of 280 (mapping 7 2 1 0 4096 0 ++ mapping 7 1 1 0 8192 0 ++ range 1 0 4096 ++ range 2 0 4096 ++ control 1 1)) ≡ Err (Alias 0 1 0)
-unfolding number_at first_fault spans_from structure_of range_structure interleave_structure control_structure least_length is_structure has_lines range_of link_of lines_of identity_of distinct_after twice_in alias_in is_alias mapping_of region_of regions_of missing_of lacks_range lacks_identity lacks_lines extent_of table_reading said_of header_fault
+unfolding number_at first_fault spans_from structure_of range_structure interleave_structure control_structure least_length is_structure has_lines range_of link_of lines_of identity_of distinct_after twice_in alias_in is_alias mapping_of region_of regions_of missing_of lacks_range lacks_identity lacks_lines dpa_range_of table_reading said_of header_fault
 crossed = refl
 
 -- a missing byte of the Length field counts as zero

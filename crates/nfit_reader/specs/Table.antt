@@ -19,7 +19,7 @@ use Rattle.nfit_reader.specs.declared.structures.Range.{Range}
 use Rattle.nfit_reader.specs.declared.structures.Link.{Link}
 use Rattle.nfit_reader.specs.declared.structures.Interleave.{Interleave}
 use Rattle.nfit_reader.specs.declared.structures.Control.{Control}
-use Rattle.nfit_reader.specs.declared.alias.Extent.{Extent}
+use Rattle.nfit_reader.specs.declared.alias.DpaRange.{DpaRange}
 use Rattle.nfit_reader.specs.Structures.{spans_from, structures_of}
 
 -- ---- selections from the list of structures
@@ -161,33 +161,33 @@ missing_of structures m = first_fault (
     ∷ [])
 
 -- the bytes of its module that a mapping into a region takes
-unfoldable pub extent_of : List Structure → Link → Option Extent
-extent_of structures m = option_map
+unfoldable pub dpa_range_of : List Structure → Link → Option DpaRange
+dpa_range_of structures m = option_map
     (λ region. record { «module» = unwrap_or (place_of m.handle (modules_of structures)) 0; region = region; start = m.start; size = m.size })
     (position_from (λ r. r.index == m.range) 0 (regions_of structures))
 
-abbrev pub extents_of : List Structure → List Extent
-extents_of structures = filter_map (extent_of structures) (links_of structures)
+abbrev pub dpa_ranges_of : List Structure → List DpaRange
+dpa_ranges_of structures = filter_map (dpa_range_of structures) (links_of structures)
 
--- two extents share a byte
-abbrev pub meets : Extent → Extent → Bool
+-- two DPA ranges share a byte
+abbrev pub meets : DpaRange → DpaRange → Bool
 meets a b = nat_lt (max a.start b.start) (min (a.start + a.size) (b.start + b.size))
 
 -- they are of one module, in two regions, and share a byte
-unfoldable pub is_alias : Extent → Extent → Bool
+unfoldable pub is_alias : DpaRange → DpaRange → Bool
 is_alias a b = (a.«module» == b.«module») && not (a.region == b.region) && meets a b
 
--- the first extent that shares bytes with a later one, and the first such later one
-unfoldable pub alias_in : List Extent → Option NfitFault
+-- the first DPA range that shares bytes with a later one, and the first such later one
+unfoldable pub alias_in : List DpaRange → Option NfitFault
 alias_in [] = None
-alias_in (a ∷ extents) =
-    unwrap_or (option_map (λ b. Some (fault.Alias a.«module» a.region b.region)) (find (is_alias a) extents)) (alias_in extents)
+alias_in (a ∷ dpa_ranges) =
+    unwrap_or (option_map (λ b. Some (fault.Alias a.«module» a.region b.region)) (find (is_alias a) dpa_ranges)) (alias_in dpa_ranges)
 
 abbrev pub too_large : List Structure → Option NfitFault
 too_large structures = fault_if (nat_lt 64 (length (modules_of structures))) (fault.TooLarge (length (modules_of structures)))
 
 abbrev pub aliasing : List Structure → Option NfitFault
-aliasing structures = alias_in (extents_of structures)
+aliasing structures = alias_in (dpa_ranges_of structures)
 
 abbrev pub table_faults : List Structure → List (Option NfitFault)
 table_faults structures =

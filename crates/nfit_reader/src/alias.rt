@@ -5,7 +5,7 @@ ghost use Rattle.std.specs.List.{filter_map, position_from};
 ghost use Rattle.std.specs.Ordering.{nat_cmp};
 ghost use Rattle.std.specs.BTreeMap as tree;
 ghost use Rattle.nfit_reader.specs.declared.structures.Structure.{Structure};
-ghost use Rattle.nfit_reader.specs.Table.{is_alias, alias_in, place_of, extent_of, regions_of};
+ghost use Rattle.nfit_reader.specs.Table.{is_alias, alias_in, place_of, dpa_range_of, regions_of};
 ghost use Rattle.nfit_reader.specs.Names.{IsNumbered, IsPlaced};
 ghost use Rattle.nfit_reader.specs.Apart.{is_before, StandApart};
 
@@ -17,19 +17,19 @@ use nvd_words::Items;
 use std::alloc::{AllocError, Global};
 use std::collections::BTreeMap;
 
-/// The bytes of its module that a mapping into a region takes. Extents are ordered by module, then
-/// by start.
+/// The device physical addresses (DPA) that a mapping into a region takes on its module. DPA ranges
+/// are ordered by module, then by start.
 #[derive(Clone, Copy, PartialEq, Eq, PartialOrd, Ord)]
-pub(crate) struct Extent {
+pub(crate) struct DpaRange {
     pub module: u32,
     pub start: u64,
     pub size: u64,
     pub region: u32,
 }
 
-/// Returns whether two extents of one module, in two regions, share a byte.
+/// Returns whether two DPA ranges of one module, in two regions, share a byte.
 #[tactic(auto, unfolding(crate::specs::Table::is_alias))]
-fn is_alias(a: Extent, b: Extent) -> bool
+fn is_alias(a: DpaRange, b: DpaRange) -> bool
     ensures { result ≡ is_alias a b }
 {
     let end_of_a = u128::from(a.start) + u128::from(a.size);
@@ -39,26 +39,26 @@ fn is_alias(a: Extent, b: Extent) -> bool
         && u128::from(a.start.max(b.start)) < end_of_a.min(end_of_b)
 }
 
-/// Returns the first of these extents that is an alias of `a`.
-fn first_alias(a: Extent, others: &[Extent]) -> Option<Extent>
+/// Returns the first of these DPA ranges that is an alias of `a`.
+fn first_alias(a: DpaRange, others: &[DpaRange]) -> Option<DpaRange>
     ensures { result ≡ find (is_alias a) others.now }
 {
     others.iter().copied().find(|b| is_alias(a, *b))
 }
 
-fn others_after(extents: &[Extent], place: usize) -> &[Extent]
-    requires { place < length extents.now }
-    ensures { result.now ≡ drop (place + 1) extents.now }
+fn others_after(dpa_ranges: &[DpaRange], place: usize) -> &[DpaRange]
+    requires { place < length dpa_ranges.now }
+    ensures { result.now ≡ drop (place + 1) dpa_ranges.now }
 {
-    &extents[place + 1..]
+    &dpa_ranges[place + 1..]
 }
 
-/// Returns the fault of the first extent that has an alias after it, with the first such alias.
-fn alias_in(extents: &[Extent]) -> Option<NfitFault>
-    ensures { result ≡ alias_in extents.now }
+/// Returns the fault of the first DPA range that has an alias after it, with the first such alias.
+fn alias_in(dpa_ranges: &[DpaRange]) -> Option<NfitFault>
+    ensures { result ≡ alias_in dpa_ranges.now }
 {
-    for (place, a) in extents.iter().enumerate() {
-        if let Some(b) = first_alias(*a, others_after(extents, place)) {
+    for (place, a) in dpa_ranges.iter().enumerate() {
+        if let Some(b) = first_alias(*a, others_after(dpa_ranges, place)) {
             return Some(NfitFault::Alias {
                 module: a.module,
                 a: a.region,
@@ -69,17 +69,17 @@ fn alias_in(extents: &[Extent]) -> Option<NfitFault>
     None
 }
 
-/// Returns whether extent `a` is of a module before `b`'s, or ends before `b` starts on the same
+/// Returns whether DPA range `a` is of a module before `b`'s, or ends before `b` starts on the same
 /// module.
 #[tactic(auto, unfolding(crate::specs::Apart::is_before))]
-fn is_before(a: Extent, b: Extent) -> bool
+fn is_before(a: DpaRange, b: DpaRange) -> bool
     ensures { result ≡ is_before a b }
 {
     a.module < b.module
         || (a.module == b.module && u128::from(a.start) + u128::from(a.size) <= u128::from(b.start))
 }
 
-fn stand_apart(sorted: &[Extent]) -> bool
+fn stand_apart(sorted: &[DpaRange]) -> bool
     ensures { IsTrue result → StandApart sorted.now }
 {
     for place in 1..sorted.len() {
@@ -90,12 +90,12 @@ fn stand_apart(sorted: &[Extent]) -> bool
     true
 }
 
-/// Returns true only if no two extents of one module meet. It sorts them, in n log n steps. If it
+/// Returns true only if no two DPA ranges of one module meet. It sorts them, in n log n steps. If it
 /// returns false, each pair must be compared.
-fn is_apart(alloc: Global, extents: &[Extent]) -> Result<bool, AllocError>
-    ensures { IfOk result (λ apart. IsTrue apart → alias_in extents.now ≡ None) }
+fn is_apart(alloc: Global, dpa_ranges: &[DpaRange]) -> Result<bool, AllocError>
+    ensures { IfOk result (λ apart. IsTrue apart → alias_in dpa_ranges.now ≡ None) }
 {
-    let mut sorted = Vec::from_slice(alloc, extents)?;
+    let mut sorted = Vec::from_slice(alloc, dpa_ranges)?;
     sorted.sort()?;
     Ok(stand_apart(&sorted))
 }
@@ -103,14 +103,14 @@ fn is_apart(alloc: Global, extents: &[Extent]) -> Result<bool, AllocError>
 /// Returns the fault of the first alias, if there is one.
 pub(crate) fn alias_fault(
     alloc: Global,
-    extents: &[Extent],
+    dpa_ranges: &[DpaRange],
 ) -> Result<Option<NfitFault>, AllocError>
-    ensures { IfOk result (λ fault. fault ≡ alias_in extents.now) }
+    ensures { IfOk result (λ fault. fault ≡ alias_in dpa_ranges.now) }
 {
-    if is_apart(alloc, extents)? {
+    if is_apart(alloc, dpa_ranges)? {
         return Ok(None);
     }
-    Ok(alias_in(extents))
+    Ok(alias_in(dpa_ranges))
 }
 
 /// Maps each index to the number of the first region with it.
@@ -126,17 +126,17 @@ fn region_numbers(alloc: Global, regions: &[Region]) -> Result<BTreeMap<u32, u32
     places_of(alloc, &indices)
 }
 
-#[tactic(auto, unfolding(crate::specs::Table::extent_of))]
-fn extent_of(
+#[tactic(auto, unfolding(crate::specs::Table::dpa_range_of))]
+fn dpa_range_of(
     numbers: &BTreeMap<u32, u32>,
     places: &BTreeMap<u32, u32>,
     link: Link,
-) -> Option<Extent>
+) -> Option<DpaRange>
     ensures { (structures : List Structure) → IsNumbered numbers.now structures →
-        IsPlaced places.now structures → result ≡ extent_of structures link }
+        IsPlaced places.now structures → result ≡ dpa_range_of structures link }
 {
     let region = places.get(&u32::from(link.range)).copied()?;
-    Some(Extent {
+    Some(DpaRange {
         module: numbers.get(&link.handle).copied().unwrap_or(0),
         region,
         start: link.start,
@@ -144,22 +144,22 @@ fn extent_of(
     })
 }
 
-/// Returns the extents of the mappings into regions, in the order of the table.
-pub(crate) fn extents_of(
+/// Returns the DPA ranges of the mappings into regions, in the order of the table.
+pub(crate) fn dpa_ranges_of(
     alloc: Global,
     numbers: &BTreeMap<u32, u32>,
     regions: &[Region],
     links: &[Link],
-) -> Result<Items<Extent>, AllocError>
+) -> Result<Items<DpaRange>, AllocError>
     requires { length regions.now < 2 ^ 32 }
     ensures { (structures : List Structure) → IsNumbered numbers.now structures →
         regions.now ≡ regions_of structures →
-        IfOk result (λ extents. extents ≡ filter_map (extent_of structures) links.now) }
+        IfOk result (λ dpa_ranges. dpa_ranges ≡ filter_map (dpa_range_of structures) links.now) }
 {
     let places = region_numbers(alloc, regions)?;
-    let mut extents = Items::new(alloc);
+    let mut dpa_ranges = Items::new(alloc);
     for link in links {
-        push_some(&mut extents, extent_of(numbers, &places, *link))?;
+        push_some(&mut dpa_ranges, dpa_range_of(numbers, &places, *link))?;
     }
-    Ok(extents)
+    Ok(dpa_ranges)
 }

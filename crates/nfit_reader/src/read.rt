@@ -5,7 +5,7 @@ ghost use Rattle.nfit_reader.specs.Table.{nfit_reading, table_reading, nfit_of, 
 ghost use Rattle.nfit_reader.specs.Names.{IsNamed};
 ghost use Rattle.nfit_reader.specs.Counted.{AreCounted, NamesItsModules};
 
-use crate::alias::{alias_fault, extents_of};
+use crate::alias::{alias_fault, dpa_ranges_of};
 use crate::header::{header_fault, said};
 use crate::modules::{modules_of, places_of};
 use crate::names::{Names, first_missing, named};
@@ -90,8 +90,8 @@ fn nfit_of(
     }
     let numbers = places_of(alloc, modules.as_slice())?;
     let regions = regions_of(alloc, names, &numbers, ranges, links)?;
-    let extents = extents_of(alloc, &numbers, regions.as_slice(), links)?;
-    match alias_fault(alloc, extents.as_slice())? {
+    let dpa_ranges = dpa_ranges_of(alloc, &numbers, regions.as_slice(), links)?;
+    match alias_fault(alloc, dpa_ranges.as_slice())? {
         Some(fault) => Err(fault),
         None => Ok(Nfit { modules, regions }),
     }

@@ -6,7 +6,7 @@ use Rattle.std.proofs.lemmas.List.Sums.{sum_by-cons}
 use Rattle.cut_words.specs.Words.{Step, Words, settled}
 use Rattle.cut_words.specs.Fuses.{Makes}
 use Rattle.arena_open.specs.declared.state.ArenaState.{ArenaState}
-use Rattle.arena_open.specs.Chain.{Link, Recovers, chain_of, chain_steps, chain_within, found_again}
+use Rattle.arena_open.specs.Chain.{Link, RecoversChain, chain_of, chain_steps, chain_within, found_again}
 use Rattle.arena_open.specs.Writes.{IsSettled, Write, write_steps, written_over}
 use Rattle.arena_open.proofs.Joined.{linked_last, linked_more}
 use Rattle.arena_open.proofs.Outside.{Within, drop_over, writes_in, writes_of}
@@ -101,7 +101,7 @@ chain_writes (suc n) words parent at (state ∷ states) w enough =
     ]
 
 -- the words behind them stay
-pub keeps_behind : (old new : Words) (left : Option ℕ) (uuid : List ℕ) (states : List ArenaState) → IsSettled old → opened_view old.kept uuid ≡ Ok states → Recovers old new None left uuid 0
+pub keeps_behind : (old new : Words) (left : Option ℕ) (uuid : List ℕ) (states : List ArenaState) → IsSettled old → opened_view old.kept uuid ≡ Ok states → RecoversChain old new None left uuid 0
     → drop (arena_words states) new.kept ≡ drop (arena_words states) old.kept
 keeps_behind old new left uuid states was read made =
     let all : Writes (chain_steps old.kept (chain_of old.kept uuid 0).links) 0 (0 + arena_words states) =

@@ -1,5 +1,5 @@
 use Rattle.std.proofs.Common.{◌≡◌, ◌<◌, ◌∙◌, ℕ, List, drop, get_or, length, ap, sym, subst, arith}
-use Rattle.map_table.specs.declared.kinds.Entry.{Entry}
+use Rattle.map_table.specs.declared.kinds.MapEntry.{MapEntry}
 use Rattle.map_table.specs.Entry.{entry_of}
 use Rattle.arena_open.specs.declared.cell.Cell.{Cell}
 use Rattle.arena_open.specs.Cells.{GivesCell}
@@ -21,7 +21,7 @@ pub load_cell-requires-clause-block : goal.load_cell-requires-clause-block
 load_cell-requires-clause-block g c =
     let is : c.entry-found.result ≡ entry_of (get_or c.args.opened.now.entries c.args.sector 0) c.args.sector =
     c.entry-found.ensures ∙ ap (λ (es : List ℕ). entry_of (get_or es c.args.sector 0) c.args.sector) c.as_slice-entries.ensures in
-    subst (λ (e : Entry). e.block < c.args.opened.now.info.layout.internal) (sym is)
+    subst (λ (e : MapEntry). e.block < c.args.opened.now.info.layout.internal) (sym is)
     (block_in (drop c.args.at (g.W.WordSpace.words c.args.space.now).kept) c.requires.opened.0 c.args.opened.now c.requires.opened.1 c.args.sector c.requires.sector)
 
 pub load_cell-requires-clause-inside : goal.load_cell-requires-clause-inside
@@ -34,5 +34,5 @@ returns g c =
     let is : c.entry-found.result ≡ entry_of (get_or c.args.opened.now.entries c.args.sector 0) c.args.sector =
     c.entry-found.ensures ∙ ap (λ (es : List ℕ). entry_of (get_or es c.args.sector 0) c.args.sector) c.as_slice-entries.ensures in
     let same = cell_same (drop c.args.at (g.W.WordSpace.words c.args.space.now).kept) c.requires.opened.0 c.args.opened.now c.requires.opened.1 c.args.sector c.requires.sector
-    ∙ ap (λ (e : Entry). cell_with c.args.opened.now.info.layout (drop c.args.at (g.W.WordSpace.words c.args.space.now).kept) e) (sym is) in
+    ∙ ap (λ (e : MapEntry). cell_with c.args.opened.now.info.layout (drop c.args.at (g.W.WordSpace.words c.args.space.now).kept) e) (sym is) in
     subst (λ (x : Cell). GivesCell x c.load_cell.result c.args.into.now c.load_cell.new.into) (sym same) c.load_cell.ensures

@@ -6,8 +6,8 @@ use Rattle.image_set.proofs.copying.copy_objects.Given as goal
 
 abbrev pub invariant-loop-module : goal.invariant-loop-module
 invariant-loop-module g l = record {
-  spelling : 32768 ≤ vec_capacity l.spelling;
-  room : vec_len l.room ≡ 262144;
+  spelling : 32768 ≤ vec_capacity l.buffers.spelling;
+  room : vec_len l.buffers.room ≡ 262144;
   same : g.S.ImageSource.held l.images ≡ g.S.ImageSource.held l.fn.images;
   later_read : g.S.ImageSource.faults l.fn.images ≤ g.S.ImageSource.faults l.images;
   later_written : g.K.ImageSink.faults l.fn.out ≤ g.K.ImageSink.faults l.out;

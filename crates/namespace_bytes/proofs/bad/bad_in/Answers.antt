@@ -1,5 +1,5 @@
 use Rattle.std.proofs.Common.{◌∙◌, ℕ, ◌<◌, List, get_or, ap, sym, arith}
-use Rattle.map_table.specs.declared.kinds.Entry.{Entry}
+use Rattle.map_table.specs.declared.kinds.MapEntry.{MapEntry}
 use Rattle.map_table.specs.Entry.{entry_of}
 use Rattle.arena_open.specs.Chain.{Link}
 use Rattle.namespace_bytes.specs.Bad.{says_bad}
@@ -11,6 +11,6 @@ loop-own-preserved c =
     let inside : c.loop-own.own < c.args.arena.now.opened.info.layout.external = omega (arith, c.loop-own-test.true, ap (λ (l : Link). l.opened.info.layout.external) c.arena.view_is) in
     c.loop-own.invariant
     ∙ found_later (λ own. says_bad (entry_of (get_or c.args.arena.now.opened.entries own 0) own).kind) c.loop-own.own c.args.arena.now.opened.info.layout.external inside
-    (sym (ap (λ (e : Entry). says_bad e.kind)
+    (sym (ap (λ (e : MapEntry). says_bad e.kind)
     (c.entry.ensures ∙ ap (λ (es : List ℕ). entry_of (get_or es c.loop-own.own 0) c.loop-own.own) (c.as_slice-entries.ensures ∙ ap (λ (l : Link). l.opened.entries) c.arena.view_is)))
     ∙ sym c.if-says_bad.ensures)

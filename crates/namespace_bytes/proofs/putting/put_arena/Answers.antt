@@ -2,7 +2,7 @@ use Rattle.std.proofs.Common.{◌≡◌, ◌∙◌, ℕ, suc, ◌+◌, ◌-◌, 
 use Rattle.std.specs.List.{range_with_len}
 use Rattle.cut_words.specs.Words.{Words}
 use Rattle.cut_words.specs.WordBytes.{words_in}
-use Rattle.map_table.specs.declared.kinds.Entry.{Entry}
+use Rattle.map_table.specs.declared.kinds.MapEntry.{MapEntry}
 use Rattle.map_table.specs.Entry.{entry_of}
 use Rattle.arena_open.proofs.Bytes.{length_words}
 use Rattle.sector_namespaces.proofs.Formats.{settled_at}
@@ -40,7 +40,7 @@ pub put_sector-requires-clause-piece : goal.put_sector-requires-clause-piece
 put_sector-requires-clause-piece c =
     let size : ℕ = c.args.opened.now.info.layout.sector in
     let block_is : c.entry-block.result.block ≡ block_at c.args.opened.now.entries c.loop-own.own =
-    ap (λ (e : Entry). e.block) c.entry-block.ensures ∙ ap (λ (es : List ℕ). (entry_of (get_or es c.loop-own.own 0) c.loop-own.own).block) c.as_slice-entries.ensures in
+    ap (λ (e : MapEntry). e.block) c.entry-block.ensures ∙ ap (λ (es : List ℕ). (entry_of (get_or es c.loop-own.own 0) c.loop-own.own).block) c.as_slice-entries.ensures in
     record {
       sector = c.loop-own-test.true;
       named = subst (λ (b : ℕ). b < c.args.opened.now.info.layout.internal) (sym block_is)
@@ -55,7 +55,7 @@ loop-own-preserved c =
     let o = c.args.opened.now in
     let before = (words_of c.loop-own.space).kept in
     let block_is : c.entry-block.result.block ≡ block_at c.args.opened.now.entries c.loop-own.own =
-    ap (λ (e : Entry). e.block) c.entry-block.ensures ∙ ap (λ (es : List ℕ). (entry_of (get_or es c.loop-own.own 0) c.loop-own.own).block) c.as_slice-entries.ensures in
+    ap (λ (e : MapEntry). e.block) c.entry-block.ensures ∙ ap (λ (es : List ℕ). (entry_of (get_or es c.loop-own.own 0) c.loop-own.own).block) c.as_slice-entries.ensures in
     let part_is : take (c.loop-own.own * c.args.opened.now.info.layout.sector + c.args.opened.now.info.layout.sector - c.loop-own.own * c.args.opened.now.info.layout.sector) (drop (c.loop-own.own * c.args.opened.now.info.layout.sector) c.args.bytes.now)
     ≡ piece c.args.opened.now.info.layout.sector c.loop-own.own c.args.bytes.now =
     ap (λ (k : ℕ). take k (drop (c.loop-own.own * c.args.opened.now.info.layout.sector) c.args.bytes.now))

@@ -6,6 +6,6 @@ use Rattle.nfit_reader.proofs.alias.is_apart.Goals as goal
 
 pub returns : goal.returns
 returns c = λ apart.
-    apart_none c.args.extents.now c.sort.new.self.items
+    apart_none c.args.dpa_ranges.now c.sort.new.self.items
     (subst (λ xs. IsPermutation xs c.sort.new.self.items) c.in_ok-sorted.ensures.items c.sort.ensures.permutation)
     (subst StandApart c.deref.ensures.value (c.stand_apart.ensures apart))

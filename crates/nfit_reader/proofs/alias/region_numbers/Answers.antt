@@ -3,7 +3,7 @@ use Rattle.std.proofs.lemmas.List.{take_all}
 use Rattle.std.proofs.lemmas.Result.{IfOk-weaker}
 use Rattle.nfit_reader.specs.declared.table.Region.{Region}
 use Rattle.nfit_reader.specs.Table.{place_of}
-use Rattle.nfit_reader.proofs.Extents.{position_from-index}
+use Rattle.nfit_reader.proofs.DpaRanges.{position_from-index}
 use Rattle.nfit_reader.proofs.alias.region_numbers.Goals as goal
 
 abbrev index_of : Region → ℕ

@@ -3,7 +3,7 @@ use Rattle.std.specs.List.{All}
 use Rattle.std.proofs.Math.Nat.{mul-le-mul}
 use Rattle.interleave.specs.Places.{unit_of}
 use Rattle.cut_words.specs.Words.{Words, settled}
-use Rattle.arena_open.specs.Chain.{Recovers, chain_answer, wants_memory}
+use Rattle.arena_open.specs.Chain.{RecoversChain, chain_answer, wants_memory}
 use Rattle.arena_open.specs.ChainCells.{AreOpen}
 use Rattle.arena_open.specs.Writes.{IsSettled}
 use Rattle.sector_namespaces.specs.View.{opened_view}
@@ -89,9 +89,9 @@ returns-in-Ok-clause-behind c =
     let read : opened_view (words_of (over c.args.set.now c.args.found.now.offset c.args.found.now.raw c.args.modules.items)).kept c.args.uuid.now ≡ Ok c.in-Ok.chain =
     some_words (words_of (over c.args.set.now c.args.found.now.offset c.args.found.now.raw c.args.modules.items)).kept c.args.uuid.now some
     ∙ sym (c.in-Ok.ensures.answer (λ k e. cc) ∙ (λ i. chain_answer (c.none-fuse.ensures i) (words_of (n_is i)).kept c.args.uuid.now (c.first_arena-first.ensures i))) in
-    let made : Recovers (words_of (over c.args.set.now c.args.found.now.offset c.args.found.now.raw c.args.modules.items)) (words_of c.open_chain.new.space) None c.open_chain.new.fuse c.args.uuid.now 0 =
-    subst (λ (n : Namespace). Recovers (words_of n) (words_of c.open_chain.new.space) None c.open_chain.new.fuse c.args.uuid.now 0) n_is
-    (subst (λ (f : Option ℕ). Recovers (words_of c.of-words.result) (words_of c.open_chain.new.space) f c.open_chain.new.fuse c.args.uuid.now 0) c.none-fuse.ensures
-    (subst (λ (p : ℕ). Recovers (words_of c.of-words.result) (words_of c.open_chain.new.space) c.none-fuse.result c.open_chain.new.fuse c.args.uuid.now p) c.first_arena-first.ensures
+    let made : RecoversChain (words_of (over c.args.set.now c.args.found.now.offset c.args.found.now.raw c.args.modules.items)) (words_of c.open_chain.new.space) None c.open_chain.new.fuse c.args.uuid.now 0 =
+    subst (λ (n : Namespace). RecoversChain (words_of n) (words_of c.open_chain.new.space) None c.open_chain.new.fuse c.args.uuid.now 0) n_is
+    (subst (λ (f : Option ℕ). RecoversChain (words_of c.of-words.result) (words_of c.open_chain.new.space) f c.open_chain.new.fuse c.args.uuid.now 0) c.none-fuse.ensures
+    (subst (λ (p : ℕ). RecoversChain (words_of c.of-words.result) (words_of c.open_chain.new.space) c.none-fuse.result c.open_chain.new.fuse c.args.uuid.now p) c.first_arena-first.ensures
     (c.in-Ok.ensures.made (λ k e. cc)))) in
     keeps_behind (words_of (over c.args.set.now c.args.found.now.offset c.args.found.now.raw c.args.modules.items)) (words_of c.open_chain.new.space) c.open_chain.new.fuse c.args.uuid.now c.in-Ok.chain was read made

@@ -1,7 +1,7 @@
 use Rattle.std.proofs.Common.{arith, ◌<◌, ◌∙◌}
 use Rattle.arena_open.proofs.Bytes.{packed}
 use Rattle.arena_open.proofs.Counts.{length_map, map_index}
-use Rattle.arena_open.proofs.area.NewMapArea.word.Goals as goal
+use Rattle.arena_open.proofs.area.NewMapAreaWords.word.Goals as goal
 
 pub overflow_mul-i : goal.overflow_mul-i
 overflow_mul-i c = omega (arith, c.requires.inside, c.requires.sound.1, length_map c.args.self.now.external c.args.self.now.count)

@@ -1,6 +1,6 @@
 use Rattle.std.proofs.Common.{arith, ◌<◌, ◌∙◌, sym}
 use Rattle.arena_open.proofs.Counts.{length_log, log_index_in, log_index_past}
-use Rattle.arena_open.proofs.area.NewLogArea.word.Goals as goal
+use Rattle.arena_open.proofs.area.NewLogAreaWords.word.Goals as goal
 
 pub returns-then-i-from : goal.returns-then-i-from
 returns-then-i-from c =
