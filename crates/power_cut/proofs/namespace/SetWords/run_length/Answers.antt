@@ -1,4 +1,4 @@
-use Rattle.std.proofs.Common.{◌≡◌, ◌+◌, ◌*◌, ◌/◌, ◌%◌, ◌<◌, ℕ, length, sym, ap, ◌∙◌, subst, arith}
+use Rattle.std.proofs.Common.{◌≡◌, ◌+◌, ◌*◌, ◌%◌, ◌<◌, length, sym, ap, ◌∙◌, subst, arith}
 use Rattle.interleave.specs.Places.{LiesAt}
 use Rattle.interleave.specs.Sound.{IsRun, span_of}
 use Rattle.power_cut.specs.Namespace.{Namespace, byte_at, count_of, over}

@@ -1,4 +1,4 @@
-use Rattle.std.proofs.Common.{◌≡◌, ◌+◌, ◌-◌, ◌*◌, ◌/◌, ◌<◌, ◌≤◌, ℕ, List, ◌++◌, length, take, drop, sym, ap, ◌∙◌, subst, arith}
+use Rattle.std.proofs.Common.{◌≡◌, ◌+◌, ◌-◌, ◌<◌, ℕ, length, take, drop, sym, ap, ◌∙◌, subst, arith}
 use Rattle.cut_words.specs.Words.{AreFlushed}
 use Rattle.power_cut.specs.Namespace.{Namespace, IsLaid, count_of, over, words_of}
 use Rattle.power_cut.proofs.Spread.{count_is}
