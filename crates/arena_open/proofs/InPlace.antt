@@ -1,5 +1,5 @@
 -- A sector's cell after all pending moves is the cell of its moved entry, in the unchanged words.
-use Rattle.std.proofs.Common.{◌≡◌, ℕ, ◌+◌, ◌*◌, ◌/◌, ◌<◌, ◌≤◌, List, [], ◌∷◌, length, drop, get_or, Ok, refl, sym, ap, ◌∙◌, subst, arith}
+use Rattle.std.proofs.Common.{◌≡◌, ℕ, ◌+◌, ◌*◌, ◌/◌, ◌<◌, ◌≤◌, List, [], ◌∷◌, length, take, drop, get_or, Ok, refl, sym, ap, ◌∙◌, subst, arith}
 use Rattle.std.proofs.Math.ListN.{set}
 use Rattle.std.proofs.Math.Nat.{mul-le-mul_left}
 use Rattle.std.proofs.lemmas.List.{ext_get_or, get_or-set_other, get_or-take, get_or-drop}
@@ -92,10 +92,11 @@ count_entries words parent opened is =
     ap (λ (es : List ℕ). length es) p.entries_is ∙ length_map opened.info.layout (recovered words opened)
 
 -- the words that were loaded are the block's
-pub loaded_block : (kept into : List ℕ) (at : ℕ) (l : Layout) (b count : ℕ) → length into ≡ count
-    → ((k : ℕ) → k < count → get_or into k 0 ≡ get_or kept (at + (l.data_off / 8 + b * (l.inner / 8)) + k) 0) → into ≡ block_words l (drop at kept) b count
-loaded_block kept into at l b count n each =
+pub loaded_block : (kept into : List ℕ) (at from : ℕ) (l : Layout) (b count : ℕ) → from ≡ l.data_off / 8 + b * (l.inner / 8) → length into ≡ count → into ≡ take count (drop (at + from) kept)
+    → into ≡ block_words l (drop at kept) b count
+loaded_block kept into at from l b count from_is n is =
     ext_get_or 0 into (block_words l (drop at kept) b count) (n ∙ sym (length-map-range_with_len (λ k. value_at l (drop at kept) (block_word b k)) 0 count))
     (λ k lt. let in' : k < count = omega (arith, lt, n) in
-    each k in' ∙ ap (λ (i : ℕ). get_or kept i 0) (omega arith) ∙ sym (get_or-drop at kept (l.data_off / 8 + (b * (l.inner / 8) + k)) 0)
+    ap (λ (ws : List ℕ). get_or ws k 0) is ∙ get_or-take count (drop (at + from) kept) k 0 in' ∙ get_or-drop (at + from) kept k 0
+    ∙ ap (λ (i : ℕ). get_or kept i 0) (omega (arith, from_is)) ∙ sym (get_or-drop at kept (l.data_off / 8 + (b * (l.inner / 8) + k)) 0)
     ∙ sym (get_or-map-range_with_len (λ j. value_at l (drop at kept) (block_word b j)) 0 count k k 0 in' (omega arith)))

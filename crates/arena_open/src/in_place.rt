@@ -13,20 +13,6 @@ use arena_layout::Layout;
 use cut_words::WordSpace;
 use map_table::{Kind, MapEntry, entry};
 
-/// Loads words of a space from `first` on.
-fn load_words<W: WordSpace>(space: &W, first: u64, into: &mut [u64])
-    requires inside { first + length into.old ≤ length (W.words space.now).kept }
-    requires small { length (W.words space.now).kept < 2 ^ 60 }
-    requires settled { IsSettled (W.words space.now) }
-    ensures count { length into.new ≡ length into.old }
-    ensures each { (k : ℕ) → k < length into.old
-        → slice_index into.new k ≡ slice_index (W.words space.now).kept (first + k) }
-{
-    for k in 0..into.len() {
-        into[k] = space.load(first + k as u64);
-    }
-}
-
 /// Loads the first words of a block.
 fn load_block<W: WordSpace>(space: &W, at: u64, layout: &Layout, block: u32, into: &mut [u64])
     requires layout { IsLayout layout.now }
@@ -38,7 +24,7 @@ fn load_block<W: WordSpace>(space: &W, at: u64, layout: &Layout, block: u32, int
     ensures { into.new ≡ block_words layout.now (drop at (W.words space.now).kept) block (layout.now.sector / 8) }
 {
     let first = layout.data_off / 8 + u64::from(block) * (u64::from(layout.inner) / 8);
-    load_words(space, at + first, into);
+    space.load_from(at + first, into);
 }
 
 /// Loads the cell of an entry.

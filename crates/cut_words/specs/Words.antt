@@ -1,5 +1,5 @@
 -- Words that a power loss may change: this project's model of the persistence domain.
-use Rattle.std.specs.Prelude.{◌≡◌, ◌⊎◌, ℕ, List, [], ◌∷◌, length, replicate, take, slice_index, slice_index_or, slice_set, Option, Some, None, unwrap_or}
+use Rattle.std.specs.Prelude.{◌≡◌, ◌⊎◌, ℕ, ◌+◌, ◌<◌, List, [], ◌∷◌, length, replicate, take, slice_index, slice_index_or, slice_set, Option, Some, None, unwrap_or}
 
 -- the kept value of each word, and the value stored since, if there is one
 pub record Words : Type 0 where
@@ -9,6 +9,10 @@ pub record Words : Type 0 where
 -- a load returns the stored value, or the kept one if there is none
 abbrev pub seen_at : Words → ℕ → ℕ
 seen_at words i = unwrap_or (slice_index_or words.stored i None) (slice_index words.kept i)
+
+-- none of `count` words from word `first` on is pending
+abbrev pub AreFlushed : Words → ℕ → ℕ → Type 0
+AreFlushed words first count = (k : ℕ) → k < count → slice_index_or words.stored (first + k) None ≡ None
 
 -- words with these kept values, none of them pending
 abbrev pub settled : List ℕ → Words

@@ -1,5 +1,5 @@
-ghost use Rattle.std.specs.Prelude.{◌≡◌, ◌<◌, ℕ, List, [], ◌∷◌, None, length, slice_index_or, is_ok};
-ghost use Rattle.cut_words.specs.Words.{Words, store, keep, seen_at};
+ghost use Rattle.std.specs.Prelude.{◌≡◌, ◌+◌, ◌<◌, ◌≤◌, ℕ, List, [], ◌∷◌, None, drop, length, slice_index_or, is_ok, take};
+ghost use Rattle.cut_words.specs.Words.{AreFlushed, Words, store, keep, seen_at};
 ghost use Rattle.cut_words.specs.Fuses.{Makes};
 
 use crate::fuse::{Fuse, PowerCut};
@@ -21,6 +21,13 @@ pub trait WordSpace {
     fn load(&self, i: u64) -> u64
         requires { i < length (words self.now).kept }
         ensures { result ≡ seen_at (words self.now) i };
+
+    /// Loads the words from `first` on, as many as `into` has. They must exist, and none of them may
+    /// be pending. It copies runs of words, so it is faster than one [`load`](Self::load) a word.
+    fn load_from(&self, first: u64, into: &mut [u64])
+        requires inside { first + length into.old ≤ length (words self.now).kept }
+        requires flushed { AreFlushed (words self.now) first (length into.old) }
+        ensures { into.new ≡ take (length into.old) (drop first (words self.now).kept) };
 
     /// Stores a value into a word: one step. The word must exist and must not be pending.
     /// `PowerCut` means that no step was left; then nothing changed.

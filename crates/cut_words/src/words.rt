@@ -104,6 +104,11 @@ impl WordSpace for CutWords {
         }
     }
 
+    fn load_from(&self, first: u64, into: &mut [u64]) {
+        let first = first as usize;
+        into.copy_from_slice(&self.kept[first..first + into.len()]);
+    }
+
     fn store(&mut self, fuse: &mut Fuse, i: u64, v: u64) -> Result<(), PowerCut> {
         fuse.spend()?;
         self.stored.set(i as usize, v);

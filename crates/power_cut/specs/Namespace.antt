@@ -127,6 +127,10 @@ pub record IsOver (n : Namespace) (modules : List Words) (words : Words) : Type 
   pub kept : (i which address : ℕ) → i < count_of n → LiesAt n.set (byte_at n i) which address → slice_index words.kept i ≡ kept_at modules which address
   pub stored : (i which address : ℕ) → i < count_of n → LiesAt n.set (byte_at n i) which address → slice_index_or words.stored i None ≡ stored_at modules which address
 
+-- `count` words of the namespace from word i on are the words of a module from its word k on
+abbrev pub IsWordRun : Namespace → ℕ → ℕ → ℕ → ℕ → Type 0
+IsWordRun n i which k count = (j : ℕ) → j < count → LiesAt n.set (byte_at n (i + j)) which (8 * (k + j))
+
 -- no two words of the namespace lie at the same word of a module
 abbrev pub AreApart : Namespace → Type 0
 AreApart n = (i j which address address' : ℕ) → i < count_of n → j < count_of n → LiesAt n.set (byte_at n i) which address → LiesAt n.set (byte_at n j) which address'

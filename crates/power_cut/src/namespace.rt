@@ -3,7 +3,7 @@ ghost use Rattle.std.specs.Prelude.{◌≡◌, ℕ, ◌+◌, ◌*◌, ◌/◌, �
 ghost use Rattle.std.specs.List.{All};
 ghost use Rattle.interleave.specs.Places.{LiesAt, unit_of};
 ghost use Rattle.interleave.specs.Sound.{IsWord, span_of};
-ghost use Rattle.power_cut.specs.Namespace.{Namespace, HasBytes, HasRows, ReachEnds, IsLaid, IsOver, IsRow, AreApart, AreAll, AreSameOutside, byte_at, count_of, row_of, words_of};
+ghost use Rattle.power_cut.specs.Namespace.{Namespace, HasBytes, HasRows, ReachEnds, IsLaid, IsOver, IsRow, IsWordRun, AreApart, AreAll, AreSameOutside, byte_at, count_of, row_of, words_of};
 ghost use Rattle.power_cut.specs.Placed.{PlacedStay, beside_and_place};
 
 use cut_words::{CutWords, Fuse, PowerCut, WordSpace};
@@ -136,6 +136,18 @@ impl<'a> SetWords<'a> {
         let (module, address) = self.set.place(first + WORD * i);
         (module as usize, address / WORD)
     }
+
+    /// Returns how many words of the namespace from word `i` on are contiguous in its module, up to the
+    /// end of the interleave line.
+    fn run_length(&self, i: u64) -> u64
+        requires { i < count_of self.now }
+        ensures some { 0 < result }
+        ensures run { (which k : ℕ) → LiesAt self.now.set (byte_at self.now i) which (8 * k)
+            → IsWordRun self.now i which k result }
+    {
+        let first = u64::from(self.set.ways()) * self.offset;
+        self.set.run_length(first + WORD * i) / WORD
+    }
 }
 
 impl<'a> WordSpace for SetWords<'a> {
@@ -150,6 +162,17 @@ impl<'a> WordSpace for SetWords<'a> {
     fn load(&self, i: u64) -> u64 {
         let (module, word) = self.locate(i);
         self.modules[module].load(word)
+    }
+
+    fn load_from(&self, first: u64, into: &mut [u64]) {
+        let mut done = 0;
+        while done < into.len() {
+            let i = first + done as u64;
+            let (module, word) = self.locate(i);
+            let size = self.run_length(i).min((into.len() - done) as u64) as usize;
+            self.modules[module].load_from(word, &mut into[done..done + size]);
+            done += size;
+        }
     }
 
     fn store(&mut self, fuse: &mut Fuse, i: u64, v: u64) -> Result<(), PowerCut> {

@@ -12,18 +12,6 @@ use nvd_media::{Failed, TextSink};
 use shell_reports::Status;
 use std::alloc::{AllocError, Global};
 
-/// Loads words of a space from `first` on.
-fn load_words<W: WordSpace>(space: &W, first: u64, into: &mut [u64])
-    requires inside { first + length into.old ≤ length (W.words space.now).kept }
-    requires small { length (W.words space.now).kept < 2 ^ 60 }
-    requires settled { IsSettled (W.words space.now) }
-    ensures { into.new ≡ take (length into.old) (drop first (W.words space.now).kept) }
-{
-    for k in 0..into.len() {
-        into[k] = space.load(first + k as u64);
-    }
-}
-
 /// Prints `size` words of a space from `first` on. The buffers have room for them.
 fn print_piece<W: WordSpace, O: TextSink>(
     space: &W,
@@ -42,7 +30,7 @@ fn print_piece<W: WordSpace, O: TextSink>(
     ensures part { OnErr result (AppendsFront (O.written text.old) (O.written text.new) (bytes_of (take size (drop first (W.words space.now).kept)))) }
     ensures cause { HasCause (O.faults text.old) (O.faults text.new) result }
 {
-    load_words(space, first, &mut words[..size]);
+    space.load_from(first, &mut words[..size]);
     print_words(&words[..size], room, text)
 }
 
