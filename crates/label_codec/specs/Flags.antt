@@ -27,5 +27,5 @@ abbrev pub updating : Label → Label
 updating l = record l { flags = with_updating l.flags }
 
 -- a label with UPDATING cleared, all else the same
-abbrev pub settled : Label → Label
-settled l = record l { flags = without_updating l.flags }
+abbrev pub updated : Label → Label
+updated l = record l { flags = without_updating l.flags }

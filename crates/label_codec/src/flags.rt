@@ -1,7 +1,7 @@
 //! The flags of a label (UEFI 2.10, section 13.19, Flags).
 
 ghost use Rattle.std.specs.Prelude.{◌≡◌};
-ghost use Rattle.label_codec.specs.Flags.{has_rolabel, has_local, has_updating, without_updating, with_updating, updating, settled};
+ghost use Rattle.label_codec.specs.Flags.{has_rolabel, has_local, has_updating, without_updating, with_updating, updating, updated};
 
 use crate::label::Label;
 
@@ -41,7 +41,7 @@ impl Label {
 
     /// Returns the label with UPDATING cleared; all else is the same.
     pub fn without_updating(&self) -> Label
-        ensures { result ≡ settled self.now }
+        ensures { result ≡ updated self.now }
     {
         Label {
             flags: without_updating(self.flags),

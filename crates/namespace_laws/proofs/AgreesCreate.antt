@@ -15,14 +15,14 @@ use Rattle.namespace_map.specs.declared.commands.Named.{Named}
 use Rattle.namespace_map.specs.Areas.{Area, Change, slots_on, free_in, all_changed}
 use Rattle.namespace_map.specs.Commands.{count_in, done, name_in, refusal_of}
 use Rattle.namespace_map.specs.Changes.{namespaces_of, changes_of}
-use Rattle.label_codec.specs.Flags.{updating, settled}
+use Rattle.label_codec.specs.Flags.{updating, updated}
 use Rattle.namespace_map.specs.CommandLaws.{IsOf}
 use Rattle.namespace_map.proofs.Slots.{owned}
 use Rattle.namespace_map.proofs.Areas.{Fitting, moved_all, sum_kept}
 use Rattle.namespace_map.specs.Left.{AreRegions}
 use Rattle.namespace_laws.proofs.Staged.{names, IsGiven, KeepsUuid}
 use Rattle.namespace_laws.proofs.Two.{length_kept}
-use Rattle.namespace_laws.proofs.Table.{like_settled, settled_doesnt, sound_like}
+use Rattle.namespace_laws.proofs.Table.{like_updated, updated_doesnt, sound_like}
 use Rattle.namespace_laws.proofs.Create.{StandsAs, IsNew}
 use Rattle.namespace_laws.proofs.Sets.{ModulesApart, IsSet}
 use Rattle.namespace_laws.proofs.Regions.{found_passes}
@@ -77,27 +77,27 @@ module _ (sets : List (List Mapping)) (areas : List (Option Area)) (uuid : List 
   abbrev put_updating : Label → Option Label
   put_updating l = Some (updating l)
 
-  abbrev put_settled : Label → Option Label
-  put_settled l = Some (settled l)
+  abbrev put_updated : Label → Option Label
+  put_updated l = Some (updated l)
 
   ku : KeepsUuid put_updating
   ku l l' is = ap (λ (k : Label). k.uuid) (sym (same_Some (updating l) l' is))
 
-  ks : KeepsUuid put_settled
-  ks l l' is = ap (λ (k : Label). k.uuid) (sym (same_Some (settled l) l' is))
+  ks : KeepsUuid put_updated
+  ks l l' is = ap (λ (k : Label). k.uuid) (sym (same_Some (updated l) l' is))
 
   abbrev creating : List Change
   creating = changes_of (namespaces_of sets areas) areas (law.create sets areas uuid name region size made)
 
-  becomes : AllByRecursion (Becomes set (model sets areas uuid name region size made) (name_in name) put_settled) news
+  becomes : AllByRecursion (Becomes set (model sets areas uuid name region size made) (name_in name) put_updated) news
   becomes =
-      all_pass_to (IsNew set (model sets areas uuid name region size made) (name_in name)) (Becomes set (model sets areas uuid name region size made) (name_in name) put_settled)
+      all_pass_to (IsNew set (model sets areas uuid name region size made) (name_in name)) (Becomes set (model sets areas uuid name region size made) (name_in name) put_updated)
       (λ p is. record {
-        new = settled p.1;
+        new = updated p.1;
         is_new = refl;
-        sound = sound_like set (model sets areas uuid name region size made) p.0 p.1 (settled p.1) is.sound (like_settled p.1);
+        sound = sound_like set (model sets areas uuid name region size made) p.0 p.1 (updated p.1) is.sound (like_updated p.1);
         named = is.named;
-        quiet = settled_doesnt p.1;
+        quiet = updated_doesnt p.1;
       }) news (law.is_new sets areas uuid name region size made regions good)
 
   no_lab : (m : ℕ) (l : Label) → ◌≡◌ {A = Option Label} None (Some l) → names news m ≡ true
@@ -111,14 +111,14 @@ module _ (sets : List (List Mapping)) (areas : List (Option Area)) (uuid : List 
 
   stands : StandsAs uuid set (model sets areas uuid name region size made) (name_in name) (Complete (name_in name) false) (all_changed areas creating)
   stands =
-      stands_end uuid set (model sets areas uuid name region size made) (law.whole sets areas uuid name region size made regions good) (name_in name) areas (λ m. None) news put_updating put_settled ku ks
+      stands_end uuid set (model sets areas uuid name region size made) (law.whole sets areas uuid name region size made regions good) (name_in name) areas (λ m. None) news put_updating put_updated ku ks
       (law.proper sets areas uuid name region size made regions good) given no_lab (law.covers sets areas uuid name region size made regions good) becomes some_new
 
   pub all_of : AllByRecursion (IsOf uuid) creating
-  all_of = two_of uuid put_updating put_settled ku ks news (all_pass_to (IsGiven uuid (λ m. None) areas) (λ p. p.1.uuid ≡ uuid) (λ p g. g.0) news given)
+  all_of = two_of uuid put_updating put_updated ku ks news (all_pass_to (IsGiven uuid (λ m. None) areas) (λ p. p.1.uuid ≡ uuid) (λ p g. g.0) news given)
 
   pub fits : Fitting uuid (λ m. None) areas creating
-  fits = two_fits uuid (λ m. None) areas put_updating put_settled ku ks news given
+  fits = two_fits uuid (λ m. None) areas put_updating put_updated ku ks news given
 
   sum : (i : ℕ) → free_in (slots_on (all_changed areas creating) i) + owned (moved_all (λ m. None) creating i) ≡ free_in (slots_on areas i) + 0
   sum i = sum_kept creating uuid (λ m. None) areas (law.proper sets areas uuid name region size made regions good) fits i
@@ -132,22 +132,22 @@ module _ (sets : List (List Mapping)) (areas : List (Option Area)) (uuid : List 
       by : (o : Option Mapping) → mapping_of set i ≡ o → free_in (slots_on (all_changed areas creating) i) ≡ free_in (slots_on areas i) - count_in (modules_of set) i
       by None is =
           let none : names news i ≡ false = names_none (label_for sets areas uuid name region size made) (λ e. refl) set 0 i is in
-          let owns : owned (moved_all (λ m. None) creating i) ≡ 0 = ap owned (two_miss put_updating put_settled news (λ m. None) i none) in
+          let owns : owned (moved_all (λ m. None) creating i) ≡ 0 = ap owned (two_miss put_updating put_updated news (λ m. None) i none) in
           omega (arith, sum i, owns, count_in_none set i is)
       by (Some k) is =
           let both = found_passes (λ (j : Mapping). j.«module» == i) (λ (j : Mapping). names news j.«module» ≡ true) set k is (law.covers sets areas uuid name region size made regions good) in
           let named : names news i ≡ true = ap (names news) (sym (eqb-true k.«module» i both.0)) ∙ both.1 in
           let owns : owned (moved_all (λ m. None) creating i) ≡ 1 =
-          two_hit (λ n o. owned o ≡ 1) put_updating put_settled news (λ m. None) i named (ones news) in
+          two_hit (λ n o. owned o ≡ 1) put_updating put_updated news (λ m. None) i named (ones news) in
           omega (arith, sum i, owns, count_in_one set i k sound_set.apart is)
         where
-          ones : (qs : List (ℕ × Label)) → AllByRecursion (λ (q : ℕ × Label). owned (put_settled q.1) ≡ 1) qs
+          ones : (qs : List (ℕ × Label)) → AllByRecursion (λ (q : ℕ × Label). owned (put_updated q.1) ≡ 1) qs
           ones [] = tt
           ones (q ∷ qs) = (refl, ones qs)
 
   pub create_agrees : namespaces_of sets (all_changed areas creating) ≡ done (namespaces_of sets areas) (law.create sets areas uuid name region size made)
   create_agrees =
       ap (λ (es : List NamespaceEntry). record (namespaces_of sets (all_changed areas creating)) { entries = es })
-      (entries_put sets areas uuid creating (two_of uuid put_updating put_settled ku ks news (all_pass_to (IsGiven uuid (λ m. None) areas) (λ p. p.1.uuid ≡ uuid) (λ p g. g.0) news given))
+      (entries_put sets areas uuid creating (two_of uuid put_updating put_updated ku ks news (all_pass_to (IsGiven uuid (λ m. None) areas) (λ p. p.1.uuid ≡ uuid) (λ p g. g.0) news given))
       (made_entry sets areas uuid name region size made) refl (whole_left sets areas uuid name region size made regions good (all_changed areas creating) (length_kept creating areas) stands))
       ∙ ap (λ (as' : List AreaSummary). record (done (namespaces_of sets areas) (law.create sets areas uuid name region size made)) { areas = as' }) (areas_taken areas creating (modules_of set) free)

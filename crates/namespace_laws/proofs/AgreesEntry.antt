@@ -15,17 +15,17 @@ use Rattle.namespace_map.specs.declared.commands.Command.TheVariants as command
 use Rattle.namespace_map.specs.Areas.{Area, Change, slots_of, slots_on, free_in, changed_areas, all_changed, replaced, slot_of}
 use Rattle.namespace_map.specs.Commands.{count_in, given_to, done, name_in, refusal_of, entry_modules, renamed, deleted_entry, renamed_entry}
 use Rattle.namespace_map.specs.Changes.{namespaces_of, changes_of, placed_in_all, change_to, in_two}
-use Rattle.label_codec.specs.Flags.{settled}
+use Rattle.label_codec.specs.Flags.{updated}
 use Rattle.namespace_map.proofs.Slots.{owned, remove_count}
 use Rattle.namespace_map.proofs.Areas.{proper_after as areas_proper_after, Proper, Fitting, moved, moved_all, sum_kept, slots_of_changed, area_of_other}
 use Rattle.namespace_map.specs.Left.{AreRegions, LabelsAreRead}
 use Rattle.namespace_laws.proofs.Whole.{own_of}
 use Rattle.namespace_laws.proofs.Staged.{names, IsGiven}
 use Rattle.namespace_laws.proofs.Two.{length_kept}
-use Rattle.namespace_laws.proofs.Table.{settled_doesnt}
+use Rattle.namespace_laws.proofs.Table.{updated_doesnt}
 use Rattle.namespace_laws.proofs.Create.{StandsAs}
 use Rattle.namespace_laws.proofs.Delete.{Stands, at_name, own_empty, to_updating, to_nothing, keeps_updating, keeps_nothing}
-use Rattle.namespace_laws.proofs.Rename.{to_renamed, to_settled, keeps_renamed, keeps_settled, sound_settled}
+use Rattle.namespace_laws.proofs.Rename.{to_renamed, to_updated, keeps_renamed, keeps_updated, sound_updated}
 use Rattle.namespace_laws.proofs.Shaped.{lies_there}
 use Rattle.namespace_laws.proofs.One.{one_of, proper_gone}
 use Rattle.namespace_laws.proofs.Standing as st
@@ -186,15 +186,15 @@ module _ (sets : List (List Mapping)) (areas : List (Option Area)) (uuid : List 
     given : AllByRecursion (IsGiven uuid (lab fine.unlocked) areas) (own_ps fine.unlocked)
     given = st.given sets areas uuid e pending regions read is status fine.unlocked fine.room
 
-    becomes : AllByRecursion (Becomes (st.set sets areas uuid e pending regions read is status fine.unlocked) (st.model sets areas uuid e pending regions read is status fine.unlocked) new (to_settled new)) (own_ps fine.unlocked)
+    becomes : AllByRecursion (Becomes (st.set sets areas uuid e pending regions read is status fine.unlocked) (st.model sets areas uuid e pending regions read is status fine.unlocked) new (to_updated new)) (own_ps fine.unlocked)
     becomes =
-        all_pass_to (λ p. lab fine.unlocked p.0 ≡ Some p.1) (Becomes (st.set sets areas uuid e pending regions read is status fine.unlocked) (st.model sets areas uuid e pending regions read is status fine.unlocked) new (to_settled new))
+        all_pass_to (λ p. lab fine.unlocked p.0 ≡ Some p.1) (Becomes (st.set sets areas uuid e pending regions read is status fine.unlocked) (st.model sets areas uuid e pending regions read is status fine.unlocked) new (to_updated new))
         (λ p at. record {
-          new = record (settled p.1) { name = new };
+          new = record (updated p.1) { name = new };
           is_new = refl;
-          sound = sound_settled (st.set sets areas uuid e pending regions read is status fine.unlocked) (st.model sets areas uuid e pending regions read is status fine.unlocked) new p.0 p.1 (st.sound_as sets areas uuid e pending regions read is status fine.unlocked p.0 p.1 at);
+          sound = sound_updated (st.set sets areas uuid e pending regions read is status fine.unlocked) (st.model sets areas uuid e pending regions read is status fine.unlocked) new p.0 p.1 (st.sound_as sets areas uuid e pending regions read is status fine.unlocked p.0 p.1 at);
           named = refl;
-          quiet = settled_doesnt p.1;
+          quiet = updated_doesnt p.1;
         }) (own_ps fine.unlocked) (labels fine.unlocked)
 
     some : 1 ≤ length (own_ps fine.unlocked)
@@ -205,7 +205,7 @@ module _ (sets : List (List Mapping)) (areas : List (Option Area)) (uuid : List 
     stands_as : StandsAs uuid (st.set sets areas uuid e pending regions read is status fine.unlocked) (st.model sets areas uuid e pending regions read is status fine.unlocked) new (Complete new false) (all_changed areas renaming)
     stands_as =
         stands_end uuid (st.set sets areas uuid e pending regions read is status fine.unlocked) (st.model sets areas uuid e pending regions read is status fine.unlocked) (st.rules sets areas uuid e pending regions read is status fine.unlocked).whole
-        new areas (lab fine.unlocked) (own_ps fine.unlocked) (to_renamed new) (to_settled new) (keeps_renamed new) (keeps_settled new) (proper fine.unlocked) given (only fine.unlocked)
+        new areas (lab fine.unlocked) (own_ps fine.unlocked) (to_renamed new) (to_updated new) (keeps_renamed new) (keeps_updated new) (proper fine.unlocked) given (only fine.unlocked)
         (st.set_covered sets areas uuid e pending regions read is status fine.unlocked) becomes some
 
     stands : Stands uuid (st.set sets areas uuid e pending regions read is status fine.unlocked) (st.model sets areas uuid e pending regions read is status fine.unlocked) (Complete new false) (all_changed areas renaming)
@@ -214,25 +214,25 @@ module _ (sets : List (List Mapping)) (areas : List (Option Area)) (uuid : List 
     owns : (i : ℕ) → owned (moved_all (lab fine.unlocked) renaming i) ≡ owned (lab fine.unlocked i)
     owns i = elim (cases_Bool (names (own_ps fine.unlocked) i)) [
       | inl it ↦
-          let a : owned (moved_all (lab fine.unlocked) renaming i) ≡ 1 = two_hit (λ n o. owned o ≡ 1) (to_renamed new) (to_settled new) (own_ps fine.unlocked) (lab fine.unlocked) i it (ones (own_ps fine.unlocked)) in
+          let a : owned (moved_all (lab fine.unlocked) renaming i) ≡ 1 = two_hit (λ n o. owned o ≡ 1) (to_renamed new) (to_updated new) (own_ps fine.unlocked) (lab fine.unlocked) i it (ones (own_ps fine.unlocked)) in
           let b : owned (lab fine.unlocked i) ≡ 1 = at_name (λ n. owned (lab fine.unlocked n) ≡ 1) (own_ps fine.unlocked) i it
           (all_pass_to (λ p. lab fine.unlocked p.0 ≡ Some p.1) (λ p. owned (lab fine.unlocked p.0) ≡ 1) (λ p at. ap owned at) (own_ps fine.unlocked) (labels fine.unlocked)) in
           a ∙ sym b
-      | inr not_it ↦ ap owned (two_miss (to_renamed new) (to_settled new) (own_ps fine.unlocked) (lab fine.unlocked) i not_it)
+      | inr not_it ↦ ap owned (two_miss (to_renamed new) (to_updated new) (own_ps fine.unlocked) (lab fine.unlocked) i not_it)
     ]
       where
-        ones : (qs : List (ℕ × Label)) → AllByRecursion (λ (q : ℕ × Label). owned (to_settled new q.1) ≡ 1) qs
+        ones : (qs : List (ℕ × Label)) → AllByRecursion (λ (q : ℕ × Label). owned (to_updated new q.1) ≡ 1) qs
         ones [] = tt
         ones (q ∷ qs) = (refl, ones qs)
 
     free : (i : ℕ) → free_in (slots_on (all_changed areas renaming) i) ≡ free_in (slots_on areas i)
     free i =
-        let a = sum_kept renaming uuid (lab fine.unlocked) areas (proper fine.unlocked) (two_fits uuid (lab fine.unlocked) areas (to_renamed new) (to_settled new) (keeps_renamed new) (keeps_settled new) (own_ps fine.unlocked) given) i in
+        let a = sum_kept renaming uuid (lab fine.unlocked) areas (proper fine.unlocked) (two_fits uuid (lab fine.unlocked) areas (to_renamed new) (to_updated new) (keeps_renamed new) (keeps_updated new) (own_ps fine.unlocked) given) i in
         omega (arith, a, owns i)
 
     pub rename_agrees : namespaces_of sets (all_changed areas (changes_of (namespaces_of sets areas) areas (command.Rename uuid name))) ≡ done (namespaces_of sets areas) (command.Rename uuid name)
     rename_agrees = ap (λ (es : List NamespaceEntry). record (namespaces_of sets (all_changed areas renaming)) { entries = es })
-        (entries_put sets areas uuid renaming (two_of uuid (to_renamed new) (to_settled new) (keeps_renamed new) (keeps_settled new) (own_ps fine.unlocked) (of_uuid fine.unlocked))
+        (entries_put sets areas uuid renaming (two_of uuid (to_renamed new) (to_updated new) (keeps_renamed new) (keeps_updated new) (own_ps fine.unlocked) (of_uuid fine.unlocked))
         (renamed e new) entry_uuid (st.settled_left sets areas uuid e pending regions read is status fine.unlocked (all_changed areas renaming) (length_kept renaming areas) new stands))
         ∙ ap (λ (as' : List AreaSummary). record (namespaces_of sets areas) { areas = as'; entries = put (renamed e new) (namespaces_of sets areas).entries }) (areas_same areas renaming [] free)
         ∙ ap (renamed_entry (namespaces_of sets areas) new) (sym is)

@@ -15,14 +15,14 @@ use Rattle.label_set.specs.declared.placed.SetStatus.TheVariants.{Complete, Unfi
 use Rattle.label_set.specs.Rules.{is_updating}
 use Rattle.label_set.specs.Status.{status_of}
 use Rattle.namespace_map.specs.Changes.{change_to, in_two}
-use Rattle.label_codec.specs.Flags.{updating, settled}
+use Rattle.label_codec.specs.Flags.{updating, updated}
 use Rattle.namespace_map.specs.CommandLaws.{IsOf}
 use Rattle.namespace_map.proofs.Areas.{Proper, HasRoom, Fitting, moved_all, proper_after, moved_keeps, all_of_front}
 use Rattle.namespace_map.proofs.Rising.{all_pass_to}
 use Rattle.namespace_laws.proofs.Whole.{all_append, none_passes, any_of, AllLab, own_of, own_each}
 use Rattle.namespace_laws.proofs.Sound.{IsWhole}
 use Rattle.namespace_laws.proofs.Staged.{in_two_many, front_of_two, FrontOfTwo, Apart, names, not_before, named_in_front, moved_hit, moved_miss, unnamed, IsGiven, KeepsUuid, stage_fits, moved_all_append, all_map, all_at}
-use Rattle.namespace_laws.proofs.Table.{changes_now, updating_changes, settled_doesnt, sound_like, like_updating, like_settled, own_unfinished, own_complete, Model, SoundAs}
+use Rattle.namespace_laws.proofs.Table.{changes_now, updating_changes, updated_doesnt, sound_like, like_updating, like_updated, own_unfinished, own_complete, Model, SoundAs}
 use Rattle.namespace_map.proofs.Fronts.{cut_is_front, IsFront}
 
 -- a property that holds before, and of each new label, holds after
@@ -43,14 +43,14 @@ pub record StandsAs (uuid : List ℕ) (set : List Mapping) (c : Model) (name : L
 abbrev put_updating : Label → Option Label
 put_updating l = Some (updating l)
 
-abbrev put_settled : Label → Option Label
-put_settled l = Some (settled l)
+abbrev put_updated : Label → Option Label
+put_updated l = Some (updated l)
 
 keeps_updating : KeepsUuid put_updating
 keeps_updating l l' is = ap (λ (k : Label). k.uuid) (sym (same_Some (updating l) l' is))
 
-keeps_settled : KeepsUuid put_settled
-keeps_settled l l' is = ap (λ (k : Label). k.uuid) (sym (same_Some (settled l) l' is))
+keeps_updated : KeepsUuid put_updated
+keeps_updated l l' is = ap (λ (k : Label). k.uuid) (sym (same_Some (updated l) l' is))
 
 -- what each new label of a namespace is
 pub record IsNew (set : List Mapping) (c : Model) (name : List ℕ) (p : ℕ × Label) : Type 0 where
@@ -72,7 +72,7 @@ module _ (uuid : List ℕ) (set : List Mapping) (c : Model) (whole : IsWhole set
   first qs = map (change_to put_updating) qs
 
   abbrev second : List (ℕ × Label) → List Change
-  second qs = map (change_to put_settled) qs
+  second qs = map (change_to put_updated) qs
 
   abbrev lab_one : ℕ → ℕ → Option Label
   lab_one k = moved_all lab (first (take k ps))
@@ -149,15 +149,15 @@ module _ (uuid : List ℕ) (set : List Mapping) (c : Model) (whole : IsWhole set
       subst (λ (f : ℕ → Option Label). Proper uuid f (all_changed areas (both j))) (moved_all_append whole_first (second (take j ps)) lab)
       (proper_after (both j) uuid lab areas proper
       (all_append (λ c. IsOf uuid c × HasRoom lab areas c.number) whole_first (second (take j ps)) (fit_one (length ps))
-      (stage_fits uuid lab areas put_settled keeps_settled (take j ps) (all_of_front (IsGiven uuid lab areas) j ps given))))
+      (stage_fits uuid lab areas put_updated keeps_updated (take j ps) (all_of_front (IsGiven uuid lab areas) j ps given))))
 
   each_two : (j : ℕ) → AllLab (λ m l. SoundAs set c m l × (l.name ≡ name)) (lab_two j)
   each_two j =
-      lab_keeps (λ m l. SoundAs set c m l × (l.name ≡ name)) put_settled (take j ps) (lab_one (length ps)) (λ m l is. ((each_one (length ps) m l is).0, (each_one (length ps) m l is).1))
-      (all_of_front (λ p. (l : Label) → put_settled p.1 ≡ Some l → SoundAs set c p.0 l × (l.name ≡ name)) j ps
-      (all_pass_to (IsNew set c name) (λ p. (l : Label) → put_settled p.1 ≡ Some l → SoundAs set c p.0 l × (l.name ≡ name))
-      (λ p is l e. subst (λ (x : Label). SoundAs set c p.0 x × (x.name ≡ name)) (same_Some (settled p.1) l e)
-      (sound_like set c p.0 p.1 (settled p.1) is.sound (like_settled p.1), is.named)) ps new))
+      lab_keeps (λ m l. SoundAs set c m l × (l.name ≡ name)) put_updated (take j ps) (lab_one (length ps)) (λ m l is. ((each_one (length ps) m l is).0, (each_one (length ps) m l is).1))
+      (all_of_front (λ p. (l : Label) → put_updated p.1 ≡ Some l → SoundAs set c p.0 l × (l.name ≡ name)) j ps
+      (all_pass_to (IsNew set c name) (λ p. (l : Label) → put_updated p.1 ≡ Some l → SoundAs set c p.0 l × (l.name ≡ name))
+      (λ p is l e. subst (λ (x : Label). SoundAs set c p.0 x × (x.name ≡ name)) (same_Some (updated p.1) l e)
+      (sound_like set c p.0 p.1 (updated p.1) is.sound (like_updated p.1), is.named)) ps new))
 
   all_taken : take (length ps) ps ≡ ps
   all_taken = take_all (length ps) ps (omega arith)
@@ -170,9 +170,9 @@ module _ (uuid : List ℕ) (set : List Mapping) (c : Model) (whole : IsWhole set
   has_two : (j m : ℕ) → names ps m ≡ true → (l : Label) × (lab_two j m ≡ Some l)
   has_two j m named =
       elim (cases_Bool (names (take j ps) m)) [
-        | inl it ↦ moved_hit (λ n o. (l : Label) × (o ≡ Some l)) put_settled (take j ps) (lab_one (length ps)) m it
-            (all_of_front (λ p. (l : Label) × (put_settled p.1 ≡ Some l)) j ps (all_pass_to (IsNew set c name) (λ p. (l : Label) × (put_settled p.1 ≡ Some l)) (λ p is. (settled p.1, refl)) ps new))
-        | inr not_it ↦ rw (moved_miss put_settled (take j ps) (lab_one (length ps)) m (unnamed (take j ps) m not_it)) (has_one m named)
+        | inl it ↦ moved_hit (λ n o. (l : Label) × (o ≡ Some l)) put_updated (take j ps) (lab_one (length ps)) m it
+            (all_of_front (λ p. (l : Label) × (put_updated p.1 ≡ Some l)) j ps (all_pass_to (IsNew set c name) (λ p. (l : Label) × (put_updated p.1 ≡ Some l)) (λ p is. (updated p.1, refl)) ps new))
+        | inr not_it ↦ rw (moved_miss put_updated (take j ps) (lab_one (length ps)) m (unnamed (take j ps) m not_it)) (has_one m named)
       ]
 
   there_two : (j m : ℕ) → names ps m ≡ true → m < length (all_changed areas (both j))
@@ -213,7 +213,7 @@ module _ (uuid : List ℕ) (set : List Mapping) (c : Model) (whole : IsWhole set
       by : (l : Label) × (lab_one (length ps) (at j) ≡ Some l) × (changes_now l ≡ true) → list_any is_updating (own_of uuid (all_changed areas (both j))) ≡ true
       by (l, is, changes) =
           any_of uuid (lab_two j) (all_changed areas (both j)) (at j) l is_updating (proper_two j) (there_two j (at j) (named_at j less))
-          (moved_miss put_settled (take j ps) (lab_one (length ps)) (at j) (not_before ps j d less apart) ∙ is) (λ s. changes)
+          (moved_miss put_updated (take j ps) (lab_one (length ps)) (at j) (not_before ps j d less apart) ∙ is) (λ s. changes)
 
   -- all settled: complete
   all_settled : StandsAs uuid set c name (Complete name false) (all_changed areas (both (length ps)))
@@ -224,28 +224,28 @@ module _ (uuid : List ℕ) (set : List Mapping) (c : Model) (whole : IsWhole set
       still_there : (m : ℕ) (l : Label) → lab_two (length ps) m ≡ Some l → changes_now l ≡ false
       still_there m l is =
           elim (cases_Bool (names (take (length ps) ps) m)) [
-            | inl it ↦ moved_hit (λ n o. (k : Label) → o ≡ Some k → changes_now k ≡ false) put_settled (take (length ps) ps) (lab_one (length ps)) m it
-                (all_of_front (λ p. (k : Label) → put_settled p.1 ≡ Some k → changes_now k ≡ false) (length ps) ps
-                (all_pass_to (IsNew set c name) (λ p. (k : Label) → put_settled p.1 ≡ Some k → changes_now k ≡ false)
-                (λ p q k e. subst (λ (x : Label). changes_now x ≡ false) (same_Some (settled p.1) k e) (settled_doesnt p.1)) ps new)) l is
+            | inl it ↦ moved_hit (λ n o. (k : Label) → o ≡ Some k → changes_now k ≡ false) put_updated (take (length ps) ps) (lab_one (length ps)) m it
+                (all_of_front (λ p. (k : Label) → put_updated p.1 ≡ Some k → changes_now k ≡ false) (length ps) ps
+                (all_pass_to (IsNew set c name) (λ p. (k : Label) → put_updated p.1 ≡ Some k → changes_now k ≡ false)
+                (λ p q k e. subst (λ (x : Label). changes_now x ≡ false) (same_Some (updated p.1) k e) (updated_doesnt p.1)) ps new)) l is
             | inr not_it ↦
                 let others = unnamed (take (length ps) ps) m not_it in
-                absurd (none-some l (sym (none m) ∙ sym (moved_miss put_updating (take (length ps) ps) lab m others) ∙ sym (moved_miss put_settled (take (length ps) ps) (lab_one (length ps)) m others) ∙ is))
+                absurd (none-some l (sym (none m) ∙ sym (moved_miss put_updating (take (length ps) ps) lab m others) ∙ sym (moved_miss put_updated (take (length ps) ps) (lab_one (length ps)) m others) ∙ is))
           ]
 
   -- ---- the table's line
 
   abbrev pub create_changes : List Change
-  create_changes = in_two put_updating put_settled ps
+  create_changes = in_two put_updating put_updated ps
 
   both_is : (j : ℕ) → first ps ++ second (take j ps) ≡ both j
   both_is j = ap (λ (qs : List (ℕ × Label)). first qs ++ second (take j ps)) (sym all_taken)
 
   by_front : (k : ℕ) → (CreateLeft uuid set c name areas) (all_changed areas (take k create_changes))
   unfolding all_changed
-  by_front k = rw (in_two_many put_updating put_settled ps many) (by k (front_of_two (change_to put_updating) (change_to put_settled) ps ps k))
+  by_front k = rw (in_two_many put_updating put_updated ps many) (by k (front_of_two (change_to put_updating) (change_to put_updated) ps ps k))
     where
-      by : (k : ℕ) → FrontOfTwo (change_to put_updating) (change_to put_settled) ps ps k → (CreateLeft uuid set c name areas) (all_changed areas (take k (first ps ++ second ps)))
+      by : (k : ℕ) → FrontOfTwo (change_to put_updating) (change_to put_updated) ps ps k → (CreateLeft uuid set c name areas) (all_changed areas (take k (first ps ++ second ps)))
       by zero front = inl refl
       by (suc k) (inl (below, is)) =
           elim (cases_lt (suc k) (length ps)) [

@@ -11,7 +11,7 @@ use Rattle.namespace_map.specs.declared.commands.Named.{Named}
 use Rattle.namespace_map.specs.Areas.{Area, Change, after_steps}
 use Rattle.namespace_map.specs.Commands.{name_in, refusal_of}
 use Rattle.namespace_map.specs.Changes.{namespaces_of, changes_of, in_two}
-use Rattle.label_codec.specs.Flags.{updating, settled}
+use Rattle.label_codec.specs.Flags.{updating, updated}
 use Rattle.namespace_map.proofs.Fronts.{cut_is_front, IsFront}
 use Rattle.namespace_map.specs.Left.{AreRegions}
 use Rattle.namespace_laws.specs.Laws.{CutOfCreate, CutOfCreateAlone}
@@ -95,8 +95,8 @@ module _ (sets : List (List Mapping)) (areas : List (Option Area)) (uuid : List 
 
       by : (p : ℕ × Label) × (news ≡ p ∷ []) → CutOfCreateAlone new (found (cut n stays))
       by (p, is) =
-          left (subst (λ (qs : List (ℕ × Label)). (after_steps areas (in_two (λ l. Some (updating l)) (λ l. Some (settled l)) qs) n stays ≡ areas)
-          ⊎ law.stands_with sets areas uuid name region size made regions good (Complete (name_in name) false) (after_steps areas (in_two (λ l. Some (updating l)) (λ l. Some (settled l)) qs) n stays)) (sym is)
+          left (subst (λ (qs : List (ℕ × Label)). (after_steps areas (in_two (λ l. Some (updating l)) (λ l. Some (updated l)) qs) n stays ≡ areas)
+          ⊎ law.stands_with sets areas uuid name region size made regions good (Complete (name_in name) false) (after_steps areas (in_two (λ l. Some (updating l)) (λ l. Some (updated l)) qs) n stays)) (sym is)
           (create_cut_one uuid set (model sets areas uuid name region size made) (law.whole sets areas uuid name region size made regions good) (name_in name) areas (λ m. None) p
           (law.proper sets areas uuid name region size made regions good) (λ m. refl)
           (subst (λ (qs : List (ℕ × Label)). AllByRecursion (IsGiven uuid (λ m. None) areas) qs) is (law.given sets areas uuid name region size made regions good)).0

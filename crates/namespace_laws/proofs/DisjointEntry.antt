@@ -26,10 +26,10 @@ use Rattle.namespace_map.specs.Left.{AreRegions, LabelsAreRead}
 use Rattle.namespace_laws.specs.Apart.{AreApart, EntriesApart, KeepsApart, LeavesOthers}
 use Rattle.namespace_laws.proofs.Whole.{AllLab, all_append, own_of, IsBy, slot_on, all_by}
 use Rattle.namespace_laws.proofs.Staged.{IsGiven, KeepsUuid, all_map}
-use Rattle.namespace_laws.proofs.Table.{IsLike, like_like, like_self, like_named, like_updating, like_settled}
+use Rattle.namespace_laws.proofs.Table.{IsLike, like_like, like_self, like_named, like_updating, like_updated}
 use Rattle.namespace_laws.proofs.Two.{length_kept}
 use Rattle.namespace_laws.proofs.Delete.{to_updating, to_nothing, keeps_updating, keeps_nothing}
-use Rattle.namespace_laws.proofs.Rename.{to_renamed, to_settled, keeps_renamed, keeps_settled}
+use Rattle.namespace_laws.proofs.Rename.{to_renamed, to_updated, keeps_renamed, keeps_updated}
 use Rattle.namespace_laws.proofs.Shaped.{part_at, part_like, base_parts, in_filter, in_range, lies_there}
 use Rattle.namespace_laws.proofs.One.{delete_cut_one}
 use Rattle.namespace_laws.proofs.Standing as st
@@ -107,8 +107,8 @@ front_parts uuid lab areas ps f g kf kg lf lg proper given labels n stays = by (
         (λ m l at. moved_keeps (LikeIn lab) (take k (in_two f g ps)) lab (λ i l here. (l, here, like_self l)) (all_of_front (λ (c : Change). LikeIn lab c.number c.label) k (in_two f g ps) (like_two lab f g lf lg ps labels)) m l at)
         (length areas) (length_kept (take k (in_two f g ps)) areas))
 
-like_updated : KeepsLike to_updating
-like_updated l l' is = subst (IsLike l) (same_Some _ l' is) (like_updating l)
+like_marked : KeepsLike to_updating
+like_marked l l' is = subst (IsLike l) (same_Some _ l' is) (like_updating l)
 
 like_gone : KeepsLike to_nothing
 like_gone l l' is = absurd (none-some l' is)
@@ -116,8 +116,8 @@ like_gone l l' is = absurd (none-some l' is)
 like_renamed : (new : List ℕ) → KeepsLike (to_renamed new)
 like_renamed new l l' is = subst (IsLike l) (same_Some _ l' is) (like_like l _ _ (like_updating l) (like_named _ new))
 
-like_ended : (new : List ℕ) → KeepsLike (to_settled new)
-like_ended new l l' is = subst (IsLike l) (same_Some _ l' is) (like_like l _ _ (like_settled l) (like_named _ new))
+like_ended : (new : List ℕ) → KeepsLike (to_updated new)
+like_ended new l l' is = subst (IsLike l) (same_Some _ l' is) (like_like l _ _ (like_updated l) (like_named _ new))
 
 -- ---- delete and rename
 
@@ -153,7 +153,7 @@ module _ (sets : List (List Mapping)) (areas : List (Option Area)) (uuid : List 
       → lookup uuid (namespaces_of sets (after_steps areas (changes_of (namespaces_of sets areas) areas (command.Delete uuid)) n stays)).entries ≡ Some x → AllByRecursion (Contains e.parts) x.parts
   delete_parts has n stays x at = elim (cases_lt 1 (length e.parts)) [
     | inl many ↦ among has.unlocked (after_steps areas (changes_of (namespaces_of sets areas) areas (command.Delete uuid)) n stays)
-        (front_parts uuid (lab has.unlocked) areas (ps has.unlocked) to_updating to_nothing keeps_updating keeps_nothing like_updated like_gone (proper has.unlocked)
+        (front_parts uuid (lab has.unlocked) areas (ps has.unlocked) to_updating to_nothing keeps_updating keeps_nothing like_marked like_gone (proper has.unlocked)
         (st.given sets areas uuid e pending regions read is status has.unlocked (rw (le-leb 2 (length e.parts) (omega arith)) at has.room)) (labels has.unlocked) n stays) x at
     | inr few ↦
         let some = st.some_own sets areas uuid e pending regions read is status has.unlocked in
@@ -184,9 +184,9 @@ module _ (sets : List (List Mapping)) (areas : List (Option Area)) (uuid : List 
       let fine = rename_good (namespaces_of sets areas) uuid name e is good in
       keeps_apart sets areas (after_steps areas (changes_of (namespaces_of sets areas) areas (command.Rename uuid name)) n stays) uuid e before
       (λ v ne. cut_leaves_others sets areas uuid (changes_of (namespaces_of sets areas) areas (command.Rename uuid name))
-      (two_of uuid (to_renamed (name_in name)) (to_settled (name_in name)) (keeps_renamed (name_in name)) (keeps_settled (name_in name)) (ps fine.unlocked) (of_uuid fine.unlocked)) n stays v ne)
+      (two_of uuid (to_renamed (name_in name)) (to_updated (name_in name)) (keeps_renamed (name_in name)) (keeps_updated (name_in name)) (ps fine.unlocked) (of_uuid fine.unlocked)) n stays v ne)
       (among fine.unlocked (after_steps areas (changes_of (namespaces_of sets areas) areas (command.Rename uuid name)) n stays)
-      (front_parts uuid (lab fine.unlocked) areas (ps fine.unlocked) (to_renamed (name_in name)) (to_settled (name_in name)) (keeps_renamed (name_in name)) (keeps_settled (name_in name)) (like_renamed (name_in name)) (like_ended (name_in name))
+      (front_parts uuid (lab fine.unlocked) areas (ps fine.unlocked) (to_renamed (name_in name)) (to_updated (name_in name)) (keeps_renamed (name_in name)) (keeps_updated (name_in name)) (like_renamed (name_in name)) (like_ended (name_in name))
       (proper fine.unlocked) (st.given sets areas uuid e pending regions read is status fine.unlocked fine.room) (labels fine.unlocked) n stays)) free
 
 pub delete_others : (sets : List (List Mapping)) (areas : List (Option Area)) (uuid : List ℕ) → AreRegions sets → LabelsAreRead areas → refusal_of (namespaces_of sets areas) (command.Delete uuid) ≡ None
@@ -208,7 +208,7 @@ rename_others sets areas uuid name regions read good n stays v ne =
     let labels = st.labels sets areas uuid f.entry f.pending regions read f.is f.status has.unlocked in
     let proper = st.proper sets areas uuid f.entry f.pending regions read f.is f.status has.unlocked in
     cut_leaves_others sets areas uuid (changes_of (namespaces_of sets areas) areas (command.Rename uuid name))
-    (two_of uuid (to_renamed (name_in name)) (to_settled (name_in name)) (keeps_renamed (name_in name)) (keeps_settled (name_in name)) (own_labels areas uuid)
+    (two_of uuid (to_renamed (name_in name)) (to_updated (name_in name)) (keeps_renamed (name_in name)) (keeps_updated (name_in name)) (own_labels areas uuid)
     (all_pass_to (λ p. lab_of uuid areas p.0 ≡ Some p.1) (λ p. p.1.uuid ≡ uuid) (λ p at. proper.named p.0 p.1 at) (own_labels areas uuid) labels)) n stays v ne
 
 pub delete_apart : (sets : List (List Mapping)) (areas : List (Option Area)) (uuid : List ℕ) → AreRegions sets → LabelsAreRead areas → refusal_of (namespaces_of sets areas) (command.Delete uuid) ≡ None → KeepsApart sets areas (command.Delete uuid)

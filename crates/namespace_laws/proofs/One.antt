@@ -19,10 +19,10 @@ use Rattle.namespace_map.proofs.Fronts.{cut_is_front, IsFront}
 use Rattle.namespace_laws.proofs.Whole.{none_passes, any_of, AllLab, own_of, own_each}
 use Rattle.namespace_laws.proofs.Sound.{IsWhole}
 use Rattle.namespace_laws.proofs.Staged.{names, moved_hit, IsGiven, stage_fits}
-use Rattle.namespace_laws.proofs.Table.{Model, SoundAs, changes_now, settled_doesnt, own_complete}
+use Rattle.namespace_laws.proofs.Table.{Model, SoundAs, changes_now, updated_doesnt, own_complete}
 use Rattle.namespace_laws.proofs.Two.{length_kept, lab_keeps}
 use Rattle.namespace_laws.proofs.Delete.{Stands, IsComplete, own_empty, to_updating, to_nothing}
-use Rattle.namespace_laws.proofs.Rename.{to_renamed, to_settled, keeps_settled, sound_settled}
+use Rattle.namespace_laws.proofs.Rename.{to_renamed, to_updated, keeps_updated, sound_updated}
 use Rattle.namespace_laws.proofs.Shaped.{lies_there}
 
 pub one_of : {X : Type 0} (xs : List X) → length xs ≡ 1 → (x : X) × (xs ≡ x ∷ [])
@@ -103,27 +103,27 @@ delete_cut_one uuid areas lab ps proper only labels one n stays = by (one_of ps 
 
 module _ (uuid : List ℕ) (set : List Mapping) (c : Model) (whole : IsWhole set c.shared) (old new : List ℕ) (areas : List (Option Area)) (lab : ℕ → Option Label) where
   abbrev one_changes : List (ℕ × Label) → List Change
-  one_changes ps = in_two (to_renamed new) (to_settled new) ps
+  one_changes ps = in_two (to_renamed new) (to_updated new) ps
 
   module _ (p : ℕ × Label) (proper : Proper uuid lab areas) (given : AllByRecursion (IsGiven uuid lab areas) (p ∷ [])) (is : IsComplete uuid set c old lab (p ∷ [])) where
     abbrev lab_then : ℕ → Option Label
-    lab_then = moved_all lab (map (change_to (to_settled new)) (p ∷ []))
+    lab_then = moved_all lab (map (change_to (to_updated new)) (p ∷ []))
 
     abbrev areas_then : List (Option Area)
-    areas_then = all_changed areas (map (change_to (to_settled new)) (p ∷ []))
+    areas_then = all_changed areas (map (change_to (to_updated new)) (p ∷ []))
 
     proper_then : Proper uuid lab_then areas_then
-    proper_then = proper_after (map (change_to (to_settled new)) (p ∷ [])) uuid lab areas proper (stage_fits uuid lab areas (to_settled new) (keeps_settled new) (p ∷ []) given)
+    proper_then = proper_after (map (change_to (to_updated new)) (p ∷ [])) uuid lab areas proper (stage_fits uuid lab areas (to_updated new) (keeps_updated new) (p ∷ []) given)
 
     hit : (m : ℕ) → names (p ∷ []) m ≡ true → (m < length areas_then) × ((l : Label) × (lab_then m ≡ Some l) × (l.name ≡ new))
     hit m named =
-        moved_hit (λ n o. (n < length areas_then) × ((l : Label) × (o ≡ Some l) × (l.name ≡ new))) (to_settled new) (p ∷ []) lab m named
-        ((let there = given.0.1.there in omega (arith, length_kept (map (change_to (to_settled new)) (p ∷ [])) areas), (_, refl, refl)), tt)
+        moved_hit (λ n o. (n < length areas_then) × ((l : Label) × (o ≡ Some l) × (l.name ≡ new))) (to_updated new) (p ∷ []) lab m named
+        ((let there = given.0.1.there in omega (arith, length_kept (map (change_to (to_updated new)) (p ∷ [])) areas), (_, refl, refl)), tt)
 
     sound_then : AllLab (λ m l. SoundAs set c m l × (changes_now l ≡ false)) lab_then
     sound_then =
-        lab_keeps (λ m l. SoundAs set c m l × (changes_now l ≡ false)) (to_settled new) (p ∷ []) lab (λ m l e. (is.sound m l e, is.quiet m l e)) (
-          (λ l e. subst (λ (x : Label). SoundAs set c p.0 x × (changes_now x ≡ false)) (same_Some _ l e) (sound_settled set c new p.0 p.1 (is.sound p.0 p.1 is.labels.0), settled_doesnt p.1)),
+        lab_keeps (λ m l. SoundAs set c m l × (changes_now l ≡ false)) (to_updated new) (p ∷ []) lab (λ m l e. (is.sound m l e, is.quiet m l e)) (
+          (λ l e. subst (λ (x : Label). SoundAs set c p.0 x × (changes_now x ≡ false)) (same_Some _ l e) (sound_updated set c new p.0 p.1 (is.sound p.0 p.1 is.labels.0), updated_doesnt p.1)),
           tt,
         )
 
@@ -155,9 +155,9 @@ module _ (uuid : List ℕ) (set : List Mapping) (c : Model) (whole : IsWhole set
 
     pub renamed_or_not : (n : ℕ) (stays : Bool) → (after_steps areas (one_changes (p ∷ [])) n stays ≡ areas) ⊎ Stands uuid set c (Complete new false) (after_steps areas (one_changes (p ∷ [])) n stays)
     unfolding all_changed
-    renamed_or_not n stays = by (cut_of_one areas (change_to (to_settled new) p) n stays)
+    renamed_or_not n stays = by (cut_of_one areas (change_to (to_updated new) p) n stays)
       where
-        by : (after_steps areas (one_changes (p ∷ [])) n stays ≡ areas) ⊎ (after_steps areas (one_changes (p ∷ [])) n stays ≡ changed_areas areas (change_to (to_settled new) p))
+        by : (after_steps areas (one_changes (p ∷ [])) n stays ≡ areas) ⊎ (after_steps areas (one_changes (p ∷ [])) n stays ≡ changed_areas areas (change_to (to_updated new) p))
             → (after_steps areas (one_changes (p ∷ [])) n stays ≡ areas) ⊎ Stands uuid set c (Complete new false) (after_steps areas (one_changes (p ∷ [])) n stays)
         by (inl before) = inl before
         by (inr after) = inr (subst (Stands uuid set c (Complete new false)) (sym after) stands_then)

@@ -26,7 +26,7 @@ use Rattle.namespace_laws.specs.Laws.{CutOfCreate, CutOfDelete, CutOfRename}
 use Rattle.namespace_laws.specs.Recovered.{RecoversToEither}
 use Rattle.namespace_laws.proofs.Staged.{IsGiven}
 use Rattle.namespace_laws.proofs.Delete.{at_name, to_updating, to_nothing, keeps_updating, keeps_nothing}
-use Rattle.namespace_laws.proofs.Rename.{to_renamed, to_settled, keeps_renamed, keeps_settled}
+use Rattle.namespace_laws.proofs.Rename.{to_renamed, to_updated, keeps_renamed, keeps_updated}
 use Rattle.namespace_laws.proofs.CreateLaw as law
 use Rattle.namespace_laws.proofs.CreateLaw.{made_entry, ps}
 use Rattle.namespace_laws.proofs.CreateCut.{create_is_cut}
@@ -232,7 +232,7 @@ module _ (sets : List (List Mapping)) (areas : List (Option Area)) (uuid : List 
         given = st.given sets areas uuid e false regions read is status fine.unlocked fine.room
 
         fits : Fitting uuid (lab fine.unlocked) areas rs
-        fits = two_fits uuid (lab fine.unlocked) areas (to_renamed new_name) (to_settled new_name) (keeps_renamed new_name) (keeps_settled new_name) (own_ps fine.unlocked) given
+        fits = two_fits uuid (lab fine.unlocked) areas (to_renamed new_name) (to_updated new_name) (keeps_renamed new_name) (keeps_updated new_name) (own_ps fine.unlocked) given
 
         cut : FrontOf sets uuid (lab fine.unlocked) areas (after_steps areas rs n stays)
         cut = front_of_cut sets uuid (lab fine.unlocked) areas rs (proper_own fine.unlocked) fits (room_own fine.unlocked given) n stays

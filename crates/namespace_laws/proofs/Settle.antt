@@ -16,7 +16,7 @@ use Rattle.namespace_map.specs.Namespaces.{is_read_only}
 use Rattle.namespace_map.proofs.Rising.{all_pass_to}
 use Rattle.namespace_map.specs.Areas.{Area, Change, slots_on, free_in, all_changed}
 use Rattle.namespace_map.specs.Changes.{own_labels, change_to, with_name, is_unsettled}
-use Rattle.label_codec.specs.Flags.{settled}
+use Rattle.label_codec.specs.Flags.{updated}
 use Rattle.namespace_map.specs.CommandLaws.{IsOf}
 use Rattle.namespace_map.proofs.Slots.{owned}
 use Rattle.namespace_map.proofs.Areas.{Proper, moved_all, proper_after, sum_kept}
@@ -24,7 +24,7 @@ use Rattle.namespace_laws.proofs.Whole.{AllLab, own_of, IsBy, slot_on, all_by, a
 use Rattle.namespace_laws.proofs.Agree.{placed_by}
 use Rattle.namespace_laws.proofs.Staged.{names, IsGiven, KeepsUuid, stage_fits, moved_hit, moved_miss, unnamed, all_map}
 use Rattle.namespace_laws.proofs.Statuses.{agreed_names, one_name, two_names, still}
-use Rattle.namespace_laws.proofs.Table.{IsLike, like_like, like_self, like_named, like_settled, settled_doesnt, changes_now}
+use Rattle.namespace_laws.proofs.Table.{IsLike, like_like, like_self, like_named, like_updated, updated_doesnt, changes_now}
 use Rattle.namespace_laws.proofs.Shaped.{lies_there}
 use Rattle.namespace_laws.proofs.GoneLists.{PutsBytes}
 
@@ -120,7 +120,7 @@ module _ (uuid name : List ℕ) (areas : List (Option Area)) (lab : ℕ → Opti
     -- which of the unsettled labels are settled
     (t : ℕ × Label → Bool) (may : (p : ℕ × Label) → t p ≡ true → is_unsettled areas p ≡ true) where
   abbrev pub to_named : Label → Option Label
-  to_named l = Some (with_name name (settled l))
+  to_named l = Some (with_name name (updated l))
 
   abbrev pub qs : List (ℕ × Label)
   qs = filter t (own_labels areas uuid)
@@ -133,10 +133,10 @@ module _ (uuid name : List ℕ) (areas : List (Option Area)) (lab : ℕ → Opti
 
   -- the new label of a module
   abbrev pub step_of : ℕ → Label → Label
-  step_of m l = cond (t (m, l)) (with_name name (settled l)) l
+  step_of m l = cond (t (m, l)) (with_name name (updated l)) l
 
   keeps : KeepsUuid to_named
-  keeps l l' is = ap (λ (k : Label). k.uuid) (sym (same_Some (with_name name (settled l)) l' is))
+  keeps l l' is = ap (λ (k : Label). k.uuid) (sym (same_Some (with_name name (updated l)) l' is))
 
   unsettled : AllByRecursion (λ q. (lab q.0 ≡ Some q.1) × (t q ≡ true)) qs
   unsettled = all_filter (λ p. lab p.0 ≡ Some p.1) t (own_labels areas uuid) labels
@@ -159,7 +159,7 @@ module _ (uuid name : List ℕ) (areas : List (Option Area)) (lab : ℕ → Opti
   bytes some =
       all_map PutsBytes (change_to to_named) qs
       (all_pass_to (λ q. (lab q.0 ≡ Some q.1) × (t q ≡ true)) (λ q. PutsBytes (change_to to_named q))
-      (λ q both l is. subst (λ (x : Label). 0 < x.raw) (same_Some (with_name name (settled q.1)) l is) (some q.0 q.1 both.0)) qs unsettled)
+      (λ q both l is. subst (λ (x : Label). 0 < x.raw) (same_Some (with_name name (updated q.1)) l is) (some q.0 q.1 both.0)) qs unsettled)
 
   pub proper_then : Proper uuid lab_then (all_changed areas cs)
   proper_then = proper_after cs uuid lab areas proper (stage_fits uuid lab areas to_named keeps qs given)
@@ -167,20 +167,20 @@ module _ (uuid name : List ℕ) (areas : List (Option Area)) (lab : ℕ → Opti
   pub lab_is : (m : ℕ) → lab_then m ≡ option_map (step_of m) (lab m)
   lab_is m = elim (cases_Bool (names qs m)) [
     | inl it ↦
-        by (moved_hit (λ n o. (l : Label) × (lab n ≡ Some l) × (t (n, l) ≡ true) × (o ≡ Some (with_name name (settled l)))) to_named qs lab m it
-        (all_pass_to (λ q. (lab q.0 ≡ Some q.1) × (t q ≡ true)) (λ q. (l : Label) × (lab q.0 ≡ Some l) × (t (q.0, l) ≡ true) × (to_named q.1 ≡ Some (with_name name (settled l))))
+        by (moved_hit (λ n o. (l : Label) × (lab n ≡ Some l) × (t (n, l) ≡ true) × (o ≡ Some (with_name name (updated l)))) to_named qs lab m it
+        (all_pass_to (λ q. (lab q.0 ≡ Some q.1) × (t q ≡ true)) (λ q. (l : Label) × (lab q.0 ≡ Some l) × (t (q.0, l) ≡ true) × (to_named q.1 ≡ Some (with_name name (updated l))))
         (λ q both. (q.1, both.0, both.1, refl)) qs unsettled))
     | inr not_it ↦ moved_miss to_named qs lab m (unnamed qs m not_it) ∙ stays (lab m) refl not_it
   ]
     where
-      by : (l : Label) × (lab m ≡ Some l) × (t (m, l) ≡ true) × (lab_then m ≡ Some (with_name name (settled l))) → lab_then m ≡ option_map (step_of m) (lab m)
-      by (l, at, t, is) = is ∙ sym (ap (option_map (step_of m)) at ∙ ap (λ (b : Bool). Some (cond b (with_name name (settled l)) l)) t)
+      by : (l : Label) × (lab m ≡ Some l) × (t (m, l) ≡ true) × (lab_then m ≡ Some (with_name name (updated l))) → lab_then m ≡ option_map (step_of m) (lab m)
+      by (l, at, t, is) = is ∙ sym (ap (option_map (step_of m)) at ∙ ap (λ (b : Bool). Some (cond b (with_name name (updated l)) l)) t)
 
       stays : (o : Option Label) → lab m ≡ o → names qs m ≡ false → lab m ≡ option_map (step_of m) (lab m)
       stays None at none = at ∙ sym (ap (option_map (step_of m)) at)
       stays (Some l) at none =
           at ∙ sym (ap (option_map (step_of m)) at
-          ∙ ap (λ (b : Bool). Some (cond b (with_name name (settled l)) l)) (filter_unnamed t lab m l at (own_labels areas uuid) labels (only m l at) none))
+          ∙ ap (λ (b : Bool). Some (cond b (with_name name (updated l)) l)) (filter_unnamed t lab m l at (own_labels areas uuid) labels (only m l at) none))
 
   -- as many slots are free as before
   pub free_same : (i : ℕ) → free_in (slots_on (all_changed areas cs) i) ≡ free_in (slots_on areas i)
@@ -194,7 +194,7 @@ module _ (uuid name : List ℕ) (areas : List (Option Area)) (lab : ℕ → Opti
 
   step_like : (m : ℕ) (l : Label) → IsLike l (step_of m l)
   step_like m l = elim (cases_Bool (t (m, l))) [
-    | inl it ↦ rw it (like_like l (settled l) (with_name name (settled l)) (like_settled l) (like_named (settled l) name))
+    | inl it ↦ rw it (like_like l (updated l) (with_name name (updated l)) (like_updated l) (like_named (updated l) name))
     | inr not_it ↦ rw not_it (like_self l)
   ]
 
@@ -212,7 +212,7 @@ module _ (uuid name : List ℕ) (areas : List (Option Area)) (lab : ℕ → Opti
   -- it isn't updating any more, if it is settled
   upd_step : (m : ℕ) (l : Label) → changes_now (step_of m l) ≡ (changes_now l && not (t (m, l)))
   upd_step m l = elim (cases_Bool (t (m, l))) [
-    | inl it ↦ rw it (settled_doesnt l ∙ sym (and_right (changes_now l) false refl))
+    | inl it ↦ rw it (updated_doesnt l ∙ sym (and_right (changes_now l) false refl))
     | inr not_it ↦ rw not_it (sym (and_true (changes_now l)))
   ]
     where
@@ -287,7 +287,7 @@ module _ (uuid name : List ℕ) (areas : List (Option Area)) (lab : ℕ → Opti
       old_step m l e = elim (cases_Bool (t (m, l))) [ inl it ↦ rw it (λ q. refl) | inr not_it ↦ rw not_it e ]
 
       new_step : (m : ℕ) (l : Label) → (changes_now l ≡ true → l.name ≡ new) → changes_now (step_of m l) ≡ true → (step_of m l).name ≡ new
-      new_step m l e = elim (cases_Bool (t (m, l))) [ inl it ↦ rw it (λ q. absurd (false≢true (sym (settled_doesnt l) ∙ q))) | inr not_it ↦ rw not_it e ]
+      new_step m l e = elim (cases_Bool (t (m, l))) [ inl it ↦ rw it (λ q. absurd (false≢true (sym (updated_doesnt l) ∙ q))) | inr not_it ↦ rw not_it e ]
 
       old_each : AllByRecursion (λ (p : Placed). changes_now p.label ≡ false → p.label.name ≡ name) own_then
       old_each = own_each uuid lab_then (all_changed areas cs) proper_then (λ m l. changes_now l ≡ false → l.name ≡ name)

@@ -15,7 +15,7 @@ use Rattle.namespace_map.specs.Laws.{IsRising}
 use Rattle.namespace_map.specs.Areas.{Area, Change, slots_on, free_in, all_changed}
 use Rattle.namespace_map.specs.Commands.{area_of, is_complete, settled_status, settled_entry}
 use Rattle.namespace_map.specs.Changes.{own_labels, change_to, with_name, is_unsettled, settling_changes}
-use Rattle.label_codec.specs.Flags.{settled}
+use Rattle.label_codec.specs.Flags.{updated}
 use Rattle.namespace_map.specs.Left.{AreRegions, LabelsAreRead}
 use Rattle.namespace_laws.proofs.Whole.{own_of}
 use Rattle.namespace_laws.proofs.Staged.{all_changed_append}
@@ -54,8 +54,8 @@ pub same_settling : (left areas : List (Option Area)) (v : List ℕ) (es : List 
 same_settling left areas v [] above same free = refl
 same_settling left areas v (f ∷ fs) (less, above) same free =
     ap (λ (xs : List Change). xs ++ flat_map (settling_changes areas) fs)
-    (ap (λ (qs : List (ℕ × Label)). cond (is_complete f.status) (map (change_to (λ l. Some (with_name f.name (settled l)))) (filter (is_unsettled areas) qs)) []) (sym (own_labels_same left areas f.uuid (same f.uuid (above_apart v f.uuid less))))
-    ∙ ap (λ (qs : List (ℕ × Label)). cond (is_complete f.status) (map (change_to (λ l. Some (with_name f.name (settled l)))) qs) []) (filter_same left areas free (own_labels left f.uuid)))
+    (ap (λ (qs : List (ℕ × Label)). cond (is_complete f.status) (map (change_to (λ l. Some (with_name f.name (updated l)))) (filter (is_unsettled areas) qs)) []) (sym (own_labels_same left areas f.uuid (same f.uuid (above_apart v f.uuid less))))
+    ∙ ap (λ (qs : List (ℕ × Label)). cond (is_complete f.status) (map (change_to (λ l. Some (with_name f.name (updated l)))) qs) []) (filter_same left areas free (own_labels left f.uuid)))
     ∙ ap (λ (xs : List Change). settling_changes left f ++ xs) (same_settling left areas v fs above same free)
 
 -- a UUID isn't among greater ones

@@ -12,7 +12,7 @@ use Rattle.namespace_map.proofs.Rising.{rising_entries}
 use Rattle.namespace_map.specs.Areas.{Area, Change, slots_on, slots_of, free_in, area_at, all_changed}
 use Rattle.namespace_map.specs.Commands.{no_area, area_of, unfinished_gone, after_recovery}
 use Rattle.namespace_map.specs.Changes.{namespaces_of, placed_in_all, area_summary, own_labels, change_to, with_name, is_unsettled}
-use Rattle.label_codec.specs.Flags.{settled}
+use Rattle.label_codec.specs.Flags.{updated}
 use Rattle.namespace_map.specs.Left.{AreRegions, LabelsAreRead}
 use Rattle.namespace_laws.proofs.Staged.{Apart, names}
 use Rattle.namespace_laws.proofs.Two.{length_kept}
@@ -118,7 +118,7 @@ module _ (sets : List (List Mapping)) (areas : List (Option Area)) (uuid : List 
 
   pub front_recovers : (k : ℕ) → recovery_of sets (all_changed areas (take k settling)) ≡ recovery_of sets areas
   front_recovers k =
-      ap (λ (cs : List Change). recovery_of sets (all_changed areas cs)) (take_map (change_to (λ l. Some (with_name e.name (settled l)))) k unsettled ∙ ap (map (change_to (λ l. Some (with_name e.name (settled l))))) (front_passes (is_unsettled areas) k (own_labels areas uuid) apart))
+      ap (λ (cs : List Change). recovery_of sets (all_changed areas cs)) (take_map (change_to (λ l. Some (with_name e.name (updated l)))) k unsettled ∙ ap (map (change_to (λ l. Some (with_name e.name (updated l))))) (front_passes (is_unsettled areas) k (own_labels areas uuid) apart))
       ∙ settled_recovers sets areas uuid e pending regions read is status front (λ p passes. (and_parts (is_unsettled areas p) (names (take k unsettled) p.0) passes).0)
     where
       front : ℕ × Label → Bool

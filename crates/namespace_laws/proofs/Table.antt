@@ -10,7 +10,7 @@ use Rattle.label_set.specs.declared.placed.SetStatus.{SetStatus}
 use Rattle.label_set.specs.declared.placed.SetStatus.TheVariants.{Complete, Unfinished}
 use Rattle.label_set.specs.Rules.{is_updating, least_missing}
 use Rattle.label_set.specs.Status.{missing_finding, naming_of, status_of}
-use Rattle.label_codec.specs.Flags.{without_updating, updating, settled}
+use Rattle.label_codec.specs.Flags.{without_updating, updating, updated}
 use Rattle.namespace_map.proofs.Rising.{all_pass_to}
 use Rattle.namespace_map.specs.Areas.{Area}
 use Rattle.namespace_map.specs.Changes.{with_name}
@@ -40,8 +40,8 @@ changes_now l = l.flags / 8 % 2 == 1
 pub updating_changes : (l : Label) → changes_now (updating l) ≡ true
 updating_changes l = eq-eqb _ 1 (updates l.flags)
 
-pub settled_doesnt : (l : Label) → changes_now (settled l) ≡ false
-settled_doesnt l = rw (settles l.flags) refl
+pub updated_doesnt : (l : Label) → changes_now (updated l) ≡ false
+updated_doesnt l = rw (settles l.flags) refl
 
 -- a label that differs only in its slot, name and UPDATING
 pub record IsLike (l l' : Label) : Type 0 where
@@ -150,8 +150,8 @@ even_settled f = omega arith
 pub like_updating : (l : Label) → IsLike l (updating l)
 like_updating l = like_flags l (without_updating l.flags + 8) (local_updating l.flags) (even_updating l.flags) (updating_keeps l.flags)
 
-pub like_settled : (l : Label) → IsLike l (settled l)
-like_settled l = like_flags l (without_updating l.flags) (local_settled l.flags) (even_settled l.flags) (settled_keeps l.flags)
+pub like_updated : (l : Label) → IsLike l (updated l)
+like_updated l = like_flags l (without_updating l.flags) (local_settled l.flags) (even_settled l.flags) (settled_keeps l.flags)
 
 -- ---- labels that are like others, by module
 

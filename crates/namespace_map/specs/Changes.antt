@@ -5,7 +5,7 @@ use Rattle.std.specs.List.{flat_map, enumerate_from}
 use Rattle.nfit_reader.specs.declared.table.Mapping.{Mapping}
 use Rattle.interleave.specs.Places.{cookie_of}
 use Rattle.label_codec.specs.declared.label.Label.{Label}
-use Rattle.label_codec.specs.Flags.{has_updating, updating, settled}
+use Rattle.label_codec.specs.Flags.{has_updating, updating, updated}
 use Rattle.label_codec.specs.Mode.{persistent_memory, no_abstraction, btt_2_0}
 use Rattle.label_area.specs.Area.{labels_in}
 use Rattle.label_set.specs.declared.placed.Placed.{Placed}
@@ -100,10 +100,10 @@ own_labels areas uuid = map (λ p. (p.«module», p.label)) (by_position (labels
 -- the changes of a command that isn't refused: in order of position, each label is put with UPDATING, and then without it, or
 -- removed
 abbrev pub changes_of : Namespaces → List (Option Area) → Command → List Change
-changes_of ns areas (command.Create spec) = in_two (λ l. Some (updating l)) (λ l. Some (settled l)) (new_labels ns spec)
+changes_of ns areas (command.Create spec) = in_two (λ l. Some (updating l)) (λ l. Some (updated l)) (new_labels ns spec)
 changes_of ns areas (command.Delete uuid) = in_two (λ l. Some (updating l)) (λ l. None) (own_labels areas uuid)
 changes_of ns areas (command.Rename uuid name) =
-    in_two (λ l. Some (with_name (name_in name) (updating l))) (λ l. Some (with_name (name_in name) (settled l))) (own_labels areas uuid)
+    in_two (λ l. Some (with_name (name_in name) (updating l))) (λ l. Some (with_name (name_in name) (updated l))) (own_labels areas uuid)
 changes_of ns areas (command.Claim uuid) = []
 changes_of ns areas (command.Unclaim uuid) = []
 
@@ -120,7 +120,7 @@ is_unsettled areas p = has_updating p.1.flags && nat_le 1 (free_in (slots_on are
 -- those of a complete entry are rewritten without UPDATING, under the entry's name
 abbrev pub settling_changes : List (Option Area) → NamespaceEntry → List Change
 settling_changes areas e =
-    if is_complete e.status then map (change_to (λ l. Some (with_name e.name (settled l)))) (filter (is_unsettled areas) (own_labels areas e.uuid)) else []
+    if is_complete e.status then map (change_to (λ l. Some (with_name e.name (updated l)))) (filter (is_unsettled areas) (own_labels areas e.uuid)) else []
 
 -- first the labels of each unfinished entry are removed, and then each complete one is settled
 abbrev pub recovery_changes : List (List Mapping) → List (Option Area) → List Change

@@ -23,7 +23,7 @@ use Rattle.namespace_areas.specs.Areas.{labels_of}
 use Rattle.namespace_map.specs.Areas.{Area as SeenArea, free_in, slots_on}
 use Rattle.namespace_map.specs.Commands.{is_complete, is_unfinished}
 use Rattle.namespace_map.specs.Changes.{placed_in_all, by_position, change_to, with_name, is_unsettled, gone_changes, settling_changes, own_labels}
-use Rattle.label_codec.specs.Flags.{settled}
+use Rattle.label_codec.specs.Flags.{updated}
 use Rattle.namespace_laws.proofs.Staged.{all_map}
 use Rattle.namespace_laws.proofs.Position.{by_position_all}
 use Rattle.namespace_laws.proofs.Complete.{facts}
@@ -120,7 +120,7 @@ fits_each areas e = elim (cases_Bool (is_complete e.status)) [
       (all_pass_to (λ q. IsHere q × (is_unsettled areas q ≡ true)) (λ q. Fits areas (change_to become q))
       (λ q h.
       let free = both_of (q.1.flags / 8 % 2 == 1) (nat_le 1 (free_in (slots_on areas q.0))) h.1 in
-      record { puts = (with_name e.name (settled q.1), refl, refl); there = h.0; room = leb-true 1 (free_in (slots_on areas q.0)) free.1 })
+      record { puts = (with_name e.name (updated q.1), refl, refl); there = h.0; room = leb-true 1 (free_in (slots_on areas q.0)) free.1 })
       (filter (is_unsettled areas) (own_labels areas e.uuid))
       (filtered IsHere (is_unsettled areas) (own_labels areas e.uuid)
       (all_map IsHere (λ p. (p.«module», p.label)) (by_position (labels_with e.uuid (placed_in_all areas)))
@@ -130,7 +130,7 @@ fits_each areas e = elim (cases_Bool (is_complete e.status)) [
 ]
   where
     become : Label → Option Label
-    become l = Some (with_name e.name (settled l))
+    become l = Some (with_name e.name (updated l))
 
     IsHere : ℕ × Label → Type 0
     IsHere q = HasLabel areas q.0 q.1.uuid
@@ -212,7 +212,7 @@ sound_each : (areas : List (Option SeenArea)) (e : NamespaceEntry) → AllByRecu
 sound_each areas e sound named = by e.status refl
   where
     become : Label → Option Label
-    become l = Some (with_name e.name (settled l))
+    become l = Some (with_name e.name (updated l))
 
     IsGood : ℕ × Label → Type 0
     IsGood q = IsSound q.1
@@ -221,7 +221,7 @@ sound_each areas e sound named = by e.status refl
     by (Complete name pending) is =
         all_map PutsSound (change_to become) (filter (is_unsettled areas) (own_labels areas e.uuid))
         (all_pass_to (λ q. IsGood q × (is_unsettled areas q ≡ true)) (λ q. PutsSound (change_to become q))
-        (λ q h l at. subst IsSound (same_Some (with_name e.name (settled q.1)) l at) (record { no_zero = named name pending is; sizes = h.0.sizes }))
+        (λ q h l at. subst IsSound (same_Some (with_name e.name (updated q.1)) l at) (record { no_zero = named name pending is; sizes = h.0.sizes }))
         (filter (is_unsettled areas) (own_labels areas e.uuid))
         (filtered IsGood (is_unsettled areas) (own_labels areas e.uuid)
         (all_map IsGood (λ p. (p.«module», p.label)) (by_position (labels_with e.uuid (placed_in_all areas))) (own_each (λ p. IsSound p.label) (placed_in_all areas) e.uuid sound))))

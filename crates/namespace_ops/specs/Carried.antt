@@ -12,7 +12,7 @@ use Rattle.namespace_map.specs.declared.refused.OpRefused.{OpRefused}
 use Rattle.namespace_map.specs.declared.refused.OpRefused.TheVariants.{PowerCut}
 use Rattle.namespace_map.specs.Commands.{refusal_of}
 use Rattle.namespace_map.specs.Changes.{changes_of, in_two, own_labels, with_name}
-use Rattle.label_codec.specs.Flags.{settled, updating}
+use Rattle.label_codec.specs.Flags.{updated, updating}
 use Rattle.namespace_map.specs.Areas.{Area as SeenArea, Change}
 use Rattle.namespace_areas.specs.Seen.{areas_seen}
 use Rattle.namespace_areas.specs.Went.{Went}
@@ -25,9 +25,9 @@ use Rattle.namespace_ops.specs.declared.turns.Round.TheVariants.{Mark, MarkAs, R
 -- what a round makes of a label
 abbrev pub becomes : Round → Label → Option Label
 becomes Mark l = Some (updating l)
-becomes Settle l = Some (settled l)
+becomes Settle l = Some (updated l)
 becomes (MarkAs name) l = Some (with_name name (updating l))
-becomes (SettleAs name) l = Some (with_name name (settled l))
+becomes (SettleAs name) l = Some (with_name name (updated l))
 becomes Remove l = None
 
 -- the label changes of two rounds over the labels of a UUID, by position

@@ -8,7 +8,7 @@ use Rattle.namespace_map.specs.Namespaces.{NamespaceEntry, labels_with, entries_
 use Rattle.namespace_map.specs.Areas.{Area, Change}
 use Rattle.namespace_map.specs.Commands.{is_complete, is_unfinished}
 use Rattle.namespace_map.specs.Changes.{by_position, change_to, with_name, is_unsettled, namespaces_of, gone_changes, settling_changes}
-use Rattle.label_codec.specs.Flags.{settled}
+use Rattle.label_codec.specs.Flags.{updated}
 
 -- labels with their modules
 abbrev pub pairs_of : List Placed → List (ℕ × Label)
@@ -19,7 +19,7 @@ removals own = map (change_to (λ l. None)) (pairs_of own)
 
 -- each that is unsettled is rewritten under a name
 abbrev pub settlings : List (Option Area) → List ℕ → List Placed → List Change
-settlings areas name own = map (change_to (λ l. Some (with_name name (settled l)))) (filter (is_unsettled areas) (pairs_of own))
+settlings areas name own = map (change_to (λ l. Some (with_name name (updated l)))) (filter (is_unsettled areas) (pairs_of own))
 
 -- the changes of one entry, whose labels are given
 abbrev pub gone_of : NamespaceEntry → List Placed → List Change

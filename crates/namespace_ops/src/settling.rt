@@ -2,7 +2,7 @@
 ghost use Rattle.std.specs.Prelude.{◌≡◌, ◌+◌, ◌≤◌, ◌<◌, ◌++◌, ◌∷◌, [], nat_le, length, vec_len, Some};
 ghost use Rattle.std.specs.Vec.{vec_capacity};
 ghost use Rattle.namespace_map.specs.Namespaces.{entry_with};
-ghost use Rattle.label_codec.specs.Flags.{settled};
+ghost use Rattle.label_codec.specs.Flags.{updated};
 ghost use Rattle.namespace_map.specs.Areas.{free_in, slots_of, slots_on};
 ghost use Rattle.namespace_map.specs.Changes.{change_to, is_unsettled, with_name};
 ghost use Rattle.namespace_areas.specs.Seen.{AreHeld, IsHeld, area_seen, areas_seen};
@@ -14,8 +14,8 @@ use label_set::{Placed, SetStatus};
 use namespace_areas::{Area, Change, LabelGroups, Regions, status_in};
 
 /// A label without UPDATING, and with a name; all else is kept.
-fn settled_label(label: &Label, name: &Name) -> Label
-    ensures { result ≡ with_name name.now (settled label.now) }
+fn updated_label(label: &Label, name: &Name) -> Label
+    ensures { result ≡ with_name name.now (updated label.now) }
 {
     Label {
         name: *name,
@@ -56,7 +56,7 @@ fn is_unsettled(areas: &[Area], label: &Placed) -> bool
 /// Adds the change by which a label is settled.
 fn add_settled(changes: &mut Vec<Change>, label: &Placed, name: &Name)
     requires room { vec_len changes.old + 1 ≤ vec_capacity changes.old }
-    ensures items { changes.new.items ≡ changes.old.items ++ change_to (λ l. Some (with_name name.now (settled l))) (label.now.«module», label.now.label) ∷ [] }
+    ensures items { changes.new.items ≡ changes.old.items ++ change_to (λ l. Some (with_name name.now (updated l))) (label.now.«module», label.now.label) ∷ [] }
     ensures len { vec_len changes.new ≡ vec_len changes.old + 1 }
     ensures capacity { vec_capacity changes.old ≤ vec_capacity changes.new }
 {
@@ -65,7 +65,7 @@ fn add_settled(changes: &mut Vec<Change>, label: &Placed, name: &Name)
         Change {
             number: label.module,
             uuid: label.label.uuid,
-            label: Some(settled_label(&label.label, name)),
+            label: Some(updated_label(&label.label, name)),
         },
     );
 }

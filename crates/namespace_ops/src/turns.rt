@@ -2,7 +2,7 @@
 ghost use Rattle.std.specs.Prelude.{◌≡◌, ◌+◌, ◌*◌, ◌≤◌, ◌++◌, ◌∷◌, [], length, map, vec_len};
 ghost use Rattle.std.specs.Vec.{vec_capacity};
 ghost use Rattle.namespace_map.specs.Changes.{change_to, in_two};
-ghost use Rattle.label_codec.specs.Flags.{settled, updating};
+ghost use Rattle.label_codec.specs.Flags.{updated, updating};
 ghost use Rattle.namespace_ops.specs.Carried.{becomes};
 ghost use Rattle.namespace_ops.specs.Plans.{pairs_of};
 

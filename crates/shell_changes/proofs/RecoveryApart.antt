@@ -6,7 +6,7 @@ use Rattle.std.specs.List.{AllByRecursion, enumerate_from, filter_map, flat_map,
 use Rattle.std.proofs.lemmas.Bool.{cases_eq, cases_lt}
 use Rattle.std.proofs.lemmas.Option.{none-some, same_Some}
 use Rattle.label_codec.specs.declared.label.Label.{Label}
-use Rattle.label_codec.specs.Flags.{settled}
+use Rattle.label_codec.specs.Flags.{updated}
 use Rattle.label_area.specs.Area.{SlotState, label_in}
 use Rattle.label_area.specs.Change.{without as without_slot}
 use Rattle.label_set.specs.declared.placed.Placed.{Placed}
@@ -201,14 +201,14 @@ own_known olds areas uuid known =
 settling_known : (olds areas : List (Option Area)) (e : NamespaceEntry) → AllKnown areas olds → AllByRecursion (PutsKnown olds) (settling_changes areas e)
 settling_known olds areas e known = by (is_complete e.status)
   where
-    puts : (ps : List (ℕ × Label)) → AllByRecursion (λ p. IsKnown olds p.0 p.1) ps → AllByRecursion (PutsKnown olds) (map (change_to (λ l. Some (with_name e.name (settled l)))) ps)
+    puts : (ps : List (ℕ × Label)) → AllByRecursion (λ p. IsKnown olds p.0 p.1) ps → AllByRecursion (PutsKnown olds) (map (change_to (λ l. Some (with_name e.name (updated l)))) ps)
     puts [] all = tt
     puts (p ∷ ps) (one, rest) = (
-      (λ l is. subst (IsKnown olds p.0) (same_Some (with_name e.name (settled p.1)) l is) (record { old = one.old; has = one.has; uuid = one.uuid; start = one.start; bytes = one.bytes })),
+      (λ l is. subst (IsKnown olds p.0) (same_Some (with_name e.name (updated p.1)) l is) (record { old = one.old; has = one.has; uuid = one.uuid; start = one.start; bytes = one.bytes })),
       puts ps rest,
     )
 
-    by : (b : Bool) → AllByRecursion (PutsKnown olds) (cond b (map (change_to (λ l. Some (with_name e.name (settled l)))) (filter (is_unsettled areas) (own_labels areas e.uuid))) [])
+    by : (b : Bool) → AllByRecursion (PutsKnown olds) (cond b (map (change_to (λ l. Some (with_name e.name (updated l)))) (filter (is_unsettled areas) (own_labels areas e.uuid))) [])
     by true = puts (filter (is_unsettled areas) (own_labels areas e.uuid)) (all_filter (λ (p : ℕ × Label). IsKnown olds p.0 p.1) (is_unsettled areas) (own_labels areas e.uuid) (own_known olds areas e.uuid known))
     by false = tt
 

@@ -8,7 +8,7 @@ use Rattle.nvd_words.specs.Checks.{fault_if, first_fault}
 use Rattle.cut_words.specs.Fuses.{burnt, lasts}
 use Rattle.nfit_reader.specs.declared.table.Mapping.{Mapping}
 use Rattle.label_codec.specs.declared.label.Label.{Label}
-use Rattle.label_codec.specs.Flags.{settled, updating}
+use Rattle.label_codec.specs.Flags.{updated, updating}
 use Rattle.namespace_map.specs.Areas.{Area, Change, IsLeftBy, after_steps, all_changed, steps_of_all}
 use Rattle.namespace_map.specs.Changes.{change_to, changes_of, in_two, namespaces_of, new_label, own_labels, with_name}
 use Rattle.namespace_map.specs.Commands.{delete_refusal, is_complete, entry_refusal, name_in, refusal_of, share_of, set_of, new_offset}
@@ -108,11 +108,11 @@ module _ (sets : List (List Mapping)) (regions : AreRegions sets) where
   puts_bytes : (areas : List (Option Area)) (c : Command) → LabelsAreRead areas → refusal_of (namespaces_of sets areas) c ≡ None → AllByRecursion PutsBytes (changes_of (namespaces_of sets areas) areas c)
   puts_bytes areas (Create spec) read none =
       let ns = namespaces_of sets areas in
-      puts_two _ _ (puts_as updating (λ l. refl)) (puts_as settled (λ l. refl)) _
+      puts_two _ _ (puts_as updating (λ l. refl)) (puts_as updated (λ l. refl)) _
       (new_bytes ns spec (allowed ns spec.uuid spec.name spec.region spec.size spec.make none).raw_some (enumerate_from 0 (set_of ns spec.region)))
   puts_bytes areas (Delete uuid) read none = puts_two _ _ (puts_as updating (λ l. refl)) puts_none _ (own_bytes areas uuid read)
   puts_bytes areas (Rename uuid name) read none =
-      puts_two _ _ (puts_as (λ l. with_name (name_in name) (updating l)) (λ l. refl)) (puts_as (λ l. with_name (name_in name) (settled l)) (λ l. refl)) _ (own_bytes areas uuid read)
+      puts_two _ _ (puts_as (λ l. with_name (name_in name) (updating l)) (λ l. refl)) (puts_as (λ l. with_name (name_in name) (updated l)) (λ l. refl)) _ (own_bytes areas uuid read)
   puts_bytes areas (Claim uuid) read none = tt
   puts_bytes areas (Unclaim uuid) read none = tt
 
