@@ -6,7 +6,8 @@ use Rattle.cut_words.specs.Words.{Words}
 use Rattle.cut_words.specs.Fuses.{burnt, lasts}
 use Rattle.nfit_reader.specs.declared.table.Mapping.{Mapping}
 use Rattle.arena_open.specs.Format.{format_count}
-use Rattle.sector_namespaces.specs.Creation.{IsFormattedIn, layout_for, place_for}
+use Rattle.sector_namespaces.specs.Creation.{AreSettled, IsFormattedIn, has_sectors, layout_for, place_for}
+use Rattle.sector_namespaces.specs.View.{AreUsable}
 use Rattle.namespace_map.specs.declared.commands.Command.TheVariants.{Create}
 use Rattle.namespace_map.specs.declared.commands.CreateSpec.{CreateSpec}
 use Rattle.namespace_map.specs.declared.refused.OpRefused.{OpRefused}
@@ -21,7 +22,8 @@ use Rattle.namespace_areas.specs.Went.{Went}
 use Rattle.namespace_ops.specs.declared.creating.NewNamespace.{NewNamespace}
 use Rattle.namespace_ops.specs.declared.creating.NewLabels.{NewLabels}
 use Rattle.namespace_ops.specs.declared.turns.Round.TheVariants.{Mark, Settle}
-use Rattle.namespace_ops.specs.Carried.{becomes}
+use Rattle.namespace_ops.specs.Carried.{IsGoodName, becomes}
+use Rattle.namespace_ops.specs.Held.{Held}
 
 -- the labels of a new namespace in a set are put with UPDATING, by position, and then without it
 abbrev pub new_changes : List Mapping → NewLabels → List Change
@@ -38,6 +40,18 @@ pub record IsNew (sets : List (List Mapping)) (areas : List Area) (spec : Create
 -- the first reason for which a create is refused, on sets and the areas of all modules
 abbrev pub refusal_for : List (List Mapping) → List Area → CreateSpec → Option OpRefused
 refusal_for sets areas spec = refusal_of (shown sets areas) (Create spec)
+
+-- what a create of a sector namespace asks of the label areas, the contents of all modules, and what is to be created
+pub record CanCreateSectors (held : Held) (rows : List Words) (spec : CreateSpec) : Type 0 where
+  -- power wasn't cut in a command
+  pub running : held.stopped ≡ false
+  -- the name has no zero byte
+  pub name : IsGoodName spec.name
+  pub sectors : has_sectors spec.make ≡ true
+  -- no word is pending
+  pub settled : AreSettled rows
+  -- the contents reach to the ends of the mappings
+  pub usable : AreUsable held.sets rows
 
 -- What became of label areas, of the words of all modules and of a fuse by a create that nothing refuses.
 pub record IsMade (sets : List (List Mapping)) (old now : List Area) (rows rows' : List Words) (fuse left : Option ℕ) (spec : CreateSpec) (result : Result (Unit {0}) OpRefused) : Type 0 where

@@ -20,6 +20,11 @@ pub record AreCurrent (areas : List Area) (groups : Grouping) : Type 0 where
   pub few : length groups.sorted ≤ slots_in areas
   pub room : slots_in areas ≤ groups.room
 
+-- after changes: labels by UUID are those of the areas, which have as many slots as before
+pub record StayCurrent (old new : List Area) (groups : Grouping) : Type 0 where
+  pub current : AreCurrent new groups
+  pub slots : slots_in new ≡ slots_in old
+
 -- room for so many labels, and for two changes of each
 pub record HasRoomFor (slots own changes : ℕ) : Type 0 where
   pub for_own : slots ≤ own

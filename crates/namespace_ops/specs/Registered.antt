@@ -43,6 +43,13 @@ registered s journal room opening = record { sets = s.sets; areas = s.areas; sto
 abbrev pub opened_on : List (List Mapping) → List Area → Registered
 opened_on sets areas = record { sets = sets; areas = areas; stopped = false; claims = []; journal = []; room = []; opening = areas }
 
+-- what recovery leaves as it was: the interleave sets, the claims, the journal and its room
+pub record RecoveryKeeps (old new : Registered) : Type 0 where
+  pub sets : new.sets ≡ old.sets
+  pub claims : new.claims ≡ old.claims
+  pub journal : new.journal ≡ old.journal
+  pub room : new.room ≡ old.room
+
 -- ---- one call more
 
 -- the journal has this entry more, and the tag's session room for one less; what the journal replays from is the same

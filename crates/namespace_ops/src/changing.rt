@@ -9,8 +9,7 @@ ghost use Rattle.namespace_areas.specs.Went.{CanMake, PutsSound, Went};
 ghost use Rattle.namespace_map.specs.Left.{AreRegions};
 ghost use Rattle.namespace_map.specs.Commands.{done};
 ghost use Rattle.namespace_areas.specs.Refusals.{shown};
-ghost use Rattle.namespace_areas.specs.Groups.{slots_in};
-ghost use Rattle.namespace_ops.specs.Held.{AreCurrent};
+ghost use Rattle.namespace_ops.specs.Held.{AreCurrent, StayCurrent};
 ghost use Rattle.namespace_ops.specs.Carried.{AreWorkable, Carried, IsGoodName, is_cut, rounds};
 
 use crate::making::make_all;
@@ -35,8 +34,7 @@ pub(crate) fn carry_out(
     requires sound { AllByRecursion PutsSound changes.now }
     ensures went { Went areas.old areas.new fuse.old fuse.new changes.now (is_ok result) }
     ensures cut { (f : Refused) → result ≡ Err f → f ≡ OpRefused.PowerCut }
-    ensures current { OnOk result (AreCurrent areas.new groups.new) }
-    ensures slots { OnOk result (slots_in areas.new ≡ slots_in areas.old) }
+    ensures current { OnOk result (StayCurrent areas.old areas.new groups.new) }
 {
     match make_all(areas, groups, changes, fuse) {
         Ok(()) => Ok(()),

@@ -9,9 +9,8 @@ ghost use Rattle.namespace_map.specs.Commands.{done, lba_for, refusal_of};
 ghost use Rattle.namespace_map.specs.Changes.{abstraction_for, in_two, new_label};
 ghost use Rattle.namespace_areas.specs.Seen.{areas_seen};
 ghost use Rattle.namespace_areas.specs.Went.{CanMake, PutsSound, Went};
-ghost use Rattle.namespace_areas.specs.Groups.{slots_in};
 ghost use Rattle.namespace_areas.specs.Refusals.{shown};
-ghost use Rattle.namespace_ops.specs.Held.{AreCurrent};
+ghost use Rattle.namespace_ops.specs.Held.{AreCurrent, StayCurrent};
 ghost use Rattle.namespace_ops.specs.Plans.{pairs_of};
 ghost use Rattle.namespace_ops.specs.Carried.{Carried, IsGoodName, becomes, is_cut};
 ghost use Rattle.namespace_ops.specs.Created.{IsNew, new_changes};
@@ -205,8 +204,7 @@ pub(crate) fn create(
     requires planned { IsNew sets.now areas.old spec.now new.now }
     ensures carried { Carried sets.now areas.old areas.new fuse.old fuse.new (command.Create spec.now) result }
     ensures done { OnOk result (shown sets.now areas.new ≡ done (shown sets.now areas.old) (command.Create spec.now)) }
-    ensures current { is_cut result ≡ false → AreCurrent areas.new groups.new }
-    ensures slots { is_cut result ≡ false → slots_in areas.new ≡ slots_in areas.old }
+    ensures current { is_cut result ≡ false → StayCurrent areas.old areas.new groups.new }
 {
     carry_out(areas, groups, &new.changes, fuse)
 }

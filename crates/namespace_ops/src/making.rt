@@ -3,8 +3,7 @@ ghost use Rattle.std.specs.Prelude.{◌≡◌, ◌<◌, ◌^◌, length, is_ok, 
 ghost use Rattle.std.specs.List.{AllByRecursion};
 ghost use Rattle.namespace_areas.specs.Seen.{areas_seen};
 ghost use Rattle.namespace_areas.specs.Went.{CanMake, PutsSound, Went};
-ghost use Rattle.namespace_areas.specs.Groups.{slots_in};
-ghost use Rattle.namespace_ops.specs.Held.{AreCurrent};
+ghost use Rattle.namespace_ops.specs.Held.{AreCurrent, StayCurrent};
 
 use cut_words::{Fuse, PowerCut};
 use namespace_areas::{Area, Change, LabelGroups, make_changes};
@@ -22,8 +21,7 @@ pub(crate) fn make_all(
     requires can { CanMake (areas_seen areas.old) changes.now }
     requires sound { AllByRecursion PutsSound changes.now }
     ensures went { Went areas.old areas.new fuse.old fuse.new changes.now (is_ok result) }
-    ensures current { OnOk result (AreCurrent areas.new groups.new) }
-    ensures slots { OnOk result (slots_in areas.new ≡ slots_in areas.old) }
+    ensures current { OnOk result (StayCurrent areas.old areas.new groups.new) }
 {
     make_changes(areas, fuse, changes)?;
     groups.refresh(areas);

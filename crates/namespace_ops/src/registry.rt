@@ -11,7 +11,7 @@ ghost use Rattle.namespace_areas.specs.Seen.{AreHeld, areas_seen};
 ghost use Rattle.namespace_areas.specs.Went.{Went};
 ghost use Rattle.namespace_ops.specs.Held.{Held};
 ghost use Rattle.namespace_ops.specs.Opening.{WasRead, registry_opening, overlap_as, overlap_fault, set_fault_as, set_fault_from, set_or_fault, sets_of};
-ghost use Rattle.namespace_ops.specs.Registered.{opened_on, state_of};
+ghost use Rattle.namespace_ops.specs.Registered.{RecoveryKeeps, opened_on, state_of};
 ghost use Rattle.namespace_ops.specs.Room.{with_room};
 
 use crate::claims::Claims;
@@ -227,9 +227,7 @@ impl Registry {
         ensures opening { OnOk result (self.new.opening ≡ self.new.areas) }
         ensures began { OnErr result (self.new.opening ≡ self.old.opening) }
         ensures stopped { self.new.stopped ≡ not (is_ok result) }
-        ensures sets { self.new.sets ≡ self.old.sets }
-        ensures claims { self.new.claims ≡ self.old.claims }
-        ensures calls { (self.new.journal ≡ self.old.journal) × (self.new.room ≡ self.old.room) }
+        ensures kept { RecoveryKeeps self.old self.new }
     {
         match self.namespaces.store.recover(fuse) {
             Ok(()) => {

@@ -6,8 +6,8 @@ ghost use Rattle.namespace_areas.specs.Refusals.{offset_for, shown};
 ghost use Rattle.namespace_areas.specs.Seen.{AreHeld};
 ghost use Rattle.sector_namespaces.specs.Creation.{AreSettled, IsFormattedIn, has_sectors, layout_for, place_for};
 ghost use Rattle.sector_namespaces.specs.View.{AreUsable};
-ghost use Rattle.namespace_ops.specs.Carried.{IsGoodName, is_cut};
-ghost use Rattle.namespace_ops.specs.Created.{Creates, IsMade, IsNew, refusal_for};
+ghost use Rattle.namespace_ops.specs.Carried.{is_cut};
+ghost use Rattle.namespace_ops.specs.Created.{CanCreateSectors, Creates, IsMade, IsNew, refusal_for};
 
 use crate::creating::{NewNamespace, set_at};
 use crate::label_store::LabelStore;
@@ -45,12 +45,8 @@ fn make(
     fuse: &mut Fuse,
     spec: &CreateSpec,
 ) -> Result<(), OpRefused>
-    requires running { store.old.stopped ≡ false }
-    requires name { IsGoodName spec.now.name }
-    requires sectors { has_sectors spec.now.make ≡ true }
+    requires can { CanCreateSectors store.old modules.old.items spec.now }
     requires planned { IsNew store.old.sets store.old.areas spec.now new.now }
-    requires settled { AreSettled modules.old.items }
-    requires usable { AreUsable store.old.sets modules.old.items }
     ensures made { IsMade store.old.sets store.old.areas store.new.areas modules.old.items modules.new.items fuse.old fuse.new spec.now result }
     ensures memory { result ≢ Err OpRefused.OutOfMemory }
     ensures done { OnOk result (shown store.new.sets store.new.areas ≡ done (shown store.old.sets store.old.areas) (command.Create spec.now)) }
@@ -86,11 +82,7 @@ pub(crate) fn create_sectors(
     fuse: &mut Fuse,
     spec: &CreateSpec,
 ) -> Result<(), OpRefused>
-    requires running { store.old.stopped ≡ false }
-    requires name { IsGoodName spec.now.name }
-    requires sectors { has_sectors spec.now.make ≡ true }
-    requires settled { AreSettled modules.old.items }
-    requires usable { AreUsable store.old.sets modules.old.items }
+    requires can { CanCreateSectors store.old modules.old.items spec.now }
     ensures creates { result ≢ Err OpRefused.OutOfMemory → Creates store.old.sets store.old.areas store.new.areas modules.old.items modules.new.items fuse.old fuse.new spec.now result }
     ensures memory { result ≡ Err OpRefused.OutOfMemory → (store.new ≡ store.old) × (modules.new.items ≡ modules.old.items) × (fuse.new ≡ fuse.old) }
     ensures done { OnOk result (shown store.new.sets store.new.areas ≡ done (shown store.old.sets store.old.areas) (command.Create spec.now)) }

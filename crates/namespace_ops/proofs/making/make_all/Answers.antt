@@ -9,12 +9,11 @@ refresh-requires-clause-room c =
     let same = slots_kept c.args.areas.now c.make_changes.new.areas c.args.fuse.now c.make_changes.new.fuse c.args.changes.now c.requires.current.held went in
     omega (arith, same, c.requires.current.room)
 
-pub returns-clause-slots : goal.returns-clause-slots
-returns-clause-slots c =
-    slots_kept c.args.areas.now c.make_changes.new.areas c.args.fuse.now c.make_changes.new.fuse c.args.changes.now c.requires.current.held c.in_ok-make_changes.ensures
-
 pub returns-clause-current : goal.returns-clause-current
 returns-clause-current c =
     let went : Went c.args.areas.now c.make_changes.new.areas c.args.fuse.now c.make_changes.new.fuse c.args.changes.now true = c.in_ok-make_changes.ensures in
     let same = slots_kept c.args.areas.now c.make_changes.new.areas c.args.fuse.now c.make_changes.new.fuse c.args.changes.now c.requires.current.held went in
-    record { held = went.held refl; same = c.refresh.ensures.groups; few = c.refresh.ensures.few; room = omega (arith, same, c.requires.current.room, c.refresh.ensures.room) }
+    record {
+      current = record { held = went.held refl; same = c.refresh.ensures.groups; few = c.refresh.ensures.few; room = omega (arith, same, c.requires.current.room, c.refresh.ensures.room) };
+      slots = same;
+    }

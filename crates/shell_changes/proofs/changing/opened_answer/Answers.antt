@@ -22,7 +22,7 @@ kept olds news areas n sizes is count = sym (length-map news size_of) ∙ ap len
 
 pub command_answer-requires-clause-run : goal.command_answer-requires-clause-run
 command_answer-requires-clause-run g c =
-    let sets : c.recover.new.self.sets ≡ c.args.registry.sets = c.recover.ensures.sets in
+    let sets : c.recover.new.self.sets ≡ c.args.registry.sets = c.recover.ensures.kept.sets in
     record {
       few_sets = subst (λ (s : List (List Mapping)). length s < 2 ^ 32) (sym sets) c.requires.run.few_sets;
       name = c.requires.run.name;
@@ -37,9 +37,9 @@ command_answer-requires-clause-fresh g c =
     let fresh = c.requires.fresh in
     record {
       running = c.recover.ensures.stopped ∙ ap (λ (r : Result (Unit {0}) PowerCut). not (is_ok r)) c.in-Ok.is;
-      claims = c.recover.ensures.claims ∙ fresh.claims;
-      journal = c.recover.ensures.calls.0 ∙ fresh.journal;
-      room = c.recover.ensures.calls.1 ∙ fresh.room;
+      claims = c.recover.ensures.kept.claims ∙ fresh.claims;
+      journal = c.recover.ensures.kept.journal ∙ fresh.journal;
+      room = c.recover.ensures.kept.room ∙ fresh.room;
     }
 
 pub stopped_answer-requires : goal.stopped_answer-requires
@@ -56,7 +56,7 @@ returns-in-Ok-clause-comes g c =
     (λ answer refused went contents.
     goes_then leaves (objects_left c.args.beside contents) c.args.power c.args.registry.sets c.args.registry.sets c.args.registry.areas c.args.registry.areas c.recover.new.self.areas (words_beside c.args.beside) c.fuse_of-fuse.result c.recover.new.fuse
     c.args.change.now (outcome_with answer contents) (is_ok c.recover.result) refl c.fuse_of-fuse.ensures refl c.recover.ensures.went
-    c.recover.new.self.sets c.recover.ensures.sets (ap (λ (r : Result (Unit {0}) PowerCut). is_ok r) c.in-Ok.is) (refused contents) (went contents))
+    c.recover.new.self.sets c.recover.ensures.kept.sets (ap (λ (r : Result (Unit {0}) PowerCut). is_ok r) c.in-Ok.is) (refused contents) (went contents))
     c.command_answer.ensures.refused c.command_answer.ensures.went
 
 pub returns-in-Err-clause-comes : goal.returns-in-Err-clause-comes

@@ -15,11 +15,13 @@ pub returns-in-Raw-clause-formats : goal.returns-in-Raw-clause-formats
 returns-in-Raw-clause-formats c =
     same_formats (state_in c.args.self.now) c.args.modules.now.items c.args.modules.now.items c.args.fuse.now (command.Create c.args.spec.now) c.create.result (ap (λ (m : Make). has_sectors m) c.in-Raw.is) refl
 
-pub create_sectors-requires-clause-settled : goal.create_sectors-requires-clause-settled
-create_sectors-requires-clause-settled c = (c.requires.contents (ap (λ (m : Make). has_sectors m) c.in-Sector.is)).0
-
-pub create_sectors-requires-clause-usable : goal.create_sectors-requires-clause-usable
-create_sectors-requires-clause-usable c = (c.requires.contents (ap (λ (m : Make). has_sectors m) c.in-Sector.is)).1
+pub create_sectors-requires : goal.create_sectors-requires
+create_sectors-requires c =
+    let sectors = ap (λ (m : Make). has_sectors m) c.in-Sector.is in
+    let contents = c.requires.contents sectors in
+    record {
+      can = record { running = sym c.is_off.ensures ∙ c.if-is_off.false; name = c.requires.name; sectors = sectors; settled = contents.0; usable = contents.1 };
+    }
 
 pub returns-in-Sector-clause-answered : goal.returns-in-Sector-clause-answered
 returns-in-Sector-clause-answered c =
