@@ -107,8 +107,8 @@ front_parts uuid lab areas ps f g kf kg lf lg proper given labels n stays = by (
         (λ m l at. moved_keeps (LikeIn lab) (take k (in_two f g ps)) lab (λ i l here. (l, here, like_self l)) (all_of_front (λ (c : Change). LikeIn lab c.number c.label) k (in_two f g ps) (like_two lab f g lf lg ps labels)) m l at)
         (length areas) (length_kept (take k (in_two f g ps)) areas))
 
-like_updated : KeepsLike to_updating
-like_updated l l' is = subst (IsLike l) (same_Some _ l' is) (like_updating l)
+like_marked : KeepsLike to_updating
+like_marked l l' is = subst (IsLike l) (same_Some _ l' is) (like_updating l)
 
 like_gone : KeepsLike to_nothing
 like_gone l l' is = absurd (none-some l' is)
@@ -153,7 +153,7 @@ module _ (sets : List (List Mapping)) (areas : List (Option Area)) (uuid : List 
       → lookup uuid (namespaces_of sets (after_steps areas (changes_of (namespaces_of sets areas) areas (command.Delete uuid)) n stays)).entries ≡ Some x → AllByRecursion (Contains e.parts) x.parts
   delete_parts has n stays x at = elim (cases_lt 1 (length e.parts)) [
     | inl many ↦ among has.unlocked (after_steps areas (changes_of (namespaces_of sets areas) areas (command.Delete uuid)) n stays)
-        (front_parts uuid (lab has.unlocked) areas (ps has.unlocked) to_updating to_nothing keeps_updating keeps_nothing like_updated like_gone (proper has.unlocked)
+        (front_parts uuid (lab has.unlocked) areas (ps has.unlocked) to_updating to_nothing keeps_updating keeps_nothing like_marked like_gone (proper has.unlocked)
         (st.given sets areas uuid e pending regions read is status has.unlocked (rw (le-leb 2 (length e.parts) (omega arith)) at has.room)) (labels has.unlocked) n stays) x at
     | inr few ↦
         let some = st.some_own sets areas uuid e pending regions read is status has.unlocked in
