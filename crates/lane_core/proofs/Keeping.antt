@@ -12,7 +12,7 @@ use Rattle.lane_core.specs.Fixed.{RowHasFixed}
 use Rattle.lane_core.specs.Machines.{KeepsCore}
 use Rattle.lane_core.specs.Reopening.{KeepsArena, first_cells}
 use Rattle.lane_core.specs.Invariant.{is_reading}
-use Rattle.lane_core.specs.Rows.{RowWords}
+use Rattle.lane_core.specs.Rows.{IsMarked, RowWords}
 use Rattle.lane_core.specs.Sessions.{IsFree, IsServed, ServesSessions}
 use Rattle.lane_core.proofs.Served.{served_begin}
 
@@ -27,6 +27,7 @@ kept_by a b core rest state h = record {
   shape = rest.shape ∙ h.shape;
   shows = core (first_cells state) h.shows;
   fixed = subst (λ x. RowHasFixed x state.words b.row.words) (sym rest.shape) (subst (λ (row : RowWords). RowHasFixed a.shape state.words row.words) (sym rest.row) h.fixed);
+  marked = subst IsMarked (sym rest.row) h.marked;
 }
 
 pub arena_begun : (a b : Core) (lane : ℕ) (tag : Tag) (c : Call) → KeepsCore a b → CallBegins a b lane tag c → KeepsArena a b

@@ -35,6 +35,7 @@ pub mod Stepping
 pub mod Starting
 pub mod Elsewhere
 pub mod Fixed
+pub mod Marked
 pub mod Stands
 pub mod Naming
 pub mod Cells

@@ -39,7 +39,7 @@ use Rattle.lane_core.specs.Fixed.{RowHasFixed, SameFixed}
 use Rattle.lane_core.specs.Held.{Held, held_by, recorded}
 use Rattle.lane_core.specs.Invariant.{stored}
 use Rattle.lane_core.specs.Machine.{State}
-use Rattle.lane_core.specs.Rows.{RowWords, words_in}
+use Rattle.lane_core.specs.Rows.{IsMarked, RowWords, words_in}
 use Rattle.lane_core.specs.Sessions.{IsServed, ServesSessions}
 use Rattle.lane_core.specs.Showing.{lane_of}
 use Rattle.lane_core.proofs.Again.{found_arena, found_cell_is, left_opens}
@@ -47,6 +47,7 @@ use Rattle.lane_core.proofs.Callings.{some_lane}
 use Rattle.lane_core.proofs.Cells.{cells_are}
 use Rattle.lane_core.proofs.Cutting.{some_side}
 use Rattle.lane_core.proofs.Fresh.{first, fresh_core, second}
+use Rattle.lane_core.proofs.Marked.{new_marked}
 use Rattle.lane_core.proofs.Leaves.{kept_length, stored_length}
 use Rattle.lane_core.proofs.Put.{never, put_elim}
 use Rattle.lane_core.proofs.Recovering.{recovers}
@@ -70,6 +71,7 @@ fresh_arena state (Ok core) h f = record {
         first (shape_in state) (shape_is state.info.layout h.sound.layout) state.words h.count (sides_in state) i fx.inside,
         second (shape_in state) (shape_is state.info.layout h.sound.layout) state.words h.count (sides_in state) i fx.inside,
       )));
+  marked = subst IsMarked (sym f.row) (new_marked (shape_in state) (shape_is state.info.layout h.sound.layout) state.words h.count (sides_in state));
 }
 
 -- ---- what a core of an arena holds

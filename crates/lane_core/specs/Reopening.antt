@@ -14,19 +14,21 @@ use Rattle.lane_core.specs.Fixed.{SameFixed, RowHasFixed}
 use Rattle.lane_core.specs.Held.{Held}
 use Rattle.lane_core.specs.History.{Cells, end_of}
 use Rattle.lane_core.specs.Machines.{IsCore}
+use Rattle.lane_core.specs.Rows.{IsMarked}
 
 -- the sectors' cells at the opening, as a reader of the arena gets them
 abbrev pub first_cells : ArenaState → Cells
 first_cells state = cell_at state.info.layout state.words
 
--- The core of an arena: its calls began with the arena's sectors, and each word that no lane stores
--- is the arena's.
+-- The core of an arena: its calls began with the arena's sectors, each word that no lane stores is
+-- the arena's, and each word with two values was stored since its last keep.
 pub record IsCoreOf (state : ArenaState) (core : Core) : Type 0 where
   pub opened : IsOpenState state
   pub info : core.info ≡ state.info
   pub shape : core.shape ≡ shape_in state
   pub shows : IsCore (first_cells state) core
   pub fixed : RowHasFixed core.shape state.words core.row.words
+  pub marked : IsMarked core.row
 
 -- it is still the core of the same arena
 abbrev pub KeepsArena : Core → Core → Type 0

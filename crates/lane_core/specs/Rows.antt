@@ -1,5 +1,5 @@
 -- The row of words of a core, and its history with the room that is kept for entries.
-use Rattle.std.specs.Prelude.{◌≡◌, ℕ, ◌+◌, ◌-◌, ◌*◌, ◌<◌, ◌^◌, Bool, true, false, List, [], ◌∷◌, ◌++◌, length, replicate, slice_index, slice_set, take, drop}
+use Rattle.std.specs.Prelude.{◌≡◌, ℕ, ◌+◌, ◌-◌, ◌*◌, ◌<◌, ◌^◌, Bool, true, false, List, [], ◌∷◌, ◌++◌, length, replicate, slice_index, slice_index_or, slice_set, take, drop}
 use Rattle.cut_words.specs.Words.{Words}
 use Rattle.cut_words.specs.Pending.{options_of}
 use Rattle.lane_core.specs.declared.history.Entry.{Entry}
@@ -34,6 +34,10 @@ words_in row = record {
   kept = take (length row.pending) (drop (length row.pending) row.words);
   stored = options_of row.pending (take (length row.pending) row.words);
 }
+
+-- a word that wasn't stored since its last keep has one value, seen and kept
+abbrev pub IsMarked : RowWords → Type 0
+IsMarked row = (i : ℕ) → i < length row.pending → slice_index_or row.pending i false ≡ false → slice_index row.words i ≡ slice_index row.words (length row.pending + i)
 
 -- a row has the words of a shape
 pub record IsRow (x : Shape) (row : RowWords) : Type 0 where

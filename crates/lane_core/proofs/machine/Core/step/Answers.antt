@@ -7,11 +7,12 @@ use Rattle.lane_core.specs.History.{Cells}
 use Rattle.lane_core.specs.Machine.{State}
 use Rattle.lane_core.specs.Machines.{IsCore}
 use Rattle.lane_core.specs.Reopening.{first_cells}
-use Rattle.lane_core.specs.Rows.{Recorded, RowWords}
+use Rattle.lane_core.specs.Rows.{IsMarked, Recorded, RowWords}
 use Rattle.lane_core.specs.Sessions.{IsServed}
 use Rattle.lane_core.proofs.Served.{changed, served_step}
 use Rattle.lane_core.proofs.Cores.{ready}
 use Rattle.lane_core.proofs.Fixed.{line_keeps}
+use Rattle.lane_core.proofs.Marked.{line_marks}
 use Rattle.lane_core.proofs.Holding.{core_is_held}
 use Rattle.lane_core.proofs.Nothing.{nothing_idle}
 use Rattle.lane_core.proofs.Stepping.{lane_there, there_is, stepped_parts, line_shown}
@@ -75,6 +76,7 @@ returns-clause-keeps c =
             shows = keeps (first_cells state) h.shows;
             fixed = subst (λ (row : RowWords). RowHasFixed core.shape state.words row.words) (sym made.ensures.row)
                 (line_keeps core.shape core.row c.args.lane mine core.history.room is_ready state.words h.fixed mine.phase refl);
+            marked = subst IsMarked (sym made.ensures.row) (line_marks core.shape core.row c.args.lane mine core.history.room is_ready h.marked mine.phase refl);
           };
       shape = refl;
     }
