@@ -6,3 +6,4 @@ pub mod Chain
 pub mod Sizes
 pub mod Turns
 pub mod Flagged
+pub mod Pasted

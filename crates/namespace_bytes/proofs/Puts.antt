@@ -48,11 +48,16 @@ in_region n i laid lt =
     let within : m * (n.offset + n.raw) ≤ m * span_of n.set = mul-le m (n.offset + n.raw) m (span_of n.set) (omega arith) laid.inside in
     omega (arith, sum, within, lt)
 
+-- its byte in the region is a multiple of eight
+pub whole_byte : (n : Namespace) (i : ℕ) → IsLaid n → byte_at n i % 8 ≡ 0
+whole_byte n i laid =
+    let first : length n.set * n.offset % 8 ≡ 0 = times_eights (length n.set) n.offset (multiple n.offset (unit_of n.set) laid.from laid.eights) in
+    omega (arith, first)
+
 -- at a multiple of eight bytes
 pub aligned : (n : Namespace) (i which address : ℕ) → IsLaid n → LiesAt n.set (byte_at n i) which address → address % 8 ≡ 0
 aligned n i which address laid lies =
-    let first : length n.set * n.offset % 8 ≡ 0 = times_eights (length n.set) n.offset (multiple n.offset (unit_of n.set) laid.from laid.eights) in
-    (laid.words (byte_at n i) which address (omega (arith, first)) lies).aligned
+    (laid.words (byte_at n i) which address (whole_byte n i laid) lies).aligned
 
 -- other words in the same place, with the same words beside them
 pub placed_same : (n : Namespace) (modules : List Words) → beside_of (over n.set n.offset n.raw modules) ≡ beside_of n → beside_and_place (over n.set n.offset n.raw modules) ≡ beside_and_place n

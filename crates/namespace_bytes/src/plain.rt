@@ -1,17 +1,18 @@
 //! The words of a namespace as plain words, so that others can be put there.
-ghost use Rattle.std.specs.Prelude.{◌≡◌, ◌+◌, ◌*◌, ◌%◌, ◌<◌, ◌≤◌, IfOk, length, slice_index, slice_set};
+ghost use Rattle.std.specs.Prelude.{◌≡◌, ◌+◌, ◌*◌, ◌%◌, ◌<◌, ◌≤◌, ◌/◌, ℕ, IfOk, length, slice_index, slice_set, take};
 ghost use Rattle.arena_open.specs.Writes.{IsSettled};
+ghost use Rattle.cut_words.specs.WordBytes.{put_at, words_in};
 ghost use Rattle.cut_words.specs.Words.{settled};
 ghost use Rattle.interleave.specs.Places.{LiesAt, unit_of};
 ghost use Rattle.interleave.specs.Sound.{span_of};
-ghost use Rattle.power_cut.specs.Namespace.{ReachEnds, byte_at, count_of, over, row_of, words_of};
+ghost use Rattle.power_cut.specs.Namespace.{IsWordRun, ReachEnds, byte_at, count_of, over, row_of, words_of};
 ghost use Rattle.power_cut.specs.Placed.{beside_and_place};
 ghost use Rattle.sector_namespaces.specs.Creation.{AreSettled};
 
 use cut_words::CutWords;
 use interleave::InterleaveSet;
 use nvd_media::ListChooser;
-use nvd_words::Items;
+use nvd_words::{Items, word_at};
 use std::alloc::{AllocError, Global};
 use std::marker::Model;
 
@@ -61,6 +62,19 @@ impl Row {
     {
         self.words[i as usize] = word;
     }
+
+    /// Puts the first `count` words of these bytes into the words from `first` on.
+    fn put_from(&mut self, first: u64, bytes: &[u8], count: usize)
+        requires given { count ≤ length bytes.now / 8 }
+        requires inside { first + count ≤ length self.old.kept }
+        ensures put { self.new ≡ settled (put_at self.old.kept first (take count (words_in bytes.now))) }
+        ensures was { IsSettled self.old }
+    {
+        let first = first as usize;
+        for i in 0..count {
+            self.words[first + i] = word_at(bytes, 8 * i);
+        }
+    }
 }
 
 /// Takes the words of all modules, of which none is pending, as plain words.
@@ -90,8 +104,8 @@ fn cut_rows(alloc: Global, rows: Vec<Row>) -> Result<Vec<CutWords>, AllocError>
 /// The words of a namespace on an interleave set, of which none is pending. It owns the words of all modules. Contracts see
 /// the same as of `SetWords` of crate `power_cut`.
 ///
-/// A word is put in one step, which asks once for its place. No second value of a word is kept beside it, so that a namespace
-/// that is written as a whole takes no more memory than the loaded set.
+/// A word is put in one step, and the words of an interleave line in one loop. No second value of a word is kept beside it, so
+/// that a namespace that is written as a whole takes no more memory than the loaded set.
 #[derive(Drop)]
 pub struct PlainWords<'a> {
     set: &'a InterleaveSet,
@@ -171,6 +185,17 @@ impl<'a> PlainWords<'a> {
         (module as usize, address / WORD)
     }
 
+    /// Returns how many words of the namespace from word `i` on are contiguous in its module, up to the end of the interleave
+    /// line.
+    fn run_length(&self, i: u64) -> u64
+        requires { i < count_of self.now }
+        ensures some { 0 < result }
+        ensures run { (which k : ℕ) → LiesAt self.now.set (byte_at self.now i) which (8 * k) → IsWordRun self.now i which k result }
+    {
+        let first = u64::from(self.set.ways()) * self.offset;
+        self.set.run_length(first + WORD * i) / WORD
+    }
+
     /// Returns a word of the namespace, which must exist.
     pub(crate) fn load(&self, i: u64) -> u64
         requires { i < length (words_of self.now).kept }
@@ -189,5 +214,22 @@ impl<'a> PlainWords<'a> {
     {
         let (module, word) = self.locate(i);
         self.rows[module].put(word, value);
+    }
+
+    /// Puts the words of these bytes into the words from `first` on, eight bytes a word, the low byte first. It stops at the end
+    /// of the interleave line, and returns how many words it put.
+    pub(crate) fn put_run(&mut self, first: u64, bytes: &[u8]) -> usize
+        requires some { 8 ≤ length bytes.now }
+        requires inside { first + length bytes.now / 8 ≤ length (words_of self.old).kept }
+        requires settled { IsSettled (words_of self.old) }
+        ensures some { 0 < result }
+        ensures fits { result ≤ length bytes.now / 8 }
+        ensures put { words_of self.new ≡ settled (put_at (words_of self.old).kept first (take result (words_in bytes.now))) }
+        ensures beside { beside_and_place self.new ≡ beside_and_place self.old }
+    {
+        let (module, word) = self.locate(first);
+        let size = self.run_length(first).min(bytes.len() as u64 / WORD) as usize;
+        self.rows[module].put_from(word, bytes, size);
+        size
     }
 }

@@ -12,7 +12,6 @@ use crate::plain::PlainWords;
 use arena_layout::Layout;
 use arena_open::Opened;
 use map_table::{entry, normal, with_entry};
-use nvd_words::word_at;
 
 /// Puts bytes into the words from `first` on, eight bytes a word, the low byte first.
 pub(crate) fn put_bytes(space: &mut PlainWords<'_>, first: u64, bytes: &[u8])
@@ -23,8 +22,10 @@ pub(crate) fn put_bytes(space: &mut PlainWords<'_>, first: u64, bytes: &[u8])
     ensures put { words_of space.new ≡ settled (put_at (words_of space.old).kept first (words_in bytes.now)) }
     ensures beside { beside_and_place space.new ≡ beside_and_place space.old }
 {
-    for i in 0..bytes.len() / 8 {
-        space.put(first + i as u64, word_at(bytes, 8 * i));
+    let count = bytes.len() / 8;
+    let mut done = 0;
+    while done < count {
+        done += space.put_run(first + done as u64, &bytes[8 * done..]);
     }
 }
 
