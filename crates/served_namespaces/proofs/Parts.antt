@@ -1,7 +1,8 @@
 -- The words of a namespace after other words were put for each of its arenas.
 use Rattle.std.proofs.Common.{◌≡◌, ℕ, zero, suc, ◌+◌, ◌/◌, ◌<◌, ◌≤◌, List, [], ◌∷◌, ◌++◌, length, take, drop, get_or, map, Result, Ok, refl, sym, ap, ◌∙◌, subst, inl, inr, arith}
-use Rattle.std.proofs.lemmas.List.{drop-drop, drop_at, length-append, length-drop, length-take-le, nil_from_length, take-append-drop, take-take, take_at}
+use Rattle.std.proofs.lemmas.List.{drop-drop, drop-take, drop_at, length-append, length-drop, length-take-le, nil_from_length, take-append-drop, take-take, take_at}
 use Rattle.std.proofs.lemmas.List.Sums.{sum_by-cons}
+use Rattle.std.specs.Prelude.{flat_map}
 use Rattle.cut_words.specs.WordBytes.{put_at}
 use Rattle.cut_words.proofs.Put.{length_put}
 use Rattle.arena_layout.specs.declared.info.Info.{Info}
@@ -85,6 +86,18 @@ has_parts at (part ∷ parts) words room =
           ∙ ap (take (length part)) (put_drop at words part fits) ∙ take_at part (drop (at + length part) words) (length part) refl,
       has_parts (at + length part) parts (put_at words at part) behind,
     )
+
+take_both : (m n : ℕ) (xs : List ℕ) → take (m + n) xs ≡ take m xs ++ take n (drop m xs)
+take_both m n xs =
+    sym (take-append-drop m (take (m + n) xs)) ∙ ap (λ ys. ys ++ drop m (take (m + n) xs)) (take-take m (m + n) xs (omega arith)) ∙ ap (λ ys. take m xs ++ ys) (drop-take m n xs)
+
+pub begins_with : (at : ℕ) (parts : List (List ℕ)) (words : List ℕ) → HasParts words at parts → take (total_of parts) (drop at words) ≡ flat_map (λ (part : List ℕ). part) parts
+begins_with at [] words has = refl
+begins_with at (part ∷ parts) words has =
+    ap (λ (n : ℕ). take n (drop at words)) (total_cons part parts) ∙ take_both (length part) (total_of parts) (drop at words)
+    ∙ ap (λ ys. ys ++ take (total_of parts) (drop (length part) (drop at words))) has.0
+    ∙ ap (λ ys. part ++ take (total_of parts) ys) (drop-drop (length part) at words)
+    ∙ ap (λ ys. part ++ ys) (begins_with (at + length part) parts words has.1)
 
 -- ---- one arena
 

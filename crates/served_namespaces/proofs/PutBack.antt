@@ -1,5 +1,5 @@
 -- The arenas of one namespace more are put back.
-use Rattle.std.proofs.Common.{◌≡◌, ◌≢◌, ℕ, zero, suc, ◌+◌, ◌<◌, ◌≤◌, List, [], ◌∷◌, length, drop, get_or, map, Some, refl, sym, ap, ◌∙◌, subst, inl, inr, arith}
+use Rattle.std.proofs.Common.{◌≡◌, ◌≢◌, ℕ, zero, suc, ◌+◌, ◌<◌, ◌≤◌, List, [], ◌∷◌, length, drop, take, get_or, map, Some, refl, sym, ap, ◌∙◌, subst, inl, inr, arith}
 use Rattle.std.specs.Prelude.{slice_get}
 use Rattle.std.specs.List.{All}
 use Rattle.std.proofs.lemmas.Bool.{cases_lt}
@@ -25,11 +25,11 @@ use Rattle.served_namespaces.specs.declared.places.FoundNamespace.{FoundNamespac
 use Rattle.served_namespaces.specs.declared.places.OpenedNamespace.{OpenedNamespace}
 use Rattle.served_namespaces.specs.Places.{ShareNoAddress, KeepsBeside, PlaceBytes, arena_words, place_in, words_at}
 use Rattle.served_namespaces.specs.Putting.{put_parts, total_of}
-use Rattle.served_namespaces.specs.Serving.{AreLeft, ArenasCut, ArenaCut, IsHeld, IsLeft, SectorsSurvive}
+use Rattle.served_namespaces.specs.Serving.{AreLeft, ArenasCut, ArenaCut, BeginsWith, IsHeld, IsLeft, SectorsSurvive}
 use Rattle.served_namespaces.specs.Steps.{IsReady}
 use Rattle.served_namespaces.proofs.Apart.{counts, others_stay, settled_now, usable_same}
 use Rattle.served_namespaces.proofs.Arenas.{again_words, all_inside, words_cons}
-use Rattle.served_namespaces.proofs.Parts.{AllSurvive, AreCuts, AreOpenStates, WalksNow, has_parts, parts_behind, parts_length, total_cons, walks_now}
+use Rattle.served_namespaces.proofs.Parts.{AllSurvive, AreCuts, AreOpenStates, WalksNow, begins_with, has_parts, parts_behind, parts_length, total_cons, walks_now}
 use Rattle.served_namespaces.proofs.Steps.{got_below, got_contains, got_item, keeps_beside, place_of}
 
 -- ---- one namespace
@@ -97,6 +97,11 @@ module _ (sets : List (List Mapping)) (rows : List Words) (o : OpenedNamespace) 
         walks_now (words_at sets o.place.found rows) (put_parts 0 parts (words_at sets o.place.found rows)) o.place.uuid (parts_length 0 parts (words_at sets o.place.found rows) room_here) 0 o.states parts walk opens cuts
         (has_parts 0 parts (words_at sets o.place.found rows) room_here)
 
+    begins : BeginsWith (words_at sets o.place.found now) o.states parts
+    begins =
+        ap (take (arena_words o.states)) is ∙ ap (λ (n : ℕ). take n (put_parts 0 parts (words_at sets o.place.found rows))) (sym total)
+        ∙ begins_with 0 parts (put_parts 0 parts (words_at sets o.place.found rows)) (has_parts 0 parts (words_at sets o.place.found rows) room_here)
+
     pub is_left : IsLeft sets now o parts
     is_left = record {
       news = walks.news;
@@ -105,6 +110,7 @@ module _ (sets : List (List Mapping)) (rows : List Words) (o : OpenedNamespace) 
           ∙ back (length (put_parts 0 parts (words_at sets o.place.found rows))) (put_parts 0 parts (words_at sets o.place.found rows)) o.place.uuid 0 0 walks.news walks.walk (omega arith);
       infos = walks.infos;
       sectors = by_place o.states walks.news parts walks.sectors;
+      words = begins;
     }
 
     pub behind : drop (arena_words o.states) (words_at sets o.place.found now) ≡ drop (arena_words o.states) (words_at sets o.place.found rows)
@@ -214,6 +220,7 @@ module _ (sets : List (List Mapping)) (sound : PlaceBytes sets) (loaded : List W
         opens = ap (λ (ws : List ℕ). opened_view ws o.place.uuid) (stay k o (λ e. omega (arith, lt, e)) at_o there) ∙ l.opens;
         infos = l.infos;
         sectors = l.sectors;
+        words = ap (take (arena_words o.states)) (stay k o (λ e. omega (arith, lt, e)) at_o there) ∙ l.words;
       }
 
   left_here : (o : OpenedNamespace) (ps : List (List ℕ)) → slice_get opened i ≡ Some o → slice_get words i ≡ Some ps → IsLeft sets now o ps

@@ -1,5 +1,5 @@
 -- Namespaces whose arenas are opened, over the words of all modules, and what putting their arenas back makes of these words.
-use Rattle.std.specs.Prelude.{◌≡◌, ℕ, ◌<◌, List, length, map, slice_get, Contains, Some, Ok}
+use Rattle.std.specs.Prelude.{◌≡◌, ℕ, ◌<◌, List, flat_map, length, map, slice_get, take, Contains, Some, Ok}
 use Rattle.cut_words.specs.Words.{Words}
 use Rattle.nfit_reader.specs.declared.table.Mapping.{Mapping}
 use Rattle.arena_open.specs.declared.state.ArenaState.{ArenaState}
@@ -13,7 +13,7 @@ use Rattle.namespace_areas.specs.Finding.{LiesInSet}
 use Rattle.sector_namespaces.specs.Creation.{AreSettled}
 use Rattle.sector_namespaces.specs.View.{AreUsable, opened_view}
 use Rattle.served_namespaces.specs.declared.places.OpenedNamespace.{OpenedNamespace}
-use Rattle.served_namespaces.specs.Places.{ShareNoAddress, AreDisjoint, CanOpen, KeepsBeside, words_at}
+use Rattle.served_namespaces.specs.Places.{ShareNoAddress, AreDisjoint, CanOpen, KeepsBeside, arena_words, words_at}
 
 -- ---- while they are open
 
@@ -57,12 +57,17 @@ pub record AreCut (opened : List OpenedNamespace) (words : List (List (List ℕ)
 abbrev pub SectorsSurvive : ArenaState → ArenaState → List ℕ → Type 0
 SectorsSurvive state new words = (held : Held) → ArenaCut state held words → (sector : ℕ) → sector < state.info.layout.external → MaySurvive (first_cells state) held sector (first_cells new sector)
 
+-- the words of a namespace begin with these parts, one behind another: those of its arenas
+abbrev pub BeginsWith : List ℕ → List ArenaState → List (List ℕ) → Type 0
+BeginsWith words states parts = take (arena_words states) words ≡ flat_map (λ (part : List ℕ). part) parts
+
 -- In its place a namespace opens as arenas with the same info, each with the words that were put.
 pub record IsLeft (sets : List (List Mapping)) (now : List Words) (o : OpenedNamespace) (parts : List (List ℕ)) : Type 0 where
   pub news : List ArenaState
   pub opens : opened_view (words_at sets o.place.found now) o.place.uuid ≡ Ok news
   pub infos : map (λ (s : ArenaState). s.info) news ≡ map (λ (s : ArenaState). s.info) o.states
   pub sectors : (k : ℕ) (state new : ArenaState) (words : List ℕ) → slice_get o.states k ≡ Some state → slice_get news k ≡ Some new → slice_get parts k ≡ Some words → SectorsSurvive state new words
+  pub words : BeginsWith (words_at sets o.place.found now) o.states parts
 
 -- The words of all modules after the arenas of all these namespaces were put back.
 pub record AreLeft (sets : List (List Mapping)) (loaded : List Words) (opened : List OpenedNamespace) (words : List (List (List ℕ))) (now : List Words) : Type 0 where

@@ -61,9 +61,9 @@ fn put_arenas(
 /// order, the words of each of its arenas, in order: what a power cut of the arena's core may
 /// leave (`ArenaCut`).
 ///
-/// Each namespace opens in its place as arenas with the same info and with these words. No word
-/// is pending, and no word that isn't an arena's has changed since the words were loaded
-/// (`AreLeft`).
+/// Each namespace begins with these words, one arena behind another, and opens in its place as
+/// arenas with the same info. No word is pending, and no word that isn't an arena's has changed
+/// since the words were loaded (`AreLeft`).
 pub fn put_each(
     sets: &[InterleaveSet],
     places: &[FoundNamespace],
