@@ -1,10 +1,14 @@
 -- Worked rows, computed: journals on two modules of 32 MiB with label areas of 1,024 bytes, on which one namespace was made.
 use Rattle.std.proofs.Common.{◌≡◌, inl, inr, ℕ, List, [], ◌∷◌, Option, Some, None, true, false, Ok, Err, codes, replicate, refl, ap}
-use Rattle.std.specs.Prelude.{is_ok}
+use Rattle.std.specs.Prelude.{is_ok, map}
 use Rattle.nvd_words.specs.Checks.{first_fault, checked}
 use Rattle.nfit_reader.specs.declared.table.Mapping.{Mapping}
+use Rattle.label_set.specs.declared.placed.Field.TheVariants.{Names}
+use Rattle.label_set.specs.declared.placed.SetStatus.{SetStatus}
+use Rattle.label_set.specs.declared.placed.SetStatus.TheVariants.{Complete, Incomplete}
+use Rattle.label_set.specs.declared.placed.Why.TheVariants.{Differs}
 use Rattle.label_set.specs.Status.{status_of}
-use Rattle.namespace_map.specs.Namespaces.{put_all, put}
+use Rattle.namespace_map.specs.Namespaces.{Namespaces, NamespaceEntry, put_all, put}
 use Rattle.namespace_map.specs.declared.commands.Make.TheVariants as make
 use Rattle.namespace_map.specs.declared.commands.Named.TheVariants as named
 use Rattle.namespace_map.specs.declared.commands.Command.{Command}
@@ -19,6 +23,7 @@ use Rattle.session_script.specs.declared.script.Order.TheVariants as order
 use Rattle.session_account.specs.declared.reply.Reply.TheVariants as reply
 use Rattle.session_account.specs.Orders.{entry, InJournal}
 use Rattle.session_account.specs.Journal.{IsJournal, AreLeft}
+use Rattle.session_account.specs.Recovered.{LeftRecovers, recovered}
 
 abbrev pair_mapping : ℕ → ℕ → ℕ → Mapping
 pair_mapping number offset serial = record {
@@ -94,3 +99,31 @@ not_busy h = let e : false ≡ true = ap is_ok h.0 in absurd (cc)
 -- the session that asked is answered `cut` alone, and its second call isn't made
 pub told_cut : InJournal 0 (line.Order (order.Rename u (codes "b")) ∷ line.Read 0 ∷ []) (reply.Cut ∷ []) (entry 0 0 rename_b (Err PowerCut) ∷ [])
 told_cut = record { last = entry 0 0 rename_b (Err PowerCut) ∷ []; entries = refl; is_last = inr refl }
+
+-- ---- recovered
+
+-- a rename on two modules is four changes of 130 steps each
+abbrev renamed_by : ℕ → List (Option Area)
+renamed_by steps = after_steps made (changes_of (namespaces_of sets made) made rename_b) steps true
+
+-- after the first of them recovery leads back to the old name
+pub to_before : LeftRecovers sets (opening_of made) (Some 200) (entry 0 0 rename_b (Err PowerCut) ∷ []) (renamed_by 200)
+unfolding LeftRecovers after_steps steps_of_all all_changed put_all put status_of first_fault checked by_position by_position_with taken_from given_to unfinished_gone
+to_before = inl refl
+
+abbrev statuses : Namespaces → List SetStatus
+statuses ns = map (λ (e : NamespaceEntry). e.status) ns.entries
+
+pub names_before : statuses (recovered sets (renamed_by 200)) ≡ Complete (codes "a") false ∷ []
+unfolding after_steps steps_of_all all_changed put_all put status_of first_fault checked by_position by_position_with taken_from given_to unfinished_gone
+names_before = refl
+
+-- after the second it leads on to the new one
+pub names_after : statuses (recovered sets (renamed_by 300)) ≡ Complete (codes "b") false ∷ []
+unfolding after_steps steps_of_all all_changed put_all put status_of first_fault checked by_position by_position_with taken_from given_to unfinished_gone
+names_after = refl
+
+-- the exception: a delete that begins while the rename is pending, and is cut after two changes, leaves two names, which recovery keeps
+pub names_differ : statuses (recovered sets (after_steps (renamed_by 200) (changes_of (namespaces_of sets (renamed_by 200)) (renamed_by 200) (command.Delete u)) 300 true)) ≡ Incomplete (Differs Names) ∷ []
+unfolding after_steps steps_of_all all_changed put_all put status_of first_fault checked by_position by_position_with taken_from given_to unfinished_gone
+names_differ = refl

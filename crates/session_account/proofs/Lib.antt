@@ -6,6 +6,8 @@ pub mod Claims
 pub mod Keeping
 pub mod Opening
 pub mod Registering
+pub mod Labels
+pub mod Recovering
 pub mod Claimable
 pub mod Surviving
 pub mod Values

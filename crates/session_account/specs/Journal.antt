@@ -1,5 +1,5 @@
--- A journal of sessions' commands, where power is cut after so many steps on labels: what each entry replies, and what is left of the
--- label areas.
+-- A journal of sessions' commands, where power is cut after so many steps on labels: what each entry replies, and the label areas at
+-- its end.
 use Rattle.std.specs.Prelude.{◌≡◌, ⊤, ℕ, List, [], ◌∷◌, Option, Some, None, Err, MatchBool}
 use Rattle.std.specs.List.{AllByRecursion}
 use Rattle.nvd_words.specs.Checks.{value_unless}
@@ -45,11 +45,11 @@ IsJournal sets k fuse (e ∷ es) =
     ((e.reply ≡ value_unless tt (refusal_at sets k e)) × IsJournal sets (kept_with sets k e) (burnt fuse (steps_at sets k e)) es)
     (IsOff e × AllByRecursion IsOff es)
 
--- what a cut leaves of areas by the changes of an entry, after the steps that power still lasts for
+-- the areas after a cut in an entry's label changes, which comes after the steps that power still lasts for
 abbrev pub IsCutIn : List (List Mapping) → Kept → Option ℕ → JournalEntry → List (Option Area) → Type 0
 IsCutIn sets k fuse e left = (steps : ℕ) × (fuse ≡ Some steps) × IsLeftBy k.areas (changes_at sets k e) steps left
 
--- the areas at the journal's end: what its commands make of them, or what a cut leaves of the one in which power was cut
+-- the areas at the journal's end: as its commands made them, or as they are after the cut in one of these
 unfoldable pub AreLeft : List (List Mapping) → Kept → Option ℕ → List JournalEntry → List (Option Area) → Type 0
 AreLeft sets k fuse [] left = left ≡ k.areas
 AreLeft sets k fuse (e ∷ es) left =

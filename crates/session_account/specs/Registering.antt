@@ -1,5 +1,5 @@
 -- How the registry's own promises make a journal of sessions' commands.
-use Rattle.std.specs.Prelude.{◌≡◌, ◌≢◌, ◌⊎◌, ⊤, ℕ, Bool, None, true, false, List, [], ◌∷◌, ◌++◌, map, Option, Err}
+use Rattle.std.specs.Prelude.{◌≡◌, ◌≢◌, ◌⊎◌, ⊤, ℕ, None, true, false, List, [], ◌∷◌, ◌++◌, Option, Err}
 use Rattle.std.specs.List.{AllByRecursion}
 use Rattle.nvd_words.specs.Checks.{value_unless}
 use Rattle.cut_words.specs.Fuses.{burnt, lasts}
@@ -27,7 +27,7 @@ pub record WentOn (sets : List (List Mapping)) (k k' : Kept) (fuse left : Option
   pub kept : k' ≡ kept_with sets k e
   pub left_is : left ≡ burnt fuse (steps_at sets k e)
 
--- it didn't, and of the areas is left what a cut leaves
+-- it didn't: the areas are those after a cut in the entry's label changes
 pub record WentOff (sets : List (List Mapping)) (k : Kept) (fuse : Option ℕ) (e : JournalEntry) (areas : List Area) : Type 0 where
   pub short : lasts fuse (steps_at sets k e) ≡ false
   pub off : IsOff e
@@ -75,7 +75,7 @@ OnIsJournal =
     (sets : List (List Mapping)) (from now : Kept) (fuse left : Option ℕ) (journal : List JournalEntry) → IsOn sets from fuse journal now left
     → IsJournal sets from fuse journal × AreLeft sets from fuse journal now.areas
 
--- a law: with an entry for which power didn't last, and later ones that all say so, it is one too, and its areas are what a cut leaves
+-- a law: with an entry for which power didn't last, and later ones that all say so, it is one too, and its areas are those after that cut
 abbrev pub OffIsJournal : Type 0
 OffIsJournal =
     (sets : List (List Mapping)) (from now : Kept) (fuse left : Option ℕ) (journal later : List JournalEntry) (e : JournalEntry) (areas : List Area)

@@ -3,6 +3,7 @@ ghost use Rattle.session_account.specs.Claims.{ClaimOpens, OpenIsClaimed, Unclai
 ghost use Rattle.session_account.specs.Registering.{AnswersMakeEntries, ClaimableBefore, OffIsJournal, OnGrows, OnIsJournal};
 ghost use Rattle.session_account.specs.Going.{BeginsSo, CallEnds, CallStops, EndsSo, GoesOn, StandsHere, StopsSo, WritesSame};
 ghost use Rattle.session_account.specs.Parts.{AccountsFollow, EntriesKeep, MadeGrows, OpenFollows, SurvivalFollows};
+ghost use Rattle.session_account.specs.Recovered.{JournalsRecover};
 
 /// If all locks are closed and each session is done, the sessions' accounts hold.
 pub fn accounts_follow()
@@ -82,6 +83,13 @@ pub fn on_is_journal()
 /// With the entry in which power was cut, and later ones that all say so, it is one too.
 pub fn off_is_journal()
     ensures { OffIsJournal }
+{}
+
+/// The label areas that a journal left, once recovered, have the namespaces of its end; or those from before or after the command in
+/// which power was cut. The one exception is a delete or rename of a namespace of several labels that was pending as the command
+/// began: then every other namespace is as before it.
+pub fn journals_recover()
+    ensures { JournalsRecover }
 {}
 
 /// The namespace that a session's entries leave open is the one that its replies say.

@@ -1,0 +1,58 @@
+-- What recovery makes of the label areas that a journal left.
+use Rattle.std.specs.Prelude.{◌≡◌, ◌≢◌, ◌⊎◌, ℕ, ◌≤◌, true, List, [], ◌∷◌, length, Option, Some, MatchBool}
+use Rattle.cut_words.specs.Fuses.{burnt, lasts}
+use Rattle.nfit_reader.specs.declared.table.Mapping.{Mapping}
+use Rattle.label_set.specs.declared.placed.SetStatus.TheVariants.{Complete}
+use Rattle.namespace_map.specs.Areas.{Area}
+use Rattle.namespace_map.specs.Changes.{namespaces_of, recovered_areas}
+use Rattle.namespace_map.specs.declared.commands.Command.{Command}
+use Rattle.namespace_map.specs.declared.commands.Command.TheVariants.{Delete, Rename}
+use Rattle.namespace_map.specs.Left.{AreRegions, LabelsAreRead}
+use Rattle.namespace_map.specs.Namespaces.{NamespaceEntry, Namespaces, lookup}
+use Rattle.namespace_ops.specs.Entries.{JournalEntry}
+use Rattle.namespace_ops.specs.Replay.{Kept}
+use Rattle.session_account.specs.Journal.{AreLeft, kept_with, steps_at}
+
+-- the namespaces of areas once they are recovered
+abbrev pub recovered : List (List Mapping) → List (Option Area) → Namespaces
+recovered sets areas = namespaces_of sets (recovered_areas sets areas)
+
+-- ---- a command that was cut
+
+-- It began on a namespace that was pending, with several labels. A cut may leave it incomplete: no label without UPDATING, and names that
+-- differ. Every other namespace is as before the command.
+pub record BeganPending (uuid : List ℕ) (before left : Namespaces) : Type 0 where
+  pub entry : NamespaceEntry
+  pub found : lookup uuid before.entries ≡ Some entry
+  pub pending : entry.status ≡ Complete entry.name true
+  pub several : 2 ≤ length entry.parts
+  pub others : (other : List ℕ) → other ≢ uuid → lookup other left.entries ≡ lookup other before.entries
+
+-- only a delete or a rename begins so
+abbrev pub IsOnPending : Command → Namespaces → Namespaces → Type 0
+IsOnPending (Delete uuid) before left = BeganPending uuid before left
+IsOnPending (Rename uuid name) before left = BeganPending uuid before left
+IsOnPending c before left = ⊥
+
+-- recovered, the areas after the cut have the namespaces from before the command, or those from after it
+abbrev pub CutRecovers : List (List Mapping) → Kept → JournalEntry → List (Option Area) → Type 0
+CutRecovers sets k e left =
+    (recovered sets left ≡ recovered sets k.areas)
+    ⊎ (recovered sets left ≡ recovered sets (kept_with sets k e).areas)
+    ⊎ IsOnPending e.command (namespaces_of sets k.areas) (namespaces_of sets left)
+
+-- ---- a journal
+
+-- recovered, the areas at its end have the namespaces that its commands made; or, if one was cut, those from before or after that one
+unfoldable pub LeftRecovers : List (List Mapping) → Kept → Option ℕ → List JournalEntry → List (Option Area) → Type 0
+LeftRecovers sets k fuse [] left = recovered sets left ≡ recovered sets k.areas
+LeftRecovers sets k fuse (e ∷ es) left =
+    MatchBool (lasts fuse (steps_at sets k e))
+    (LeftRecovers sets (kept_with sets k e) (burnt fuse (steps_at sets k e)) es left)
+    (CutRecovers sets k e left)
+
+-- a law: the areas that a journal leaves recover so
+abbrev pub JournalsRecover : Type 0
+JournalsRecover =
+    (sets : List (List Mapping)) (from : Kept) (fuse : Option ℕ) (journal : List JournalEntry) (left : List (Option Area))
+    → AreRegions sets → LabelsAreRead from.areas → AreLeft sets from fuse journal left → LeftRecovers sets from fuse journal left
