@@ -5,7 +5,7 @@ use Rattle.std.proofs.lemmas.Option.{none-some, same_Some}
 use Rattle.nvd_words.specs.Checks.{fault_if, first_fault}
 use Rattle.nfit_reader.specs.declared.table.Mapping.{Mapping}
 use Rattle.label_codec.specs.declared.label.Label.{Label}
-use Rattle.label_codec.specs.Flags.{settled, updating}
+use Rattle.label_codec.specs.Flags.{updated, updating}
 use Rattle.namespace_map.specs.Areas.{Area}
 use Rattle.namespace_map.specs.Changes.{change_to, changes_of, in_two, is_unsettled, namespaces_of, new_label, own_labels, with_name}
 use Rattle.namespace_map.specs.Commands.{delete_refusal, is_complete, entry_refusal, name_in, refusal_of, share_of, set_of, new_offset}
@@ -98,11 +98,11 @@ module _ (sets : List (List Mapping)) (areas : List (Option Area)) where
   pub puts_bytes : (c : Command) → AreRegions sets → LabelsAreRead areas → refusal_of (namespaces_of sets areas) c ≡ None → AllByRecursion PutsBytes (changes_of (namespaces_of sets areas) areas c)
   puts_bytes (Create spec) regions read none =
       let ns = namespaces_of sets areas in
-      puts_two _ _ (puts_as updating (λ l. refl)) (puts_as settled (λ l. refl)) _
+      puts_two _ _ (puts_as updating (λ l. refl)) (puts_as updated (λ l. refl)) _
       (new_bytes ns spec (allowed ns spec.uuid spec.name spec.region spec.size spec.make none).raw_some (enumerate_from 0 (set_of ns spec.region)))
   puts_bytes (Delete uuid) regions read none = puts_two _ _ (puts_as updating (λ l. refl)) puts_none _ (own_bytes sets areas uuid regions read (delete_found sets areas uuid none))
   puts_bytes (Rename uuid name) regions read none =
-      puts_two _ _ (puts_as (λ l. with_name (name_in name) (updating l)) (λ l. refl)) (puts_as (λ l. with_name (name_in name) (settled l)) (λ l. refl)) _
+      puts_two _ _ (puts_as (λ l. with_name (name_in name) (updating l)) (λ l. refl)) (puts_as (λ l. with_name (name_in name) (updated l)) (λ l. refl)) _
       (own_bytes sets areas uuid regions read (rename_found sets areas uuid name none))
   puts_bytes (Claim uuid) regions read none = tt
   puts_bytes (Unclaim uuid) regions read none = tt
