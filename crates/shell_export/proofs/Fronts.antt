@@ -129,15 +129,6 @@ bytes_at words at count =
     ∙ ap (λ (xs : List ℕ). bytes_of (take at words) ++ xs)
     (ap bytes_of (sym (take-append-drop count (drop at words))) ∙ bytes_of-append (take count (drop at words)) (drop count (drop at words)))
 
--- words that were loaded one by one
-pub loaded : (kept into : List ℕ) (first count : ℕ) → length into ≡ count → first + count ≤ length kept → ((k : ℕ) → k < count → get_or into k 0 ≡ get_or kept (first + k) 0)
-    → into ≡ take count (drop first kept)
-loaded kept into first count len inside each =
-    ext_get_or 0 into (take count (drop first kept))
-    (let e : length into ≡ length (take count (drop first kept)) = omega (arith, len, inside, length-take count (drop first kept), length-drop first kept) in e)
-    (λ k lt. let low : k < count = omega (arith, lt, len) in
-    each k low ∙ sym (get_or-take count (drop first kept) k 0 low ∙ get_or-drop first kept k 0))
-
 -- one part of them more
 pub bytes_more : (words : List ℕ) (at count : ℕ) → bytes_of (take (at + count) words) ≡ bytes_of (take at words) ++ bytes_of (take count (drop at words))
 bytes_more words at count = ap bytes_of (take-add at count words) ∙ bytes_of-append (take at words) (take count (drop at words))
