@@ -27,6 +27,7 @@ use Rattle.session_account.specs.declared.reply.Reply.{Reply}
 use Rattle.session_account.specs.Account.{flights_on}
 use Rattle.session_script.specs.declared.script.Script.{Script}
 use Rattle.session_service.specs.Ran.{replies_of}
+use Rattle.session_account.proofs.Recovering.{journals_recover}
 use Rattle.shell_changes.specs.Namespaces.{sets_in}
 use Rattle.shell_reports.specs.declared.outcome.Report.{Report}
 use Rattle.shell_reports.specs.declared.status.Ending.TheVariants as ending
@@ -68,6 +69,7 @@ module _ (text : List (List Reply) → List ℕ) (loaded : ImageSet) (rest : Unc
         legal = i.legal;
         accounts = i.accounts;
         labels = i.labels s.labels s.areas;
+        recover = journals_recover rest.registry.sets _ script.labelcut i.journal (areas_shown s.labels) r.regions r.read (i.labels s.labels s.areas);
         disjoint = left_apart rest.registry.sets r.regions i.journal _ script.labelcut (areas_shown s.labels) r.read r.apart (i.labels s.labels s.areas);
         survive = λ place d lt.
             subst (λ (ws : List Words). ArenasSurvive (slice_index_or namespaces place d) (words_at rest.registry.sets (slice_index_or namespaces place d).place.found ws) (i.histories place)

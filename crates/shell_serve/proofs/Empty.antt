@@ -11,6 +11,7 @@ use Rattle.session_account.specs.Journal.{AreLeft, IsJournal}
 use Rattle.shell_changes.specs.Areas.{with_labels}
 use Rattle.shell_reports.specs.declared.status.Ending.TheVariants as ending
 use Rattle.shell_sectors.specs.Found.{with_contents}
+use Rattle.shell_serve.proofs.Journals.{none_recovers}
 use Rattle.shell_serve.specs.Laws.{EmptyServes}
 
 abbrev rows : ImageSet → List (List ℕ)
@@ -43,6 +44,7 @@ empty_serves text sets loaded areas shown apart = (
       no_stand = λ place k is. tt;
     };
     labels = refl;
+    recover = none_recovers sets _ _;
     disjoint = apart;
     survive = λ place d h. absurd (omega (arith, h));
     beside = subst (λ (ws : List Words). KeepsBeside sets [] (rows_of loaded.contents) ws) (sym (rows_back loaded.contents)) (record { sizes = refl; same = λ which k outside. refl });

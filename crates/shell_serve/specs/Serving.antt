@@ -20,6 +20,7 @@ use Rattle.served_namespaces.specs.Places.{KeepsBeside, words_at}
 use Rattle.session_account.specs.declared.reply.Reply.{Reply}
 use Rattle.session_account.specs.Account.{Accounts, Histories, flights_on}
 use Rattle.session_account.specs.Journal.{AreLeft, IsJournal}
+use Rattle.session_account.specs.Recovered.{LeftRecovers}
 use Rattle.session_account.specs.Serving.{Serving}
 use Rattle.session_account.specs.Survival.{Flight, Survives}
 use Rattle.session_script.specs.declared.script.Script.{Script}
@@ -83,6 +84,8 @@ pub record Serves (text : List (List Reply) → List ℕ) (sets : List (List Map
   pub accounts : Accounts (servings_of opened) script replies journal histories
   -- the label areas are those of the journal's end, or those after the cut in the command in which it came
   pub labels : AreLeft sets (unclaimed areas) script.labelcut journal left
+  -- recovered, they have the namespaces of the journal's end, or those from before or after that command
+  pub recover : LeftRecovers sets (unclaimed areas) script.labelcut journal left
   -- no two namespaces have extents that meet
   pub disjoint : EntriesApart (namespaces_of sets left)
   -- each namespace that was open opens again at its place, and its sectors survive

@@ -17,6 +17,7 @@
 //! | each arena has one history, legal from its contents | `legal` |
 //! | the replies are those of the sessions' calls, which stand once and in order | `accounts` |
 //! | label areas are those of the journal's end, or those after the cut in one command; no two namespaces meet | `labels`, `disjoint` |
+//! | recovered, they have the namespaces of the journal's end, or those from before or after the command that was cut | `recover` |
 //! | each sector is as its history ends, or as one write that was cut | `survive` |
 //! | contents outside the served arenas are as loaded | `beside` |
 //!
