@@ -297,8 +297,8 @@ load_by l workers loaded e true c p q is = is_refused p is
 load_by l workers loaded e false true p q is = is_turned_down p refl q is
 load_by l workers loaded e false false p q is = is_done p refl q is
 
-load_case : (l : Loading) (workers : ℕ) (loaded : ImageSet) (outcome : Outcome) → LoadComes l loaded outcome → CommandCase (Load l workers) (Ok loaded) outcome.ending
-load_case l workers loaded outcome comes = load_by l workers loaded outcome.ending (breaks_load l loaded) (refuses_load l loaded) refl refl (load_due l loaded outcome comes)
+load_case : (leaves : List (Option Words) → List (Option (List ℕ)) → Type 0) (l : Loading) (workers : ℕ) (loaded : ImageSet) (outcome : Outcome) → LoadComes leaves l loaded outcome → CommandCase (Load l workers) (Ok loaded) outcome.ending
+load_case leaves l workers loaded outcome comes = load_by l workers loaded outcome.ending (breaks_load l loaded) (refuses_load l loaded) refl refl (load_due leaves l loaded outcome comes)
 
 -- ---- `serve`
 
@@ -306,16 +306,16 @@ serve_by : (b : Bool) → due.ending_by b false ≡ ending_by b false false
 serve_by true = refl
 serve_by false = refl
 
-serve_found : (script : Script) (found : Result ImageSet LoadFault) (outcome : Outcome) → OnLoaded (ServeComes script) found outcome → outcome.ending ≡ ending_by (breaks_sessions (Ok script) found) false false
-serve_found script (Ok loaded) outcome comes = serve_due script loaded outcome comes ∙ serve_by (breaks_serve loaded script)
-serve_found script (Err fault) outcome comes = ending_of outcome _ comes
+serve_found : (leaves : List (Option Words) → List (Option (List ℕ)) → Type 0) (script : Script) (found : Result ImageSet LoadFault) (outcome : Outcome) → OnLoaded (ServeComes leaves script) found outcome → outcome.ending ≡ ending_by (breaks_sessions (Ok script) found) false false
+serve_found leaves script (Ok loaded) outcome comes = serve_due leaves script loaded outcome comes ∙ serve_by (breaks_serve loaded script)
+serve_found leaves script (Err fault) outcome comes = ending_of outcome _ comes
 
 abbrev serve_for : Images → Result Script ScriptRefused → Ending
 serve_for set r = if is_err r then ending.Usage else ending_by (breaks_sessions r (loading set)) false false
 
-serve_ending : (set : Images) (outcome : Outcome) (r : Result Script ScriptRefused) → OnScript (λ (lines : Script). OnImages (ServeComes lines) (Some set)) r outcome → outcome.ending ≡ serve_for set r
-serve_ending set outcome (Ok script) on = serve_found script (loading set) outcome (on set refl)
-serve_ending set outcome (Err why) said = ending_of outcome (script_outcome why) said
+serve_ending : (leaves : List (Option Words) → List (Option (List ℕ)) → Type 0) (set : Images) (outcome : Outcome) (r : Result Script ScriptRefused) → OnScript (λ (lines : Script). OnImages (ServeComes leaves lines) (Some set)) r outcome → outcome.ending ≡ serve_for set r
+serve_ending set outcome (Ok script) on = serve_found leaves script (loading set) outcome (on set refl)
+serve_ending leaves set outcome (Err why) said = ending_of outcome (script_outcome why) said
 
 -- ---- any command
 
@@ -337,7 +337,7 @@ module _ (leaves : ℕ → List (Option Words) → List (Option (List ℕ)) → 
   command_case (Export uuid zeros) (Ok loaded) outcome comes = export_case uuid zeros loaded outcome comes
   command_case (Import uuid) (Ok loaded) outcome comes = absurd comes
   command_case (Serve running) (Ok loaded) outcome comes = absurd comes
-  command_case (Load l workers) (Ok loaded) outcome comes = load_case l workers loaded outcome comes
+  command_case (Load l workers) (Ok loaded) outcome comes = load_case (leaves 0) l workers loaded outcome comes
 
   -- ---- the ending that is due
 
@@ -394,7 +394,7 @@ module _ (leaves : ℕ → List (Option Words) → List (Option (List ℕ)) → 
   script_ending (Write uuid sector value) script set outcome comes = plain_ending (Write uuid sector value) set outcome comes
   script_ending (Export uuid zeros) script set outcome comes = plain_ending (Export uuid zeros) set outcome comes
   script_ending (Import uuid) script set outcome comes = import_ending uuid script set outcome (bytes_in script) (bytes_same script) comes
-  script_ending (Serve running) script set outcome comes = serve_ending set outcome (script_in script_reading script) comes
+  script_ending (Serve running) script set outcome comes = serve_ending (leaves running.seed) set outcome (script_in script_reading script) comes
   script_ending (Load l workers) script set outcome comes = plain_ending (Load l workers) set outcome comes
   script_ending (Replay uuid seed) script set outcome comes = replay_ending uuid seed set outcome (script_in replay_reading script) comes
 

@@ -284,16 +284,16 @@ module _ (leaves : ℕ → List (Option Words) → List (Option (List ℕ)) → 
   misread_bytes_due uuid why (Err e) refused says nothing = tt
 
   -- a script of sessions was read
-  pub sessions_due : {E : Type 0} (running : Running) (lines : Script) (r : Result Answer E) → ForSome left (λ text. script_in script_reading text ≡ Ok lines) → IfOk r (IsTold (ServeComes lines) held) → IfOk r (IsDueFor (Serve running))
+  pub sessions_due : {E : Type 0} (running : Running) (lines : Script) (r : Result Answer E) → ForSome left (λ text. script_in script_reading text ≡ Ok lines) → IfOk r (IsTold (ServeComes (leaves running.seed) lines) held) → IfOk r (IsDueFor (Serve running))
   sessions_due running lines (Ok answer) read told = λ outcome from script reads.
-      subst (λ (s : Result Script ScriptRefused). OnScript (λ (q : Script). OnImages (ServeComes q) held) s outcome) (sym (read script (reads refl))) (told outcome from)
+      subst (λ (s : Result Script ScriptRefused). OnScript (λ (q : Script). OnImages (ServeComes (leaves running.seed) q) held) s outcome) (sym (read script (reads refl))) (told outcome from)
   sessions_due running lines (Err e) read told = tt
 
   -- none was
   pub misread_sessions_due : {E : Type 0} (running : Running) (why : ScriptRefused) (r : Result Answer E) → ForSome left (λ text. script_in script_reading text ≡ Err why)
       → IfOk r (λ answer. (contents : List (List ℕ)) → outcome_with answer contents ≡ script_outcome why) → IfOk r (λ answer. answer.saved ≡ None) → IfOk r (IsDueFor (Serve running))
   misread_sessions_due running why (Ok answer) refused says nothing = λ outcome from script reads.
-      subst (λ (s : Result Script ScriptRefused). OnScript (λ (q : Script). OnImages (ServeComes q) held) s outcome)
+      subst (λ (s : Result Script ScriptRefused). OnScript (λ (q : Script). OnImages (ServeComes (leaves running.seed) q) held) s outcome)
       (sym (refused script (reads refl))) (from_none held answer outcome (script_outcome why) nothing says from)
   misread_sessions_due running why (Err e) refused says nothing = tt
 

@@ -52,7 +52,7 @@ LoadedComes leaves (Replay uuid seed) loaded outcome = ⊥
 LoadedComes leaves (Export uuid zeros) loaded outcome = outcome ≡ export_outcome uuid zeros loaded
 LoadedComes leaves (Import uuid) loaded outcome = ⊥
 LoadedComes leaves (Serve running) loaded outcome = ⊥
-LoadedComes leaves (Load l workers) loaded outcome = LoadComes l loaded outcome
+LoadedComes leaves (Load l workers) loaded outcome = LoadComes (leaves 0) l loaded outcome
 
 -- by the set that is loaded, or by why none is
 abbrev pub OnLoaded : (ImageSet → Outcome → Type 0) → Result ImageSet LoadFault → Outcome → Type 0
@@ -73,7 +73,7 @@ abbrev pub Comes : (ℕ → List (Option Words) → List (Option (List ℕ)) →
 Comes leaves (Replay uuid seed) held script outcome =
     OnScript (λ schedule. OnImages (ReplayComes leaves uuid (record { lines = schedule.lines; seed = seed })) held) (script_in replay_reading script) outcome
 Comes leaves (Import uuid) held script outcome = OnScript (λ bytes. OnImages (ImportComes uuid bytes) held) (bytes_in script) outcome
-Comes leaves (Serve running) held script outcome = OnScript (λ lines. OnImages (ServeComes lines) held) (script_in script_reading script) outcome
+Comes leaves (Serve running) held script outcome = OnScript (λ lines. OnImages (ServeComes (leaves running.seed) lines) held) (script_in script_reading script) outcome
 Comes leaves command held script outcome = OnImages (LoadedComes leaves command) held outcome
 
 -- whether a command reads the script

@@ -216,7 +216,7 @@ fn load_found<R: Threads + Wait + Sync, C: Chooser, G: Gate>(
     requires workers { 0 < workers }
     requires some { 0 < load.now.sessions }
     requires sound { IsSound loaded }
-    ensures comes { IfOk result (λ answer. LoadComes load.now (image_set_in loaded) (whole_outcome answer)) }
+    ensures comes { IfOk result (λ answer. LoadComes (LeavesBy C.begins C.picks choose.old 0) load.now (image_set_in loaded) (whole_outcome answer)) }
     ensures whole { IfOk result (λ answer. copies_contents answer.saved ≡ false) }
 {
     let running = Running { workers, seed: 0 };
@@ -430,7 +430,7 @@ fn serve_loaded<R: Threads + Wait + Sync, S: ImageSource, C: Chooser, G: Gate>(
 ) -> Result<Answer, RunStop>
     requires workers { 0 < running.workers }
     requires text { ScriptHasText script.now }
-    ensures told { IfOk result (λ answer. (outcome : Outcome) → ComesFrom (S.held images.old) answer outcome → OnImages (ServeComes script.now) (S.held images.old) outcome) }
+    ensures told { IfOk result (λ answer. (outcome : Outcome) → ComesFrom (S.held images.old) answer outcome → OnImages (ServeComes (LeavesBy C.begins C.picks choose.old running.seed) script.now) (S.held images.old) outcome) }
     ensures whole { IfOk result (λ answer. copies_contents answer.saved ≡ false) }
     ensures same { S.held images.new ≡ S.held images.old }
     ensures failed { result ≡ Err RunStop.ReadFault → Rose (S.faults images.old) (S.faults images.new) }

@@ -1,6 +1,7 @@
 -- `serve` and `load` end as they are due.
-use Rattle.std.proofs.Common.{◌≡◌, Bool, true, false, List, Option, Result, Ok, Err, ap}
+use Rattle.std.proofs.Common.{◌≡◌, ℕ, Bool, true, false, List, Option, Result, Ok, Err, ap}
 use Rattle.std.specs.Prelude.{MatchBool, nat_lt, is_err}
+use Rattle.cut_words.specs.Words.{Words}
 use Rattle.nfit_reader.specs.declared.table.Mapping.{Mapping}
 use Rattle.arena_open.specs.declared.chain_refused.ChainRefused.{ChainRefused}
 use Rattle.arena_open.specs.declared.state.ArenaState.{ArenaState}
@@ -33,39 +34,39 @@ ends a b is = ap (λ (o : Outcome). o.ending) is
 
 -- ---- `serve`
 
-serve_on : (sets : List (List Mapping)) (loaded : ImageSet) (areas : List (Option Area)) (script : Script) (outcome : Outcome) (r : Result (List OpenedNamespace) Broken)
-    → OnOpened (λ opened. Serves serve_text sets loaded areas opened script) r outcome → outcome.ending ≡ ending_by (is_err r) false
-serve_on sets loaded areas script outcome (Ok opened) serves = serves.saved.saves.ends
-serve_on sets loaded areas script outcome (Err broken) said = ends outcome _ said
+serve_on : (leaves : List (Option Words) → List (Option (List ℕ)) → Type 0) (sets : List (List Mapping)) (loaded : ImageSet) (areas : List (Option Area)) (script : Script) (outcome : Outcome) (r : Result (List OpenedNamespace) Broken)
+    → OnOpened (λ opened. Serves leaves serve_text sets loaded areas opened script) r outcome → outcome.ending ≡ ending_by (is_err r) false
+serve_on leaves sets loaded areas script outcome (Ok opened) serves = serves.saved.saves.ends
+serve_on leaves sets loaded areas script outcome (Err broken) said = ends outcome _ said
 
-serve_by : (script : Script) (loaded : ImageSet) (outcome : Outcome) (r : Result (List (List Mapping)) OpenFault) → ServesOnSets loaded script r outcome → outcome.ending ≡ ending_by (breaks_on loaded script r) false
-serve_by script loaded outcome (Ok sets) comes =
-    serve_on sets loaded (recovered_areas sets (areas_in loaded.labels)) script outcome (served_in sets (recovered_areas sets (areas_in loaded.labels)) loaded script) comes
-serve_by script loaded outcome (Err fault) said = ends outcome _ said
+serve_by : (leaves : List (Option Words) → List (Option (List ℕ)) → Type 0) (script : Script) (loaded : ImageSet) (outcome : Outcome) (r : Result (List (List Mapping)) OpenFault) → ServesOnSets leaves loaded script r outcome → outcome.ending ≡ ending_by (breaks_on loaded script r) false
+serve_by leaves script loaded outcome (Ok sets) comes =
+    serve_on leaves sets loaded (recovered_areas sets (areas_in loaded.labels)) script outcome (served_in sets (recovered_areas sets (areas_in loaded.labels)) loaded script) comes
+serve_by leaves script loaded outcome (Err fault) said = ends outcome _ said
 
-pub serve_due : ServeEndsDue
-serve_due script loaded outcome comes = serve_by script loaded outcome (sets_in loaded) comes
+pub serve_due : (leaves : List (Option Words) → List (Option (List ℕ)) → Type 0) → ServeEndsDue leaves
+serve_due leaves script loaded outcome comes = serve_by leaves script loaded outcome (sets_in loaded) comes
 
 -- ---- `load`
 
-module _ (l : Load) (loaded : ImageSet) (outcome : Outcome) (sets : List (List Mapping)) (areas : List (Option Area)) (found : Found) where
-  load_few : (states : List ArenaState) (b : Bool) → MatchBool b (outcome ≡ refused_outcome (range_text (sectors_of states))) (LoadsOn l sets loaded areas found states outcome) → outcome.ending ≡ ending_by false b
+module _ (leaves : List (Option Words) → List (Option (List ℕ)) → Type 0) (l : Load) (loaded : ImageSet) (outcome : Outcome) (sets : List (List Mapping)) (areas : List (Option Area)) (found : Found) where
+  load_few : (states : List ArenaState) (b : Bool) → MatchBool b (outcome ≡ refused_outcome (range_text (sectors_of states))) (LoadsOn leaves l sets loaded areas found states outcome) → outcome.ending ≡ ending_by false b
   load_few states true said = ends outcome _ said
   load_few states false serves = serves.saved.saves.ends
 
-  load_arenas : (r : Result (List ArenaState) ChainRefused) → LoadsOnArenas l sets loaded areas found r outcome → outcome.ending ≡ ending_by (is_err r) (are_few l r)
+  load_arenas : (r : Result (List ArenaState) ChainRefused) → LoadsOnArenas leaves l sets loaded areas found r outcome → outcome.ending ≡ ending_by (is_err r) (are_few l r)
   load_arenas (Ok states) comes = load_few states (nat_lt (sectors_of states) l.sessions) comes
   load_arenas (Err fault) said = ends outcome _ said
 
-load_found : (l : Load) (loaded : ImageSet) (outcome : Outcome) (sets : List (List Mapping)) (areas : List (Option Area)) (r : Result Found OpRefused) → LoadsOnFound l sets loaded areas r outcome
+load_found : (leaves : List (Option Words) → List (Option (List ℕ)) → Type 0) (l : Load) (loaded : ImageSet) (outcome : Outcome) (sets : List (List Mapping)) (areas : List (Option Area)) (r : Result Found OpRefused) → LoadsOnFound leaves l sets loaded areas r outcome
     → outcome.ending ≡ ending_by (breaks_found l sets loaded r) (bars_found l sets loaded r)
-load_found l loaded outcome sets areas (Ok found) comes = load_arenas l loaded outcome sets areas found (arenas_on l sets loaded found) comes
-load_found l loaded outcome sets areas (Err refusal) said = ends outcome _ said
+load_found leaves l loaded outcome sets areas (Ok found) comes = load_arenas leaves l loaded outcome sets areas found (arenas_on l sets loaded found) comes
+load_found leaves l loaded outcome sets areas (Err refusal) said = ends outcome _ said
 
-load_by : (l : Load) (loaded : ImageSet) (outcome : Outcome) (r : Result (List (List Mapping)) OpenFault) → LoadsOnSets l loaded r outcome → outcome.ending ≡ ending_by (breaks_sets l loaded r) (bars_sets l loaded r)
-load_by l loaded outcome (Ok sets) comes =
-    load_found l loaded outcome sets (recovered_areas sets (areas_in loaded.labels)) (found_on l sets (recovered_areas sets (areas_in loaded.labels))) comes
-load_by l loaded outcome (Err fault) said = ends outcome _ said
+load_by : (leaves : List (Option Words) → List (Option (List ℕ)) → Type 0) (l : Load) (loaded : ImageSet) (outcome : Outcome) (r : Result (List (List Mapping)) OpenFault) → LoadsOnSets leaves l loaded r outcome → outcome.ending ≡ ending_by (breaks_sets l loaded r) (bars_sets l loaded r)
+load_by leaves l loaded outcome (Ok sets) comes =
+    load_found leaves l loaded outcome sets (recovered_areas sets (areas_in loaded.labels)) (found_on l sets (recovered_areas sets (areas_in loaded.labels))) comes
+load_by leaves l loaded outcome (Err fault) said = ends outcome _ said
 
-pub load_due : LoadEndsDue
-load_due l loaded outcome comes = load_by l loaded outcome (sets_in loaded) comes
+pub load_due : (leaves : List (Option Words) → List (Option (List ℕ)) → Type 0) → LoadEndsDue leaves
+load_due leaves l loaded outcome comes = load_by leaves l loaded outcome (sets_in loaded) comes

@@ -2,6 +2,7 @@ mod Rows
 mod Lists
 mod Journals
 mod Saves
+mod Choosing
 pub mod Causes
 mod Empty
 mod Recovering

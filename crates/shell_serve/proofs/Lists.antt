@@ -31,6 +31,11 @@ items_there [] k row at = absurd (none-some row at)
 items_there {X} {Z} (r ∷ rows) zero row at = ap (λ (v : Vec X Z). v.items) (same_Some r row at)
 items_there (r ∷ rows) (suc k) row at = items_there rows k row at
 
+pub items_mapped : {X Z : Type 0} (rows : List (Vec X Z)) (k : ℕ) (row : Vec X Z) → slice_get rows k ≡ Some row → slice_index_or (map (λ (v : Vec X Z). v.items) rows) k [] ≡ row.items
+items_mapped [] k row at = absurd (none-some row at)
+items_mapped {X} {Z} (r ∷ rows) zero row at = ap (λ (v : Vec X Z). v.items) (same_Some r row at)
+items_mapped (r ∷ rows) (suc k) row at = items_mapped rows k row at
+
 -- rows of the same images have elements with the same image
 pub same_at : {X Y W : Type 0} (f : X → W) (g : Y → W) (xs : List X) (ys : List Y) (k : ℕ) (x : X) → map g ys ≡ map f xs → slice_get xs k ≡ Some x → (y : Y) × (slice_get ys k ≡ Some y) × (g y ≡ f x)
 same_at f g [] ys k x same at = absurd (none-some x at)

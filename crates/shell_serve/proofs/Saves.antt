@@ -64,11 +64,12 @@ module _ (rest : Unchanged) (contents : List Words) (images : Left) (left : IsLe
   same_set loaded nfit bad (object.Contents k) = sym (slice_get-map bytes_of images.contents k)
   same_set loaded nfit bad (object.BadRanges k) = ap (λ (ranges : List (Option (List ℕ))). get_or ranges k None) (sym bad)
 
-  pub saves_left : (report : Report) (saved : SavedLeft) → saved ≡ Whole (record { nfit = rest.nfit_bytes; images = images; bad = rest.bad })
-      → SavesLeft report rest contents (record { ending = report.ending; text = report.text.items; saved = Some (objects_saved [] saved) })
-  saves_left report saved is = record {
+  pub saves_left : (leaves : List (Option Words) → List (Option (List ℕ)) → Type 0) → leaves (map area_words rest.registry.areas) images.labels → (report : Report) (saved : SavedLeft) → saved ≡ Whole (record { nfit = rest.nfit_bytes; images = images; bad = rest.bad })
+      → SavesLeft leaves report rest contents (record { ending = report.ending; text = report.text.items; saved = Some (objects_saved [] saved) })
+  saves_left leaves chosen report saved is = record {
     labels = images.labels;
     areas = left.labels;
+    chosen = chosen;
     rows = images.contents;
     words = left.contents;
     saves = λ loaded nfit bad. record {
@@ -94,16 +95,17 @@ rows_settled (words ∷ contents) rows all (first, rest, is, here, more) =
 
 -- the set that is saved has the label areas that are left
 pub saves_parts : (loaded : ImageSet) (areas : List Area) (keeps : KeepsLabels loaded.labels areas) (labels : List (Option (List ℕ))) (rows : List (List ℕ)) (end : Ending) (said text : List ℕ) (outcome : Outcome) → AreasLeft areas labels → end ≡ ending.Done → said ≡ text
-    → IsSaving end said (objects_of (with_labels (with_contents loaded rows) (map (option_map bytes_of) labels))) outcome → SavesParts text loaded (areas_shown labels) rows outcome
-saves_parts loaded areas keeps labels rows end said text outcome left ends says saves = record {
-  set = objects_of (with_labels (with_contents loaded rows) (map (option_map bytes_of) labels));
-  has = record {
-    labels = map (option_map bytes_of) labels;
-    shown = rows_shown labels;
-    unread = λ m none.
-        unread_all keeps.words areas labels keeps.beside left m (ap (λ (ls : List (Option (List ℕ))). area_in (get_or ls m None)) (sym keeps.are) ∙ none) ∙ ap (λ (ls : List (Option (List ℕ))). get_or ls m None) (sym keeps.are);
-    sizes = sized_all keeps.words areas labels keeps.beside keeps.sizes left ∙ ap (map (option_map length)) (sym keeps.are);
-    objects = λ object. refl;
-  };
-  saves = record { ends = saves.ends ∙ ends; says = saves.says ∙ says; saved = saves.saved; saves = saves.saves; same = saves.same };
-}
+    → IsSaving end said (objects_of (with_labels (with_contents loaded rows) (map (option_map bytes_of) labels))) outcome → SavesParts text loaded (areas_shown labels) labels rows outcome
+saves_parts loaded areas keeps labels rows end said text outcome left ends says saves =
+    let unread : (m : ℕ) → area_in (get_or loaded.labels m None) ≡ None → get_or (map (option_map bytes_of) labels) m None ≡ get_or loaded.labels m None =
+    λ m none.
+    unread_all keeps.words areas labels keeps.beside left m (ap (λ (ls : List (Option (List ℕ))). area_in (get_or ls m None)) (sym keeps.are) ∙ none) ∙ ap (λ (ls : List (Option (List ℕ))). get_or ls m None) (sym keeps.are) in
+    let sizes : map (option_map length) (map (option_map bytes_of) labels) ≡ map (option_map length) loaded.labels =
+    sized_all keeps.words areas labels keeps.beside keeps.sizes left ∙ ap (map (option_map length)) (sym keeps.are) in
+    record {
+      set = objects_of (with_labels (with_contents loaded rows) (map (option_map bytes_of) labels));
+      shown = refl;
+      words = record { unread = unread; sizes = sizes; objects = λ object. refl };
+      has = record { labels = map (option_map bytes_of) labels; shown = rows_shown labels; unread = unread; sizes = sizes; objects = λ object. refl };
+      saves = record { ends = saves.ends ∙ ends; says = saves.says ∙ says; saved = saves.saved; saves = saves.saves; same = saves.same };
+    }

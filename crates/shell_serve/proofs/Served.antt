@@ -41,11 +41,12 @@ use Rattle.session_script.specs.declared.script.Script.{Script}
 use Rattle.session_service.specs.declared.ending.Ran.{Ran}
 use Rattle.session_service.specs.declared.namespaces.ServedNamespace.{ServedNamespace}
 use Rattle.session_service.specs.Namespaces as service
-use Rattle.session_service.specs.Ran.{HasServed, IsRunCore, histories_of, journal_of, replies_of}
+use Rattle.session_service.specs.Ran.{HasServed, IsRunCore, histories_of, history_in, journal_of, replies_of}
 use Rattle.shell_sectors.specs.declared.finding.Unchanged.{Unchanged}
 use Rattle.shell_serve.specs.Answering.{AreSame, IsCutOf, IsOpen, IsServed}
+use Rattle.shell_serve.specs.Chosen.{ArenasAtCut, ArenasChosen, IsCoreAtCut, core_words, words_left}
 use Rattle.shell_serve.specs.Serving.{AreLegal, ArenasSurvive, servings_of, unclaimed}
-use Rattle.shell_serve.proofs.Lists.{each_back, items_there, same_at}
+use Rattle.shell_serve.proofs.Lists.{each_back, items_mapped, items_there, same_at}
 
 -- ---- the same namespaces, as sessions get them
 
@@ -102,6 +103,9 @@ no_state = record {
   made = 0;
 }
 
+abbrev items_of : Vec Core Global → List Core
+items_of own = own.items
+
 module _ (namespaces : List OpenedNamespace) (served : List ServedNamespace) (same : AreSame namespaces served) (registry : Registered) (script : Script) (ran : Ran) (has : HasServed registry served script ran) where
   -- the core of an arena
   core_there : (place k : ℕ) (o : OpenedNamespace) (state : ArenaState) → slice_get namespaces place ≡ Some o → slice_get o.states k ≡ Some state → (own : _) → slice_get ran.cores.items place ≡ Some own
@@ -118,6 +122,20 @@ module _ (namespaces : List OpenedNamespace) (served : List ServedNamespace) (sa
       subst (λ (s : ArenaState). IsRunCore s (histories_of ran.cores.items place k) (flights_on (service.servings_of served) place k script (replies_of ran.replies.items) (histories_of ran.cores.items)) core) state_is
       (subst (λ (c : Core). IsRunCore (slice_index_or (slice_index_or served place n).arenas.items k state) (histories_of ran.cores.items place k)
       (flights_on (service.servings_of served) place k script (replies_of ran.replies.items) (histories_of ran.cores.items)) c) core_is run)
+
+  -- it is the arena's when power is cut
+  core_at_cut : (place k : ℕ) (o : OpenedNamespace) (state : ArenaState) → slice_get namespaces place ≡ Some o → slice_get o.states k ≡ Some state → (own : Vec Core Global) → slice_get ran.cores.items place ≡ Some own
+      → (core : Core) → slice_get own.items k ≡ Some core
+      → IsCoreAtCut state (histories_of ran.cores.items place k) (flights_on (servings_of namespaces) place k script (replies_of ran.replies.items) (histories_of ran.cores.items)) core
+  core_at_cut place k o state at_o at_state own at_own core at_core =
+      let run = core_there place k o state at_o at_state own at_own core at_core in
+      record {
+        arena = run.of_arena;
+        calls = ap history_in (sym (ap (λ (cs : List Core). slice_get cs k) (items_there ran.cores.items place own at_own) ∙ at_core));
+        in_flight = λ left may.
+            subst (λ (all : List Serving). Survives (first_cells state) (histories_of ran.cores.items place k) (flights_on all place k script (replies_of ran.replies.items) (histories_of ran.cores.items)) core.shape.sectors left)
+            (same_servings namespaces served same) (run.survives left may);
+      }
 
   -- each namespace has as many cores as arenas
   core_count : (place : ℕ) (o : OpenedNamespace) → slice_get namespaces place ≡ Some o → (own : _) → slice_get ran.cores.items place ≡ Some own → length own.items ≡ length o.states
@@ -214,6 +232,34 @@ module _ (namespaces : List OpenedNamespace) (served : List ServedNamespace) (sa
           let at_part : slice_get parts k ≡ Some (get_or parts k []) = slice_get-get_or parts k [] (omega (arith, inside, counted.count)) in
           (part_there place k o (slice_index_or o.states k e) parts (get_or parts k []) at_o at_state at_parts at_part).1.legal
 
+      -- the cores and what is left of them
+      pub arenas_chosen : (leaves : List (Option Words) → List (Option (List ℕ)) → Type 0) → leaves (core_words (map items_of ran.cores.items)) (words_left words)
+          → ArenasChosen leaves sets namespaces (histories_of ran.cores.items) (λ place k. flights_on (servings_of namespaces) place k script (replies_of ran.replies.items) (histories_of ran.cores.items)) now
+      arenas_chosen leaves chosen = record {
+        cores = map items_of ran.cores.items;
+        parts = words;
+        cores_count = length-map ran.cores.items items_of ∙ has.places ∙ same_count namespaces served same;
+        parts_count = are_cut.count;
+        each = λ place d lt.
+            let o = slice_index_or namespaces place d in
+            let at_o : slice_get namespaces place ≡ Some o = slice_get-get_or namespaces place d lt in
+            let lt_words : place < length words = omega (arith, lt, are_cut.count) in
+            let parts = get_or words place [] in
+            let at_parts : slice_get words place ≡ Some parts = slice_get-get_or words place [] lt_words in
+            let (own, at_own, cuts) = each_back (λ own ps. Each IsCutOf own.items ps) ran.cores.items words place parts cut at_parts in
+            let counted = core_count place o at_o own at_own in
+            subst (λ (cores : List Core). ArenasAtCut o (words_at sets o.place.found now) (histories_of ran.cores.items place)
+            (λ k. flights_on (servings_of namespaces) place k script (replies_of ran.replies.items) (histories_of ran.cores.items)) cores parts) (sym (items_mapped ran.cores.items place own at_own))
+            (record {
+              cores_count = counted;
+              parts_count = (are_cut.each place o parts at_o at_parts).count;
+              each = λ k e core inside.
+                  core_at_cut place k o (slice_index_or o.states k e) at_o (slice_get-get_or o.states k e inside) own at_own (slice_index_or own.items k core) (slice_get-get_or own.items k core (omega (arith, inside, counted)));
+              words = (left.each place o parts at_o at_parts).words;
+            });
+        chosen = chosen;
+      }
+
   -- ---- label areas
 
   -- whatever their state after a crash
@@ -242,10 +288,11 @@ module _ (loaded : ImageSet) (rest : Unchanged) (set : OpenedSet) (is : IsOpen l
       sym (length-map now (λ (w : Words). length w.kept)) ∙ ap (λ (ns : List ℕ). length ns) sizes ∙ length-map (rows_of loaded.contents) (λ (w : Words). length w.kept)
       ∙ length-map loaded.contents (λ (bytes : List ℕ). settled (words_in bytes))
 
-  pub is_served : (now : Vec Words Global) (sets : List (List Mapping)) → sets ≡ ran.registry.sets → put.AreLeft sets (rows_of loaded.contents) set.namespaces words now.items
-      → IsServed loaded rest.registry.sets (areas_seen rest.registry.areas) set.namespaces script
+  pub is_served : (leaves : List (Option Words) → List (Option (List ℕ)) → Type 0) → leaves (core_words (map items_of ran.cores.items)) (words_left words) → (now : Vec Words Global) (sets : List (List Mapping)) → sets ≡ ran.registry.sets
+      → put.AreLeft sets (rows_of loaded.contents) set.namespaces words now.items
+      → IsServed leaves loaded rest.registry.sets (areas_seen rest.registry.areas) set.namespaces script
       (record { replies = ran.replies; rest = record { registry = ran.registry; nfit_bytes = rest.nfit_bytes; bad = rest.bad }; modules = now })
-  is_served now sets held left =
+  is_served leaves chosen now sets held left =
       let here : put.AreLeft rest.registry.sets (rows_of loaded.contents) set.namespaces words now.items = subst (λ (s : List (List Mapping)). put.AreLeft s (rows_of loaded.contents) set.namespaces words now.items) (held ∙ has.sets) left in
       let r = is.recovered in
       record {
@@ -257,6 +304,7 @@ module _ (loaded : ImageSet) (rest : Unchanged) (set : OpenedSet) (is : IsOpen l
         labels = labels_left set.namespaces served same rest.registry script ran has r.opening r.held;
         survive = survives set.namespaces served same rest.registry script ran has words cut rest.registry.sets (rows_of loaded.contents) now.items here;
         beside = here.beside;
+        chosen = arenas_chosen set.namespaces served same rest.registry script ran has words cut rest.registry.sets (rows_of loaded.contents) now.items here leaves chosen;
         settled = here.settled;
         keeps = record {
           words = r.labels.words;

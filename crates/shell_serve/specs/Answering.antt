@@ -9,7 +9,7 @@ use Rattle.lane_core.specs.declared.machine.Core.{Core}
 use Rattle.lane_core.specs.Held.{held_by}
 use Rattle.lane_core.specs.Reopening.{IsCoreOf}
 use Rattle.power_cut.specs.Left.{Each}
-use Rattle.namespace_areas.specs.Seen.{AreLeft as AreasLeft, areas_shown}
+use Rattle.namespace_areas.specs.Seen.{AreLeft as AreasLeft, areas_shown, words_of}
 use Rattle.namespace_map.specs.Areas.{Area as SeenArea}
 use Rattle.namespace_ops.specs.Entries.{JournalEntry}
 use Rattle.image_set.specs.Changed.{objects_of}
@@ -39,6 +39,7 @@ use Rattle.shell_sectors.specs.Found.{HasModules, with_contents}
 use Rattle.shell_serve.specs.declared.opening.OpenOutcome.{OpenOutcome}
 use Rattle.shell_serve.specs.declared.opening.OpenOutcome.TheVariants as opened
 use Rattle.shell_serve.specs.declared.serving.Served.{Served}
+use Rattle.shell_serve.specs.Chosen.{ArenasChosen}
 use Rattle.shell_serve.specs.Recovered.{IsRecoveredIn, KeepsLabels}
 use Rattle.shell_serve.specs.Serving.{AreLegal, ArenasSurvive, servings_of, unclaimed}
 
@@ -75,8 +76,8 @@ pub record AreSame (namespaces : List OpenedNamespace) (served : List ServedName
 abbrev pub IsCutOf : Core → List ℕ → Type 0
 IsCutOf core words = (state : ArenaState) → IsCoreOf state core → ArenaCut state (held_by core) words
 
--- What sessions have come to on namespaces that are open, in place of what was loaded.
-pub record IsServed (loaded : ImageSet) (sets : List (List Mapping)) (areas : List (Option SeenArea)) (namespaces : List OpenedNamespace) (script : Script) (served : Served) : Type 0 where
+-- What sessions have come to on namespaces that are open, in place of what was loaded. `leaves` says what the cut may leave of their words.
+pub record IsServed (leaves : List (Option Words) → List (Option (List ℕ)) → Type 0) (loaded : ImageSet) (sets : List (List Mapping)) (areas : List (Option SeenArea)) (namespaces : List OpenedNamespace) (script : Script) (served : Served) : Type 0 where
   pub journal : List JournalEntry
   pub histories : Histories
   pub commands : IsJournal sets (unclaimed areas) script.labelcut journal
@@ -88,6 +89,7 @@ pub record IsServed (loaded : ImageSet) (sets : List (List Mapping)) (areas : Li
       → ArenasSurvive (slice_index_or namespaces place d) (words_at sets (slice_index_or namespaces place d).place.found served.modules.items) (histories place)
       (λ k. flights_on (servings_of namespaces) place k script (replies_of served.replies.items) histories)
   pub beside : KeepsBeside sets namespaces (rows_of loaded.contents) served.modules.items
+  pub chosen : ArenasChosen leaves sets namespaces histories (λ place k. flights_on (servings_of namespaces) place k script (replies_of served.replies.items) histories) served.modules.items
   pub settled : AreSettled served.modules.items
   pub keeps : KeepsLabels loaded.labels served.rest.registry.areas
   pub nfit : loaded.nfit_bytes ≡ served.rest.nfit_bytes
@@ -96,10 +98,11 @@ pub record IsServed (loaded : ImageSet) (sets : List (List Mapping)) (areas : Li
 
 -- ---- what is saved
 
--- the set is saved with the label areas and the contents after the cut
-pub record SavesLeft (report : Report) (rest : Unchanged) (contents : List Words) (outcome : Outcome) : Type 0 where
+-- The set is saved with the label areas and the contents after the cut. `leaves` says what it may leave of the label areas' words.
+pub record SavesLeft (leaves : List (Option Words) → List (Option (List ℕ)) → Type 0) (report : Report) (rest : Unchanged) (contents : List Words) (outcome : Outcome) : Type 0 where
   pub labels : List (Option (List ℕ))
   pub areas : AreasLeft rest.registry.areas labels
+  pub chosen : leaves (map words_of rest.registry.areas) labels
   pub rows : List (List ℕ)
   pub words : Each IsLeft contents rows
   pub saves : (loaded : ImageSet) → loaded.nfit_bytes ≡ rest.nfit_bytes → loaded.bad ≡ rest.bad

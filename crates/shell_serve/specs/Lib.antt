@@ -1,5 +1,6 @@
 pub mod Texts
 pub mod Scripts
+pub mod Chosen
 pub mod Serving
 pub mod Serve
 pub mod Load

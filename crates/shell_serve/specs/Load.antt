@@ -1,5 +1,6 @@
 -- The command `load`: a script that is made from a number is served on one namespace, and summed up. This project's rules.
 use Rattle.std.specs.Prelude.{◌≡◌, ℕ, nat_lt, List, [], ◌∷◌, Option, Result, Ok, Err, MatchBool}
+use Rattle.cut_words.specs.Words.{Words}
 use Rattle.nfit_reader.specs.declared.table.Mapping.{Mapping}
 use Rattle.arena_open.specs.declared.chain_refused.ChainRefused.{ChainRefused}
 use Rattle.arena_open.specs.declared.state.ArenaState.{ArenaState}
@@ -35,31 +36,31 @@ script_for l sectors = load_script l.number l.uuid sectors l.sessions l.calls
 abbrev pub one_opened : Load → Found → List ArenaState → List OpenedNamespace
 one_opened l found states = record { place = record { uuid = l.uuid; found = found }; states = states } ∷ []
 
-abbrev pub LoadsOn : Load → List (List Mapping) → ImageSet → List (Option Area) → Found → List ArenaState → Outcome → Type 0
-LoadsOn l sets loaded areas found states outcome =
-    Serves (summary (script_for l (sectors_of states))) sets loaded areas (one_opened l found states) (script_for l (sectors_of states)) outcome
+abbrev pub LoadsOn : (List (Option Words) → List (Option (List ℕ)) → Type 0) → Load → List (List Mapping) → ImageSet → List (Option Area) → Found → List ArenaState → Outcome → Type 0
+LoadsOn leaves l sets loaded areas found states outcome =
+    Serves leaves (summary (script_for l (sectors_of states))) sets loaded areas (one_opened l found states) (script_for l (sectors_of states)) outcome
 
 -- on its arenas: it is refused if the namespace has fewer sectors than there are sessions
-abbrev pub LoadsOnArenas : Load → List (List Mapping) → ImageSet → List (Option Area) → Found → Result (List ArenaState) ChainRefused → Outcome → Type 0
-LoadsOnArenas l sets loaded areas found (Ok states) outcome =
-    MatchBool (nat_lt (sectors_of states) l.sessions) (outcome ≡ refused_outcome (range_text (sectors_of states))) (LoadsOn l sets loaded areas found states outcome)
-LoadsOnArenas l sets loaded areas found (Err fault) outcome = outcome ≡ arena_outcome l.uuid fault
+abbrev pub LoadsOnArenas : (List (Option Words) → List (Option (List ℕ)) → Type 0) → Load → List (List Mapping) → ImageSet → List (Option Area) → Found → Result (List ArenaState) ChainRefused → Outcome → Type 0
+LoadsOnArenas leaves l sets loaded areas found (Ok states) outcome =
+    MatchBool (nat_lt (sectors_of states) l.sessions) (outcome ≡ refused_outcome (range_text (sectors_of states))) (LoadsOn leaves l sets loaded areas found states outcome)
+LoadsOnArenas leaves l sets loaded areas found (Err fault) outcome = outcome ≡ arena_outcome l.uuid fault
 
 -- on the namespace, or why it isn't found
-abbrev pub LoadsOnFound : Load → List (List Mapping) → ImageSet → List (Option Area) → Result Found OpRefused → Outcome → Type 0
-LoadsOnFound l sets loaded areas (Ok found) outcome = LoadsOnArenas l sets loaded areas found (opened_view (words_at sets found (rows_of loaded.contents)) l.uuid) outcome
-LoadsOnFound l sets loaded areas (Err refusal) outcome = outcome ≡ refused_outcome (find_refusal refusal)
+abbrev pub LoadsOnFound : (List (Option Words) → List (Option (List ℕ)) → Type 0) → Load → List (List Mapping) → ImageSet → List (Option Area) → Result Found OpRefused → Outcome → Type 0
+LoadsOnFound leaves l sets loaded areas (Ok found) outcome = LoadsOnArenas leaves l sets loaded areas found (opened_view (words_at sets found (rows_of loaded.contents)) l.uuid) outcome
+LoadsOnFound leaves l sets loaded areas (Err refusal) outcome = outcome ≡ refused_outcome (find_refusal refusal)
 
 -- on label areas that recovery has left
-abbrev pub LoadsRecovered : Load → List (List Mapping) → ImageSet → List (Option Area) → Outcome → Type 0
-LoadsRecovered l sets loaded areas outcome = LoadsOnFound l sets loaded areas (found_of sets (lookup l.uuid (namespaces_of sets areas).entries)) outcome
+abbrev pub LoadsRecovered : (List (Option Words) → List (Option (List ℕ)) → Type 0) → Load → List (List Mapping) → ImageSet → List (Option Area) → Outcome → Type 0
+LoadsRecovered leaves l sets loaded areas outcome = LoadsOnFound leaves l sets loaded areas (found_of sets (lookup l.uuid (namespaces_of sets areas).entries)) outcome
 
 -- on interleave sets, or why there are none
-abbrev pub LoadsOnSets : Load → ImageSet → Result (List (List Mapping)) OpenFault → Outcome → Type 0
-LoadsOnSets l loaded (Ok sets) outcome = LoadsRecovered l sets loaded (recovered_areas sets (areas_in loaded.labels)) outcome
-LoadsOnSets l loaded (Err fault) outcome = outcome ≡ open_outcome fault
+abbrev pub LoadsOnSets : (List (Option Words) → List (Option (List ℕ)) → Type 0) → Load → ImageSet → Result (List (List Mapping)) OpenFault → Outcome → Type 0
+LoadsOnSets leaves l loaded (Ok sets) outcome = LoadsRecovered leaves l sets loaded (recovered_areas sets (areas_in loaded.labels)) outcome
+LoadsOnSets leaves l loaded (Err fault) outcome = outcome ≡ open_outcome fault
 
 -- what `load` may come to on a set that is loaded: as `serve` up to the namespaces; then the namespace is found, its arenas are opened,
--- and the script is made and served
-abbrev pub LoadComes : Load → ImageSet → Outcome → Type 0
-LoadComes l loaded outcome = LoadsOnSets l loaded (sets_in loaded) outcome
+-- and the script is made and served. `leaves` is as for `serve`.
+abbrev pub LoadComes : (List (Option Words) → List (Option (List ℕ)) → Type 0) → Load → ImageSet → Outcome → Type 0
+LoadComes leaves l loaded outcome = LoadsOnSets leaves l loaded (sets_in loaded) outcome

@@ -1,5 +1,6 @@
 -- The command `serve`: the sessions of a script, on the namespaces that it opens. This project's rules.
-use Rattle.std.specs.Prelude.{◌≡◌, List, Option, Result, Ok, Err}
+use Rattle.std.specs.Prelude.{◌≡◌, ℕ, List, Option, Result, Ok, Err}
+use Rattle.cut_words.specs.Words.{Words}
 use Rattle.nfit_reader.specs.declared.table.Mapping.{Mapping}
 use Rattle.namespace_map.specs.Areas.{Area}
 use Rattle.namespace_map.specs.Changes.{namespaces_of, recovered_areas}
@@ -29,15 +30,15 @@ OnOpened comes (Ok opened) outcome = comes opened outcome
 OnOpened comes (Err broken) outcome = outcome ≡ arena_outcome broken.uuid broken.fault
 
 -- on label areas that recovery has left
-abbrev pub OnRecovered : List (List Mapping) → ImageSet → List (Option Area) → Script → Outcome → Type 0
-OnRecovered sets loaded areas script outcome = OnOpened (λ opened. Serves serve_text sets loaded areas opened script) (served_in sets areas loaded script) outcome
+abbrev pub OnRecovered : (List (Option Words) → List (Option (List ℕ)) → Type 0) → List (List Mapping) → ImageSet → List (Option Area) → Script → Outcome → Type 0
+OnRecovered leaves sets loaded areas script outcome = OnOpened (λ opened. Serves leaves serve_text sets loaded areas opened script) (served_in sets areas loaded script) outcome
 
 -- on interleave sets, or why there are none
-abbrev pub ServesOnSets : ImageSet → Script → Result (List (List Mapping)) OpenFault → Outcome → Type 0
-ServesOnSets loaded script (Ok sets) outcome = OnRecovered sets loaded (recovered_areas sets (areas_in loaded.labels)) script outcome
-ServesOnSets loaded script (Err fault) outcome = outcome ≡ open_outcome fault
+abbrev pub ServesOnSets : (List (Option Words) → List (Option (List ℕ)) → Type 0) → ImageSet → Script → Result (List (List Mapping)) OpenFault → Outcome → Type 0
+ServesOnSets leaves loaded script (Ok sets) outcome = OnRecovered leaves sets loaded (recovered_areas sets (areas_in loaded.labels)) script outcome
+ServesOnSets leaves loaded script (Err fault) outcome = outcome ≡ open_outcome fault
 
 -- what `serve` may come to on a set that is loaded: the table and the labels are checked, labels are recovered with power that stays on,
--- the namespaces are opened, and then the sessions run
-abbrev pub ServeComes : Script → ImageSet → Outcome → Type 0
-ServeComes script loaded outcome = ServesOnSets loaded script (sets_in loaded) outcome
+-- the namespaces are opened, and then the sessions run. `leaves` says what a power cut behind them may leave of rows of words.
+abbrev pub ServeComes : (List (Option Words) → List (Option (List ℕ)) → Type 0) → Script → ImageSet → Outcome → Type 0
+ServeComes leaves script loaded outcome = ServesOnSets leaves loaded script (sets_in loaded) outcome

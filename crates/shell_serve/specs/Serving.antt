@@ -2,12 +2,13 @@
 -- project's rules over UEFI 2.10, section 6.3 (BTT theory of operation) and section 13.19 (labels).
 use Rattle.std.specs.Prelude.{◌≡◌, ℕ, ◌<◌, List, [], length, map, slice_index_or, Option, Ok}
 use Rattle.nvd_media.specs.Images.{Images}
-use Rattle.cut_words.specs.Words.{settled}
+use Rattle.cut_words.specs.Words.{Words, settled}
 use Rattle.nfit_reader.specs.declared.table.Mapping.{Mapping}
 use Rattle.arena_open.specs.declared.state.ArenaState.{ArenaState}
 use Rattle.lane_core.specs.declared.history.Entry.{Entry as HistoryEntry}
 use Rattle.lane_core.specs.History.{IsLegal}
 use Rattle.lane_core.specs.Reopening.{first_cells}
+use Rattle.namespace_areas.specs.Seen.{areas_shown}
 use Rattle.namespace_laws.specs.Apart.{EntriesApart}
 use Rattle.namespace_map.specs.Areas.{Area}
 use Rattle.namespace_map.specs.Changes.{namespaces_of}
@@ -25,11 +26,12 @@ use Rattle.session_account.specs.Serving.{Serving}
 use Rattle.session_account.specs.Survival.{Flight, Survives}
 use Rattle.session_script.specs.declared.script.Script.{Script}
 use Rattle.session_service.specs.Namespaces.{shape_by}
-use Rattle.shell_changes.specs.Areas.{HasAreas}
+use Rattle.shell_changes.specs.Areas.{HasAreas, HasRows}
 use Rattle.shell_reports.specs.declared.status.Ending.TheVariants as ending
 use Rattle.shell_reports.specs.Outcome.{Outcome}
 use Rattle.shell_reports.specs.Saved.{IsSaving}
 use Rattle.shell_sectors.specs.Found.{with_contents}
+use Rattle.shell_serve.specs.Chosen.{IsChosen}
 
 -- ---- as the account sees namespaces that are open
 
@@ -58,23 +60,27 @@ pub record ArenasSurvive (o : OpenedNamespace) (now : List ℕ) (histories : ℕ
   pub cells : (k : ℕ) (d : ArenaState) → k < length o.states
       → Survives (first_cells (slice_index_or o.states k d)) (histories k) (flights k) (slice_index_or o.states k d).info.layout.external (first_cells (slice_index_or news k d))
 
--- The loaded set is saved with label areas that show these, and with these words as the modules' contents. A label area that isn't read
--- is as loaded, and so are all other objects.
-pub record SavesParts (text : List ℕ) (loaded : ImageSet) (areas : List (Option Area)) (rows : List (List ℕ)) (outcome : Outcome) : Type 0 where
+-- The loaded set is saved with these words as its label areas, which show these areas, and with these as the modules' contents. A label
+-- area that isn't read is as loaded, and so are all other objects.
+pub record SavesParts (text : List ℕ) (loaded : ImageSet) (areas : List (Option Area)) (labels : List (Option (List ℕ))) (rows : List (List ℕ)) (outcome : Outcome) : Type 0 where
   pub set : Images
+  pub shown : areas_shown labels ≡ areas
+  pub words : HasRows (with_contents loaded rows) labels set
   pub has : HasAreas (with_contents loaded rows) areas set
   pub saves : IsSaving ending.Done text set outcome
 
 -- ---- what sessions come to
 
 -- The sessions of a script have run on namespaces that are open, from label areas that recovery has left. The text is a function of
--- their replies. However their steps came between one another, and wherever power was cut:
-pub record Serves (text : List (List Reply) → List ℕ) (sets : List (List Mapping)) (loaded : ImageSet) (areas : List (Option Area)) (opened : List OpenedNamespace) (script : Script) (outcome : Outcome) : Type 0 where
+-- their replies. `leaves` says what a power cut may leave of rows of words. However their steps came between one another, and wherever
+-- power was cut:
+pub record Serves (leaves : List (Option Words) → List (Option (List ℕ)) → Type 0) (text : List (List Reply) → List ℕ) (sets : List (List Mapping)) (loaded : ImageSet) (areas : List (Option Area)) (opened : List OpenedNamespace) (script : Script) (outcome : Outcome) : Type 0 where
   pub replies : List (List Reply)
   pub journal : List JournalEntry
   pub histories : Histories
   -- the label areas and the contents that are left
   pub left : List (Option Area)
+  pub label_words : List (Option (List ℕ))
   pub rows : List (List ℕ)
   -- the commands on labels are one journal: each replies what it does at its point, with power for as many steps as the script says
   pub commands : IsJournal sets (unclaimed areas) script.labelcut journal
@@ -94,4 +100,7 @@ pub record Serves (text : List (List Reply) → List ℕ) (sets : List (List Map
       (λ k. flights_on (servings_of opened) place k script replies histories)
   -- contents outside their arenas are as loaded
   pub beside : KeepsBeside sets opened (rows_of loaded.contents) (map settled rows)
-  pub saved : SavesParts (text replies) loaded left rows outcome
+  -- of words that weren't flushed is left what the chooser picks, for one after another: first those of the arenas, in order of the
+  -- namespaces, and then those of the label areas
+  pub chosen : IsChosen leaves (AreLeft sets (unclaimed areas) script.labelcut journal) sets opened histories (λ place k. flights_on (servings_of opened) place k script replies histories) (map settled rows) label_words
+  pub saved : SavesParts (text replies) loaded left label_words rows outcome

@@ -20,8 +20,9 @@
 //! | recovered, they have the namespaces of the journal's end, or those from before or after the command that was cut | `recover` |
 //! | each sector is as its history ends, or as one write that was cut | `survive` |
 //! | contents outside the served arenas are as loaded | `beside` |
+//! | each unflushed word is as the chooser picks, which is begun once | `chosen` |
 //!
-//! Definitions are in `specs/Serving.antt`, and the order of refusals in `specs/Serve.antt` and `specs/Load.antt`. `session_service` runs
+//! Definitions are in `specs/Serving.antt` and `specs/Chosen.antt`, and the order of refusals in `specs/Serve.antt` and `specs/Load.antt`. `session_service` runs
 //! the sessions, `served_namespaces` opens their namespaces and puts the arenas back, and `session_account` defines journals and
 //! accounts. Scripts and texts are this project's own.
 #![tactic(auto)]

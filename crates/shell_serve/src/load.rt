@@ -10,6 +10,7 @@ ghost use Rattle.served_namespaces.specs.declared.places.OpenedNamespace.{Opened
 ghost use Rattle.served_namespaces.specs.Places.{CanOpen};
 ghost use Rattle.session_script.specs.Names.{ScriptHasText};
 ghost use Rattle.shell_changes.specs.Answers.{whole_outcome};
+ghost use Rattle.shell_changes.specs.Remains.{LeavesBy};
 ghost use Rattle.shell_changes.specs.Saved.{copies_contents};
 ghost use Rattle.shell_reports.specs.Faults.{refused_outcome};
 ghost use Rattle.shell_reports.specs.Saved.{outcome_of};
@@ -90,7 +91,7 @@ fn script_answer<R: Threads + Wait + Sync, C: Chooser, G: Gate>(
     requires text { ScriptHasText script.now }
     requires open { (loaded : ImageSet) × IsOpen loaded rest opened }
     ensures comes { IfOk result (λ answer. (loaded : ImageSet) → IsOpen loaded rest opened
-        → Serves (summary script.now) rest.registry.sets loaded (areas_seen rest.registry.areas) opened.namespaces script.now (whole_outcome answer)) }
+        → Serves (LeavesBy C.begins C.picks choose.old running.seed) (summary script.now) rest.registry.sets loaded (areas_seen rest.registry.areas) opened.namespaces script.now (whole_outcome answer)) }
     ensures whole { IfOk result (λ answer. copies_contents answer.saved ≡ false) }
 {
     let served = serve_opened(waiting, alloc, running, script, opened, rest, choose)?;
@@ -119,7 +120,7 @@ fn opened_answer<R: Threads + Wait + Sync, C: Chooser, G: Gate>(
     requires one { (found : AnyFound) × ((states : List State) × (opened.namespaces ≡ one_opened load.now found states)) }
     requires open { (loaded : ImageSet) × IsOpen loaded rest opened }
     ensures comes { IfOk result (λ answer. (loaded : ImageSet) (found : AnyFound) (states : List State) → IsOpen loaded rest opened → opened.namespaces ≡ one_opened load.now found states
-        → LoadsOnArenas load.now rest.registry.sets loaded (areas_seen rest.registry.areas) found (Ok states) (whole_outcome answer)) }
+        → LoadsOnArenas (LeavesBy C.begins C.picks choose.old running.seed) load.now rest.registry.sets loaded (areas_seen rest.registry.areas) found (Ok states) (whole_outcome answer)) }
     ensures whole { IfOk result (λ answer. copies_contents answer.saved ≡ false) }
 {
     let sectors = sectors_of(&opened);
@@ -153,7 +154,7 @@ fn found_answer<R: Threads + Wait + Sync, C: Chooser, G: Gate>(
     requires can { CanOpen set.rest.registry.sets (record { uuid = load.now.uuid; found = found }) }
     requires recovered { (loaded : ImageSet) × IsRecovered loaded set }
     ensures comes { IfOk result (λ answer. (loaded : ImageSet) → IsRecovered loaded set
-        → LoadsOnFound load.now set.rest.registry.sets loaded (areas_seen set.rest.registry.areas) (Ok found) (whole_outcome answer)) }
+        → LoadsOnFound (LeavesBy C.begins C.picks choose.old running.seed) load.now set.rest.registry.sets loaded (areas_seen set.rest.registry.areas) (Ok found) (whole_outcome answer)) }
     ensures whole { IfOk result (λ answer. copies_contents answer.saved ≡ false) }
 {
     let Recovered { contents, rest } = set;
@@ -183,7 +184,7 @@ fn recovered_answer<R: Threads + Wait + Sync, C: Chooser, G: Gate>(
     requires some { 0 < load.now.sessions }
     requires recovered { (loaded : ImageSet) × IsRecovered loaded set }
     ensures comes { IfOk result (λ answer. (loaded : ImageSet) → IsRecovered loaded set
-        → LoadsRecovered load.now set.rest.registry.sets loaded (areas_seen set.rest.registry.areas) (whole_outcome answer)) }
+        → LoadsRecovered (LeavesBy C.begins C.picks choose.old running.seed) load.now set.rest.registry.sets loaded (areas_seen set.rest.registry.areas) (whole_outcome answer)) }
     ensures whole { IfOk result (λ answer. copies_contents answer.saved ≡ false) }
 {
     match set.rest.registry.find(&load.uuid) {
@@ -214,7 +215,7 @@ pub fn load_answer<R: Threads + Wait + Sync, C: Chooser, G: Gate>(
     requires workers { 0 < running.workers }
     requires some { 0 < load.now.sessions }
     requires sound { IsSound loaded }
-    ensures comes { IfOk result (λ answer. LoadComes load.now (image_set_in loaded) (whole_outcome answer)) }
+    ensures comes { IfOk result (λ answer. LoadComes (LeavesBy C.begins C.picks choose.old running.seed) load.now (image_set_in loaded) (whole_outcome answer)) }
     ensures whole { IfOk result (λ answer. copies_contents answer.saved ≡ false) }
 {
     let read = recover_set(alloc, loaded)?;

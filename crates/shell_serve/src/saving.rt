@@ -4,6 +4,7 @@ ghost use Rattle.shell_changes.specs.Answers.{whole_outcome};
 ghost use Rattle.shell_changes.specs.Saved.{copies_contents};
 ghost use Rattle.shell_sectors.specs.Found.{HasModules};
 ghost use Rattle.shell_serve.specs.Answering.{SavesLeft};
+ghost use Rattle.shell_serve.specs.Chosen.{LeavesOn};
 
 use cut_words::CutWords;
 use image_set::SetLeft;
@@ -28,7 +29,7 @@ pub(crate) fn saved_answer<C: Chooser>(
     choose: &mut C,
 ) -> Result<Answer, AllocError>
     requires modules { HasModules rest (length contents.items) }
-    ensures saved { IfOk result (λ answer. SavesLeft report rest contents.items (whole_outcome answer)) }
+    ensures saved { IfOk result (λ answer. SavesLeft (LeavesOn C.picks choose.old) report rest contents.items (whole_outcome answer)) }
     ensures whole { IfOk result (λ answer. copies_contents answer.saved ≡ false) }
 {
     let Unchanged {

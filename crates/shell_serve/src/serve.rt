@@ -4,6 +4,7 @@ ghost use Rattle.image_set.specs.Load.{ImageSet, image_set_in};
 ghost use Rattle.image_set.specs.Sound.{IsSound};
 ghost use Rattle.session_script.specs.Names.{ScriptHasText};
 ghost use Rattle.shell_changes.specs.Answers.{whole_outcome};
+ghost use Rattle.shell_changes.specs.Remains.{LeavesBy};
 ghost use Rattle.shell_changes.specs.Saved.{copies_contents};
 ghost use Rattle.shell_serve.specs.Answering.{IsOpen};
 ghost use Rattle.shell_serve.specs.Recovered.{IsRecovered};
@@ -44,7 +45,7 @@ fn opened_answer<R: Threads + Wait + Sync, C: Chooser, G: Gate>(
     requires text { ScriptHasText script.now }
     requires open { (loaded : ImageSet) × IsOpen loaded rest opened }
     ensures comes { IfOk result (λ answer. (loaded : ImageSet) → IsOpen loaded rest opened
-        → Serves serve_text rest.registry.sets loaded (areas_seen rest.registry.areas) opened.namespaces script.now (whole_outcome answer)) }
+        → Serves (LeavesBy C.begins C.picks choose.old running.seed) serve_text rest.registry.sets loaded (areas_seen rest.registry.areas) opened.namespaces script.now (whole_outcome answer)) }
     ensures whole { IfOk result (λ answer. copies_contents answer.saved ≡ false) }
 {
     let served = serve_opened(waiting, alloc, running, script, opened, rest, choose)?;
@@ -70,7 +71,7 @@ fn recovered_answer<R: Threads + Wait + Sync, C: Chooser, G: Gate>(
     requires text { ScriptHasText script.now }
     requires recovered { (loaded : ImageSet) × IsRecovered loaded set }
     ensures comes { IfOk result (λ answer. (loaded : ImageSet) → IsRecovered loaded set
-        → OnRecovered set.rest.registry.sets loaded (areas_seen set.rest.registry.areas) script.now (whole_outcome answer)) }
+        → OnRecovered (LeavesBy C.begins C.picks choose.old running.seed) set.rest.registry.sets loaded (areas_seen set.rest.registry.areas) script.now (whole_outcome answer)) }
     ensures whole { IfOk result (λ answer. copies_contents answer.saved ≡ false) }
 {
     let Recovered { contents, rest } = set;
@@ -99,7 +100,9 @@ fn recovered_answer<R: Threads + Wait + Sync, C: Chooser, G: Gate>(
 /// - recovered, the label areas that are left have the namespaces of the journal's end, or those from before or after the command that
 ///   was cut. Only a namespace of several labels that was pending as its delete or rename began may be incomplete (`LeftRecovers`);
 /// - the set that is left, once recovered, gives every sector as that history ends, or as one write that was cut; and every namespace
-///   as before or after its command, or listed as incomplete. No two namespaces have extents that meet.
+///   as before or after its command, or listed as incomplete. No two namespaces have extents that meet;
+/// - each unflushed word is as the chooser picks. It is begun once, behind the last call, and asked for the pending words of each arena,
+///   in order of the namespaces, and then for those of the label areas.
 ///
 /// There is at least one worker. The call fails only if memory runs out, here, in a session or in a command. (UEFI 2.10, chapters 6
 /// and 13; scripts and texts are this project's rules.)
@@ -114,7 +117,7 @@ pub fn serve_answer<R: Threads + Wait + Sync, C: Chooser, G: Gate>(
     requires workers { 0 < running.workers }
     requires text { ScriptHasText script.now }
     requires sound { IsSound loaded }
-    ensures comes { IfOk result (λ answer. ServeComes script.now (image_set_in loaded) (whole_outcome answer)) }
+    ensures comes { IfOk result (λ answer. ServeComes (LeavesBy C.begins C.picks choose.old running.seed) script.now (image_set_in loaded) (whole_outcome answer)) }
     ensures whole { IfOk result (λ answer. copies_contents answer.saved ≡ false) }
 {
     let read = recover_set(alloc, loaded)?;

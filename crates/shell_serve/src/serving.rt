@@ -7,6 +7,7 @@ ghost use Rattle.session_service.specs.Made.{IsUnused};
 ghost use Rattle.session_service.specs.Namespaces.{AreOpened};
 ghost use Rattle.session_service.specs.Ran.{HasServed};
 ghost use Rattle.shell_serve.specs.Answering.{AreSame, IsOpen, IsServed};
+ghost use Rattle.shell_serve.specs.Chosen.{LeavesTo};
 
 use crate::cutting::cut_all;
 use cut_words::CutWords;
@@ -105,7 +106,7 @@ pub(crate) fn serve_opened<R: Threads + Wait + Sync, C: Chooser, G: Gate>(
     requires workers { 0 < running.workers }
     requires text { ScriptHasText script.now }
     requires open { (loaded : ImageSet) × IsOpen loaded rest opened }
-    ensures { IfOk result (λ served. (loaded : ImageSet) → IsOpen loaded rest opened → IsServed loaded rest.registry.sets (areas_seen rest.registry.areas) opened.namespaces script.now served) }
+    ensures { IfOk result (λ served. (loaded : ImageSet) → IsOpen loaded rest opened → IsServed (LeavesTo C.begins C.picks choose.old running.seed choose.new) loaded rest.registry.sets (areas_seen rest.registry.areas) opened.namespaces script.now served) }
 {
     let OpenedSet {
         namespaces,

@@ -1,5 +1,6 @@
 use Rattle.std.proofs.Common.{◌≡◌, false}
 use Rattle.shell_changes.specs.declared.answer.Answer.{Answer}
+use Rattle.shell_changes.specs.Remains.{LeavesBy}
 use Rattle.shell_changes.specs.Saved.{copies_contents}
 use Rattle.shell_changes.proofs.Remains.{copies_none}
 use Rattle.shell_serve.specs.Serve.{ServeComes}
@@ -8,10 +9,11 @@ use Rattle.shell_run.proofs.top.serve_loaded.Goals as goal
 
 pub returns-in-Ok-clause-told : goal.returns-in-Ok-clause-told
 returns-in-Ok-clause-told g c =
+    let leaves = LeavesBy g.C.Chooser.begins g.C.Chooser.picks c.args.choose.now c.args.running.seed in
     let held = g.S.ImageSource.held c.args.images.now in
-    if_same (IsTold (ServeComes c.args.script.now) held) c.found_memory.result c.serve_answer.result c.found_memory.ensures.same
-    (if_both _ _ (IsTold (ServeComes c.args.script.now) held) c.serve_answer.result
-    (λ answer comes whole. loaded_told (ServeComes c.args.script.now) held c.load.result c.in-Ok.loaded answer c.in-Ok.is c.load.ensures.told whole comes)
+    if_same (IsTold (ServeComes leaves c.args.script.now) held) c.found_memory.result c.serve_answer.result c.found_memory.ensures.same
+    (if_both _ _ (IsTold (ServeComes leaves c.args.script.now) held) c.serve_answer.result
+    (λ answer comes whole. loaded_told (ServeComes leaves c.args.script.now) held c.load.result c.in-Ok.loaded answer c.in-Ok.is c.load.ensures.told whole comes)
     c.serve_answer.ensures.comes c.serve_answer.ensures.whole)
 
 pub returns-in-Ok-clause-whole : goal.returns-in-Ok-clause-whole
@@ -20,9 +22,10 @@ returns-in-Ok-clause-whole g c =
 
 pub returns-in-Err-clause-told : goal.returns-in-Err-clause-told
 returns-in-Err-clause-told g c =
+    let leaves = LeavesBy g.C.Chooser.begins g.C.Chooser.picks c.args.choose.now c.args.running.seed in
     let held = g.S.ImageSource.held c.args.images.now in
-    if_told (IsTold (ServeComes c.args.script.now) held) c.unloaded.result c.in-Err.why
-    (λ answer nothing says read memory. unloaded_told (ServeComes c.args.script.now) held c.load.result c.in-Err.why answer c.in-Err.is c.load.ensures.told nothing says read memory)
+    if_told (IsTold (ServeComes leaves c.args.script.now) held) c.unloaded.result c.in-Err.why
+    (λ answer nothing says read memory. unloaded_told (ServeComes leaves c.args.script.now) held c.load.result c.in-Err.why answer c.in-Err.is c.load.ensures.told nothing says read memory)
     c.unloaded.ensures.saved c.unloaded.ensures.text c.unloaded.ensures.source c.unloaded.ensures.memory
 
 pub returns-in-Err-clause-whole : goal.returns-in-Err-clause-whole

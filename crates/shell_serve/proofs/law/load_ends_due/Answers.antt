@@ -1,5 +1,6 @@
+use Rattle.shell_changes.specs.Remains.{LeavesBy}
 use Rattle.shell_serve.proofs.Causes.{load_due}
 use Rattle.shell_serve.proofs.law.load_ends_due.Goals as goal
 
 pub returns : goal.returns
-returns c = load_due
+returns g c = load_due (LeavesBy g.C.Chooser.begins g.C.Chooser.picks c.args.choose.now c.args.seed)

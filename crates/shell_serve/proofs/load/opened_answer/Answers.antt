@@ -12,6 +12,7 @@ use Rattle.shell_changes.specs.declared.answer.Answer.{Answer}
 use Rattle.shell_changes.specs.Answers.{whole_outcome}
 use Rattle.shell_reports.specs.Faults.{refused_outcome}
 use Rattle.shell_sectors.specs.Write.{range_text}
+use Rattle.shell_changes.specs.Remains.{LeavesBy}
 use Rattle.shell_serve.specs.Answering.{IsOpen}
 use Rattle.shell_serve.specs.Load.{LoadsOnArenas, one_opened, script_for}
 use Rattle.shell_serve.specs.Serving.{Serves}
@@ -27,8 +28,9 @@ sectors_of-sectors-requires g c =
 
 pub returns-then-sectors-from-clause-comes : goal.returns-then-sectors-from-clause-comes
 returns-then-sectors-from-clause-comes g c = λ loaded found states ready is.
+    let leaves = LeavesBy g.C.Chooser.begins g.C.Chooser.picks c.args.choose.now c.args.running.seed in
     let count : c.sectors_of-sectors.result ≡ sectors_of states = c.sectors_of-sectors.ensures (record { place = record { uuid = c.args.load.now.uuid; found = found }; states = states }) is in
-    load_few c.args.load.now loaded (whole_outcome c.without_set.result) c.args.rest.registry.sets (areas_seen c.args.rest.registry.areas) found states
+    load_few leaves c.args.load.now loaded (whole_outcome c.without_set.result) c.args.rest.registry.sets (areas_seen c.args.rest.registry.areas) found states
     (lt-ltb (sectors_of states) c.args.load.now.sessions (omega (arith, count, c.from.ensures, c.if-sectors-from.true)))
     (c.without_set.ensures.same [] ∙ c.in_ok-report.ensures ∙ ap (λ (n : ℕ). refused_outcome (range_text n)) count)
 
@@ -37,14 +39,15 @@ script_answer-requires-clause-text g c κs within = c.in_ok-script.ensures.text
 
 pub returns-clause-comes : goal.returns-clause-comes
 returns-clause-comes g c =
+    let leaves = LeavesBy g.C.Chooser.begins g.C.Chooser.picks c.args.choose.now c.args.running.seed in
     ok_then _ (λ (answer : Answer). (loaded : ImageSet) (found : Found) (states : List ArenaState) → IsOpen loaded c.args.rest c.args.opened → c.args.opened.namespaces ≡ one_opened c.args.load.now found states
-    → LoadsOnArenas c.args.load.now c.args.rest.registry.sets loaded (areas_seen c.args.rest.registry.areas) found (Ok states) (whole_outcome answer)) c.script_answer.result
+    → LoadsOnArenas leaves c.args.load.now c.args.rest.registry.sets loaded (areas_seen c.args.rest.registry.areas) found (Ok states) (whole_outcome answer)) c.script_answer.result
     (λ answer comes loaded found states ready is.
     let count : c.sectors_of-sectors.result ≡ sectors_of states = c.sectors_of-sectors.ensures (record { place = record { uuid = c.args.load.now.uuid; found = found }; states = states }) is in
     let made : c.in_ok-script.script ≡ script_for c.args.load.now (sectors_of states) =
     c.in_ok-script.ensures.script ∙ ap (λ (n : ℕ). load_script c.args.load.now.number c.args.load.now.uuid n c.args.load.now.sessions c.args.load.now.calls) count in
-    load_on c.args.load.now loaded (whole_outcome answer) c.args.rest.registry.sets (areas_seen c.args.rest.registry.areas) found states
+    load_on leaves c.args.load.now loaded (whole_outcome answer) c.args.rest.registry.sets (areas_seen c.args.rest.registry.areas) found states
     (le-ltb (sectors_of states) c.args.load.now.sessions (omega (arith, count, c.from.ensures, c.if-sectors-from.false)))
-    (subst (λ (s : Script). Serves (summary s) c.args.rest.registry.sets loaded (areas_seen c.args.rest.registry.areas) (one_opened c.args.load.now found states) s (whole_outcome answer)) made
-    (subst (λ (os : List OpenedNamespace). Serves (summary c.in_ok-script.script) c.args.rest.registry.sets loaded (areas_seen c.args.rest.registry.areas) os c.in_ok-script.script (whole_outcome answer)) is (comes loaded ready))))
+    (subst (λ (s : Script). Serves leaves (summary s) c.args.rest.registry.sets loaded (areas_seen c.args.rest.registry.areas) (one_opened c.args.load.now found states) s (whole_outcome answer)) made
+    (subst (λ (os : List OpenedNamespace). Serves leaves (summary c.in_ok-script.script) c.args.rest.registry.sets loaded (areas_seen c.args.rest.registry.areas) os c.in_ok-script.script (whole_outcome answer)) is (comes loaded ready))))
     c.script_answer.ensures.comes
