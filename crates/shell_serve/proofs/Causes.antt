@@ -17,7 +17,6 @@ use Rattle.served_namespaces.specs.Opening.{Broken}
 use Rattle.session_script.specs.declared.script.Script.{Script}
 use Rattle.shell_changes.specs.Areas.{areas_in}
 use Rattle.shell_changes.specs.Namespaces.{sets_in}
-use Rattle.shell_reports.specs.declared.status.Ending.TheVariants as ending
 use Rattle.shell_reports.specs.Faults.{refused_outcome}
 use Rattle.shell_reports.specs.Outcome.{Outcome}
 use Rattle.shell_sectors.specs.Write.{range_text}

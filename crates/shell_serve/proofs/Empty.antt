@@ -3,7 +3,7 @@ use Rattle.std.proofs.Common.{◌≡◌, ℕ, Bool, List, [], ◌∷◌, length,
 use Rattle.std.specs.Prelude.{slice_index_or}
 use Rattle.std.specs.Option.{option_map}
 use Rattle.cut_words.specs.Words.{Words, settled}
-use Rattle.cut_words.specs.WordBytes.{bytes_of, words_in}
+use Rattle.cut_words.specs.WordBytes.{words_in}
 use Rattle.nvd_media.specs.Images.{Images}
 use Rattle.image_set.specs.Changed.{objects_of}
 use Rattle.image_set.specs.Load.{ImageSet}

@@ -1,4 +1,4 @@
-use Rattle.std.proofs.Common.{◌∙◌, ℕ, List, Option, ap, map, subst}
+use Rattle.std.proofs.Common.{◌∙◌, List, Option, ap, map, subst}
 use Rattle.cut_words.specs.Words.{Words}
 use Rattle.namespace_areas.specs.Seen.{words_of}
 use Rattle.power_cut.specs.Left.{InTurn, LeavesOption}
