@@ -22,9 +22,9 @@
 //! | contents outside the served arenas are as loaded | `beside` |
 //! | each unflushed word is as the chooser picks, which is begun once | `chosen` |
 //!
-//! Definitions are in `specs/Serving.antt` and `specs/Chosen.antt`, and the order of refusals in `specs/Serve.antt` and `specs/Load.antt`. `session_service` runs
-//! the sessions, `served_namespaces` opens their namespaces and puts the arenas back, and `session_account` defines journals and
-//! accounts. Scripts and texts are this project's own.
+//! Definitions are in `specs/Serving.antt` and `specs/Chosen.antt`, and the order of refusals in `specs/Serve.antt` and
+//! `specs/Load.antt`. `session_service` runs the sessions, `served_namespaces` opens their namespaces and puts the arenas back, and
+//! `session_account` defines journals and accounts. Scripts and texts are this project's own.
 #![tactic(auto)]
 
 mod cutting;
