@@ -314,7 +314,7 @@ abbrev serve_for : Images → Result Script ScriptRefused → Ending
 serve_for set r = if is_err r then ending.Usage else ending_by (breaks_sessions r (loading set)) false false
 
 serve_ending : (leaves : List (Option Words) → List (Option (List ℕ)) → Type 0) (set : Images) (outcome : Outcome) (r : Result Script ScriptRefused) → OnScript (λ (lines : Script). OnImages (ServeComes leaves lines) (Some set)) r outcome → outcome.ending ≡ serve_for set r
-serve_ending set outcome (Ok script) on = serve_found leaves script (loading set) outcome (on set refl)
+serve_ending leaves set outcome (Ok script) on = serve_found leaves script (loading set) outcome (on set refl)
 serve_ending leaves set outcome (Err why) said = ending_of outcome (script_outcome why) said
 
 -- ---- any command
