@@ -15,7 +15,7 @@ use Rattle.turn_lock.proofs.Entries.{entry_at}
 
 module _ {T D : Type 0} {g : Ghosts T D} (callers : ℕ) (first : T) (id : ℕ) (ps : List (TurnPass T D g)) (me : Me (Option T) (Role T D)) (ws : List ℕ) (xs : List (Option T)) where
   pub closes : me ≡ (Keeper (entries_of ps), []) → ((q : ℕ) → q < callers → Any (λ p. number_of p ≡ q) ps) → Final (Seen (Turning g.part callers first) id me.0) ws xs
-      → (r : Option T) → get_elem? xs 0 ≡ some r → (x : T) × (r ≡ Some x) × All (λ p. part_of p ≡ Some (g.part x (number_of p))) ps × ((q : ℕ) → callers ≤ q → g.part x q ≡ g.part first q)
+      → (r : Option T) → get_elem? xs 4 ≡ some r → (x : T) × (r ≡ Some x) × All (λ p. part_of p ≡ Some (g.part x (number_of p))) ps × ((q : ℕ) → callers ≤ q → g.part x q ≡ g.part first q)
   closes known every final r there =
       let all : AllKnown g.part callers first (entries_of ps) = λ q h.
       let a = every q h in
@@ -28,14 +28,14 @@ module _ {T D : Type 0} {g : Ghosts T D} (callers : ℕ) (first : T) (id : ℕ) 
       slot k d = slice_index_or ps k d
 
   pub closes_at : me ≡ (Keeper (entries_of ps), []) → ((q : ℕ) → q < callers → Any (λ p. number_of p ≡ q) ps) → Final (Seen (Turning g.part callers first) id me.0) ws xs
-      → (x : T) → get_elem? xs 0 ≡ some (Some x) → All (λ p. part_of p ≡ Some (g.part x (number_of p))) ps × ((q : ℕ) → callers ≤ q → g.part x q ≡ g.part first q)
+      → (x : T) → get_elem? xs 4 ≡ some (Some x) → All (λ p. part_of p ≡ Some (g.part x (number_of p))) ps × ((q : ℕ) → callers ≤ q → g.part x q ≡ g.part first q)
   closes_at known every final x there =
       let c = closes known every final (Some x) there in
       let same : c.0 ≡ x = cc in
       subst (λ y. All (λ p. part_of p ≡ Some (g.part y (number_of p))) ps × ((q : ℕ) → callers ≤ q → g.part y q ≡ g.part first q)) same (c.2, c.3)
 
   pub closes_some : me ≡ (Keeper (entries_of ps), []) → ((q : ℕ) → q < callers → Any (λ p. number_of p ≡ q) ps) → Final (Seen (Turning g.part callers first) id me.0) ws xs
-      → get_elem? xs 0 ≡ some None → ⊥
+      → get_elem? xs 4 ≡ some None → ⊥
   closes_some known every final there =
       let c = closes known every final None there in
       let none : None ≡ Some c.0 = c.1 in cc

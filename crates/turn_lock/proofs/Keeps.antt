@@ -10,7 +10,7 @@ use Rattle.atomic_table.specs.Table.{State, Me, Step, step, keeps, takes, gives,
 use Rattle.atomic_table.proofs.Lists.{at_set, at_snoc, set_again}
 use Rattle.turn_lock.specs.declared.table.Role.{Role}
 use Rattle.turn_lock.specs.declared.table.Role.TheVariants.{Spent, Dealer, Caller, Keeper}
-use Rattle.turn_lock.specs.Turns.{spare_words, spare_slots, spare_homes, Place, free, taken, word_of, home_at, out_at, IsHeld, Fits, Turning, dealt, next_pass, gathered, TookIf, Takes, Frees, Comes}
+use Rattle.turn_lock.specs.Turns.{words_with, slots_with, homes_with, Place, free, taken, word_of, home_at, out_at, IsHeld, Fits, Turning, dealt, next_pass, gathered, TookIf, Takes, Frees, Comes}
 
 module _ {T D : Type 0} (part : T → ℕ → D) (callers : ℕ) (first : T) where
   abbrev R : Type 0
@@ -30,7 +30,7 @@ module _ {T D : Type 0} (part : T → ℕ → D) (callers : ℕ) (first : T) whe
       (λ (t : (j ≢ me) × (get_elem? views j ≡ some u)). others j u t.0 t.1)
       (at_set views me j w u e)
 
-  pub begins : Rule (opening (0 ∷ spare_words) (Some first ∷ spare_slots) (Dealer 0 first))
+  pub begins : Rule (opening (words_with 0) (slots_with (Some first)) (Dealer 0 first))
   begins = record {
     at = free;
     value = first;
@@ -137,25 +137,25 @@ module _ {T D : Type 0} (part : T → ℕ → D) (callers : ℕ) (first : T) whe
 
   pub takes_turn : (slots : ℕ) (id q : ℕ) (d : D) (then : ℕ → Me (Option T) R → Type 0)
       → ((n : ℕ) (m' : Me (Option T) R) → TookIf part q d (eqb n 0) m' → then n m')
-      → Allows Rule slots id (Caller q d None, []) 0 (λ n. either (eqb n 0) (suc q) n) then
+      → Allows Rule slots id (Caller q d None, []) 8 (λ n. either (eqb n 0) (suc q) n) then
   takes_turn slots id q d then tells s r _ there _ = dite (ℕ_discrete (word_of r.at) 0)
       (λ zero_word.
       let is_free = free_word r.at zero_word in
-      let n : get_or s.words 0 0 ≡ 0 = ap (λ ws. get_or ws 0 0) r.word_is ∙ zero_word in
+      let n : get_or s.words 8 0 ≡ 0 = ap (λ ws. get_or ws 8 0) r.word_is ∙ zero_word in
       let mine = r.each id (Caller q d None) there in
-      let here : s.homes ≡ some (Some r.value) ∷ spare_homes = r.home_is ∙ ap (λ (a : Place). home_at a r.value ∷ spare_homes) is_free in
+      let here : s.homes ≡ homes_with (some (Some r.value)) = r.home_is ∙ ap (λ (a : Place). homes_with (home_at a r.value)) is_free in
       let w : R = Caller q d (Some r.value) in
       let K : ℕ → R → Type 0 = Fits part (taken q) first r.value r.seat r.made in (
         w,
-        takes 0 (Some r.value),
-        ap (λ hs. get_elem? hs 0) here,
+        takes 4 (Some r.value),
+        ap (λ hs. get_elem? hs 4) here,
         record {
           at = taken q;
           value = r.value;
           seat = r.seat;
           made = r.made;
-          word_is = ap (λ (k : ℕ). set s.words 0 (either (eqb k 0) (suc q) k)) n ∙ ap (λ ws. set ws 0 (suc q)) r.word_is;
-          home_is = ap (λ hs. set hs 0 none) here;
+          word_is = ap (λ (k : ℕ). set s.words 8 (either (eqb k 0) (suc q) k)) n ∙ ap (λ ws. set ws 8 (suc q)) r.word_is;
+          home_is = ap (λ hs. set hs 4 none) here;
           held = (id, mine.0);
           seated = r.seated;
           few = r.few;
@@ -168,11 +168,11 @@ module _ {T D : Type 0} (part : T → ℕ → D) (callers : ℕ) (first : T) whe
               v (r.each i v is))
               (mine.0, mine.1, sym (same q (Some r.value) None));
         },
-        tells _ _ (subst (λ (b : Bool). TookIf part q d b (w, (0, Some r.value) ∷ [])) (sym (eq-eqb (get_or s.words 0 0) 0 n)) (r.value, refl, mine.1)),
+        tells _ _ (subst (λ (b : Bool). TookIf part q d b (w, (4, Some r.value) ∷ [])) (sym (eq-eqb (get_or s.words 8 0) 0 n)) (r.value, refl, mine.1)),
       ))
       (λ other_word.
-      let n : get_or s.words 0 0 ≢ 0 = λ z. other_word (ap (λ ws. get_or ws 0 0) (sym r.word_is) ∙ z) in
-      let no : eqb (get_or s.words 0 0) 0 ≡ false = ne_eqb _ _ n in (
+      let n : get_or s.words 8 0 ≢ 0 = λ z. other_word (ap (λ ws. get_or ws 8 0) (sym r.word_is) ∙ z) in
+      let no : eqb (get_or s.words 8 0) 0 ≡ false = ne_eqb _ _ n in (
         Caller q d None,
         keeps,
         tt,
@@ -181,7 +181,7 @@ module _ {T D : Type 0} (part : T → ℕ → D) (callers : ℕ) (first : T) whe
           value = r.value;
           seat = r.seat;
           made = r.made;
-          word_is = ap (λ (b : Bool). set s.words 0 (either b (suc q) (get_or s.words 0 0))) no ∙ ap (λ ws. set ws 0 (get_or ws 0 0)) r.word_is;
+          word_is = ap (λ (b : Bool). set s.words 8 (either b (suc q) (get_or s.words 8 0))) no ∙ ap (λ ws. set ws 8 (get_or ws 8 0)) r.word_is;
           home_is = r.home_is;
           held = r.held;
           seated = r.seated;
@@ -204,15 +204,15 @@ module _ {T D : Type 0} (part : T → ℕ → D) (callers : ℕ) (first : T) whe
   abbrev any_step : Step (Option T)
   any_step = step 0 0 0 0 none
 
-  pub takes_as : (slots id q mine : ℕ) (d : D) (me : Me (Option T) R) → mine ≡ suc q → me ≡ (Caller q d None, []) → Allows Rule slots id me 0 (λ n. either (eqb n 0) mine n) (Takes part any_step me)
+  pub takes_as : (slots id q mine : ℕ) (d : D) (me : Me (Option T) R) → mine ≡ suc q → me ≡ (Caller q d None, []) → Allows Rule slots id me 8 (λ n. either (eqb n 0) mine n) (Takes part any_step me)
   takes_as slots id q mine d me one_more is =
-      subst (λ (m : ℕ × Me (Option T) R). Allows Rule slots id m.1 0 (λ n. either (eqb n 0) m.0 n) (Takes part any_step m.1)) (λ i. (sym one_more i, sym is i))
+      subst (λ (m : ℕ × Me (Option T) R). Allows Rule slots id m.1 8 (λ n. either (eqb n 0) m.0 n) (Takes part any_step m.1)) (λ i. (sym one_more i, sym is i))
       (takes_turn slots id q d (Takes part any_step (Caller q d None, [])) (λ n m' took p c e.
       subst (λ (x : ℕ × D). TookIf part x.0 x.1 (eqb n 0) m') (λ i. (caller_number q (e i).0, caller_part d (e i).0)) took))
 
   frees_turn : (slots : ℕ) (id q : ℕ) (d : D) (x y : T) → ((p : ℕ) → p ≢ q → part y p ≡ part x p)
       → (then : ℕ → Me (Option T) R → Type 0) → ((n : ℕ) → then n (Caller q (part y q) None, []))
-      → Allows Rule slots id (Caller q d (Some x), (0, Some y) ∷ []) 0 (λ _. 0) then
+      → Allows Rule slots id (Caller q d (Some x), (4, Some y) ∷ []) 8 (λ _. 0) then
   frees_turn slots id q d x y others then tells s r _ there _ =
       let mine = r.each id (Caller q d (Some x)) there in
       let turn = has_turn r.at q x r.value mine.2 in
@@ -226,8 +226,8 @@ module _ {T D : Type 0} (part : T → ℕ → D) (callers : ℕ) (first : T) whe
           value = y;
           seat = r.seat;
           made = r.made;
-          word_is = ap (λ ws. set ws 0 0) r.word_is;
-          home_is = ap (λ hs. set hs 0 (some (Some y))) r.home_is;
+          word_is = ap (λ ws. set ws 8 0) r.word_is;
+          home_is = ap (λ hs. set hs 4 (some (Some y))) r.home_is;
           held = tt;
           seated = r.seated;
           few = r.few;
@@ -253,11 +253,11 @@ module _ {T D : Type 0} (part : T → ℕ → D) (callers : ℕ) (first : T) whe
   first_of z [] = z
   first_of z (c ∷ cs) = value_in z c.1
 
-  pub frees_as : (slots : ℕ) (id q : ℕ) (d : D) (x y : T) (me : Me (Option T) R) → me ≡ (Caller q d (Some x), (0, Some y) ∷ []) → ((p : ℕ) → p ≢ q → part y p ≡ part x p)
-      → Allows Rule slots id me 0 (λ _. 0) (λ _. Frees part any_step me 0)
+  pub frees_as : (slots : ℕ) (id q : ℕ) (d : D) (x y : T) (me : Me (Option T) R) → me ≡ (Caller q d (Some x), (4, Some y) ∷ []) → ((p : ℕ) → p ≢ q → part y p ≡ part x p)
+      → Allows Rule slots id me 8 (λ _. 0) (λ _. Frees part any_step me 0)
   frees_as slots id q d x y me is others =
-      subst (λ (m : Me (Option T) R). Allows Rule slots id m 0 (λ _. 0) (λ _. Frees part any_step m 0)) (sym is)
-      (frees_turn slots id q d x y others (λ _. Frees part any_step (Caller q d (Some x), (0, Some y) ∷ []) 0) (λ n p c v u e.
+      subst (λ (m : Me (Option T) R). Allows Rule slots id m 8 (λ _. 0) (λ _. Frees part any_step m 0)) (sym is)
+      (frees_turn slots id q d x y others (λ _. Frees part any_step (Caller q d (Some x), (4, Some y) ∷ []) 0) (λ n p c v u e.
       λ i. (Caller (caller_number q (e i).0) (part (first_of y (e i).1) (caller_number q (e i).0)) None, [])))
 
   -- a keeper with no pass may come at any time
@@ -336,13 +336,13 @@ module _ {T D : Type 0} (part : T → ℕ → D) (callers : ℕ) (first : T) whe
 
   -- if every pass was handed in, the value is in the slot, and each caller's pass knew its part of it
   pub ends : (id : ℕ) (known : List (ℕ × D)) (v : R) (ws : List ℕ) (xs : List (Option T)) → v ≡ Keeper known → Final (Seen Rule id v) ws xs → AllKnown known
-      → (x : T) × (get_elem? xs 0 ≡ some (Some x)) × ((k : ℕ) (e : ℕ × D) → get_elem? known k ≡ some e → e.1 ≡ part x e.0) × ((q : ℕ) → callers ≤ q → part x q ≡ part first q)
+      → (x : T) × (get_elem? xs 4 ≡ some (Some x)) × ((k : ℕ) (e : ℕ × D) → get_elem? known k ≡ some e → e.1 ≡ part x e.0) × ((q : ℕ) → callers ≤ q → part x q ≡ part first q)
   ends id known v ws xs is f all =
       let s = f.0 in
       let r = f.1.0 in
       let mine = r.each id (Keeper known) (f.1.1 ∙ ap some is) in (
         r.value,
-        f.4 0 (Some r.value) (ap (λ hs. get_elem? hs 0) r.home_is ∙ ap some (at_home r.at r.held (λ q j e. let k = all q (let b = r.seated q j e in let c = r.few in omega arith) in
+        f.4 4 (Some r.value) (ap (λ hs. get_elem? hs 4) r.home_is ∙ ap some (at_home r.at r.held (λ q j e. let k = all q (let b = r.seated q j e in let c = r.few in omega arith) in
             some-ne-none j (sym e ∙ (ap r.seat (sym k.3) ∙ (mine k.0 k.1 k.2).0))))),
         λ k e there. (mine k e there).2,
         λ q h. let c = r.few in r.unmade q (omega arith),
@@ -352,20 +352,20 @@ module _ {T D : Type 0} (part : T → ℕ → D) (callers : ℕ) (first : T) whe
       at_home free h never = refl
       at_home (taken q) h never = absurd (never q h.0 h.1)
 
-  -- no slot but the first has a value
-  pub spares : (id : ℕ) (v : R) (ws : List ℕ) (xs : List (Option T)) → Final (Seen Rule id v) ws xs → (k : ℕ) → 0 < k → k < 8 → get_elem? xs k ≡ some None
-  spares id v ws xs f k above below = f.4 k None (ap (λ hs. get_elem? hs k) f.1.0.home_is ∙ at_spare (home_at f.1.0.at f.1.0.value) k above below)
+  -- no slot but the one that is used has a value
+  pub spares : (id : ℕ) (v : R) (ws : List ℕ) (xs : List (Option T)) → Final (Seen Rule id v) ws xs → (k : ℕ) → k ≢ 4 → k < 8 → get_elem? xs k ≡ some None
+  spares id v ws xs f k other below = f.4 k None (ap (λ hs. get_elem? hs k) f.1.0.home_is ∙ at_spare (home_at f.1.0.at f.1.0.value) k other below)
     where
-      at_spare : (home : maybe.Option (Option T)) (k : ℕ) → 0 < k → k < 8 → get_elem? (home ∷ spare_homes) k ≡ some (some None)
-      at_spare home zero above below = absurd (omega arith)
-      at_spare home (suc zero) above below = refl
-      at_spare home (suc (suc zero)) above below = refl
-      at_spare home (suc (suc (suc zero))) above below = refl
-      at_spare home (suc (suc (suc (suc zero)))) above below = refl
-      at_spare home (suc (suc (suc (suc (suc zero))))) above below = refl
-      at_spare home (suc (suc (suc (suc (suc (suc zero)))))) above below = refl
-      at_spare home (suc (suc (suc (suc (suc (suc (suc zero))))))) above below = refl
-      at_spare home (suc (suc (suc (suc (suc (suc (suc (suc k)))))))) above below = absurd (omega arith)
+      at_spare : (home : maybe.Option (Option T)) (k : ℕ) → k ≢ 4 → k < 8 → get_elem? (homes_with home) k ≡ some (some None)
+      at_spare home zero other below = refl
+      at_spare home (suc zero) other below = refl
+      at_spare home (suc (suc zero)) other below = refl
+      at_spare home (suc (suc (suc zero))) other below = refl
+      at_spare home (suc (suc (suc (suc zero)))) other below = absurd (other refl)
+      at_spare home (suc (suc (suc (suc (suc zero))))) other below = refl
+      at_spare home (suc (suc (suc (suc (suc (suc zero)))))) other below = refl
+      at_spare home (suc (suc (suc (suc (suc (suc (suc zero))))))) other below = refl
+      at_spare home (suc (suc (suc (suc (suc (suc (suc (suc k)))))))) other below = absurd (omega arith)
 
   -- if the word was free, the caller has the value; otherwise nothing changed
   pub took : (q : ℕ) (d : D) (me m' : Me (Option T) R) (n : ℕ) → Takes part any_step me n m' → me ≡ (Caller q d None, []) → n ≡ 0 → TookIf part q d true m'
@@ -375,24 +375,24 @@ module _ {T D : Type 0} (part : T → ℕ → D) (callers : ℕ) (first : T) whe
   waits q d me m' n told is other = let same_as : TookIf part q d false m' = subst (λ (b : Bool). TookIf part q d b m') (ne_eqb n 0 other) (told q d is) in same_as ∙ sym is
 
   -- a caller that takes the turn finds the value in the slot
-  pub finds : (q : ℕ) (d : D) (me m : Me (Option T) R) (n : ℕ) (r : Option T) → Takes part any_step me n m → me ≡ (Caller q d None, []) → n ≡ 0 → m.1 ≡ (0, r) ∷ rest m.1
-      → (x : T) × (r ≡ Some x) × (m ≡ (Caller q d (Some x), (0, Some x) ∷ [])) × (d ≡ part x q)
+  pub finds : (q : ℕ) (d : D) (me m : Me (Option T) R) (n : ℕ) (r : Option T) → Takes part any_step me n m → me ≡ (Caller q d None, []) → n ≡ 0 → m.1 ≡ (4, r) ∷ rest m.1
+      → (x : T) × (r ≡ Some x) × (m ≡ (Caller q d (Some x), (4, Some x) ∷ [])) × (d ≡ part x q)
   finds q d me m n r told is zero_word slot =
       let t = took q d me m n told is zero_word in
-      let same_slot : (0, r) ∷ rest m.1 ≡ (0, Some t.0) ∷ [] = sym slot ∙ ap (λ (z : Me (Option T) R). z.1) t.1 in
+      let same_slot : (4, r) ∷ rest m.1 ≡ (4, Some t.0) ∷ [] = sym slot ∙ ap (λ (z : Me (Option T) R). z.1) t.1 in
       (t.0, ap (λ (l : List (ℕ × Option T)). value_at r l) same_slot, t.1, t.2)
     where
       value_at : Option T → List (ℕ × Option T) → Option T
       value_at z [] = z
       value_at z (c ∷ cs) = c.1
 
-  pub has : (q : ℕ) (d : D) (me m m' : Me (Option T) R) (n : ℕ) (r : Option T) (x : T) → Takes part any_step me n m → me ≡ (Caller q d None, []) → n ≡ 0 → m.1 ≡ (0, r) ∷ rest m.1 → r ≡ Some x → m' ≡ (m.0, (0, None) ∷ rest m.1)
-      → (m' ≡ (Caller q d (Some x), (0, None) ∷ [])) × (d ≡ part x q)
+  pub has : (q : ℕ) (d : D) (me m m' : Me (Option T) R) (n : ℕ) (r : Option T) (x : T) → Takes part any_step me n m → me ≡ (Caller q d None, []) → n ≡ 0 → m.1 ≡ (4, r) ∷ rest m.1 → r ≡ Some x → m' ≡ (m.0, (4, None) ∷ rest m.1)
+      → (m' ≡ (Caller q d (Some x), (4, None) ∷ [])) × (d ≡ part x q)
   has q d me m m' n r x told is zero_word slot value after =
       let f = finds q d me m n r told is zero_word slot in
       let one : Some f.0 ≡ Some x = sym f.1 ∙ value in
       let x_is : f.0 ≡ x = cc in
-      (after ∙ ap (λ (z : Me (Option T) R). (z.0, (0, None) ∷ rest z.1)) f.2 ∙ ap (λ (z : T). (Caller q d (Some z), (0, None) ∷ [])) x_is, f.3 ∙ ap (λ (z : T). part z q) x_is)
+      (after ∙ ap (λ (z : Me (Option T) R). (z.0, (4, None) ∷ rest z.1)) f.2 ∙ ap (λ (z : T). (Caller q d (Some z), (4, None) ∷ [])) x_is, f.3 ∙ ap (λ (z : T). part z q) x_is)
 
   pub comes_alone : (slots i : ℕ) → Enters Rule slots i (λ n w. Comes any_step (Spent, []) n (w, []))
   comes_alone slots i = comes slots i (λ n w. Comes any_step (Spent, []) n (w, [])) (λ n. refl)

@@ -10,17 +10,17 @@ use Rattle.turn_lock.specs.declared.table.Role.TheVariants.{Spent, Dealer, Calle
 
 -- ---- the table
 
--- the words and the slots behind the first: no step touches them
-abbrev pub spare_words : List ℕ
-spare_words = 0 ∷ 0 ∷ 0 ∷ 0 ∷ 0 ∷ 0 ∷ 0 ∷ 0 ∷ 0 ∷ 0 ∷ 0 ∷ 0 ∷ 0 ∷ 0 ∷ 0 ∷ []
+-- The rows of the table with one word and one slot that are used. No step touches the others.
+abbrev pub words_with : ℕ → List ℕ
+words_with w = 0 ∷ 0 ∷ 0 ∷ 0 ∷ 0 ∷ 0 ∷ 0 ∷ 0 ∷ w ∷ 0 ∷ 0 ∷ 0 ∷ 0 ∷ 0 ∷ 0 ∷ 0 ∷ []
 
-abbrev pub spare_slots : {T : Type 0} → List (Option T)
-spare_slots = None ∷ None ∷ None ∷ None ∷ None ∷ None ∷ None ∷ []
+abbrev pub slots_with : {T : Type 0} → Option T → List (Option T)
+slots_with s = None ∷ None ∷ None ∷ None ∷ s ∷ None ∷ None ∷ None ∷ []
 
-abbrev pub spare_homes : {T : Type 0} → List (maybe.Option (Option T))
-spare_homes = some None ∷ some None ∷ some None ∷ some None ∷ some None ∷ some None ∷ some None ∷ []
+abbrev pub homes_with : {T : Type 0} → maybe.Option (Option T) → List (maybe.Option (Option T))
+homes_with h = some None ∷ some None ∷ some None ∷ some None ∷ h ∷ some None ∷ some None ∷ some None ∷ []
 
--- 16 words and 8 slots, of which the first are used
+-- 16 words and 8 slots, of which word 8 and slot 4 are used
 abbrev pub IsTurnTable : TableId → Type 0
 IsTurnTable z = (z.words ≡ 16) × (z.slots ≡ 8)
 
@@ -69,8 +69,8 @@ pub record Turning {T D : Type 0} (part : T → ℕ → D) (callers : ℕ) (firs
   pub seat : ℕ → maybe.Option ℕ
   -- how many passes were made
   pub made : ℕ
-  pub word_is : s.words ≡ word_of at ∷ spare_words
-  pub home_is : s.homes ≡ home_at at value ∷ spare_homes
+  pub word_is : s.words ≡ words_with (word_of at)
+  pub home_is : s.homes ≡ homes_with (home_at at value)
   pub held : IsHeld seat at
   pub seated : (q id : ℕ) → seat q ≡ some id → q < made
   pub few : made ≤ callers
@@ -98,7 +98,7 @@ module _ {T D : Type 0} where
 
 -- a seat that has the value in hand has the empty slot
 abbrev pub carried : {T : Type 0} → Option T → List (ℕ × Option T)
-carried (Some x) = (0, None) ∷ []
+carried (Some x) = (4, None) ∷ []
 carried None = []
 
 -- a seat: its view, and the slots it holds
@@ -112,7 +112,7 @@ module _ {T D : Type 0} where
 
   -- the same with the turn, and the value x in hand
   abbrev pub inside : ℕ → D → T → Sat T D
-  inside q d x = (Caller q d (Some x), (0, None) ∷ [])
+  inside q d x = (Caller q d (Some x), (4, None) ∷ [])
 
   -- this seat comes inside with x, and its part of x is the one it had
   abbrev pub ComesInside : (T → ℕ → D) → ℕ → Sat T D → Sat T D → T → Type 0
@@ -141,7 +141,7 @@ module _ {T D : Type 0} (part : T → ℕ → D) where
 -- TurnTake: if the word was 0, the caller with the part d has the value, and its part of it is d; otherwise nothing changed
 module _ {T D : Type 0} (part : T → ℕ → D) (q : ℕ) (d : D) where
   abbrev pub TookIf : Bool → Sat T D → Type 0
-  TookIf true m' = (x : T) × (m' ≡ (Caller q d (Some x), (0, Some x) ∷ [])) × (d ≡ part x q)
+  TookIf true m' = (x : T) × (m' ≡ (Caller q d (Some x), (4, Some x) ∷ [])) × (d ≡ part x q)
   TookIf false m' = m' ≡ outside q d
 
 abbrev pub Takes : {T D : Type 0} → (T → ℕ → D) → Step (Option T) → Sat T D → ℕ → Sat T D → Type 0
@@ -149,7 +149,7 @@ Takes {T} {D} part st m found m' = (q : ℕ) (d : D) → m ≡ outside q d → T
 
 -- TurnFree: the returned value is in the slot, and the caller knows its part of it
 abbrev pub Frees : {T D : Type 0} → (T → ℕ → D) → Step (Option T) → Sat T D → ℕ → Sat T D → Type 0
-Frees {T} {D} part st m found m' = (q : ℕ) (d : D) (x y : T) → m ≡ (Caller q d (Some x), (0, Some y) ∷ []) → m' ≡ outside q (part y q)
+Frees {T} {D} part st m found m' = (q : ℕ) (d : D) (x y : T) → m ≡ (Caller q d (Some x), (4, Some y) ∷ []) → m' ≡ outside q (part y q)
 
 -- KeeperComes: a seat that knows of no pass yet
 abbrev pub Comes : {T D : Type 0} → Step (Option T) → Sat T D → ℕ → Sat T D → Type 0

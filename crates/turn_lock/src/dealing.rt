@@ -1,5 +1,5 @@
 //! How the table and the passes are made.
-ghost use Rattle.std.specs.Prelude.{◌≡◌, [], IfOk, OnOk, vec_len};
+ghost use Rattle.std.specs.Prelude.{◌≡◌, ◌++◌, [], IfOk, None, OnOk, replicate, vec_len};
 ghost use Rattle.turn_lock.specs.declared.table.Role.TheVariants.{Dealer};
 ghost use Rattle.turn_lock.specs.Turns.{IsTurnTable};
 ghost use Rattle.turn_lock.specs.Passes.{AreFresh};
@@ -7,16 +7,20 @@ ghost use Rattle.turn_lock.specs.Passes.{AreFresh};
 use crate::kinds::SplitSeat;
 use crate::parted::Parted;
 use crate::pass::TurnPass;
-use crate::table::{Seated, Shares, Start, TurnTable};
+use crate::table::{SLOT, SLOTS, Seated, Shares, Start, TurnTable, WORDS};
 use atomic_table::Table;
 use std::alloc::{AllocError, Global};
 use std::snapshot::Snapshot;
 
-// Only the first word and the first slot are used. The others fill cache lines of 64 bytes, so that
-// the callers of one lock don't slow those of another down.
-const WORDS: usize = 16;
-
-const SPARE_SLOTS: usize = 7;
+// Adds so many slots without a value.
+fn add_empty<T: Drop>(slots: &mut Vec<Option<T>>, count: usize) -> Result<(), AllocError>
+    ensures { OnOk result (slots.new.items ≡ slots.old.items ++ replicate count None) }
+{
+    for _ in 0..count {
+        slots.push(None)?;
+    }
+    Ok(())
+}
 
 // Makes the table, with the value in its slot, and the seat that makes the passes.
 pub(crate) fn lay<T: Parted + Drop>(
@@ -33,10 +37,9 @@ pub(crate) fn lay<T: Parted + Drop>(
         callers,
     };
     let mut slots = Vec::new(alloc);
+    add_empty(&mut slots, SLOT)?;
     slots.push(Some(value))?;
-    for _ in 0..SPARE_SLOTS {
-        slots.push(None)?;
-    }
+    add_empty(&mut slots, SLOTS - SLOT - 1)?;
     match Table::new(alloc, &[0; WORDS], slots, &about) {
         Ok(laid) => Ok(laid),
         Err(_) => Err(AllocError),

@@ -19,7 +19,7 @@
 //!
 //! # The table
 //!
-//! The lock is a table (of the crate `atomic_table`) whose first word and first slot are used:
+//! The lock is a table (of the crate `atomic_table`) of which one word and one slot are used:
 //!
 //! ```text
 //!     word     slot        who has the value
@@ -27,8 +27,8 @@
 //!     q + 1    empty       caller q
 //! ```
 //!
-//! Behind them lie 15 words and 7 slots that no step touches. So two locks share no cache line of 64
-//! bytes, and threads at different locks don't slow each other down.
+//! Around them lie 15 words and 7 slots that no step touches. So they share no cache line of 64 bytes
+//! with anything else, and threads that work beside the lock don't slow its callers down.
 //!
 //! Each pass is a seat at this table. A seat has a view, what it knows (`Role`). A rule (`Turning`
 //! of specs/Turns.antt) ties the word, the slot and all views together: a caller's view has its

@@ -4,7 +4,7 @@ ghost use Rattle.turn_lock.specs.Turns.{IsTurnTable, outside, inside, ComesInsid
 
 use crate::kinds::{TurnFree, TurnTake};
 use crate::parted::Parted;
-use crate::table::{Seated, Shares};
+use crate::table::{SLOT, Seated, Shares, WORD};
 
 // TurnTake: takes the turn and the value if the turn is free. Otherwise it returns the word.
 pub(crate) fn turn_take<T: Parted>(
@@ -18,11 +18,11 @@ pub(crate) fn turn_take<T: Parted>(
     ensures took { IfOk result (λ x. ComesInside T.part number seat.old.me seat.new.me x) }
     ensures missed { OnErr result (seat.new.me ≡ seat.old.me) }
 {
-    let found = shared.compare_exchange::<TurnTake>(seat, 0, 0, u64::from(number) + 1);
+    let found = shared.compare_exchange::<TurnTake>(seat, WORD, 0, u64::from(number) + 1);
     if found != 0 {
         return Err(found);
     }
-    match shared.exchange(seat, 0, None) {
+    match shared.exchange(seat, SLOT, None) {
         Some(value) => Ok(value),
         None => unreachable!(),
     }
@@ -35,9 +35,9 @@ pub(crate) fn turn_free<T: Parted>(shared: &Shares<T>, seat: &mut Seated<T>, num
     ensures table { seat.new.table_id ≡ seat.old.table_id }
     ensures outside { seat.new.me ≡ outside number (T.part value number) }
 {
-    match shared.exchange(seat, 0, Some(value)) {
+    match shared.exchange(seat, SLOT, Some(value)) {
         None => {}
         Some(_value) => unreachable!(),
     }
-    shared.store::<TurnFree>(seat, 0, 0);
+    shared.store::<TurnFree>(seat, WORD, 0);
 }

@@ -38,6 +38,16 @@ impl<T: Parted> TableRule<Option<T>, Role<T, T::Part>, Start<T>> for Law {
     ghost first = { λ k. Dealer 0 k.value.value };
 }
 
+// A table has so many words and slots. Only one of each is used, in the middle, so that threads which
+// use what lies beside the table don't slow its callers down: cache lines have 64 bytes.
+pub(crate) const WORDS: usize = 16;
+
+pub(crate) const WORD: usize = 8;
+
+pub(crate) const SLOTS: usize = 8;
+
+pub(crate) const SLOT: usize = 4;
+
 pub(crate) type Seated<T> = Seat<Option<T>, Role<T, <T as Parted>::Part>>;
 
 pub(crate) type Shares<T> = Shared<Option<T>, Role<T, <T as Parted>::Part>, Start<T>, Law>;

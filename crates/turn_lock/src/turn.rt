@@ -4,7 +4,7 @@ ghost use Rattle.turn_lock.specs.Turns.{IsTurnTable};
 
 use crate::bell::Bell;
 use crate::dealing::{deal, lay};
-use crate::freeing::take_first;
+use crate::freeing::take_value;
 use crate::gathering::gather;
 use crate::parted::Parted;
 use crate::pass::TurnPass;
@@ -108,7 +108,7 @@ impl<T: Parted> Turn<T> {
         let Turn { table, bell: _ } = self;
         let keeper = gather(&table.shared, passes);
         let closed = table.close_with(keeper);
-        match take_first(closed) {
+        match take_value(closed) {
             Some(value) => value,
             None => unreachable!(),
         }

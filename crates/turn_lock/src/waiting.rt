@@ -5,7 +5,7 @@ ghost use Rattle.turn_lock.specs.Turns.{IsTurnTable, outside, ComesInside};
 use crate::bell::Bell;
 use crate::parted::Parted;
 use crate::steps::turn_take;
-use crate::table::{Seated, Shares};
+use crate::table::{Seated, Shares, WORD};
 use std::hint::spin_loop;
 use std::sync::Wait;
 
@@ -34,7 +34,7 @@ pub(crate) fn wait<T: Parted, R: Wait>(
             continue;
         }
         let rings = bell.announce();
-        if shared.peek(0) != 0 {
+        if shared.peek(WORD) != 0 {
             bell.sleep(rt, rings);
         }
     }
@@ -43,10 +43,10 @@ pub(crate) fn wait<T: Parted, R: Wait>(
 
 // Returns whether the turn was free at one of many looks.
 fn is_free_soon<T: Parted>(shared: &Shares<T>) -> bool
-    requires { 0 < shared.now.table_id.words }
+    requires { 8 < shared.now.table_id.words }
 {
     for _ in 0..LOOKS {
-        if shared.peek(0) == 0 {
+        if shared.peek(WORD) == 0 {
             return true;
         }
         spin_loop();

@@ -18,7 +18,7 @@ exchange-requires g c =
     let o = c.requires.outside in
     let e = c.compare_exchange-found.ensures in
     let t = took g.T.Parted.part c.args.shared.now.key.callers c.args.shared.now.key.value.value c.args.number o.0 c.args.seat.now.me c.compare_exchange-found.new.seat.me c.compare_exchange-found.result e.2 o.1 c.if-found-ne0.false in
-    (e.0 ∙ c.requires.table.0, (Some t.0, ap (λ m. m.1) t.1 ∙ sym (ap (λ m. (0, Some t.0) ∷ rest m.1) t.1)))
+    (e.0 ∙ c.requires.table.0, (Some t.0, ap (λ m. m.1) t.1 ∙ sym (ap (λ m. (4, Some t.0) ∷ rest m.1) t.1)))
 
 pub unreachable-requires : goal.unreachable-requires
 unreachable-requires g c =
