@@ -67,6 +67,28 @@ fn more_rooms(
     Ok(())
 }
 
+/// Touches the room for so many calls to come. The system finds memory for a page when it is first
+/// written; it does so here, and not in a call.
+fn touch(calls: &mut Vec<LoggedCall>, more: usize)
+    requires room { vec_len calls.old + more ≤ vec_capacity calls.old }
+    ensures items { calls.new.items ≡ calls.old.items }
+    ensures capacity { vec_capacity calls.new ≡ vec_capacity calls.old }
+{
+    let count = calls.len();
+    for _ in 0..more {
+        calls.push_reserved(LoggedCall {
+            lane: 0,
+            tag: Tag {
+                session: 0,
+                call: 0,
+            },
+            sector: 0,
+            act: LoggedAct::Read(CellKind::Bytes),
+        });
+    }
+    calls.truncate(count);
+}
+
 impl LaneLog {
     /// No call, and no room for one.
     pub(crate) fn new(alloc: Global) -> LaneLog
@@ -98,6 +120,7 @@ impl LaneLog {
             return Ok(());
         }
         self.calls.reserve(calls)?;
+        touch(&mut self.calls, calls);
         more_rooms(alloc, &mut self.rooms, width, calls)?;
         self.spare = calls;
         Ok(())
