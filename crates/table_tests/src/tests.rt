@@ -25,8 +25,11 @@ const TAG: Tag = Tag {
     call: 0,
 };
 
-/// How often a lane tries again while another one reads its free block, and how often one reads beside another's writes.
-const TRIES: u32 = 10_000;
+/// How often a lane tries again while another one reads its free block: until that thread goes on, however busy the machine is.
+const TRIES: u32 = u32::MAX;
+
+/// How often a lane reads beside another's writes.
+const READS: u32 = 10_000;
 
 /// The arena of these words.
 fn opened(alloc: Global, words: Vec<u64>) -> Result<ArenaState, Fail>
@@ -126,7 +129,7 @@ fn read_rising(alloc: Global, arena: &Arena, mut lane: Lane, last: u64) -> Optio
 {
     let mut newest = 0;
     let mut into = [0; 64];
-    for _ in 0..TRIES {
+    for _ in 0..READS {
         if newest == last {
             return Some(lane);
         }
