@@ -199,33 +199,8 @@ def is_acyclic(edges):
     return seen == len(waits)
 
 
-def has_order(sessions, first, last):
-    """Whether a sector's calls have a common order that begins with one value and ends with another: by trying all. Gives up, and says yes,
-    after so many states that a test must not try more."""
-    sessions, tried, ways = list(sessions.values()), set(), [((0,) * len(sessions), first)]
-    while ways:
-        made, value = way = ways.pop()
-        if way in tried:
-            continue
-        tried.add(way)
-        if len(tried) > 200_000 or value == last and all(at == len(own) for at, own in zip(made, sessions)):
-            return True
-        for q, (at, own) in enumerate(zip(made, sessions)):
-            if at < len(own):
-                kind, to = own[at]
-                on = (*made[:q], at + 1, *made[q + 1 :])
-                # a write that was cut may stand or not
-                ways += [(on, to)] if kind != "read" else [(on, value)] if to == value else []
-                ways += [(on, value)] if kind == "cut" else []
-    return False
-
-
 def said_of_sector_end(sessions, first, last):
     """Says whether a sector's calls have no common order that begins with one value and ends with another."""
-    written = [value for own in sessions.values() for kind, value in own if kind != "read"]
-    if len({first, *written}) <= len(written):
-        # a value that was written twice, or that stood there at first, tells no order of writes
-        return None if has_order(sessions, first, last) else f"has no order of its calls from {first} to {last}: {sessions}"
     done = {value for own in sessions.values() for kind, value in own if kind == "write"}
     cut = {value for own in sessions.values() for kind, value in own if kind == "cut"}
     seen = {value for own in sessions.values() for kind, value in own if kind == "read"} | {last}

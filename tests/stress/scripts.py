@@ -50,14 +50,17 @@ def load_script(number, uuid, sectors, sessions, calls):
 
 
 class Values:
-    """Draws values of sectors, each but once for a sector, so that a read tells which write it saw."""
+    """Draws values of sectors, each but once for a sector's number, so that a read tells which write it saw. Which namespace a session
+    has open isn't known before the run, for an `open` may be refused: so no namespace has a value twice at the same number."""
 
-    def __init__(self, draw, before):
-        self.draw, self.used, self.before = draw, {}, before
+    def __init__(self, draw, before, shapes):
+        self.draw, self.used, self.before, self.shapes = draw, {}, before, shapes
 
     def next(self, shape, sector, wide):
-        """Returns a value that its sector hasn't had, or None if there is none."""
-        used = self.used.setdefault((shape.uuid, sector), {self.before(shape, sector)})
+        """Returns a value that no sector of this number has had, or None if there is none."""
+        if sector not in self.used:
+            self.used[sector] = {self.before(it, sector) for it in self.shapes}
+        used = self.used[sector]
         for _ in range(8):
             number = self.draw.randrange(1 << 16)
             word = f"hex:{number.to_bytes(2, 'big').hex() * (shape.bytes // 2)}" if wide else f"fill:{number & 255:02x}"
@@ -69,7 +72,7 @@ class Values:
 
 def race_script(draw, shape, before, sessions, calls, sectors):
     """Returns a script whose sessions write and read the same few sectors."""
-    values, out = Values(draw, before), []
+    values, out = Values(draw, before, [shape]), []
     for _ in range(sessions):
         lines = [("open", shape.uuid)]
         for _ in range(calls):
@@ -94,7 +97,7 @@ class Generator:
 
     def __init__(self, draw, shapes, before, others, raw, region):
         self.draw, self.shapes, self.others, self.raw, self.region = draw, shapes, others, raw, region
-        self.values = Values(draw, before)
+        self.values = Values(draw, before, shapes)
 
     def sector(self, q, sessions, shape):
         """Returns the number of a sector: mostly one that the session alone writes, or one that all write, or one that isn't there."""
