@@ -1,5 +1,6 @@
 -- A core behind a lock goes on serving sessions.
-use Rattle.std.proofs.Common.{◌≡◌, ◌≢◌, ℕ, ◌<◌, zero, suc, arith, List, [], ◌∷◌, length, Some, slice_get, refl, sym, ap, ◌∙◌, subst}
+use Rattle.std.proofs.Common.{◌≡◌, ◌≢◌, ℕ, ◌<◌, zero, suc, arith, true, List, [], ◌∷◌, length, Some, slice_get, refl, sym, ap, ◌∙◌, subst}
+use Rattle.std.proofs.lemmas.Option.{slice_get_within}
 use Rattle.nvd_words.specs.declared.tag.Tag.{Tag}
 use Rattle.arena_open.specs.declared.state.ArenaState.{ArenaState}
 use Rattle.arena_open.specs.Moves.{IsOpenState}
@@ -44,6 +45,19 @@ idle_in core lane phase some lt is phases =
     let count : length core.lanes.items ≡ core.shape.lanes = some.1.1.shown.count in
     let k = lane_there core.lanes.items lane (omega (arith, lt, count)) in
     (k.0, k.1, ap is_idle (sym (phases k.0 k.1) ∙ is))
+
+only_idle : (ph : Phase) → is_idle ph ≡ true → ph ≡ Idle
+only_idle Idle e = refl
+only_idle other e = absurd (cc)
+
+-- a lane in a call
+pub not_idle_in : (core : Core) (lane : ℕ) (phase : Phase) → phase ≢ Idle → ((p : LaneNow) → slice_get core.lanes.items lane ≡ Some p → phase ≡ p.phase) → IsIdleIn (held_by core) lane → ⊥
+not_idle_in core lane phase not phases idle = not (phases idle.0 idle.1 ∙ only_idle idle.0.phase idle.2)
+
+pub idle_lane_lt : (core : Core) (lane : ℕ) → IsSomeCore core → IsIdleIn (held_by core) lane → lane < core.shape.lanes
+idle_lane_lt core lane some idle =
+    let count : length core.lanes.items ≡ core.shape.lanes = some.1.1.shown.count in
+    omega (arith, slice_get_within core.lanes.items lane idle.0 idle.1, count)
 
 -- ---- a new one
 

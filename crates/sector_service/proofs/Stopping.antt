@@ -1,5 +1,5 @@
 -- Who switched power off, call after call.
-use Rattle.std.proofs.Common.{◌⊎◌, inl, inr, refl, ◌∙◌}
+use Rattle.std.proofs.Common.{inl, inr, refl, ◌∙◌}
 use Rattle.turn_lock.specs.declared.parted.Parted.{Ghosts}
 use Rattle.turn_lock.specs.declared.pass.TurnPass.{TurnPass}
 use Rattle.turn_callers.specs.declared.desk.Mine.{Mine}

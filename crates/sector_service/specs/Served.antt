@@ -9,7 +9,7 @@ use Rattle.lane_core.specs.Held.{Held, held_by}
 use Rattle.lane_core.specs.Reopening.{IsCoreOf}
 use Rattle.lane_core.specs.Schedules.{opened_held}
 use Rattle.session_parts.specs.declared.parts.CorePart.{CorePart}
-use Rattle.session_parts.specs.Laws.{IsServed}
+use Rattle.session_parts.specs.Laws.{IsIdleIn, IsServed}
 use Rattle.session_parts.specs.Parts.{core_part, part}
 use Rattle.sector_service.specs.declared.served.ServedPart.{ServedPart}
 
@@ -29,6 +29,10 @@ pub record IsServing (first : ArenaState) (core : Core) : Type 0 where
 -- nothing was called yet
 abbrev pub fresh : ArenaState → Served
 fresh state = record { first = state; held = opened_held state }
+
+-- no lane is idle: each is in a call
+abbrev pub NoneIdle : Held → Type 0
+NoneIdle held = (l : ℕ) → IsIdleIn held l → ⊥
 
 -- ---- a caller's part
 

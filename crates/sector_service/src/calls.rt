@@ -17,7 +17,7 @@ ghost use Rattle.sector_service.specs.Switch.{IsSameCaller, StopsWhenSpent};
 
 use crate::power::{Caller, may_step};
 use crate::served::{OneStep, ServedCore};
-use crate::turns::{begin_read_in_turn, begin_write_in_turn, step_in_turn};
+use crate::turns::step_in_turn;
 use crate::waiting::Waiting;
 use arena_open::Cell;
 use lane_core::Step;
@@ -69,11 +69,18 @@ fn begin_write<R: Wait>(
     ensures caller { IsSameCaller (lock_id power.now) caller.old caller.new × (caller.new.left ≡ caller.old.left) × KeepsStopped caller.old.switch caller.new.switch }
     ensures told { result ≡ Ok None → IsTold caller.new.switch }
 {
+    let tag = Tag {
+        session: pass.number(),
+        call: caller.call,
+    };
     for _ in rt.forever() {
         if is_off(rt, power, &mut caller.switch) {
             return Ok(None);
         }
-        match begin_write_in_turn(rt, turn, pass, caller.call, sector, words)? {
+        let mut core = turn.enter(rt, pass);
+        let begun = core.begin_write(tag, sector, words);
+        turn.leave(pass, core);
+        match begun? {
             Some(lane) => return Ok(Some(lane)),
             None => thread::yield_now(),
         }
@@ -98,11 +105,18 @@ fn begin_read<R: Wait>(
     ensures caller { IsSameCaller (lock_id power.now) caller.old caller.new × (caller.new.left ≡ caller.old.left) × KeepsStopped caller.old.switch caller.new.switch }
     ensures told { result ≡ Ok None → IsTold caller.new.switch }
 {
+    let tag = Tag {
+        session: pass.number(),
+        call: caller.call,
+    };
     for _ in rt.forever() {
         if is_off(rt, power, &mut caller.switch) {
             return Ok(None);
         }
-        match begin_read_in_turn(rt, turn, pass, caller.call, sector)? {
+        let mut core = turn.enter(rt, pass);
+        let begun = core.begin_read(tag, sector);
+        turn.leave(pass, core);
+        match begun? {
             Some(lane) => return Ok(Some(lane)),
             None => thread::yield_now(),
         }

@@ -1,11 +1,12 @@
 //! A core in one turn: a lane that is idle, and a call that begins in it.
-ghost use Rattle.std.specs.Prelude.{◌≡◌, ◌<◌, true, IfSome, OnOk, OnErr};
+ghost use Rattle.std.specs.Prelude.{◌≡◌, ◌<◌, ◌↔◌, IsTrue, None, IfSome, OnOk, OnErr};
 ghost use Rattle.lane_core.specs.Begins.{FitsCall};
 ghost use Rattle.lane_core.specs.Held.{held_by};
 ghost use Rattle.lane_core.specs.Machines.{IsSomeCore};
 ghost use Rattle.lane_core.specs.Reopening.{KeepsArena};
 ghost use Rattle.lane_core.specs.Schedules.{asks, held_after};
 ghost use Rattle.session_parts.specs.Laws.{IsIdleIn};
+ghost use Rattle.sector_service.specs.Served.{NoneIdle};
 
 use lane_core::{Call, Core, Phase};
 use nvd_words::Tag;
@@ -15,15 +16,16 @@ use std::alloc::{AllocError, Global};
 fn is_idle(core: &Core, lane: u32) -> bool
     requires core { IsSomeCore core.now }
     requires lane { lane < core.now.shape.lanes }
-    ensures { result ≡ true → IsIdleIn (held_by core.now) lane }
+    ensures { IsTrue result ↔ IsIdleIn (held_by core.now) lane }
 {
     matches!(core.phase(lane), Phase::Idle)
 }
 
-/// A lane that is idle, if there is one.
+/// A lane that is idle. `None` only if no lane is.
 pub(crate) fn idle_lane(core: &Core) -> Option<u32>
     requires core { IsSomeCore core.now }
-    ensures { IfSome result (λ l. (l < core.now.shape.lanes) × IsIdleIn (held_by core.now) l) }
+    ensures idle { IfSome result (λ l. (l < core.now.shape.lanes) × IsIdleIn (held_by core.now) l) }
+    ensures none { result ≡ None → NoneIdle (held_by core.now) }
 {
     for lane in 0..core.shape.lanes {
         if is_idle(core, lane) {

@@ -86,7 +86,7 @@ impl ServedCore {
     ghost use Rattle.session_parts.specs.Parts.{core_part};
     ghost use Rattle.session_parts.specs.Steps.{read_call, write_call};
     ghost use Rattle.sector_service.specs.Calls.{OneGoes};
-    ghost use Rattle.sector_service.specs.Served.{begun, fresh, part_at};
+    ghost use Rattle.sector_service.specs.Served.{NoneIdle, begun, fresh, part_at};
 
     /// The core of an arena that was opened, in which nothing was called. The one refusal is out of memory.
     pub fn of(alloc: Global, state: ArenaState) -> Result<ServedCore, AllocError>
@@ -99,7 +99,7 @@ impl ServedCore {
         Ok(ServedCore { alloc, core, first })
     }
 
-    /// Begins a write in an idle lane. `None`, and nothing changes, if no lane is idle.
+    /// Begins a write in an idle lane. `None` only if no lane is idle, and then nothing changes.
     ///
     /// The one refusal is out of memory, and then nothing changed. Conditions: the session is in no call, and made its calls that
     /// stand under smaller numbers; the arena has the sector, which has as many words.
@@ -112,6 +112,7 @@ impl ServedCore {
         requires sector { sector < (shape_in self.old.first).sectors }
         requires words { length words.now ≡ (shape_in self.old.first).width }
         requires may { MayBegin tag.call (core_part self.old.held tag.session) }
+        ensures busy { result ≡ Ok None → NoneIdle self.old.held }
         ensures none { result ≡ Ok None → self.new ≡ self.old }
         ensures refused { OnErr result (self.new ≡ self.old) }
         ensures begun { IfOk result (λ o. IfSome o (λ l. part_at self.new tag.session ≡ begun (write_call l tag sector words.now) (part_at self.old tag.session))) }
@@ -130,6 +131,7 @@ impl ServedCore {
     pub fn begin_read(&mut self, tag: Tag, sector: u32) -> Result<Option<u32>, AllocError>
         requires sector { sector < (shape_in self.old.first).sectors }
         requires may { MayBegin tag.call (core_part self.old.held tag.session) }
+        ensures busy { result ≡ Ok None → NoneIdle self.old.held }
         ensures none { result ≡ Ok None → self.new ≡ self.old }
         ensures refused { OnErr result (self.new ≡ self.old) }
         ensures begun { IfOk result (λ o. IfSome o (λ l. part_at self.new tag.session ≡ begun (read_call l tag sector) (part_at self.old tag.session))) }

@@ -1,4 +1,5 @@
-//! The table that implements the lock: one word, one slot, and a seat for each pass.
+//! The table that implements the lock: its words and slots, of which one of each is used, and a
+//! seat for each pass.
 ghost use Rattle.std.specs.Prelude.{ℕ};
 
 use crate::parted::Parted;

@@ -5,7 +5,7 @@ use Rattle.lane_core.specs.declared.history.Act.TheVariants as act
 use Rattle.session_parts.specs.Parts.{stand_at}
 use Rattle.sector_service.specs.Calls.{answered}
 use Rattle.sector_service.proofs.Calling as calling
-use Rattle.sector_service.proofs.Stopping.{keeps_again, stops_again}
+use Rattle.sector_service.proofs.Stopping.{keeps_again}
 use Rattle.sector_service.proofs.calls.read_at.Goals as goal
 
 pub loop-preserved : goal.loop-preserved

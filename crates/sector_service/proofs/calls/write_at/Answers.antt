@@ -4,7 +4,7 @@ use Rattle.session_parts.specs.Steps.{write_call}
 use Rattle.sector_service.specs.Served.{begun}
 use Rattle.sector_service.specs.Calls.{IsWriting, tag_by}
 use Rattle.sector_service.proofs.Calling as calling
-use Rattle.sector_service.proofs.Stopping.{keeps_again, stops_again}
+use Rattle.sector_service.proofs.Stopping.{keeps_again}
 use Rattle.sector_service.proofs.calls.write_at.Goals as goal
 
 pub loop-init : goal.loop-init
