@@ -1,10 +1,12 @@
 -- What a lock's last value says of its first.
-use Rattle.std.proofs.Common.{◌≡◌, ℕ, true, false, List, Option, sym, ap, ◌∙◌, subst}
+use Rattle.std.proofs.Common.{◌≡◌, ℕ, true, false, List, map, Option, sym, ap, ◌∙◌, subst}
 use Rattle.namespace_areas.specs.declared.area.Area.{Area}
-use Rattle.namespace_areas.specs.Seen.{AreLeft as AreasLeft, areas_shown}
+use Rattle.namespace_areas.specs.Seen.{AreHeld, AreLeft as AreasLeft, areas_shown, words_of}
+use Rattle.namespace_areas.specs.Steps.{rows_of}
 use Rattle.namespace_ops.specs.Registered.{Registered, kept_of, opening_of, state_of}
 use Rattle.session_account.specs.Journal.{AreLeft, IsJournal}
 use Rattle.session_account.specs.Registering.{IsOn}
+use Rattle.session_account.specs.Words.{AreasHold}
 use Rattle.registry_service.specs.declared.served.Began.{Began}
 use Rattle.registry_service.specs.declared.served.OrdersPart.{OrdersPart}
 use Rattle.registry_service.specs.Served.{AreKept, Served, answered, began_of, part_at}
@@ -33,9 +35,15 @@ module _ (first last : Served) (r : Registered) (left : Option ℕ) (back : (r �
       subst (λ (x : Registered). x.stopped ≡ true → (rows : List (Option (List ℕ))) → AreasLeft x.areas rows → AreLeft first.registry.sets (opening_of first.registry) first.first (answered x.journal) (areas_shown rows)) (sym back.0)
       (subst (λ (b : Began). last.registry.stopped ≡ true → (rows : List (Option (List ℕ))) → AreasLeft last.registry.areas rows → AreLeft b.sets (opening_on b.areas) b.labelcut (answered last.registry.journal) (areas_shown rows)) began are)
 
-  pub on_of : (last.registry.stopped ≡ false → IsOn last.registry.sets (opening_of last.registry) last.first (answered last.registry.journal) (kept_of (state_of last.registry)) last.left)
-      → r.stopped ≡ false → IsOn first.registry.sets (opening_of first.registry) first.first (answered r.journal) (kept_of (state_of r)) left
+  pub words_of_all : (AreHeld last.registry.opening → AreasHold last.registry.sets (opening_of last.registry) (rows_of last.registry.opening) last.first (answered last.registry.journal) (map words_of last.registry.areas))
+      → AreHeld first.registry.opening → AreasHold first.registry.sets (opening_of first.registry) (rows_of first.registry.opening) first.first (answered r.journal) (map words_of r.areas)
+  words_of_all hold =
+      subst (λ (x : Registered). AreHeld first.registry.opening → AreasHold first.registry.sets (opening_of first.registry) (rows_of first.registry.opening) first.first (answered x.journal) (map words_of x.areas)) (sym back.0)
+      (subst (λ (b : Began). AreHeld b.areas → AreasHold b.sets (opening_on b.areas) (rows_of b.areas) b.labelcut (answered last.registry.journal) (map words_of last.registry.areas)) began hold)
+
+  pub on_of : (last.registry.stopped ≡ false → IsOn last.registry.sets (opening_of last.registry) (rows_of last.registry.opening) last.first (answered last.registry.journal) (kept_of (state_of last.registry)) (rows_of last.registry.areas) last.left)
+      → r.stopped ≡ false → IsOn first.registry.sets (opening_of first.registry) (rows_of first.registry.opening) first.first (answered r.journal) (kept_of (state_of r)) (rows_of r.areas) left
   on_of on =
-      subst (λ (x : Registered). x.stopped ≡ false → IsOn first.registry.sets (opening_of first.registry) first.first (answered x.journal) (kept_of (state_of x)) left) (sym back.0)
-      (subst (λ (f : Option ℕ). last.registry.stopped ≡ false → IsOn first.registry.sets (opening_of first.registry) first.first (answered last.registry.journal) (kept_of (state_of last.registry)) f) (sym back.1)
-      (subst (λ (b : Began). last.registry.stopped ≡ false → IsOn b.sets (opening_on b.areas) b.labelcut (answered last.registry.journal) (kept_of (state_of last.registry)) last.left) began on))
+      subst (λ (x : Registered). x.stopped ≡ false → IsOn first.registry.sets (opening_of first.registry) (rows_of first.registry.opening) first.first (answered x.journal) (kept_of (state_of x)) (rows_of x.areas) left) (sym back.0)
+      (subst (λ (f : Option ℕ). last.registry.stopped ≡ false → IsOn first.registry.sets (opening_of first.registry) (rows_of first.registry.opening) first.first (answered last.registry.journal) (kept_of (state_of last.registry)) (rows_of last.registry.areas) f) (sym back.1)
+      (subst (λ (b : Began). last.registry.stopped ≡ false → IsOn b.sets (opening_on b.areas) (rows_of b.areas) b.labelcut (answered last.registry.journal) (kept_of (state_of last.registry)) (rows_of last.registry.areas) last.left) began on))

@@ -7,6 +7,7 @@ use Rattle.cut_words.specs.Fuses.{lasts}
 use Rattle.nfit_reader.specs.declared.table.Mapping.{Mapping}
 use Rattle.namespace_areas.specs.declared.area.Area.{Area}
 use Rattle.namespace_areas.specs.Seen.{areas_seen}
+use Rattle.namespace_areas.specs.Steps.{Rows, rows_of}
 use Rattle.namespace_map.specs.declared.commands.Command.{Command}
 use Rattle.namespace_map.specs.declared.refused.OpRefused.{OpRefused}
 use Rattle.namespace_map.specs.declared.refused.OpRefused.TheVariants.{OutOfMemory}
@@ -31,8 +32,8 @@ opening_on areas = record { areas = areas_seen areas; claims = [] }
 
 -- what the lock keeps of a journal, until power is cut and from then on
 pub record Keeps (sets : List (List Mapping)) (opening : List Area) (first : Option ℕ) (journal : List JournalEntry) (s : State) (left : Option ℕ) : Type 0 where
-  pub on : s.stopped ≡ false → IsOn sets (opening_on opening) first journal (kept_of s) left
-  pub off : s.stopped ≡ true → WasCut sets (opening_on opening) first journal s.areas
+  pub on : s.stopped ≡ false → IsOn sets (opening_on opening) (rows_of opening) first journal (kept_of s) (rows_of s.areas) left
+  pub off : s.stopped ≡ true → WasCut sets (opening_on opening) (rows_of opening) first journal s.areas
 
 -- ---- an entry that was answered
 
@@ -55,14 +56,14 @@ apart b t f = let e : true ≡ false = sym t ∙ f in absurd (cc)
 
 module _ (s s' : State) (left left' : Option ℕ) (tag : Tag) (c : Command) (a : Answer) (is : Answered s s' left left' c a) (plain : makes_sectors c ≡ false) where
   -- while power is on, it is cut by a call that says so, and by no other
-  went_on : s.stopped ≡ false → is_memory a ≡ false → WentOn s.sets (kept_of s) (kept_of s') left left' (call_entry tag c a) → s'.stopped ≡ false
+  went_on : s.stopped ≡ false → is_memory a ≡ false → WentOn s.sets (kept_of s) (kept_of s') (rows_of s.areas) (rows_of s'.areas) left left' (call_entry tag c a) → s'.stopped ≡ false
   went_on on memory w = by (refusal_of (namespaces_in s) c) refl
     where
       by : (r : Option OpRefused) → refusal_of (namespaces_in s) c ≡ r → s'.stopped ≡ false
       by (Some f) refused = ap (λ (x : State). x.stopped) (is.refused (on, not_memory a memory) f refused).1 ∙ on
       by None none = is.stopped on ∙ ap is_cut (w.reply ∙ ap (λ (r : Option OpRefused). value_unless tt r) none)
 
-  went_off : s.stopped ≡ false → WentOff s.sets (kept_of s) left (call_entry tag c a) s'.areas → s'.stopped ≡ true
+  went_off : s.stopped ≡ false → WentOff s.sets (kept_of s) (rows_of s.areas) left (call_entry tag c a) s'.areas → s'.stopped ≡ true
   went_off on w = is.stopped on ∙ ap is_cut w.off
 
 same_keeps : (sets : List (List Mapping)) (opening : List Area) (first : Option ℕ) (journal : List JournalEntry) (s s' : State) (left left' : Option ℕ) → s' ≡ s → left' ≡ left → Keeps sets opening first journal s left → Keeps sets opening first journal s' left'
@@ -70,12 +71,14 @@ same_keeps sets opening first journal s s' left left' same spent k =
     subst (λ (x : State). Keeps sets opening first journal x left') (sym same) (subst (λ (f : Option ℕ). Keeps sets opening first journal s f) (sym spent) k)
 
 -- power was cut before: one more says so
-off_more : (sets : List (List Mapping)) (from : Kept) (first : Option ℕ) (journal : List JournalEntry) (areas : List Area) (e : JournalEntry) → IsOff e → WasCut sets from first journal areas → WasCut sets from first (journal ++ e ∷ []) areas
-off_more sets from first journal areas e off w = record {
+off_more : (sets : List (List Mapping)) (from : Kept) (rows : Rows) (first : Option ℕ) (journal : List JournalEntry) (areas : List Area) (e : JournalEntry) → IsOff e → WasCut sets from rows first journal areas
+    → WasCut sets from rows first (journal ++ e ∷ []) areas
+off_more sets from rows first journal areas e off w = record {
   before = w.before;
   entry = w.entry;
   later = w.later ++ e ∷ [];
   began = w.began;
+  words = w.words;
   left = w.left;
   split = ap (λ (es : List JournalEntry). es ++ e ∷ []) w.split ∙ append_assoc w.before (w.entry ∷ w.later) (e ∷ []);
   on = w.on;
@@ -85,19 +88,19 @@ off_more sets from first journal areas e off w = record {
 
 module _ (opening : List Area) (first : Option ℕ) (journal : List JournalEntry) (s s' : State) (left left' : Option ℕ) (tag : Tag) (c : Command) (a : Answer) (is : Answered s s' left left' c a) (plain : makes_sectors c ≡ false) where
   -- an answered call while power is on
-  on_more : s.stopped ≡ false → is_memory a ≡ false → IsOn s.sets (opening_on opening) first journal (kept_of s) left
+  on_more : s.stopped ≡ false → is_memory a ≡ false → IsOn s.sets (opening_on opening) (rows_of opening) first journal (kept_of s) (rows_of s.areas) left
       → Keeps s.sets opening first (journal ++ call_entry tag c a ∷ []) s' left'
   on_more on memory k = by (answers_make_entries s s' left left' tag c a is plain on (not_memory a memory))
     where
-      by : WentOn s.sets (kept_of s) (kept_of s') left left' (call_entry tag c a) ⊎ WentOff s.sets (kept_of s) left (call_entry tag c a) s'.areas
+      by : WentOn s.sets (kept_of s) (kept_of s') (rows_of s.areas) (rows_of s'.areas) left left' (call_entry tag c a) ⊎ WentOff s.sets (kept_of s) (rows_of s.areas) left (call_entry tag c a) s'.areas
           → Keeps s.sets opening first (journal ++ call_entry tag c a ∷ []) s' left'
       by (inl w) = record {
-        on = λ _. on_grows s.sets (opening_on opening) (kept_of s) (kept_of s') first left left' journal (call_entry tag c a) k w;
+        on = λ _. on_grows s.sets (opening_on opening) (kept_of s) (kept_of s') (rows_of opening) (rows_of s.areas) (rows_of s'.areas) first left left' journal (call_entry tag c a) k w;
         off = λ stopped. absurd (apart s'.stopped stopped (went_on s s' left left' tag c a is plain on memory w));
       }
       by (inr w) = record {
         on = λ running. absurd (apart s'.stopped (went_off s s' left left' tag c a is plain on w) running);
-        off = λ _. record { before = journal; entry = call_entry tag c a; later = []; began = kept_of s; left = left; split = refl; on = k; off = w; same = tt };
+        off = λ _. record { before = journal; entry = call_entry tag c a; later = []; began = kept_of s; words = rows_of s.areas; left = left; split = refl; on = k; off = w; same = tt };
       }
 
   -- any call
@@ -115,7 +118,7 @@ module _ (opening : List Area) (first : Option ℕ) (journal : List JournalEntry
           let h = is.off off in
           let there : Keeps s.sets opening first (journal ++ call_entry tag c a ∷ []) s left = record {
             on = λ running. absurd (apart s.stopped off running);
-            off = λ _. off_more s.sets (opening_on opening) first journal s.areas (call_entry tag c a) h.0 (k.off off);
+            off = λ _. off_more s.sets (opening_on opening) (rows_of opening) first journal s.areas (call_entry tag c a) h.0 (k.off off);
           } in
           subst (λ (es : List JournalEntry). Keeps s.sets opening first (journal ++ es) s' left') (sym (one_answered (call_entry tag c a) memory))
           (same_keeps s.sets opening first (journal ++ call_entry tag c a ∷ []) s s' left left' h.1 h.2 there)
@@ -127,9 +130,9 @@ no_fuse sets k [] = refl
 no_fuse sets k (e ∷ es) = no_fuse sets (kept_with sets k e) es
 
 -- power isn't cut if there was no fuse at first
-pub cut_has_fuse : (sets : List (List Mapping)) (from : Kept) (first : Option ℕ) (journal : List JournalEntry) (areas : List Area) → WasCut sets from first journal areas → IsSome first
-cut_has_fuse sets from (Some n) journal areas w = refl
-cut_has_fuse sets from None journal areas w =
+pub cut_has_fuse : (sets : List (List Mapping)) (from : Kept) (rows : Rows) (first : Option ℕ) (journal : List JournalEntry) (areas : List Area) → WasCut sets from rows first journal areas → IsSome first
+cut_has_fuse sets from rows (Some n) journal areas w = refl
+cut_has_fuse sets from rows None journal areas w =
     let gone : w.left ≡ None = sym w.on.left_is ∙ no_fuse sets from w.before in
     let e : true ≡ false = sym (ap (λ (f : Option ℕ). lasts f (steps_at sets w.began w.entry)) gone) ∙ w.off.short in
     absurd (cc)

@@ -1,5 +1,5 @@
 -- A registry behind a lock goes on serving its sessions.
-use Rattle.std.proofs.Common.{◌≡◌, ℕ, zero, suc, ◌+◌, ◌-◌, ◌<◌, ◌≤◌, max, Bool, true, false, not, cond, List, [], ◌∷◌, ◌++◌, length, get_or, set, Option, Some, None, Ok, Err, refl, sym, ap, ◌∙◌, subst, arith, eq-eqb, get_or-set_same, length-set, replicate, count_by}
+use Rattle.std.proofs.Common.{◌≡◌, ℕ, zero, suc, ◌+◌, ◌-◌, ◌<◌, ◌≤◌, max, Bool, true, false, not, cond, List, [], ◌∷◌, ◌++◌, length, get_or, map, set, Option, Some, None, Ok, Err, refl, sym, ap, ◌∙◌, subst, arith, eq-eqb, get_or-set_same, length-set, replicate, count_by}
 use Rattle.std.specs.Prelude.{◌==◌, IsSome}
 use Rattle.std.proofs.lemmas.List.{length-replicate, set-get_or}
 use Rattle.std.proofs.lemmas.List.FromFn.{length-map-range_with_len}
@@ -17,10 +17,13 @@ use Rattle.namespace_ops.specs.Entries.{JournalEntry, Reply as Answer}
 use Rattle.namespace_ops.specs.Registered.{Entered, IsJournaled, Registered, kept_of, opening_of, state_of}
 use Rattle.namespace_ops.specs.Replay.{Kept, is_memory, remade}
 use Rattle.namespace_ops.specs.Room.{room_of, with_room}
-use Rattle.namespace_areas.specs.Seen.{AreLeft as AreasLeft, areas_shown}
+use Rattle.namespace_areas.specs.Seen.{AreHeld, AreLeft as AreasLeft, areas_shown, words_of}
+use Rattle.namespace_areas.specs.Steps.{rows_of}
+use Rattle.namespace_areas.proofs.Steps.{held_words}
 use Rattle.session_account.specs.Claims.{AreOpen, has_open}
 use Rattle.session_account.specs.Journal.{AreLeft, IsJournal}
 use Rattle.session_account.specs.Registering.{AllOn, IsOn}
+use Rattle.session_account.specs.Words.{AreasHold}
 use Rattle.session_account.specs.Orders.{own_entries}
 use Rattle.session_account.specs.Parts.{open_with}
 use Rattle.session_account.proofs.Claims.{claim_opens, open_is_claimed, unclaim_closes}
@@ -128,8 +131,8 @@ module _ (old : Served) (r : Registered) (left : Option ℕ) (tag : Tag) (c : Co
   cut_caused plain h cut = by (old.registry.stopped) refl
     where
       by : (b : Bool) → old.registry.stopped ≡ b → IsSome old.first
-      by false on = cut_has_fuse r.sets (opening_of r) old.first (answered r.journal) r.areas (h.off (is.stopped on ∙ cut))
-      by true off = cut_has_fuse r.sets (opening_of r) old.first (answered r.journal) r.areas (h.off (ap (λ (s : State). s.stopped) (is.off off).1 ∙ off))
+      by false on = cut_has_fuse r.sets (opening_of r) (rows_of r.opening) old.first (answered r.journal) r.areas (h.off (is.stopped on ∙ cut))
+      by true off = cut_has_fuse r.sets (opening_of r) (rows_of r.opening) old.first (answered r.journal) r.areas (h.off (ap (λ (s : State). s.stopped) (is.off off).1 ∙ off))
 
 -- ---- a call, by the value that callers see
 
@@ -176,13 +179,13 @@ module _ (r : Registered) (fuse : Option ℕ) (calls : List ℕ) (on : r.stopped
   unfolding remade
   began_so = subst (λ (es : List JournalEntry). remade r.sets (opening_of r) es ≡ kept_of (state_of r)) empty (says.on on).changes
 
-  first_on : IsOn r.sets (opening_of r) fuse [] (kept_of (state_of r)) fuse
+  first_on : IsOn r.sets (opening_of r) (rows_of r.opening) fuse [] (kept_of (state_of r)) (rows_of r.areas) fuse
   unfolding AllOn
-  first_on = record { all = tt; kept = began_so; left_is = refl }
+  first_on = record { all = tt; kept = began_so; words_are = ap rows_of opened; left_is = refl }
 
   first_serving : IsServing (record { registry = r; left = fuse; first = fuse; opens = replicate (length calls) None })
   first_serving = record {
-    on = λ _. subst (λ (es : List JournalEntry). IsOn r.sets (opening_of r) fuse (answered es) (kept_of (state_of r)) fuse) (sym empty) first_on;
+    on = λ _. subst (λ (es : List JournalEntry). IsOn r.sets (opening_of r) (rows_of r.opening) fuse (answered es) (kept_of (state_of r)) (rows_of r.areas) fuse) (sym empty) first_on;
     off = λ stopped. let e : true ≡ false = sym stopped ∙ on in absurd (cc);
     claims = λ uuid. ap (λ (cs : List (List ℕ × ℕ)). count_of cs uuid) (sym (ap (λ (k : Kept). k.claims) began_so)) ∙ sym (none_open uuid (length calls));
     places =
@@ -204,15 +207,28 @@ pub served_journal : (s : Served) → IsServing s → IsJournal s.registry.sets 
 served_journal s h = by s.registry.stopped refl
   where
     by : (b : Bool) → s.registry.stopped ≡ b → IsJournal s.registry.sets (opening_of s.registry) s.first (answered s.registry.journal)
-    by false on = (on_is_journal s.registry.sets (opening_of s.registry) (kept_of (state_of s.registry)) s.first s.left (answered s.registry.journal) (h.on on)).0
+    by false on = (on_is_journal s.registry.sets (opening_of s.registry) (kept_of (state_of s.registry)) (rows_of s.registry.opening) (rows_of s.registry.areas) s.first s.left (answered s.registry.journal) (h.on on)).0
     by true off =
         let w = h.off off in
         subst (IsJournal s.registry.sets (opening_of s.registry) s.first) (sym w.split)
-        (off_is_journal s.registry.sets (opening_of s.registry) w.began s.first w.left w.before w.later w.entry s.registry.areas w.on w.off w.same).0
+        (off_is_journal s.registry.sets (opening_of s.registry) w.began (rows_of s.registry.opening) w.words s.first w.left w.before w.later w.entry s.registry.areas w.on w.off w.same).0
 
 pub served_left : (s : Served) → IsServing s → s.registry.stopped ≡ true → (rows : List (Option (List ℕ))) → AreasLeft s.registry.areas rows
     → AreLeft s.registry.sets (opening_of s.registry) s.first (answered s.registry.journal) (areas_shown rows)
 served_left s h off rows left =
     let w = h.off off in
     subst (λ (es : List JournalEntry). AreLeft s.registry.sets (opening_of s.registry) s.first es (areas_shown rows)) (sym w.split)
-    ((off_is_journal s.registry.sets (opening_of s.registry) w.began s.first w.left w.before w.later w.entry s.registry.areas w.on w.off w.same).1 rows left)
+    ((off_is_journal s.registry.sets (opening_of s.registry) w.began (rows_of s.registry.opening) w.words s.first w.left w.before w.later w.entry s.registry.areas w.on w.off w.same).1 rows left)
+
+-- whether power was cut or not
+pub served_words : (s : Served) → IsServing s → AreHeld s.registry.opening → AreasHold s.registry.sets (opening_of s.registry) (rows_of s.registry.opening) s.first (answered s.registry.journal) (map words_of s.registry.areas)
+served_words s h held = by s.registry.stopped refl
+  where
+    by : (b : Bool) → s.registry.stopped ≡ b → AreasHold s.registry.sets (opening_of s.registry) (rows_of s.registry.opening) s.first (answered s.registry.journal) (map words_of s.registry.areas)
+    by false on =
+        subst (AreasHold s.registry.sets (opening_of s.registry) (rows_of s.registry.opening) s.first (answered s.registry.journal)) (sym (held_words s.registry.areas (h.areas.held held on)))
+        (on_is_journal s.registry.sets (opening_of s.registry) (kept_of (state_of s.registry)) (rows_of s.registry.opening) (rows_of s.registry.areas) s.first s.left (answered s.registry.journal) (h.on on)).2
+    by true off =
+        let w = h.off off in
+        subst (λ (es : List JournalEntry). AreasHold s.registry.sets (opening_of s.registry) (rows_of s.registry.opening) s.first es (map words_of s.registry.areas)) (sym w.split)
+        (off_is_journal s.registry.sets (opening_of s.registry) w.began (rows_of s.registry.opening) w.words s.first w.left w.before w.later w.entry s.registry.areas w.on w.off w.same).2

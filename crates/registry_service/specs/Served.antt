@@ -4,6 +4,7 @@ use Rattle.std.specs.List.{AllByRecursion}
 use Rattle.nfit_reader.specs.declared.table.Mapping.{Mapping}
 use Rattle.namespace_areas.specs.declared.area.Area.{Area}
 use Rattle.namespace_areas.specs.Seen.{AreHeld}
+use Rattle.namespace_areas.specs.Steps.{Rows, rows_of}
 use Rattle.namespace_areas.specs.Went.{size_of, unready}
 use Rattle.namespace_ops.specs.Entries.{JournalEntry}
 use Rattle.namespace_ops.specs.Registered.{Registered, kept_of, opening_of, state_of}
@@ -30,16 +31,18 @@ pub record Served : Type 0 where
 abbrev pub answered : List JournalEntry → List JournalEntry
 answered journal = filter (λ e. not (is_memory e.reply)) journal
 
--- Power was cut in the command of an entry. It lasted for all entries before, and all later ones reply that it was cut.
-pub record WasCut (sets : List (List Mapping)) (from : Kept) (first : Option ℕ) (journal : List JournalEntry) (areas : List Area) : Type 0 where
+-- Power was cut in the command of an entry. It lasted for all entries before, and all later ones reply that it was cut. `rows` are the
+-- words of the label areas from which the journal replays.
+pub record WasCut (sets : List (List Mapping)) (from : Kept) (rows : Rows) (first : Option ℕ) (journal : List JournalEntry) (areas : List Area) : Type 0 where
   pub before : List JournalEntry
   pub entry : JournalEntry
   pub later : List JournalEntry
   pub began : Kept
+  pub words : Rows
   pub left : Option ℕ
   pub split : journal ≡ before ++ entry ∷ later
-  pub on : IsOn sets from first before began left
-  pub off : WentOff sets began left entry areas
+  pub on : IsOn sets from rows first before began words left
+  pub off : WentOff sets began words left entry areas
   pub same : AllByRecursion IsOff later
 
 -- What commands leave of the label areas that a registry began with: one that isn't ready is as it was, each has its size, and unless
@@ -51,10 +54,10 @@ pub record AreKept (opening areas : List Area) (stopped : Bool) : Type 0 where
 
 -- what the lock keeps
 pub record IsServing (s : Served) : Type 0 where
-  -- until power is cut, the answered calls replay on the opening, and the fuse is what their steps left of it
-  pub on : s.registry.stopped ≡ false → IsOn s.registry.sets (opening_of s.registry) s.first (answered s.registry.journal) (kept_of (state_of s.registry)) s.left
+  -- until power is cut, the answered calls replay on the opening and on its words, and the fuse is what their steps left of it
+  pub on : s.registry.stopped ≡ false → IsOn s.registry.sets (opening_of s.registry) (rows_of s.registry.opening) s.first (answered s.registry.journal) (kept_of (state_of s.registry)) (rows_of s.registry.areas) s.left
   -- from then on, the areas are what the cut left
-  pub off : s.registry.stopped ≡ true → WasCut s.registry.sets (opening_of s.registry) s.first (answered s.registry.journal) s.registry.areas
+  pub off : s.registry.stopped ≡ true → WasCut s.registry.sets (opening_of s.registry) (rows_of s.registry.opening) s.first (answered s.registry.journal) s.registry.areas
   -- each UUID is claimed as often as sessions have it open
   pub claims : AreOpen s.registry.claims s.opens
   -- each session with room has a place among them

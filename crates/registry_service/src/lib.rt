@@ -23,7 +23,7 @@
 //! | [`order`] | a reply has its entry and an entry its reply; it is refused exactly by its checks | `IsOrdered` of `specs/Parts.antt` |
 //! | the same | a cut order stands or doesn't; power is off, and if it stands, its session switched it off | `IsCutShort` of `specs/Switch.antt` |
 //! | [`give_back`] | at a session's end its claim is given back | `GivesBack` of `specs/Parts.antt` |
-//! | [`close_registry`] | all orders are one journal from what the registry began with, cut by its fuse alone; its areas are what that leaves | `IsJournal`, `AreLeft` of `session_account` |
+//! | [`close_registry`] | all orders are one journal from what the registry began with, cut by its fuse alone; its areas are what that leaves, and hold the words that were stored and flushed | `IsJournal`, `AreLeft`, `AreasHold` of `session_account` |
 //!
 //! The laws [`orders_answer`], [`orders_stop`], [`cuts_have_cause`] and [`open_goes_on`] make these
 //! promises steps of a session's account.

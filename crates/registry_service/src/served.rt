@@ -123,13 +123,15 @@ fn none_open(alloc: Global, sessions: usize) -> Result<Vec<Option<Uuid>>, AllocE
 }
 
 impl ServedRegistry {
-    ghost use Rattle.std.specs.Prelude.{◌⊎◌, [], Ok, OnErr, IsSome, length};
+    ghost use Rattle.std.specs.Prelude.{◌⊎◌, [], Ok, OnErr, IsSome, length, map};
     ghost use Rattle.turn_lock.specs.Turns.{KeepsOthers};
-    ghost use Rattle.namespace_areas.specs.Seen.{AreLeft as AreasLeft, areas_shown};
+    ghost use Rattle.namespace_areas.specs.Seen.{AreHeld, AreLeft as AreasLeft, areas_shown, words_of};
+    ghost use Rattle.namespace_areas.specs.Steps.{rows_of};
     ghost use Rattle.namespace_ops.specs.Carried.{is_cut};
     ghost use Rattle.namespace_ops.specs.Registered.{kept_of, opening_of};
     ghost use Rattle.session_account.specs.Journal.{AreLeft, IsJournal};
     ghost use Rattle.session_account.specs.Registering.{IsOn};
+    ghost use Rattle.session_account.specs.Words.{AreasHold};
     ghost use Rattle.registry_service.specs.Asking.{HasText, Suits};
     ghost use Rattle.registry_service.specs.Parts.{GivesBack, HasRoom, IsOrdered, carried, forgotten};
     ghost use Rattle.registry_service.specs.Served.{AreKept, answered, fresh, part_at};
@@ -224,7 +226,8 @@ impl ServedRegistry {
         ensures areas { AreKept self.registry.opening self.registry.areas self.registry.stopped }
         ensures journal { IsJournal self.registry.sets (opening_of self.registry) self.first (answered self.registry.journal) }
         ensures left { self.registry.stopped ≡ true → (rows : List (Option (List ℕ))) → AreasLeft self.registry.areas rows → AreLeft self.registry.sets (opening_of self.registry) self.first (answered self.registry.journal) (areas_shown rows) }
-        ensures on { self.registry.stopped ≡ false → IsOn self.registry.sets (opening_of self.registry) self.first (answered self.registry.journal) (kept_of (state_of self.registry)) self.left }
+        ensures words { AreHeld self.registry.opening → AreasHold self.registry.sets (opening_of self.registry) (rows_of self.registry.opening) self.first (answered self.registry.journal) (map words_of self.registry.areas) }
+        ensures on { self.registry.stopped ≡ false → IsOn self.registry.sets (opening_of self.registry) (rows_of self.registry.opening) self.first (answered self.registry.journal) (kept_of (state_of self.registry)) (rows_of self.registry.areas) self.left }
     {
         let ServedRegistry {
             alloc: _,

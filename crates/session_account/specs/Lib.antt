@@ -5,6 +5,7 @@ pub mod Orders
 pub mod Sectors
 pub mod Account
 pub mod Journal
+pub mod Words
 pub mod Recovered
 pub mod Registering
 pub mod Parts

@@ -75,12 +75,13 @@ pub fn on_grows()
     ensures { OnGrows }
 {}
 
-/// What a lock keeps of the registry while power is on is a journal, and gives the label areas.
+/// What a lock keeps of the registry while power is on is a journal, and gives the label areas and their words.
 pub fn on_is_journal()
     ensures { OnIsJournal }
 {}
 
-/// With the entry in which power was cut, and later ones that all say so, it is one too.
+/// With the entry in which power was cut, and later ones that all say so, it is one too. Then the label areas hold the words that were
+/// stored and flushed until the cut.
 pub fn off_is_journal()
     ensures { OffIsJournal }
 {}

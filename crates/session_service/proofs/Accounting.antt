@@ -23,7 +23,8 @@ use Rattle.lane_core.specs.Reopening.{first_cells}
 use Rattle.lane_core.specs.Sessions.{CoreSurvives, answered_in, calls_in}
 use Rattle.lane_core.proofs.Flying.{survivors_are_calls}
 use Rattle.namespace_areas.specs.declared.area.Area.{Area}
-use Rattle.namespace_areas.specs.Seen.{AreLeft as AreasLeft, areas_seen, areas_shown}
+use Rattle.namespace_areas.specs.Seen.{AreHeld, AreLeft as AreasLeft, areas_seen, areas_shown, words_of}
+use Rattle.namespace_areas.specs.Steps.{rows_of}
 use Rattle.namespace_ops.specs.Entries.{JournalEntry}
 use Rattle.namespace_ops.specs.Registered.{Registered, opening_of}
 use Rattle.session_parts.specs.declared.parts.CorePart.{CorePart}
@@ -39,6 +40,7 @@ use Rattle.session_account.specs.Sectors.{InHistory}
 use Rattle.session_account.specs.Parts as parts
 use Rattle.session_account.specs.Parts.{AreClosed, Calls, IsOfCut, PowerPart, RegistryPart, registry_part, ToldOfOne}
 use Rattle.session_account.specs.Serving.{Serving, Shape, IsArena, no_serving}
+use Rattle.session_account.specs.Words.{AreasHold}
 use Rattle.session_account.proofs.Following.{accounts_follow, either}
 use Rattle.session_account.proofs.Surviving.{survival_follows}
 use Rattle.registry_service.specs.Parts.{KnowsOwn}
@@ -364,13 +366,15 @@ module _ (registry : Registered) (served_all : List ServedNamespace) (script : S
       (subst (λ (a : ArenaState). IsRunCore a (histories place k) (flights_on all place k script all_replies histories) x.0) arena (run_core place k is)))
 
   pub has_served : (ran.registry.sets ≡ registry.sets) × AreKept registry.opening ran.registry.areas ran.registry.stopped → IsJournal registry.sets (opening_of registry) script.labelcut journal → (ran.registry.stopped ≡ false → AreLeft registry.sets (opening_of registry) script.labelcut journal (areas_seen ran.registry.areas))
-      → (ran.registry.stopped ≡ true → (rows : List (Option (List ℕ))) → AreasLeft ran.registry.areas rows → AreLeft registry.sets (opening_of registry) script.labelcut journal (areas_shown rows)) → HasServed registry served_all script ran
-  has_served kept commands on off = record {
+      → (ran.registry.stopped ≡ true → (rows : List (Option (List ℕ))) → AreasLeft ran.registry.areas rows → AreLeft registry.sets (opening_of registry) script.labelcut journal (areas_shown rows))
+      → (AreHeld registry.opening → AreasHold registry.sets (opening_of registry) (rows_of registry.opening) script.labelcut journal (map words_of ran.registry.areas)) → HasServed registry served_all script ran
+  has_served kept commands on off words = record {
     sets = kept.0;
     areas = subst (λ (o : List Area). AreKept o ran.registry.areas ran.registry.stopped) made.areas kept.1;
     commands = commands;
     on = on;
     off = off;
+    words = words;
     accounts = subst (λ (a : List Serving). Accounts a script all_replies journal histories) made.all its_accounts;
     places = let c = same_count all ran.cores.items counts in let e = ap (λ (a : List Serving). length a) made.all in let l = length-map served_all serving_of in omega (arith, c, e, l);
     counts = λ place d h. counts_at all ran.cores.items place counts ∙ ap (λ (a : List Serving). length (get_or a place no_serving).arenas) made.all ∙ served_count served_all place d h;

@@ -1,7 +1,8 @@
 -- What sessions came to.
 use Rattle.std.specs.Prelude.{◌≡◌, ℕ, ◌<◌, true, false, List, [], ◌∷◌, ◌++◌, length, map, Option, Some, None, Vec, slice_get, slice_index_or}
 use Rattle.turn_lock.specs.Rows.{items_at}
-use Rattle.namespace_areas.specs.Seen.{AreLeft as AreasLeft, areas_seen, areas_shown}
+use Rattle.namespace_areas.specs.Seen.{AreHeld, AreLeft as AreasLeft, areas_seen, areas_shown, words_of}
+use Rattle.namespace_areas.specs.Steps.{rows_of}
 use Rattle.namespace_ops.specs.Entries.{JournalEntry}
 use Rattle.namespace_ops.specs.Registered.{Registered, opening_of}
 use Rattle.arena_open.specs.declared.state.ArenaState.{ArenaState}
@@ -16,6 +17,7 @@ use Rattle.session_account.specs.declared.reply.Reply.{Reply}
 use Rattle.session_account.specs.Account.{Accounts, Histories, flights_on}
 use Rattle.session_account.specs.Journal.{AreLeft, IsJournal}
 use Rattle.session_account.specs.Survival.{Flight, Survives}
+use Rattle.session_account.specs.Words.{AreasHold}
 use Rattle.registry_service.specs.Served.{AreKept, answered}
 use Rattle.session_service.specs.declared.ending.Ran.{Ran}
 use Rattle.session_service.specs.declared.namespaces.ServedNamespace.{ServedNamespace}
@@ -59,6 +61,9 @@ pub record HasServed (registry : Registered) (served : List ServedNamespace) (sc
   pub on : ran.registry.stopped ≡ false → AreLeft registry.sets (opening_of registry) script.labelcut (journal_of ran) (areas_seen ran.registry.areas)
   -- if not, they are what a crash leaves of the command in which it was cut
   pub off : ran.registry.stopped ≡ true → (rows : List (Option (List ℕ))) → AreasLeft ran.registry.areas rows → AreLeft registry.sets (opening_of registry) script.labelcut (journal_of ran) (areas_shown rows)
+  -- either way their words are those that the commands stored and flushed, as long as power lasted, if no area stood in the middle of a
+  -- change at first
+  pub words : AreHeld registry.opening → AreasHold registry.sets (opening_of registry) (rows_of registry.opening) script.labelcut (journal_of ran) (map words_of ran.registry.areas)
   -- each session's replies are those of what stands of it
   pub accounts : Accounts (servings_of served) script (replies_of ran.replies.items) (journal_of ran) (histories_of ran.cores.items)
   pub places : length ran.cores.items ≡ length served

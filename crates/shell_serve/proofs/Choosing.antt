@@ -51,11 +51,12 @@ module _ {C : Type 0} (picks : C → ℕ → Bool → C → Type 0) where
 
 pub all_chosen : (leaves first behind : List (Option Words) → List (Option (List ℕ)) → Type 0)
     → ((words pending : List (Option Words)) (left labels : List (Option (List ℕ))) → first words left → behind pending labels → leaves (words ++ pending) (left ++ labels))
-    → (IsDue : List (Option Area) → Type 0) (sets : List (List Mapping)) (opened : List OpenedNamespace) (histories : Histories) (flights : ℕ → ℕ → List Flight) (now : List Words) (pending : List (Option Words))
-    (labels : List (Option (List ℕ))) → ArenasChosen first sets opened histories flights now → behind pending labels → ((rows : List (Option (List ℕ))) → Each IsLeftOf pending rows → IsDue (areas_shown rows))
-    → IsChosen leaves IsDue sets opened histories flights now labels
-all_chosen leaves first behind join IsDue sets opened histories flights now pending labels arenas own due = record {
+    → (Hold : List (Option Words) → Type 0) (IsDue : List (Option Area) → Type 0) (sets : List (List Mapping)) (opened : List OpenedNamespace) (histories : Histories) (flights : ℕ → ℕ → List Flight) (now : List Words) (pending : List (Option Words))
+    (labels : List (Option (List ℕ))) → ArenasChosen first sets opened histories flights now → behind pending labels → Hold pending → ((rows : List (Option (List ℕ))) → Each IsLeftOf pending rows → IsDue (areas_shown rows))
+    → IsChosen leaves Hold IsDue sets opened histories flights now labels
+all_chosen leaves first behind join Hold IsDue sets opened histories flights now pending labels arenas own hold due = record {
   pending = pending;
+  hold = hold;
   due = due;
   arenas = record {
     cores = arenas.cores;

@@ -10,6 +10,7 @@ use Rattle.image_set.specs.Load.{ImageSet}
 use Rattle.namespace_areas.specs.declared.found.Found.{Found}
 use Rattle.namespace_areas.specs.Seen.{areas_seen, areas_shown, words_of as area_words}
 use Rattle.namespace_areas.specs.Finding.{found_of}
+use Rattle.namespace_areas.specs.Steps.{Rows, rows_of as label_rows}
 use Rattle.namespace_laws.specs.Apart.{EntriesApart}
 use Rattle.namespace_map.specs.Areas.{Area}
 use Rattle.namespace_map.specs.Changes.{namespaces_of}
@@ -26,6 +27,7 @@ use Rattle.served_namespaces.specs.Places.{KeepsBeside, words_at}
 use Rattle.session_account.specs.declared.reply.Reply.{Reply}
 use Rattle.session_account.specs.Account.{flights_on}
 use Rattle.session_account.specs.Journal.{AreLeft}
+use Rattle.session_account.specs.Words.{AreasHold}
 use Rattle.session_script.specs.declared.script.Script.{Script}
 use Rattle.session_service.specs.Ran.{replies_of}
 use Rattle.session_account.proofs.Recovering.{journals_recover}
@@ -42,7 +44,7 @@ use Rattle.shell_serve.specs.declared.serving.Served.{Served}
 use Rattle.shell_serve.specs.Answering.{IsServed, SavesLeft}
 use Rattle.shell_serve.specs.Chosen.{ArenasChosen}
 use Rattle.shell_serve.specs.Load.{LoadComes, LoadsOn, LoadsOnSets, LoadsRecovered, LoadsOnArenas, LoadsOnFound}
-use Rattle.shell_serve.specs.Recovered.{IsRecoveredIn}
+use Rattle.shell_serve.specs.Recovered.{IsRecoveredIn, recovered_words}
 use Rattle.shell_serve.specs.Serve.{OnOpened, OnRecovered, ServesOnSets, ServeComes, served_in}
 use Rattle.shell_serve.specs.Serving.{ArenasSurvive, Serves, servings_of, unclaimed}
 use Rattle.shell_serve.specs.Texts.{serve_text}
@@ -59,9 +61,9 @@ ok_then P Q (Err e) then p = tt
 module _ (leaves first behind : List (Option Words) → List (Option (List ℕ)) → Type 0)
     (join : (words pending : List (Option Words)) (own labels : List (Option (List ℕ))) → first words own → behind pending labels → leaves (words ++ pending) (own ++ labels))
     (text : List (List Reply) → List ℕ) (loaded : ImageSet) (rest : Unchanged) (r : IsRecoveredIn loaded rest) (namespaces : List OpenedNamespace) (script : Script) (served : Served)
-    (i : IsServed first loaded rest.registry.sets (areas_seen rest.registry.areas) namespaces script served) where
+    (i : IsServed first loaded rest.registry.sets (areas_seen rest.registry.areas) (label_rows rest.registry.areas) namespaces script served) where
   pub serves : (report : Report) (outcome : Outcome) → report.ending ≡ ending.Done → report.text.items ≡ text (replies_of served.replies.items) → SavesLeft behind report served.rest served.modules.items outcome
-      → Serves leaves text rest.registry.sets loaded (areas_seen rest.registry.areas) namespaces script outcome
+      → Serves leaves text rest.registry.sets loaded (areas_seen rest.registry.areas) (label_rows rest.registry.areas) namespaces script outcome
   serves report outcome ends says s =
       let same : map settled s.rows ≡ served.modules.items = rows_settled served.modules.items s.rows i.settled s.words in
       record {
@@ -82,10 +84,10 @@ module _ (leaves first behind : List (Option Words) → List (Option (List ℕ))
             (λ k. flights_on (servings_of namespaces) place k script (replies_of served.replies.items) i.histories)) (sym same) (i.survive place d lt);
         beside = subst (λ (ws : List Words). KeepsBeside rest.registry.sets namespaces (rows_of loaded.contents) ws) (sym same) i.beside;
         chosen =
-            all_chosen leaves first behind join (AreLeft rest.registry.sets (unclaimed (areas_seen rest.registry.areas)) script.labelcut i.journal) rest.registry.sets namespaces i.histories
+            all_chosen leaves first behind join (AreasHold rest.registry.sets (unclaimed (areas_seen rest.registry.areas)) (label_rows rest.registry.areas) script.labelcut i.journal) (AreLeft rest.registry.sets (unclaimed (areas_seen rest.registry.areas)) script.labelcut i.journal) rest.registry.sets namespaces i.histories
             (λ place k. flights_on (servings_of namespaces) place k script (replies_of served.replies.items) i.histories) (map settled s.rows) (map area_words served.rest.registry.areas) s.labels
             (subst (λ (ws : List Words). ArenasChosen first rest.registry.sets namespaces i.histories (λ place k. flights_on (servings_of namespaces) place k script (replies_of served.replies.items) i.histories) ws) (sym same) i.chosen)
-            s.chosen i.labels;
+            s.chosen i.hold i.labels;
         saved =
             saves_parts loaded served.rest.registry.areas i.keeps s.labels s.rows report.ending report.text.items (text (replies_of served.replies.items)) outcome s.areas ends says
             (s.saves loaded i.nfit i.bad);
@@ -109,14 +111,15 @@ module _ (leaves : List (Option Words) → List (Option (List ℕ)) → Type 0) 
   pub serve_faulty : (fault : OpenFault) → sets_in loaded ≡ Err fault → outcome ≡ open_outcome fault → ServeComes leaves script loaded outcome
   serve_faulty fault is said = subst (λ (r : Result (List (List Mapping)) OpenFault). ServesOnSets leaves loaded script r outcome) (sym is) said
 
-  pub serve_recovered : (rest : Unchanged) → IsRecoveredIn loaded rest → OnRecovered leaves rest.registry.sets loaded (areas_seen rest.registry.areas) script outcome → ServeComes leaves script loaded outcome
+  pub serve_recovered : (rest : Unchanged) → IsRecoveredIn loaded rest → OnRecovered leaves rest.registry.sets loaded (areas_seen rest.registry.areas) (label_rows rest.registry.areas) script outcome → ServeComes leaves script loaded outcome
   serve_recovered rest r on =
       subst (λ (s : Result (List (List Mapping)) OpenFault). ServesOnSets leaves loaded script s outcome) (sym r.sets)
-      (subst (λ (xs : List (Option Area)). OnRecovered leaves rest.registry.sets loaded xs script outcome) r.areas on)
+      (subst (λ (xs : List (Option Area)). OnRecovered leaves rest.registry.sets loaded xs (recovered_words rest.registry.sets loaded) script outcome) r.areas
+      (subst (λ (ws : Rows). OnRecovered leaves rest.registry.sets loaded (areas_seen rest.registry.areas) ws script outcome) r.words on))
 
-  pub serve_on : (sets : List (List Mapping)) (areas : List (Option Area)) (r : Result (List OpenedNamespace) Broken) → served_in sets areas loaded script ≡ r
-      → OnOpened (λ opened. Serves leaves serve_text sets loaded areas opened script) r outcome → OnRecovered leaves sets loaded areas script outcome
-  serve_on sets areas r is on = subst (λ (x : Result (List OpenedNamespace) Broken). OnOpened (λ opened. Serves leaves serve_text sets loaded areas opened script) x outcome) (sym is) on
+  pub serve_on : (sets : List (List Mapping)) (areas : List (Option Area)) (words : Rows) (r : Result (List OpenedNamespace) Broken) → served_in sets areas loaded script ≡ r
+      → OnOpened (λ opened. Serves leaves serve_text sets loaded areas words opened script) r outcome → OnRecovered leaves sets loaded areas words script outcome
+  serve_on sets areas words r is on = subst (λ (x : Result (List OpenedNamespace) Broken). OnOpened (λ opened. Serves leaves serve_text sets loaded areas words opened script) x outcome) (sym is) on
 
 -- ---- `load`
 
@@ -143,21 +146,22 @@ module _ (leaves : List (Option Words) → List (Option (List ℕ)) → Type 0) 
   pub load_faulty : (fault : OpenFault) → sets_in loaded ≡ Err fault → outcome ≡ open_outcome fault → LoadComes leaves l loaded outcome
   load_faulty fault is said = subst (λ (r : Result (List (List Mapping)) OpenFault). LoadsOnSets leaves l loaded r outcome) (sym is) said
 
-  pub load_recovered : (rest : Unchanged) → IsRecoveredIn loaded rest → LoadsRecovered leaves l rest.registry.sets loaded (areas_seen rest.registry.areas) outcome → LoadComes leaves l loaded outcome
+  pub load_recovered : (rest : Unchanged) → IsRecoveredIn loaded rest → LoadsRecovered leaves l rest.registry.sets loaded (areas_seen rest.registry.areas) (label_rows rest.registry.areas) outcome → LoadComes leaves l loaded outcome
   load_recovered rest r on =
       subst (λ (s : Result (List (List Mapping)) OpenFault). LoadsOnSets leaves l loaded s outcome) (sym r.sets)
-      (subst (λ (xs : List (Option Area)). LoadsRecovered leaves l rest.registry.sets loaded xs outcome) r.areas on)
+      (subst (λ (xs : List (Option Area)). LoadsRecovered leaves l rest.registry.sets loaded xs (recovered_words rest.registry.sets loaded) outcome) r.areas
+      (subst (λ (ws : Rows). LoadsRecovered leaves l rest.registry.sets loaded (areas_seen rest.registry.areas) ws outcome) r.words on))
 
-  module _ (sets : List (List Mapping)) (areas : List (Option Area)) where
-    pub load_found : (r : Result Found OpRefused) → r ≡ found_of sets (lookup l.uuid (namespaces_of sets areas).entries) → LoadsOnFound leaves l sets loaded areas r outcome → LoadsRecovered leaves l sets loaded areas outcome
-    load_found r is on = subst (λ (x : Result Found OpRefused). LoadsOnFound leaves l sets loaded areas x outcome) is on
+  module _ (sets : List (List Mapping)) (areas : List (Option Area)) (words : Rows) where
+    pub load_found : (r : Result Found OpRefused) → r ≡ found_of sets (lookup l.uuid (namespaces_of sets areas).entries) → LoadsOnFound leaves l sets loaded areas words r outcome → LoadsRecovered leaves l sets loaded areas words outcome
+    load_found r is on = subst (λ (x : Result Found OpRefused). LoadsOnFound leaves l sets loaded areas words x outcome) is on
 
-    pub load_arenas : (found : Found) (r : Result (List ArenaState) ChainRefused) → opened_view (words_at sets found (rows_of loaded.contents)) l.uuid ≡ r → LoadsOnArenas leaves l sets loaded areas found r outcome
-        → LoadsOnFound leaves l sets loaded areas (Ok found) outcome
-    load_arenas found r is on = subst (λ (x : Result (List ArenaState) ChainRefused). LoadsOnArenas leaves l sets loaded areas found x outcome) (sym is) on
+    pub load_arenas : (found : Found) (r : Result (List ArenaState) ChainRefused) → opened_view (words_at sets found (rows_of loaded.contents)) l.uuid ≡ r → LoadsOnArenas leaves l sets loaded areas words found r outcome
+        → LoadsOnFound leaves l sets loaded areas words (Ok found) outcome
+    load_arenas found r is on = subst (λ (x : Result (List ArenaState) ChainRefused). LoadsOnArenas leaves l sets loaded areas words found x outcome) (sym is) on
 
-    pub load_few : (found : Found) (states : List ArenaState) → nat_lt (sectors_of states) l.sessions ≡ true → outcome ≡ refused_outcome (range_text (sectors_of states)) → LoadsOnArenas leaves l sets loaded areas found (Ok states) outcome
-    load_few found states few said = subst (λ (b : Bool). MatchBool b (outcome ≡ refused_outcome (range_text (sectors_of states))) (LoadsOn leaves l sets loaded areas found states outcome)) (sym few) said
+    pub load_few : (found : Found) (states : List ArenaState) → nat_lt (sectors_of states) l.sessions ≡ true → outcome ≡ refused_outcome (range_text (sectors_of states)) → LoadsOnArenas leaves l sets loaded areas words found (Ok states) outcome
+    load_few found states few said = subst (λ (b : Bool). MatchBool b (outcome ≡ refused_outcome (range_text (sectors_of states))) (LoadsOn leaves l sets loaded areas words found states outcome)) (sym few) said
 
-    pub load_on : (found : Found) (states : List ArenaState) → nat_lt (sectors_of states) l.sessions ≡ false → LoadsOn leaves l sets loaded areas found states outcome → LoadsOnArenas leaves l sets loaded areas found (Ok states) outcome
-    load_on found states enough on = subst (λ (b : Bool). MatchBool b (outcome ≡ refused_outcome (range_text (sectors_of states))) (LoadsOn leaves l sets loaded areas found states outcome)) (sym enough) on
+    pub load_on : (found : Found) (states : List ArenaState) → nat_lt (sectors_of states) l.sessions ≡ false → LoadsOn leaves l sets loaded areas words found states outcome → LoadsOnArenas leaves l sets loaded areas words found (Ok states) outcome
+    load_on found states enough on = subst (λ (b : Bool). MatchBool b (outcome ≡ refused_outcome (range_text (sectors_of states))) (LoadsOn leaves l sets loaded areas words found states outcome)) (sym enough) on

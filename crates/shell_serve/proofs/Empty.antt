@@ -13,6 +13,7 @@ use Rattle.power_cut.specs.Left.{Each, IsLeftOf}
 use Rattle.sector_namespaces.specs.View.{rows_of}
 use Rattle.served_namespaces.specs.Places.{KeepsBeside}
 use Rattle.session_account.specs.Journal.{AreLeft, IsJournal}
+use Rattle.session_account.specs.Words.{AreasHold}
 use Rattle.shell_changes.specs.Areas.{areas_in, with_labels}
 use Rattle.shell_changes.proofs.Areas.{rows_shown}
 use Rattle.shell_reports.specs.declared.status.Ending.TheVariants as ending
@@ -39,7 +40,7 @@ all_kept (Some values ∷ labels) rows (first, rest, is, (row, has, left), more)
     ∙ ap (λ (ls : List (Option (List ℕ))). Some values ∷ ls) (all_kept labels rest more)
 
 pub empty_serves : {C : Type 0} (begins : C → ℕ → C → Type 0) (picks : C → ℕ → Bool → C → Type 0) (choose : C) → EmptyServes begins picks choose
-unfolding IsJournal AreLeft
+unfolding IsJournal AreLeft AreasHold
 empty_serves begins picks choose seed begun begin text sets loaded labels areas kept shown apart =
     let same : areas_shown labels ≡ areas = sym (rows_shown labels) ∙ ap areas_in (sym kept) ∙ shown in (
       record { ending = ending.Done; text = text []; saved = Some (set_of loaded) },
@@ -66,6 +67,7 @@ empty_serves begins picks choose seed begun begin text sets loaded labels areas 
         beside = subst (λ (ws : List Words). KeepsBeside sets [] (rows_of loaded.contents) ws) (sym (rows_back loaded.contents)) (record { sizes = refl; same = λ which k outside. refl });
         chosen = record {
           pending = map (option_map settled) labels;
+          hold = refl;
           due = λ rows left. ap areas_shown (all_kept labels rows left) ∙ same;
           arenas = record {
             cores = [];

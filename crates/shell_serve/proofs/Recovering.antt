@@ -9,11 +9,12 @@ use Rattle.image_set.specs.Sound.{IsSound}
 use Rattle.namespace_areas.specs.declared.area.Area.{Area}
 use Rattle.namespace_areas.specs.Opening.{opened_as}
 use Rattle.namespace_areas.specs.Seen.{areas_seen, words_of}
+use Rattle.namespace_areas.specs.Steps.{Rows, all_rows, rows_of as label_rows}
 use Rattle.namespace_areas.specs.Went.{size_of, unready}
 use Rattle.namespace_laws.specs.Apart.{EntriesApart}
 use Rattle.namespace_laws.proofs.RecoveryLaw.{recovery_agrees}
 use Rattle.namespace_map.specs.Areas.{Area as SeenArea}
-use Rattle.namespace_map.specs.Changes.{namespaces_of, recovered_areas}
+use Rattle.namespace_map.specs.Changes.{namespaces_of, recovered_areas, recovery_changes}
 use Rattle.namespace_map.specs.declared.commands.Command.TheVariants.{Delete}
 use Rattle.namespace_map.specs.Left.{LabelsAreRead, AreRegions}
 use Rattle.namespace_ops.specs.declared.registry.OpenFault.{OpenFault}
@@ -21,14 +22,15 @@ use Rattle.namespace_ops.specs.Opening.{registry_opening, sets_of}
 use Rattle.namespace_ops.specs.Registered.{Registered, opened_on}
 use Rattle.namespace_ops.proofs.Regions.{was_opened}
 use Rattle.sector_namespaces.specs.View.{AreUsable}
-use Rattle.shell_changes.specs.Areas.{areas_in}
+use Rattle.shell_changes.specs.Areas.{areas_in, rows_in}
 use Rattle.shell_changes.specs.Maps.{HasTable}
 use Rattle.shell_changes.specs.Namespaces.{sets_in}
 use Rattle.shell_changes.specs.Reading.{IsFresh}
+use Rattle.shell_changes.proofs.Areas.{rows_are, rows_opened}
 use Rattle.shell_changes.proofs.Goes.{are_whole, labels_are, sets_err, sets_ok}
 use Rattle.shell_changes.proofs.Maps.{areas_read, keep_apart, recovered_read, regions_of}
 use Rattle.shell_sectors.proofs.Loaded.{open_on}
-use Rattle.shell_serve.specs.Recovered.{IsRecovered, IsRecovery}
+use Rattle.shell_serve.specs.Recovered.{IsRecovered, IsRecovery, recovered_words}
 
 -- labels are the kept words' bytes
 loaded_labels : (loaded : Loaded) → (image_set_in loaded).labels ≡ map (option_map bytes_kept) loaded.labels
@@ -86,6 +88,9 @@ module _ (loaded : Loaded) (sound : IsSound loaded) (areas : List Area) (are : a
   old_seen : areas_seen old.areas ≡ areas_in (image_set_in loaded).labels
   old_seen = ap areas_seen old_areas ∙ labels_are (image_set_in loaded) loaded.labels loaded.nfit (loaded_labels loaded) (loaded_nfit loaded)
 
+  old_words : label_rows old.areas ≡ rows_in (image_set_in loaded)
+  old_words = ap label_rows old_areas ∙ rows_opened loaded.labels ∙ sym (rows_are (image_set_in loaded) loaded.labels (loaded_labels loaded) sound.areas)
+
   regions : AreRegions old.sets
   regions = regions_of (image_set_in loaded) old.sets (has_table loaded sound) old_sets
 
@@ -95,6 +100,11 @@ module _ (loaded : Loaded) (sound : IsSound loaded) (areas : List Area) (are : a
   module _ (now : Registered) (r : IsRecovery old now) where
     now_seen : areas_seen now.areas ≡ recovered_areas old.sets (areas_in (image_set_in loaded).labels)
     now_seen = r.went.done refl ∙ ap (recovered_areas old.sets) old_seen
+
+    now_words : label_rows now.areas ≡ recovered_words old.sets (image_set_in loaded)
+    now_words =
+        r.went.rows refl ∙ ap (λ (rows : Rows). all_rows rows (recovery_changes old.sets (areas_seen old.areas))) old_words
+        ∙ ap (λ (xs : List (Option SeenArea)). all_rows (rows_in (image_set_in loaded)) (recovery_changes old.sets xs)) old_seen
 
     now_apart : EntriesApart (namespaces_of old.sets (recovered_areas old.sets (areas_in (image_set_in loaded).labels)))
     now_apart =
@@ -114,6 +124,7 @@ module _ (loaded : Loaded) (sound : IsSound loaded) (areas : List Area) (are : a
           rest = record {
             sets = old_sets ∙ ap (λ (s : List (List Mapping)). Ok s) (sym same);
             areas = now_seen ∙ ap (λ (s : List (List Mapping)). recovered_areas s (areas_in (image_set_in loaded).labels)) (sym same);
+            words = now_words ∙ ap (λ (s : List (List Mapping)). recovered_words s (image_set_in loaded)) (sym same);
             regions = subst AreRegions (sym same) regions;
             read = subst LabelsAreRead (sym now_seen) (recovered_read old.sets (areas_in (image_set_in loaded).labels) regions read);
             apart = subst (λ (s : List (List Mapping)). EntriesApart (namespaces_of s (areas_seen now.areas))) (sym same)

@@ -21,6 +21,7 @@ use Rattle.image_set.specs.Load.{ImageSet}
 use Rattle.image_set.proofs.Kept.{each_length}
 use Rattle.namespace_areas.specs.declared.area.Area.{Area}
 use Rattle.namespace_areas.specs.Seen.{AreHeld, AreLeft as AreasLeft, areas_seen, areas_shown, words_of as area_words}
+use Rattle.namespace_areas.specs.Steps.{rows_of as label_rows}
 use Rattle.namespace_areas.specs.Went.{size_of}
 use Rattle.namespace_areas.proofs.Seen.{left_shown}
 use Rattle.namespace_map.specs.Areas.{Area as SeenArea}
@@ -37,6 +38,7 @@ use Rattle.session_account.specs.Account.{Accounts, flights_on}
 use Rattle.session_account.specs.Journal.{AreLeft, IsJournal}
 use Rattle.session_account.specs.Serving.{Serving}
 use Rattle.session_account.specs.Survival.{Survives}
+use Rattle.session_account.specs.Words.{AreasHold}
 use Rattle.session_script.specs.declared.script.Script.{Script}
 use Rattle.session_service.specs.declared.ending.Ran.{Ran}
 use Rattle.session_service.specs.declared.namespaces.ServedNamespace.{ServedNamespace}
@@ -271,6 +273,13 @@ module _ (namespaces : List OpenedNamespace) (served : List ServedNamespace) (sa
       by true off = has.off off rows left
       by false on = subst (λ (xs : List (Option SeenArea)). AreLeft registry.sets (unclaimed (areas_seen registry.opening)) script.labelcut (journal_of ran) xs) (sym (left_shown ran.registry.areas rows (has.areas.held held on) left)) (has.on on)
 
+  -- the words that they hold
+  pub labels_hold : registry.opening ≡ registry.areas → AreHeld registry.areas
+      → AreasHold registry.sets (unclaimed (areas_seen registry.areas)) (label_rows registry.areas) script.labelcut (journal_of ran) (map area_words ran.registry.areas)
+  labels_hold same_areas held =
+      subst (λ (xs : List Area). AreasHold registry.sets (unclaimed (areas_seen xs)) (label_rows xs) script.labelcut (journal_of ran) (map area_words ran.registry.areas)) same_areas
+      (has.words (subst AreHeld (sym same_areas) held))
+
 -- ---- all of it
 
 module _ (loaded : ImageSet) (rest : Unchanged) (set : OpenedSet) (is : IsOpen loaded rest set) (served : List ServedNamespace) (same : AreSame set.namespaces served) (script : Script) (ran : Ran) (has : HasServed rest.registry served script ran)
@@ -290,7 +299,7 @@ module _ (loaded : ImageSet) (rest : Unchanged) (set : OpenedSet) (is : IsOpen l
 
   pub is_served : (leaves : List (Option Words) → List (Option (List ℕ)) → Type 0) → leaves (core_words (map items_of ran.cores.items)) (words_left words) → (now : Vec Words Global) (sets : List (List Mapping)) → sets ≡ ran.registry.sets
       → put.AreLeft sets (rows_of loaded.contents) set.namespaces words now.items
-      → IsServed leaves loaded rest.registry.sets (areas_seen rest.registry.areas) set.namespaces script
+      → IsServed leaves loaded rest.registry.sets (areas_seen rest.registry.areas) (label_rows rest.registry.areas) set.namespaces script
       (record { replies = ran.replies; rest = record { registry = ran.registry; nfit_bytes = rest.nfit_bytes; bad = rest.bad }; modules = now })
   is_served leaves chosen now sets held left =
       let here : put.AreLeft rest.registry.sets (rows_of loaded.contents) set.namespaces words now.items = subst (λ (s : List (List Mapping)). put.AreLeft s (rows_of loaded.contents) set.namespaces words now.items) (held ∙ has.sets) left in
@@ -302,6 +311,7 @@ module _ (loaded : ImageSet) (rest : Unchanged) (set : OpenedSet) (is : IsOpen l
         legal = legal set.namespaces served same rest.registry script ran has words cut rest.registry.sets (rows_of loaded.contents) now.items here;
         accounts = subst (λ (all : List Serving). Accounts all script (replies_of ran.replies.items) (journal_of ran) (histories_of ran.cores.items)) (same_servings set.namespaces served same) has.accounts;
         labels = labels_left set.namespaces served same rest.registry script ran has r.opening r.held;
+        hold = labels_hold set.namespaces served same rest.registry script ran has r.opening r.held;
         survive = survives set.namespaces served same rest.registry script ran has words cut rest.registry.sets (rows_of loaded.contents) now.items here;
         beside = here.beside;
         chosen = arenas_chosen set.namespaces served same rest.registry script ran has words cut rest.registry.sets (rows_of loaded.contents) now.items here leaves chosen;

@@ -10,6 +10,7 @@ use Rattle.lane_core.specs.Held.{held_by}
 use Rattle.lane_core.specs.Reopening.{IsCoreOf}
 use Rattle.power_cut.specs.Left.{Each}
 use Rattle.namespace_areas.specs.Seen.{AreLeft as AreasLeft, areas_shown, words_of}
+use Rattle.namespace_areas.specs.Steps.{Rows}
 use Rattle.namespace_map.specs.Areas.{Area as SeenArea}
 use Rattle.namespace_ops.specs.Entries.{JournalEntry}
 use Rattle.image_set.specs.Changed.{objects_of}
@@ -26,6 +27,7 @@ use Rattle.served_namespaces.specs.Places.{KeepsBeside, words_at}
 use Rattle.served_namespaces.specs.Serving.{AreServing, ArenaCut}
 use Rattle.session_account.specs.Account.{Accounts, Histories, flights_on}
 use Rattle.session_account.specs.Journal.{AreLeft, IsJournal}
+use Rattle.session_account.specs.Words.{AreasHold}
 use Rattle.session_script.specs.declared.script.Script.{Script}
 use Rattle.session_service.specs.declared.namespaces.ServedNamespace.{ServedNamespace}
 use Rattle.session_service.specs.Ran.{replies_of}
@@ -77,7 +79,7 @@ abbrev pub IsCutOf : Core → List ℕ → Type 0
 IsCutOf core words = (state : ArenaState) → IsCoreOf state core → ArenaCut state (held_by core) words
 
 -- What sessions have come to on namespaces that are open, in place of what was loaded. `leaves` says what the cut may leave of their words.
-pub record IsServed (leaves : List (Option Words) → List (Option (List ℕ)) → Type 0) (loaded : ImageSet) (sets : List (List Mapping)) (areas : List (Option SeenArea)) (namespaces : List OpenedNamespace) (script : Script) (served : Served) : Type 0 where
+pub record IsServed (leaves : List (Option Words) → List (Option (List ℕ)) → Type 0) (loaded : ImageSet) (sets : List (List Mapping)) (areas : List (Option SeenArea)) (words : Rows) (namespaces : List OpenedNamespace) (script : Script) (served : Served) : Type 0 where
   pub journal : List JournalEntry
   pub histories : Histories
   pub commands : IsJournal sets (unclaimed areas) script.labelcut journal
@@ -85,6 +87,7 @@ pub record IsServed (leaves : List (Option Words) → List (Option (List ℕ)) �
   pub accounts : Accounts (servings_of namespaces) script (replies_of served.replies.items) journal histories
   -- whatever the label areas' state after a crash
   pub labels : (rows : List (Option (List ℕ))) → AreasLeft served.rest.registry.areas rows → AreLeft sets (unclaimed areas) script.labelcut journal (areas_shown rows)
+  pub hold : AreasHold sets (unclaimed areas) words script.labelcut journal (map words_of served.rest.registry.areas)
   pub survive : (place : ℕ) (d : OpenedNamespace) → place < length namespaces
       → ArenasSurvive (slice_index_or namespaces place d) (words_at sets (slice_index_or namespaces place d).place.found served.modules.items) (histories place)
       (λ k. flights_on (servings_of namespaces) place k script (replies_of served.replies.items) histories)

@@ -57,11 +57,12 @@ pub record ArenasChosen (leaves : List (Option Words) → List (Option (List ℕ
 
 -- ---- arenas and label areas
 
--- All words after the cut. `leaves` says what it may leave of rows of words: first of the cores', and then of the label areas', whose
--- words were such that whatever it could have left of them is due.
-pub record IsChosen (leaves : List (Option Words) → List (Option (List ℕ)) → Type 0) (IsDue : List (Option Area) → Type 0) (sets : List (List Mapping)) (opened : List OpenedNamespace) (histories : Histories)
+-- All words after the cut. `leaves` says what it may leave of rows of words: first of the cores', and then of the label areas'. `Hold` says
+-- which words these hold, with what was stored since their last flush; whatever the cut could have left of them is due.
+pub record IsChosen (leaves : List (Option Words) → List (Option (List ℕ)) → Type 0) (Hold : List (Option Words) → Type 0) (IsDue : List (Option Area) → Type 0) (sets : List (List Mapping)) (opened : List OpenedNamespace) (histories : Histories)
     (flights : ℕ → ℕ → List Flight) (now : List Words) (labels : List (Option (List ℕ))) : Type 0 where
   pub pending : List (Option Words)
+  pub hold : Hold pending
   pub due : (rows : List (Option (List ℕ))) → Each IsLeftOf pending rows → IsDue (areas_shown rows)
   pub arenas : ArenasChosen (λ words left. leaves (words ++ pending) (left ++ labels)) sets opened histories flights now
 

@@ -29,7 +29,7 @@ abbrev pub EmptyServes : {C : Type 0} → (C → ℕ → C → Type 0) → (C �
 EmptyServes {C} begins picks choose = (seed : ℕ) (begun : C) → begins choose seed begun
     → (text : List (List Reply) → List ℕ) (sets : List (List Mapping)) (loaded : ImageSet) (labels : List (Option (List ℕ))) (areas : List (Option Area))
     → loaded.labels ≡ map (option_map bytes_of) labels → areas_in loaded.labels ≡ areas → EntriesApart (namespaces_of sets areas)
-    → (outcome : Outcome) × Serves (LeavesBy begins picks choose seed) text sets loaded areas [] no_sessions outcome × (outcome.text ≡ text [])
+    → (outcome : Outcome) × Serves (LeavesBy begins picks choose seed) text sets loaded areas labels [] no_sessions outcome × (outcome.text ≡ text [])
 
 -- which ending is due, by whether the images are refused and whether the command is
 abbrev pub ending_by : Bool → Bool → Ending

@@ -6,6 +6,7 @@ use Rattle.nfit_reader.specs.declared.table.Mapping.{Mapping}
 use Rattle.namespace_areas.specs.declared.area.Area.{Area}
 use Rattle.namespace_areas.specs.Opening.{AreWhole, opened_as}
 use Rattle.namespace_areas.specs.Seen.{AreHeld, areas_seen}
+use Rattle.namespace_areas.specs.Steps.{Rows, all_rows, rows_of as label_rows}
 use Rattle.namespace_areas.specs.Went.{Went, size_of, unready}
 use Rattle.namespace_laws.specs.Apart.{EntriesApart}
 use Rattle.namespace_map.specs.Changes.{namespaces_of, recovered_areas, recovery_changes}
@@ -15,7 +16,7 @@ use Rattle.namespace_ops.specs.Registered.{Registered}
 use Rattle.image_set.specs.Load.{ImageSet, bytes_kept}
 use Rattle.sector_namespaces.specs.Creation.{AreSettled}
 use Rattle.sector_namespaces.specs.View.{AreUsable, rows_of}
-use Rattle.shell_changes.specs.Areas.{areas_in}
+use Rattle.shell_changes.specs.Areas.{areas_in, rows_in}
 use Rattle.shell_changes.specs.Namespaces.{sets_in}
 use Rattle.shell_changes.specs.Reading.{IsFresh}
 use Rattle.shell_reports.specs.List.{open_outcome}
@@ -36,6 +37,10 @@ pub record IsRecovery (old new : Registered) : Type 0 where
   pub opening : new.opening ≡ new.areas
   pub running : IsFresh old → IsFresh new
 
+-- the words of the label areas then, as recovery's stores and flushes make them of those that were loaded
+abbrev pub recovered_words : List (List Mapping) → ImageSet → Rows
+recovered_words sets loaded = all_rows (rows_in loaded) (recovery_changes sets (areas_in loaded.labels))
+
 -- ---- label areas after commands
 
 -- Label areas that were loaded as these bytes: one that wasn't read is as it was, and each has its size.
@@ -52,6 +57,7 @@ pub record KeepsLabels (labels : List (Option (List ℕ))) (areas : List Area) :
 pub record IsRecoveredIn (loaded : ImageSet) (rest : Unchanged) : Type 0 where
   pub sets : sets_in loaded ≡ Ok rest.registry.sets
   pub areas : areas_seen rest.registry.areas ≡ recovered_areas rest.registry.sets (areas_in loaded.labels)
+  pub words : label_rows rest.registry.areas ≡ recovered_words rest.registry.sets loaded
   -- labels are those of regions that are interleave sets, and no two namespaces have extents that meet
   pub regions : AreRegions rest.registry.sets
   pub read : LabelsAreRead (areas_seen rest.registry.areas)

@@ -4,6 +4,7 @@ use Rattle.cut_words.specs.Words.{Words}
 use Rattle.nfit_reader.specs.declared.table.Mapping.{Mapping}
 use Rattle.namespace_map.specs.Areas.{Area}
 use Rattle.namespace_map.specs.Changes.{namespaces_of, recovered_areas}
+use Rattle.namespace_areas.specs.Steps.{Rows}
 use Rattle.namespace_ops.specs.declared.registry.OpenFault.{OpenFault}
 use Rattle.image_set.specs.Load.{ImageSet}
 use Rattle.sector_namespaces.specs.View.{rows_of}
@@ -15,6 +16,7 @@ use Rattle.shell_changes.specs.Namespaces.{sets_in}
 use Rattle.shell_reports.specs.Faults.{arena_outcome}
 use Rattle.shell_reports.specs.List.{open_outcome}
 use Rattle.shell_reports.specs.Outcome.{Outcome}
+use Rattle.shell_serve.specs.Recovered.{recovered_words}
 use Rattle.shell_serve.specs.Scripts.{opened_by}
 use Rattle.shell_serve.specs.Serving.{Serves}
 use Rattle.shell_serve.specs.Texts.{serve_text}
@@ -29,13 +31,13 @@ abbrev pub OnOpened : (List OpenedNamespace → Outcome → Type 0) → Result (
 OnOpened comes (Ok opened) outcome = comes opened outcome
 OnOpened comes (Err broken) outcome = outcome ≡ arena_outcome broken.uuid broken.fault
 
--- on label areas that recovery has left
-abbrev pub OnRecovered : (List (Option Words) → List (Option (List ℕ)) → Type 0) → List (List Mapping) → ImageSet → List (Option Area) → Script → Outcome → Type 0
-OnRecovered leaves sets loaded areas script outcome = OnOpened (λ opened. Serves leaves serve_text sets loaded areas opened script) (served_in sets areas loaded script) outcome
+-- on label areas that recovery has left, with these words
+abbrev pub OnRecovered : (List (Option Words) → List (Option (List ℕ)) → Type 0) → List (List Mapping) → ImageSet → List (Option Area) → Rows → Script → Outcome → Type 0
+OnRecovered leaves sets loaded areas words script outcome = OnOpened (λ opened. Serves leaves serve_text sets loaded areas words opened script) (served_in sets areas loaded script) outcome
 
 -- on interleave sets, or why there are none
 abbrev pub ServesOnSets : (List (Option Words) → List (Option (List ℕ)) → Type 0) → ImageSet → Script → Result (List (List Mapping)) OpenFault → Outcome → Type 0
-ServesOnSets leaves loaded script (Ok sets) outcome = OnRecovered leaves sets loaded (recovered_areas sets (areas_in loaded.labels)) script outcome
+ServesOnSets leaves loaded script (Ok sets) outcome = OnRecovered leaves sets loaded (recovered_areas sets (areas_in loaded.labels)) (recovered_words sets loaded) script outcome
 ServesOnSets leaves loaded script (Err fault) outcome = outcome ≡ open_outcome fault
 
 -- what `serve` may come to on a set that is loaded: the table and the labels are checked, labels are recovered with power that stays on,

@@ -9,6 +9,7 @@ use Rattle.lane_core.specs.declared.history.Entry.{Entry as HistoryEntry}
 use Rattle.lane_core.specs.History.{IsLegal}
 use Rattle.lane_core.specs.Reopening.{first_cells}
 use Rattle.namespace_areas.specs.Seen.{areas_shown}
+use Rattle.namespace_areas.specs.Steps.{Rows}
 use Rattle.namespace_laws.specs.Apart.{EntriesApart}
 use Rattle.namespace_map.specs.Areas.{Area}
 use Rattle.namespace_map.specs.Changes.{namespaces_of}
@@ -24,6 +25,7 @@ use Rattle.session_account.specs.Journal.{AreLeft, IsJournal}
 use Rattle.session_account.specs.Recovered.{LeftRecovers}
 use Rattle.session_account.specs.Serving.{Serving}
 use Rattle.session_account.specs.Survival.{Flight, Survives}
+use Rattle.session_account.specs.Words.{AreasHold}
 use Rattle.session_script.specs.declared.script.Script.{Script}
 use Rattle.session_service.specs.Namespaces.{shape_by}
 use Rattle.shell_changes.specs.Areas.{HasAreas, HasRows}
@@ -71,10 +73,10 @@ pub record SavesParts (text : List ℕ) (loaded : ImageSet) (areas : List (Optio
 
 -- ---- what sessions come to
 
--- The sessions of a script have run on namespaces that are open, from label areas that recovery has left. The text is a function of
--- their replies. `leaves` says what a power cut may leave of rows of words. However their steps came between one another, and wherever
--- power was cut:
-pub record Serves (leaves : List (Option Words) → List (Option (List ℕ)) → Type 0) (text : List (List Reply) → List ℕ) (sets : List (List Mapping)) (loaded : ImageSet) (areas : List (Option Area)) (opened : List OpenedNamespace) (script : Script) (outcome : Outcome) : Type 0 where
+-- The sessions of a script have run on namespaces that are open, from label areas that recovery has left, with these words. The text is a
+-- function of their replies. `leaves` says what a power cut may leave of rows of words. However their steps came between one another, and
+-- wherever power was cut:
+pub record Serves (leaves : List (Option Words) → List (Option (List ℕ)) → Type 0) (text : List (List Reply) → List ℕ) (sets : List (List Mapping)) (loaded : ImageSet) (areas : List (Option Area)) (words : Rows) (opened : List OpenedNamespace) (script : Script) (outcome : Outcome) : Type 0 where
   pub replies : List (List Reply)
   pub journal : List JournalEntry
   pub histories : Histories
@@ -101,6 +103,7 @@ pub record Serves (leaves : List (Option Words) → List (Option (List ℕ)) →
   -- contents outside their arenas are as loaded
   pub beside : KeepsBeside sets opened (rows_of loaded.contents) (map settled rows)
   -- of words that weren't flushed is left what the chooser picks, for one after another: first those of the arenas, in order of the
-  -- namespaces, and then those of the label areas
-  pub chosen : IsChosen leaves (AreLeft sets (unclaimed areas) script.labelcut journal) sets opened histories (λ place k. flights_on (servings_of opened) place k script replies histories) (map settled rows) label_words
+  -- namespaces, and then those of the label areas. Of these none is pending, unless power was cut in a command: then they are those after
+  -- as many of its stores and flushes as power lasted for
+  pub chosen : IsChosen leaves (AreasHold sets (unclaimed areas) words script.labelcut journal) (AreLeft sets (unclaimed areas) script.labelcut journal) sets opened histories (λ place k. flights_on (servings_of opened) place k script replies histories) (map settled rows) label_words
   pub saved : SavesParts (text replies) loaded left label_words rows outcome

@@ -21,6 +21,7 @@
 //! | each sector is as its history ends, or as one write that was cut | `survive` |
 //! | contents outside the served arenas are as loaded | `beside` |
 //! | each unflushed word is as the chooser picks, which is begun once | `chosen` |
+//! | label areas hold the words that the commands stored and flushed, as far as `labelcut` lasted, and no other | `hold` of `chosen` |
 //!
 //! Definitions are in `specs/Serving.antt` and `specs/Chosen.antt`, and the order of refusals in `specs/Serve.antt` and
 //! `specs/Load.antt`. `session_service` runs the sessions, `served_namespaces` opens their namespaces and puts the arenas back, and

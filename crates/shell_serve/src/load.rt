@@ -6,6 +6,7 @@ ghost use Rattle.image_set.specs.Load.{ImageSet, image_set_in};
 ghost use Rattle.image_set.specs.Sound.{IsSound};
 ghost use Rattle.namespace_areas.specs.declared.found.Found.{Found as AnyFound};
 ghost use Rattle.namespace_areas.specs.Seen.{areas_seen};
+ghost use Rattle.namespace_areas.specs.Steps.{rows_of};
 ghost use Rattle.served_namespaces.specs.declared.places.OpenedNamespace.{OpenedNamespace as AnyNamespace};
 ghost use Rattle.served_namespaces.specs.Places.{CanOpen};
 ghost use Rattle.session_script.specs.Names.{ScriptHasText};
@@ -91,7 +92,7 @@ fn script_answer<R: Threads + Wait + Sync, C: Chooser, G: Gate>(
     requires text { ScriptHasText script.now }
     requires open { (loaded : ImageSet) × IsOpen loaded rest opened }
     ensures comes { IfOk result (λ answer. (loaded : ImageSet) → IsOpen loaded rest opened
-        → Serves (LeavesBy C.begins C.picks choose.old running.seed) (summary script.now) rest.registry.sets loaded (areas_seen rest.registry.areas) opened.namespaces script.now (whole_outcome answer)) }
+        → Serves (LeavesBy C.begins C.picks choose.old running.seed) (summary script.now) rest.registry.sets loaded (areas_seen rest.registry.areas) (rows_of rest.registry.areas) opened.namespaces script.now (whole_outcome answer)) }
     ensures whole { IfOk result (λ answer. copies_contents answer.saved ≡ false) }
 {
     let served = serve_opened(waiting, alloc, running, script, opened, rest, choose)?;
@@ -120,7 +121,7 @@ fn opened_answer<R: Threads + Wait + Sync, C: Chooser, G: Gate>(
     requires one { (found : AnyFound) × ((states : List State) × (opened.namespaces ≡ one_opened load.now found states)) }
     requires open { (loaded : ImageSet) × IsOpen loaded rest opened }
     ensures comes { IfOk result (λ answer. (loaded : ImageSet) (found : AnyFound) (states : List State) → IsOpen loaded rest opened → opened.namespaces ≡ one_opened load.now found states
-        → LoadsOnArenas (LeavesBy C.begins C.picks choose.old running.seed) load.now rest.registry.sets loaded (areas_seen rest.registry.areas) found (Ok states) (whole_outcome answer)) }
+        → LoadsOnArenas (LeavesBy C.begins C.picks choose.old running.seed) load.now rest.registry.sets loaded (areas_seen rest.registry.areas) (rows_of rest.registry.areas) found (Ok states) (whole_outcome answer)) }
     ensures whole { IfOk result (λ answer. copies_contents answer.saved ≡ false) }
 {
     let sectors = sectors_of(&opened);
@@ -154,7 +155,7 @@ fn found_answer<R: Threads + Wait + Sync, C: Chooser, G: Gate>(
     requires can { CanOpen set.rest.registry.sets (record { uuid = load.now.uuid; found = found }) }
     requires recovered { (loaded : ImageSet) × IsRecovered loaded set }
     ensures comes { IfOk result (λ answer. (loaded : ImageSet) → IsRecovered loaded set
-        → LoadsOnFound (LeavesBy C.begins C.picks choose.old running.seed) load.now set.rest.registry.sets loaded (areas_seen set.rest.registry.areas) (Ok found) (whole_outcome answer)) }
+        → LoadsOnFound (LeavesBy C.begins C.picks choose.old running.seed) load.now set.rest.registry.sets loaded (areas_seen set.rest.registry.areas) (rows_of set.rest.registry.areas) (Ok found) (whole_outcome answer)) }
     ensures whole { IfOk result (λ answer. copies_contents answer.saved ≡ false) }
 {
     let Recovered { contents, rest } = set;
@@ -184,7 +185,7 @@ fn recovered_answer<R: Threads + Wait + Sync, C: Chooser, G: Gate>(
     requires some { 0 < load.now.sessions }
     requires recovered { (loaded : ImageSet) × IsRecovered loaded set }
     ensures comes { IfOk result (λ answer. (loaded : ImageSet) → IsRecovered loaded set
-        → LoadsRecovered (LeavesBy C.begins C.picks choose.old running.seed) load.now set.rest.registry.sets loaded (areas_seen set.rest.registry.areas) (whole_outcome answer)) }
+        → LoadsRecovered (LeavesBy C.begins C.picks choose.old running.seed) load.now set.rest.registry.sets loaded (areas_seen set.rest.registry.areas) (rows_of set.rest.registry.areas) (whole_outcome answer)) }
     ensures whole { IfOk result (λ answer. copies_contents answer.saved ≡ false) }
 {
     match set.rest.registry.find(&load.uuid) {

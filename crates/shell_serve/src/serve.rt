@@ -12,6 +12,7 @@ ghost use Rattle.shell_serve.specs.Serve.{OnRecovered, ServeComes};
 ghost use Rattle.shell_serve.specs.Serving.{Serves};
 ghost use Rattle.shell_serve.specs.Texts.{serve_text};
 ghost use Rattle.namespace_areas.specs.Seen.{areas_seen};
+ghost use Rattle.namespace_areas.specs.Steps.{rows_of};
 
 use crate::opening::{OpenOutcome, open_namespaces};
 use crate::recovered::{Recovered, SetRecovered, recover_set};
@@ -45,7 +46,7 @@ fn opened_answer<R: Threads + Wait + Sync, C: Chooser, G: Gate>(
     requires text { ScriptHasText script.now }
     requires open { (loaded : ImageSet) × IsOpen loaded rest opened }
     ensures comes { IfOk result (λ answer. (loaded : ImageSet) → IsOpen loaded rest opened
-        → Serves (LeavesBy C.begins C.picks choose.old running.seed) serve_text rest.registry.sets loaded (areas_seen rest.registry.areas) opened.namespaces script.now (whole_outcome answer)) }
+        → Serves (LeavesBy C.begins C.picks choose.old running.seed) serve_text rest.registry.sets loaded (areas_seen rest.registry.areas) (rows_of rest.registry.areas) opened.namespaces script.now (whole_outcome answer)) }
     ensures whole { IfOk result (λ answer. copies_contents answer.saved ≡ false) }
 {
     let served = serve_opened(waiting, alloc, running, script, opened, rest, choose)?;
@@ -71,7 +72,7 @@ fn recovered_answer<R: Threads + Wait + Sync, C: Chooser, G: Gate>(
     requires text { ScriptHasText script.now }
     requires recovered { (loaded : ImageSet) × IsRecovered loaded set }
     ensures comes { IfOk result (λ answer. (loaded : ImageSet) → IsRecovered loaded set
-        → OnRecovered (LeavesBy C.begins C.picks choose.old running.seed) set.rest.registry.sets loaded (areas_seen set.rest.registry.areas) script.now (whole_outcome answer)) }
+        → OnRecovered (LeavesBy C.begins C.picks choose.old running.seed) set.rest.registry.sets loaded (areas_seen set.rest.registry.areas) (rows_of set.rest.registry.areas) script.now (whole_outcome answer)) }
     ensures whole { IfOk result (λ answer. copies_contents answer.saved ≡ false) }
 {
     let Recovered { contents, rest } = set;
@@ -101,7 +102,8 @@ fn recovered_answer<R: Threads + Wait + Sync, C: Chooser, G: Gate>(
 ///   of the journal's end, or those from before or after the command that was cut. Only a namespace of several labels that was pending
 ///   as its delete or rename began may be incomplete (`LeftRecovers`). No two namespaces have extents that meet;
 /// - each unflushed word is as the chooser picks. It is begun once, behind the last call, and asked for the pending words of each arena,
-///   in order of the namespaces, and then for those of the label areas.
+///   in order of the namespaces, and then for those of the label areas. These hold the words that the commands stored and flushed, as
+///   far as `labelcut` lasted, and no other (`AreasHold`).
 ///
 /// There is at least one worker. The call fails only if memory runs out, here, in a session or in a command. (UEFI 2.10, chapters 6
 /// and 13; scripts and texts are this project's rules.)

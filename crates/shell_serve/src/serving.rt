@@ -2,6 +2,7 @@
 ghost use Rattle.std.specs.Prelude.{◌≡◌, ◌<◌, [], false, IfOk, map, All};
 ghost use Rattle.image_set.specs.Load.{ImageSet};
 ghost use Rattle.namespace_areas.specs.Seen.{areas_seen};
+ghost use Rattle.namespace_areas.specs.Steps.{rows_of};
 ghost use Rattle.session_script.specs.Names.{ScriptHasText};
 ghost use Rattle.session_service.specs.Made.{IsUnused};
 ghost use Rattle.session_service.specs.Namespaces.{AreOpened};
@@ -106,7 +107,7 @@ pub(crate) fn serve_opened<R: Threads + Wait + Sync, C: Chooser, G: Gate>(
     requires workers { 0 < running.workers }
     requires text { ScriptHasText script.now }
     requires open { (loaded : ImageSet) × IsOpen loaded rest opened }
-    ensures { IfOk result (λ served. (loaded : ImageSet) → IsOpen loaded rest opened → IsServed (LeavesTo C.begins C.picks choose.old running.seed choose.new) loaded rest.registry.sets (areas_seen rest.registry.areas) opened.namespaces script.now served) }
+    ensures { IfOk result (λ served. (loaded : ImageSet) → IsOpen loaded rest opened → IsServed (LeavesTo C.begins C.picks choose.old running.seed choose.new) loaded rest.registry.sets (areas_seen rest.registry.areas) (rows_of rest.registry.areas) opened.namespaces script.now served) }
 {
     let OpenedSet {
         namespaces,

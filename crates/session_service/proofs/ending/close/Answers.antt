@@ -1,10 +1,12 @@
 use Rattle.std.proofs.Common.{◌≡◌, ◌≤◌, ℕ, false, length, map, sym, ◌∙◌, subst}
 use Rattle.std.specs.Prelude.{All}
 use Rattle.turn_lock.specs.Passes.{callers_of, IsOutside, HasEach, Knows as PassKnows}
-use Rattle.namespace_areas.specs.Seen.{areas_shown}
+use Rattle.namespace_areas.specs.Seen.{AreHeld, areas_shown, words_of}
+use Rattle.namespace_areas.specs.Steps.{rows_of}
 use Rattle.namespace_ops.specs.Registered.{kept_of, opening_of, state_of}
 use Rattle.session_account.specs.Journal.{AreLeft, IsJournal}
 use Rattle.session_account.specs.Registering.{IsOn}
+use Rattle.session_account.specs.Words.{AreasHold}
 use Rattle.session_account.proofs.Registering.{on_is_journal}
 use Rattle.registry_service.specs.Parts.{KnowsOwn}
 use Rattle.registry_service.specs.Served.{AreKept, Served, answered}
@@ -60,6 +62,7 @@ returns c = λ registry served made.
     (λ q over. c.close-power.ensures.strangers q (subst (λ (n : ℕ). n ≤ q) (sym made.power) over))
     (subst (λ (x : Served). (c.close_registry-registry.result.0.sets ≡ x.registry.sets) × AreKept x.registry.opening c.close_registry-registry.result.0.areas c.close_registry-registry.result.0.stopped) made.orders_first cl.areas)
     (subst (λ (x : Served). IsJournal x.registry.sets (opening_of x.registry) x.first journal) made.orders_first cl.journal)
-    (λ run. (on_is_journal registry.sets (opening_of registry) (kept_of (state_of c.close_registry-registry.result.0)) script.labelcut c.close_registry-registry.result.1 journal
-    (subst (λ (x : Served). IsOn x.registry.sets (opening_of x.registry) x.first journal (kept_of (state_of c.close_registry-registry.result.0)) c.close_registry-registry.result.1) made.orders_first (cl.on run))).1)
+    (λ run. (on_is_journal registry.sets (opening_of registry) (kept_of (state_of c.close_registry-registry.result.0)) (rows_of registry.opening) (rows_of c.close_registry-registry.result.0.areas) script.labelcut c.close_registry-registry.result.1 journal
+    (subst (λ (x : Served). IsOn x.registry.sets (opening_of x.registry) (rows_of x.registry.opening) x.first journal (kept_of (state_of c.close_registry-registry.result.0)) (rows_of c.close_registry-registry.result.0.areas) c.close_registry-registry.result.1) made.orders_first (cl.on run))).1)
     (λ off rows left. subst (λ (x : Served). AreLeft x.registry.sets (opening_of x.registry) x.first journal (areas_shown rows)) made.orders_first (cl.left off rows left))
+    (subst (λ (x : Served). AreHeld x.registry.opening → AreasHold x.registry.sets (opening_of x.registry) (rows_of x.registry.opening) x.first journal (map words_of c.close_registry-registry.result.0.areas)) made.orders_first cl.words)

@@ -5,6 +5,7 @@ use Rattle.arena_open.specs.ChainCells.{sectors_of}
 use Rattle.image_set.specs.Load.{ImageSet}
 use Rattle.namespace_areas.specs.declared.found.Found.{Found}
 use Rattle.namespace_areas.specs.Seen.{areas_seen}
+use Rattle.namespace_areas.specs.Steps.{rows_of as label_rows}
 use Rattle.served_namespaces.specs.declared.places.OpenedNamespace.{OpenedNamespace}
 use Rattle.session_script.specs.declared.script.Script.{Script}
 use Rattle.session_script.specs.Load.{load_script}
@@ -30,7 +31,7 @@ pub returns-then-sectors-from-clause-comes : goal.returns-then-sectors-from-clau
 returns-then-sectors-from-clause-comes g c = λ loaded found states ready is.
     let leaves = LeavesBy g.C.Chooser.begins g.C.Chooser.picks c.args.choose.now c.args.running.seed in
     let count : c.sectors_of-sectors.result ≡ sectors_of states = c.sectors_of-sectors.ensures (record { place = record { uuid = c.args.load.now.uuid; found = found }; states = states }) is in
-    load_few leaves c.args.load.now loaded (whole_outcome c.without_set.result) c.args.rest.registry.sets (areas_seen c.args.rest.registry.areas) found states
+    load_few leaves c.args.load.now loaded (whole_outcome c.without_set.result) c.args.rest.registry.sets (areas_seen c.args.rest.registry.areas) (label_rows c.args.rest.registry.areas) found states
     (lt-ltb (sectors_of states) c.args.load.now.sessions (omega (arith, count, c.from.ensures, c.if-sectors-from.true)))
     (c.without_set.ensures.same [] ∙ c.in_ok-report.ensures ∙ ap (λ (n : ℕ). refused_outcome (range_text n)) count)
 
@@ -41,13 +42,13 @@ pub returns-clause-comes : goal.returns-clause-comes
 returns-clause-comes g c =
     let leaves = LeavesBy g.C.Chooser.begins g.C.Chooser.picks c.args.choose.now c.args.running.seed in
     ok_then _ (λ (answer : Answer). (loaded : ImageSet) (found : Found) (states : List ArenaState) → IsOpen loaded c.args.rest c.args.opened → c.args.opened.namespaces ≡ one_opened c.args.load.now found states
-    → LoadsOnArenas leaves c.args.load.now c.args.rest.registry.sets loaded (areas_seen c.args.rest.registry.areas) found (Ok states) (whole_outcome answer)) c.script_answer.result
+    → LoadsOnArenas leaves c.args.load.now c.args.rest.registry.sets loaded (areas_seen c.args.rest.registry.areas) (label_rows c.args.rest.registry.areas) found (Ok states) (whole_outcome answer)) c.script_answer.result
     (λ answer comes loaded found states ready is.
     let count : c.sectors_of-sectors.result ≡ sectors_of states = c.sectors_of-sectors.ensures (record { place = record { uuid = c.args.load.now.uuid; found = found }; states = states }) is in
     let made : c.in_ok-script.script ≡ script_for c.args.load.now (sectors_of states) =
     c.in_ok-script.ensures.script ∙ ap (λ (n : ℕ). load_script c.args.load.now.number c.args.load.now.uuid n c.args.load.now.sessions c.args.load.now.calls) count in
-    load_on leaves c.args.load.now loaded (whole_outcome answer) c.args.rest.registry.sets (areas_seen c.args.rest.registry.areas) found states
+    load_on leaves c.args.load.now loaded (whole_outcome answer) c.args.rest.registry.sets (areas_seen c.args.rest.registry.areas) (label_rows c.args.rest.registry.areas) found states
     (le-ltb (sectors_of states) c.args.load.now.sessions (omega (arith, count, c.from.ensures, c.if-sectors-from.false)))
-    (subst (λ (s : Script). Serves leaves (summary s) c.args.rest.registry.sets loaded (areas_seen c.args.rest.registry.areas) (one_opened c.args.load.now found states) s (whole_outcome answer)) made
-    (subst (λ (os : List OpenedNamespace). Serves leaves (summary c.in_ok-script.script) c.args.rest.registry.sets loaded (areas_seen c.args.rest.registry.areas) os c.in_ok-script.script (whole_outcome answer)) is (comes loaded ready))))
+    (subst (λ (s : Script). Serves leaves (summary s) c.args.rest.registry.sets loaded (areas_seen c.args.rest.registry.areas) (label_rows c.args.rest.registry.areas) (one_opened c.args.load.now found states) s (whole_outcome answer)) made
+    (subst (λ (os : List OpenedNamespace). Serves leaves (summary c.in_ok-script.script) c.args.rest.registry.sets loaded (areas_seen c.args.rest.registry.areas) (label_rows c.args.rest.registry.areas) os c.in_ok-script.script (whole_outcome answer)) is (comes loaded ready))))
     c.script_answer.ensures.comes

@@ -2,6 +2,7 @@ use Rattle.std.proofs.Common.{◌∙◌, Ok, ap}
 use Rattle.image_set.specs.Load.{ImageSet}
 use Rattle.namespace_areas.specs.Finding.{found_of}
 use Rattle.namespace_areas.specs.Seen.{areas_seen}
+use Rattle.namespace_areas.specs.Steps.{rows_of as label_rows}
 use Rattle.namespace_map.specs.Namespaces.{Namespaces, lookup}
 use Rattle.shell_changes.specs.declared.answer.Answer.{Answer}
 use Rattle.shell_changes.specs.Answers.{whole_outcome}
@@ -17,8 +18,8 @@ find-requires g c = record { running = c.requires.recovered.1.rest.fresh.running
 pub returns-in-Ok-clause-comes : goal.returns-in-Ok-clause-comes
 returns-in-Ok-clause-comes g c =
     let leaves = LeavesBy g.C.Chooser.begins g.C.Chooser.picks c.args.choose.now c.args.running.seed in
-    ok_then _ (λ (answer : Answer). (loaded : ImageSet) → IsRecovered loaded c.args.set → LoadsRecovered leaves c.args.load.now c.args.set.rest.registry.sets loaded (areas_seen c.args.set.rest.registry.areas) (whole_outcome answer)) c.found_answer.result
+    ok_then _ (λ (answer : Answer). (loaded : ImageSet) → IsRecovered loaded c.args.set → LoadsRecovered leaves c.args.load.now c.args.set.rest.registry.sets loaded (areas_seen c.args.set.rest.registry.areas) (label_rows c.args.set.rest.registry.areas) (whole_outcome answer)) c.found_answer.result
     (λ answer comes loaded r.
-    load_found leaves c.args.load.now loaded (whole_outcome answer) c.args.set.rest.registry.sets (areas_seen c.args.set.rest.registry.areas) (Ok c.in-Ok.found)
+    load_found leaves c.args.load.now loaded (whole_outcome answer) c.args.set.rest.registry.sets (areas_seen c.args.set.rest.registry.areas) (label_rows c.args.set.rest.registry.areas) (Ok c.in-Ok.found)
     (c.in-Ok.ensures.found ∙ ap (λ (ns : Namespaces). found_of c.args.set.rest.registry.sets (lookup c.args.load.now.uuid ns.entries)) (unclaimed_same c.args.set.rest.registry r.rest.fresh.claims)) (comes loaded r))
     c.found_answer.ensures.comes

@@ -1,6 +1,7 @@
 use Rattle.std.proofs.Common.{◌∙◌, List, Vec, Global, ap}
 use Rattle.image_set.specs.Load.{ImageSet}
 use Rattle.namespace_areas.specs.Seen.{areas_seen}
+use Rattle.namespace_areas.specs.Steps.{rows_of as label_rows}
 use Rattle.session_account.specs.declared.reply.Reply.{Reply}
 use Rattle.session_service.specs.Ran.{replies_of}
 use Rattle.shell_changes.specs.declared.answer.Answer.{Answer}
@@ -22,7 +23,7 @@ pub returns-clause-comes : goal.returns-clause-comes
 returns-clause-comes g c =
     let leaves = LeavesBy g.C.Chooser.begins g.C.Chooser.picks c.args.choose.now c.args.running.seed in
     ok_then _ (λ (answer : Answer). (loaded : ImageSet) → IsOpen loaded c.args.rest c.args.opened
-    → Serves leaves (summary c.args.script.now) c.args.rest.registry.sets loaded (areas_seen c.args.rest.registry.areas) c.args.opened.namespaces c.args.script.now (whole_outcome answer)) c.saved_answer.result
+    → Serves leaves (summary c.args.script.now) c.args.rest.registry.sets loaded (areas_seen c.args.rest.registry.areas) (label_rows c.args.rest.registry.areas) c.args.opened.namespaces c.args.script.now (whole_outcome answer)) c.saved_answer.result
     (λ answer saves loaded is.
     serves leaves (LeavesTo g.C.Chooser.begins g.C.Chooser.picks c.args.choose.now c.args.running.seed c.serve_opened.new.choose) (LeavesOn g.C.Chooser.picks c.serve_opened.new.choose)
     (joined g.C.Chooser.picks g.C.Chooser.begins c.args.choose.now c.serve_opened.new.choose c.args.running.seed) (summary c.args.script.now) loaded c.args.rest is.recovered c.args.opened.namespaces c.args.script.now c.in_ok-served.served (c.in_ok-served.ensures loaded is) c.printed_answer.result (whole_outcome answer)

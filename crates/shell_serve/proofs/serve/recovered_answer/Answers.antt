@@ -1,6 +1,7 @@
 use Rattle.std.proofs.Common.{All, ◌≡◌, ◌∙◌, ℕ, List, [], Ok, Err, sym, ap, subst}
 use Rattle.image_set.specs.Load.{ImageSet}
 use Rattle.namespace_areas.specs.Seen.{areas_seen}
+use Rattle.namespace_areas.specs.Steps.{rows_of as label_rows}
 use Rattle.namespace_map.specs.Changes.{namespaces_of}
 use Rattle.sector_namespaces.specs.View.{rows_of}
 use Rattle.served_namespaces.specs.declared.places.FoundNamespace.{FoundNamespace}
@@ -41,14 +42,14 @@ opened_answer-requires-clause-open g c = λ κs lives.
 pub returns-in-Done-clause-comes : goal.returns-in-Done-clause-comes
 returns-in-Done-clause-comes g c =
     let leaves = LeavesBy g.C.Chooser.begins g.C.Chooser.picks c.args.choose.now c.args.running.seed in
-    ok_then _ (λ (answer : Answer). (loaded : ImageSet) → IsRecovered loaded c.args.set → OnRecovered leaves c.args.set.rest.registry.sets loaded (areas_seen c.args.set.rest.registry.areas) c.args.script.now (whole_outcome answer)) c.opened_answer.result
+    ok_then _ (λ (answer : Answer). (loaded : ImageSet) → IsRecovered loaded c.args.set → OnRecovered leaves c.args.set.rest.registry.sets loaded (areas_seen c.args.set.rest.registry.areas) (label_rows c.args.set.rest.registry.areas) c.args.script.now (whole_outcome answer)) c.opened_answer.result
     (λ answer comes loaded r.
     let opens = subst (λ (o : OpenOutcome). OpensIn loaded c.args.set.rest c.deref-3.result.now o) c.in-Done.is (c.in_ok-open.ensures loaded r.contents) in
     let named : c.deref-2.result.now ≡ opened_by c.args.script.now = c.deref-2.ensures.value ∙ c.in_ok-uuids.ensures.ones ∙ ap firsts (c.deref.ensures.value ∙ c.in_ok-lines.ensures) in
     let are : c.deref-3.result.now ≡ found_each c.args.set.rest.registry.sets (namespaces_of c.args.set.rest.registry.sets (areas_seen c.args.set.rest.registry.areas)) (opened_by c.args.script.now) =
     c.deref-3.ensures.value ∙ found_there c.args.set.rest.registry r.rest.fresh.claims c.deref-2.result.now c.in_ok-places.places.items c.in_ok-places.ensures.found
     ∙ ap (λ (us : List (List ℕ)). found_each c.args.set.rest.registry.sets (namespaces_of c.args.set.rest.registry.sets (areas_seen c.args.set.rest.registry.areas)) us) named in
-    serve_on leaves c.args.script.now loaded (whole_outcome answer) c.args.set.rest.registry.sets (areas_seen c.args.set.rest.registry.areas) (Ok c.in-Done.opened.namespaces)
+    serve_on leaves c.args.script.now loaded (whole_outcome answer) c.args.set.rest.registry.sets (areas_seen c.args.set.rest.registry.areas) (label_rows c.args.set.rest.registry.areas) (Ok c.in-Done.opened.namespaces)
     (ap (λ (ps : List FoundNamespace). opened_each c.args.set.rest.registry.sets (rows_of loaded.contents) ps) (sym are) ∙ opens.0)
     (comes loaded (record { recovered = r.rest; serving = opens.1 })))
     c.opened_answer.ensures.comes
@@ -61,6 +62,6 @@ returns-in-Not-clause-comes g c = λ loaded r.
     let are : c.deref-3.result.now ≡ found_each c.args.set.rest.registry.sets (namespaces_of c.args.set.rest.registry.sets (areas_seen c.args.set.rest.registry.areas)) (opened_by c.args.script.now) =
     c.deref-3.ensures.value ∙ found_there c.args.set.rest.registry r.rest.fresh.claims c.deref-2.result.now c.in_ok-places.places.items c.in_ok-places.ensures.found
     ∙ ap (λ (us : List (List ℕ)). found_each c.args.set.rest.registry.sets (namespaces_of c.args.set.rest.registry.sets (areas_seen c.args.set.rest.registry.areas)) us) named in
-    serve_on leaves c.args.script.now loaded _ c.args.set.rest.registry.sets (areas_seen c.args.set.rest.registry.areas) (Err opens.0)
+    serve_on leaves c.args.script.now loaded _ c.args.set.rest.registry.sets (areas_seen c.args.set.rest.registry.areas) (label_rows c.args.set.rest.registry.areas) (Err opens.0)
     (ap (λ (ps : List FoundNamespace). opened_each c.args.set.rest.registry.sets (rows_of loaded.contents) ps) (sym are) ∙ opens.1)
     (c.without_set.ensures.same [] ∙ opens.2)
