@@ -202,7 +202,7 @@ fn calls_of_a_load_fail(rt: HostRuntime) -> Result<(), AllocError> {
         // the table, an area, the first and the last part of contents, the mark
         (&[], &[], &[0], &[], Status::WriteFault, "", false),
         (&[], &[], &[1], &[], Status::WriteFault, "", false),
-        (&[], &[], &[3], &[], Status::WriteFault, "", false),
+        (&[], &[], &[2], &[], Status::WriteFault, "", false),
         (&[], &[], &[66], &[], Status::WriteFault, "", false),
         (&[], &[], &[67], &[], Status::WriteFault, "", false),
         // the text, behind a set that was saved, and in place of `read fault`
