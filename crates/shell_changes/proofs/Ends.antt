@@ -24,7 +24,7 @@ use Rattle.shell_reports.specs.declared.power.Power.{Power}
 use Rattle.shell_reports.specs.Outcome.{Outcome}
 use Rattle.shell_reports.specs.Saved.{IsSaving}
 use Rattle.shell_reports.specs.Cut.{cut_text, done_text}
-use Rattle.shell_changes.specs.Refusals.{refused_outcome}
+use Rattle.shell_reports.specs.Faults.{refusal_text, refused_outcome}
 use Rattle.shell_changes.specs.Going.{FormatsIn, SavesCut, SavesDone}
 use Rattle.shell_changes.specs.Namespaces.{Ends, Goes, IsPowerCut, IsDone}
 use Rattle.shell_changes.specs.Work.{Arena, Work, begun, count_of, label_changes, label_part, label_steps, steps_of_work}
@@ -204,7 +204,7 @@ module _ (leaves : ℕ → List (Option Words) → List (Option (List ℕ)) → 
           one.beside one.sizes s (at_begun mid made s.rows s.contents_left at))
 
   -- the command was refused
-  pub refused_after : (first : List Change) (mid : List Area) (left : Option ℕ) (f : OpRefused) → Went opened mid power.steps left first true → outcome ≡ refused_outcome f
+  pub refused_after : (first : List Change) (mid : List Area) (left : Option ℕ) (f : OpRefused) → Went opened mid power.steps left first true → outcome ≡ refused_outcome (refusal_text f)
       → Goes leaves set seen (record { recovery = first; arena = None; own = [] }) (Some f) power outcome
   refused_after first mid left f one is_refused =
       let none : steps_of_all seen (first ++ []) + 0 ≡ steps_of_all seen first = add_none (steps_of_all seen (first ++ [])) ∙ ap (λ (cs : List Change). steps_of_all seen cs) (append_nil first) in

@@ -64,7 +64,7 @@ use Rattle.shell_changes.specs.Maps.{AcceptedIsApart, ChangesKeepApart, ChangesL
 use Rattle.shell_changes.specs.Namespaces.{Ends, IsPowerCut, IsDone, OnSets, refusal_in, sets_in, work_by, work_in}
 use Rattle.namespace_ops.specs.Counted.{makes_sectors}
 use Rattle.shell_changes.specs.Work.{Arena, Formats, Work, arena_of, begun, count_of, label_changes, label_steps, steps_of_work}
-use Rattle.shell_changes.specs.Refusals.{refused_outcome}
+use Rattle.shell_reports.specs.Faults.{refusal_text, refused_outcome}
 use Rattle.shell_changes.proofs.Apart.{labels_apart}
 use Rattle.shell_changes.proofs.Own.{found_before, own_left, to_either}
 use Rattle.shell_changes.proofs.RecoveryApart.{stopped_apart}
@@ -349,7 +349,7 @@ module _ (leaves : ℕ → List (Option Words) → List (Option (List ℕ)) → 
   done_by : ChangesLabels c → HasTable loaded → sets_in loaded ≡ Ok sets → outcome.ending ≡ ending.Done → (r : Option OpRefused) → refusal_in sets seen c ≡ r
       → Ends loaded seen (work_by sets seen c r) r outcome → SavesMap sets loaded (makes_sectors c) (done (after_recovery (map_of sets loaded)) c) outcome
   done_by changes table are ended None none d = done_shown changes table are none d
-  done_by changes table are ended (Some f) some said = absurd (let e : ending.Refused ≡ ending.Done = sym (ending_of outcome (refused_outcome f) said) ∙ ended in cc)
+  done_by changes table are ended (Some f) some said = absurd (let e : ending.Refused ≡ ending.Done = sym (ending_of outcome (refused_outcome (refusal_text f)) said) ∙ ended in cc)
 
   done_on : ChangesLabels c → HasTable loaded → sets_in loaded ≡ Ok sets → outcome.ending ≡ ending.Done → (b : Bool)
       → MatchBool b (Ends loaded seen (work_in sets seen c) (refusal_in sets seen c) outcome) (IsPowerCut leaves loaded seen (work_in sets seen c) power outcome)
@@ -430,7 +430,7 @@ module _ (leaves : ℕ → List (Option Words) → List (Option (List ℕ)) → 
 
   not_cut : (r : Option OpRefused) → Ends loaded seen (work_by sets seen c r) r outcome → outcome.ending ≡ ending.PowerCut → ⊥
   not_cut None d cut = let e : ending.Done ≡ ending.PowerCut = sym d.saves.ends ∙ cut in cc
-  not_cut (Some f) said cut = let e : ending.Refused ≡ ending.PowerCut = sym (ending_of outcome (refused_outcome f) said) ∙ cut in cc
+  not_cut (Some f) said cut = let e : ending.Refused ≡ ending.PowerCut = sym (ending_of outcome (refused_outcome (refusal_text f)) said) ∙ cut in cc
 
   -- power was given for so many steps
   cut_steps : outcome.ending ≡ ending.PowerCut → (b : Bool)

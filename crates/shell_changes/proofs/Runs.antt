@@ -29,7 +29,7 @@ use Rattle.namespace_ops.proofs.Answers.{arena_count, plain_steps}
 use Rattle.shell_reports.specs.declared.power.Power.{Power}
 use Rattle.shell_reports.specs.Outcome.{Outcome}
 use Rattle.shell_changes.specs.Going.{FormatsIn, GoesFrom, GoesOn, Runs, SavesCut, SavesDone, Works}
-use Rattle.shell_changes.specs.Refusals.{refused_outcome}
+use Rattle.shell_reports.specs.Faults.{refusal_text, refused_outcome}
 use Rattle.shell_changes.specs.declared.saving.Beside.{Beside}
 use Rattle.shell_changes.specs.declared.saving.Beside.TheVariants as beside
 use Rattle.shell_changes.specs.Remains.{CanLeave, remains_of}
@@ -150,7 +150,7 @@ module _ (sets : List (List Mapping)) (old news : List Area) (contents contents'
   uncut : (f : OpRefused) → refusal_of (shown sets old) c ≡ Some f → f ≢ PowerCut
   uncut f some is = true≢false (ap (λ (x : OpRefused). is_cut (Err x)) (sym is) ∙ finding_of (shown sets old) c f some)
 
-  pub refused_is : (outcome : Outcome) → ((f : OpRefused) → reply ≡ Err f → f ≢ PowerCut → outcome ≡ refused_outcome f) → (f : OpRefused) → refusal_of (shown sets old) c ≡ Some f → outcome ≡ refused_outcome f
+  pub refused_is : (outcome : Outcome) → ((f : OpRefused) → reply ≡ Err f → f ≢ PowerCut → outcome ≡ refused_outcome (refusal_text f)) → (f : OpRefused) → refusal_of (shown sets old) c ≡ Some f → outcome ≡ refused_outcome (refusal_text f)
   refused_is outcome said f some = said f (runs.refused f some).0 (uncut f some)
 
   ok_is : (r : Result (Unit {0}) OpRefused) → is_ok r ≡ true → r ≡ Ok tt
@@ -201,13 +201,13 @@ moved_went a a' mid f f' left s s' b b' p q u v went =
 module _ (leaves : ℕ → List (Option Words) → List (Option (List ℕ)) → Type 0) (objects : List (Option (List ℕ)) → List (List ℕ) → Images) (power : Power) (sets held : List (List Mapping)) (areas a mid : List Area) (contents : List Words) (f left : Option ℕ) (c : Command) (outcome : Outcome) (b : Bool)
     (p : a ≡ areas) (q : f ≡ power.steps) (u : held ≡ sets) (went : Went a mid f left (recovery_changes held (areas_seen a)) b) where
   pub goes_then : (now : List (List Mapping)) → now ≡ held → b ≡ true
-      → ((g : OpRefused) → refusal_of (shown now mid) c ≡ Some g → outcome ≡ refused_outcome g)
+      → ((g : OpRefused) → refusal_of (shown now mid) c ≡ Some g → outcome ≡ refused_outcome (refusal_text g))
       → (refusal_of (shown now mid) c ≡ None → GoesOn leaves objects power now mid contents left c outcome) → GoesFrom leaves objects power sets areas contents c outcome
   goes_then now w v refused on = inr (record {
     mid = mid;
     left = left;
     first = moved_went a areas mid f power.steps left held sets b true p q u v went;
-    refused = subst (λ (s : List (List Mapping)). (g : OpRefused) → refusal_of (shown s mid) c ≡ Some g → outcome ≡ refused_outcome g) (w ∙ u) refused;
+    refused = subst (λ (s : List (List Mapping)). (g : OpRefused) → refusal_of (shown s mid) c ≡ Some g → outcome ≡ refused_outcome (refusal_text g)) (w ∙ u) refused;
     went = subst (λ (s : List (List Mapping)). refusal_of (shown s mid) c ≡ None → GoesOn leaves objects power s mid contents left c outcome) (w ∙ u) on;
   })
 

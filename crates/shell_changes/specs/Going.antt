@@ -22,7 +22,7 @@ use Rattle.shell_reports.specs.declared.power.Power.{Power}
 use Rattle.shell_reports.specs.Outcome.{Outcome}
 use Rattle.shell_reports.specs.Saved.{IsSaving}
 use Rattle.shell_reports.specs.Cut.{cut_text, done_text}
-use Rattle.shell_changes.specs.Refusals.{refused_outcome}
+use Rattle.shell_reports.specs.Faults.{refusal_text, refused_outcome}
 use Rattle.shell_changes.specs.Work.{Arena, arena_of, count_of}
 
 -- ---- what is saved
@@ -93,7 +93,7 @@ pub record GoesThen (leaves : ℕ → List (Option Words) → List (Option (List
   pub mid : List Area
   pub left : Option ℕ
   pub first : Went areas mid power.steps left (recovery_changes sets (areas_seen areas)) true
-  pub refused : (f : OpRefused) → refusal_of (shown sets mid) c ≡ Some f → outcome ≡ refused_outcome f
+  pub refused : (f : OpRefused) → refusal_of (shown sets mid) c ≡ Some f → outcome ≡ refused_outcome (refusal_text f)
   pub went : refusal_of (shown sets mid) c ≡ None → GoesOn leaves objects power sets mid contents left c outcome
 
 -- a command on areas over interleave sets, after recovery

@@ -23,7 +23,7 @@ use Rattle.shell_reports.specs.Saved.{IsSaving}
 use Rattle.shell_reports.specs.Cut.{cut_text, done_text}
 use Rattle.shell_reports.specs.List.{open_outcome}
 use Rattle.shell_changes.specs.Areas.{areas_in, rows_in, HasRows}
-use Rattle.shell_changes.specs.Refusals.{refused_outcome}
+use Rattle.shell_reports.specs.Faults.{refusal_text, refused_outcome}
 use Rattle.shell_changes.specs.Work.{Formats, Work, arena_of, begun, label_changes, label_steps, steps_of_work}
 
 -- the interleave sets of a set whose namespaces can be told, or the first fault: a region that is no interleave set; extents of two
@@ -86,7 +86,7 @@ work_in sets areas c = work_by sets areas c (refusal_in sets areas c)
 -- with power to the end: of a command that is refused nothing is saved, what recovery made neither
 abbrev pub Ends : ImageSet → List (Option Area) → Work → Option OpRefused → Outcome → Type 0
 Ends loaded areas work None outcome = IsDone loaded areas work outcome
-Ends loaded areas work (Some refused) outcome = outcome ≡ refused_outcome refused
+Ends loaded areas work (Some refused) outcome = outcome ≡ refused_outcome (refusal_text refused)
 
 -- a command, by how long power lasts
 abbrev pub Goes : (ℕ → List (Option Words) → List (Option (List ℕ)) → Type 0) → ImageSet → List (Option Area) → Work → Option OpRefused → Power → Outcome → Type 0

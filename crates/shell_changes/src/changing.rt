@@ -9,7 +9,7 @@ ghost use Rattle.shell_changes.specs.Answers.{Fits, FitsRead, outcome_with};
 ghost use Rattle.shell_changes.specs.Going.{GoesFrom, GoesOn};
 ghost use Rattle.shell_changes.specs.Namespaces.{ChangeComes};
 ghost use Rattle.shell_changes.specs.Reading.{CanRun, IsFresh, IsParted, IsRead, reads_contents, set_parted, set_read};
-ghost use Rattle.shell_changes.specs.Refusals.{refused_outcome};
+ghost use Rattle.shell_reports.specs.Faults.{refusal_text, refused_outcome};
 ghost use Rattle.shell_changes.specs.Remains.{AnswersCut, AnswersDone, CanLeave, LeavesBy, remains_of};
 ghost use Rattle.shell_changes.specs.Rest.{is_whole, objects_left, words_beside};
 ghost use Rattle.namespace_ops.specs.Counted.{makes_sectors};
@@ -57,7 +57,7 @@ fn reply_answer<C: Chooser>(
     requires can { CanLeave (remains_of ran.beside (map words_of ran.areas.items)) }
     ensures done { IfOk result (λ answer. ran.reply ≡ Ok tt → AnswersDone C.picks (remains_of ran.beside (map words_of ran.areas.items)) choose.old answer) }
     ensures cut { IfOk result (λ answer. ran.reply ≡ Err OpRefused.PowerCut → AnswersCut C.begins C.picks power (remains_of ran.beside (map words_of ran.areas.items)) choose.old answer) }
-    ensures refused { IfOk result (λ answer. (f : Refused) → ran.reply ≡ Err f → f ≢ OpRefused.PowerCut → (contents : List (List ℕ)) → outcome_with answer contents ≡ refused_outcome f) }
+    ensures refused { IfOk result (λ answer. (f : Refused) → ran.reply ≡ Err f → f ≢ OpRefused.PowerCut → (contents : List (List ℕ)) → outcome_with answer contents ≡ refused_outcome (refusal_text f)) }
     ensures fits { IfOk result (Fits ran.beside) }
 {
     let Ran {
@@ -91,7 +91,7 @@ fn command_answer<C: Chooser>(
 ) -> Result<Answer, AllocError>
     requires fresh { IsFresh registry }
     requires run { CanRun registry.sets registry.areas beside change.now }
-    ensures refused { IfOk result (λ answer. (contents : List (List ℕ)) (f : Refused) → refusal_of (shown registry.sets registry.areas) change.now ≡ Some f → outcome_with answer contents ≡ refused_outcome f) }
+    ensures refused { IfOk result (λ answer. (contents : List (List ℕ)) (f : Refused) → refusal_of (shown registry.sets registry.areas) change.now ≡ Some f → outcome_with answer contents ≡ refused_outcome (refusal_text f)) }
     ensures went { IfOk result (λ answer. (contents : List (List ℕ)) → refusal_of (shown registry.sets registry.areas) change.now ≡ None
         → GoesOn (LeavesBy C.begins C.picks choose.old) (objects_left beside contents) power registry.sets registry.areas (words_beside beside) fuse change.now (outcome_with answer contents)) }
     ensures fits { IfOk result (Fits beside) }

@@ -22,7 +22,6 @@
 //! | the saved contents | [`change_answer`] | `Formats`, `AreFormatted` of `specs/Work.antt` |
 //! | what `init` may come to | [`init_answer`] | `InitComes` of `specs/Init.antt` |
 //! | the commands that words say | [`create_in`], [`delete_in`], [`rename_in`] | `specs/Words.antt` |
-//! | the text of a refusal | `refusing_answer` | `refused_outcome` of `specs/Refusals.antt` |
 //!
 //! Laws say what that means for the map of namespaces (`map_of` of `specs/Maps.antt`), whoever makes the answer:
 //!
@@ -53,5 +52,4 @@ pub use laws::{
     accepted_is_apart, changes_keep_apart, crash_is_in_either, crash_leaves_others, crash_recovers,
     done_is_the_command, reports_show_the_map,
 };
-pub use refusals::refusal_text;
 pub use words::{create_in, delete_in, makes_sectors, rename_in};

@@ -4,3 +4,4 @@ pub mod Places
 pub mod Opened
 pub mod Causes
 pub mod Searched
+pub mod Unplaced

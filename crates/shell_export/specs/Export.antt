@@ -23,7 +23,7 @@ use Rattle.sector_namespaces.specs.View.{rows_of, view_words, opened_view}
 use Rattle.namespace_bytes.specs.Bad.{first_bad}
 use Rattle.shell_reports.specs.Outcome.{Outcome, printed}
 use Rattle.shell_reports.specs.List.{labels_in_set}
-use Rattle.shell_reports.specs.Faults.{find_refusal, refused_outcome}
+use Rattle.shell_reports.specs.Faults.{refusal_text, refused_outcome}
 use Rattle.shell_reports.specs.Sectors.{on_arenas, registry_fault, unless_fault}
 
 -- ---- the namespace
@@ -94,7 +94,7 @@ words_outcome uuid zeros mode words =
 -- continues with the namespace's words, or answers why it isn't found
 abbrev pub on_place : List ℕ → Bool → List (List Mapping) → List (List ℕ) → Result Found OpRefused → Outcome
 on_place uuid zeros sets contents (Ok found) = words_outcome uuid zeros found.mode (view_words (set_at sets found.region) found (rows_of contents))
-on_place uuid zeros sets contents (Err refusal) = refused_outcome (find_refusal refusal)
+on_place uuid zeros sets contents (Err refusal) = refused_outcome (refusal_text refusal)
 
 -- the outcome of `export` on a loaded set: first the table and the labels are checked, then the namespace is found, and then, if it is one
 -- of sectors, all of its arenas are opened and its bad sectors are looked for

@@ -34,7 +34,7 @@ use nvd_media::TextSink;
 use nvd_words::Items;
 use power_cut::SetWords;
 use sector_namespaces::open_sectors;
-use shell_reports::{Status, arena_answer, open_fault_answer, unfound_answer};
+use shell_reports::{Status, arena_answer, op_refused_answer, open_fault_answer};
 use std::alloc::{AllocError, Global};
 use uuid::Uuid;
 
@@ -186,7 +186,7 @@ fn named_answer<O: TextSink>(
             found_answer(alloc, set, &found, contents, uuid, zeros, text)
         }
         Err(refused) => {
-            let report = unfound_answer(alloc, refused)?;
+            let report = op_refused_answer(alloc, refused)?;
             Ok(print_report(&report, text))
         }
     }

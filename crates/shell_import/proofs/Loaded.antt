@@ -21,10 +21,10 @@ use Rattle.shell_reports.specs.Causes.{fault_in}
 use Rattle.shell_reports.specs.List.{labels_in_set, open_outcome}
 use Rattle.shell_reports.specs.Outcome.{Outcome}
 use Rattle.shell_reports.proofs.Arenas.{IsOpened, opened_is}
+use Rattle.shell_reports.proofs.Opened.{shown_all}
 use Rattle.shell_sectors.specs.Found.{IsOpenOn}
 use Rattle.shell_sectors.proofs.Loaded.{held, open_on}
 use Rattle.shell_export.specs.Export.{place_of}
-use Rattle.shell_export.proofs.Opened.{shown_all}
 use Rattle.shell_import.specs.Import.{ImportComes, OnPlace, place_in}
 use Rattle.shell_import.specs.Placed.{IsReadOn, IsUnplaced}
 

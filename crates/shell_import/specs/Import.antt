@@ -14,7 +14,7 @@ use Rattle.sector_namespaces.specs.View.{rows_of, view_words}
 use Rattle.shell_reports.specs.declared.status.Ending.TheVariants as ending
 use Rattle.shell_reports.specs.Causes.{fault_in, opened_in}
 use Rattle.shell_reports.specs.Cut.{done_text}
-use Rattle.shell_reports.specs.Faults.{find_refusal, refused_outcome}
+use Rattle.shell_reports.specs.Faults.{refusal_text, refused_outcome}
 use Rattle.shell_reports.specs.List.{labels_in_set, open_outcome}
 use Rattle.shell_reports.specs.Outcome.{Outcome}
 use Rattle.shell_sectors.specs.Found.{OnArenas, SavesNamespace}
@@ -47,7 +47,7 @@ OnMode false uuid bytes loaded outcome found = ImportsWords bytes loaded outcome
 
 abbrev pub OnPlace : List ℕ → List ℕ → ImageSet → Outcome → Result Found OpRefused → Type 0
 OnPlace uuid bytes loaded outcome (Ok found) = OnMode (is_sector found.mode) uuid bytes loaded outcome found
-OnPlace uuid bytes loaded outcome (Err refusal) = outcome ≡ refused_outcome (find_refusal refusal)
+OnPlace uuid bytes loaded outcome (Err refusal) = outcome ≡ refused_outcome (refusal_text refusal)
 
 -- What the command may come to: the table and the labels are checked, then the namespace is found, then all of its arenas are opened, if it is
 -- one of sectors, and then the length is compared.

@@ -12,7 +12,7 @@ use Rattle.namespace_ops.specs.Registered.{state_of}
 use Rattle.namespace_ops.specs.Opening.{sets_of}
 use Rattle.sector_namespaces.specs.View.{AreUsable, rows_of}
 use Rattle.shell_reports.specs.Causes.{fault_in}
-use Rattle.shell_reports.specs.Faults.{find_refusal, refused_outcome}
+use Rattle.shell_reports.specs.Faults.{refusal_text, refused_outcome}
 use Rattle.shell_reports.specs.List.{open_outcome}
 use Rattle.shell_reports.specs.Outcome.{Outcome}
 use Rattle.shell_reports.specs.Saved.{outcome_of}
@@ -51,7 +51,7 @@ pub record IsPlacedIn (loaded : ImageSet) (uuid : List ℕ) (set : FoundSet) : T
 abbrev pub IsUnplaced : ImageSet → List ℕ → Outcome → Type 0
 IsUnplaced loaded uuid outcome =
     ((fault : OpenFault) × (fault_in loaded ≡ Some fault) × (outcome ≡ open_outcome fault))
-    ⊎ ((fault_in loaded ≡ None) × ((refusal : OpRefused) × (place_in loaded uuid ≡ Err refusal) × (outcome ≡ refused_outcome (find_refusal refusal))))
+    ⊎ ((fault_in loaded ≡ None) × ((refusal : OpRefused) × (place_in loaded uuid ≡ Err refusal) × (outcome ≡ refused_outcome (refusal_text refusal))))
 
 abbrev pub FindsPlace : ImageSet → List ℕ → SetFound → Type 0
 FindsPlace loaded uuid (set_found.Found set) = IsPlacedIn loaded uuid set

@@ -10,7 +10,7 @@ use namespace_areas::open_areas;
 use namespace_ops::Registry;
 use nvd_words::Items;
 use shell_export::find_place;
-use shell_reports::{open_fault_answer, unfound_answer};
+use shell_reports::{op_refused_answer, open_fault_answer};
 use shell_sectors::{FoundSet, SetFound, Unchanged};
 use std::alloc::{AllocError, Global};
 use uuid::Uuid;
@@ -32,7 +32,7 @@ fn find_named(
             rest,
         })),
         Err(refused) => {
-            let report = unfound_answer(alloc, refused)?;
+            let report = op_refused_answer(alloc, refused)?;
             Ok(SetFound::Not(report))
         }
     }

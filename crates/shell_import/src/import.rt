@@ -12,7 +12,6 @@ ghost use Rattle.sector_namespaces.specs.Creation.{AreSettled};
 ghost use Rattle.sector_namespaces.specs.View.{IsUsable};
 ghost use Rattle.shell_changes.specs.Answers.{whole_outcome};
 ghost use Rattle.shell_changes.specs.Saved.{copies_contents};
-ghost use Rattle.shell_reports.specs.Cut.{done_text};
 ghost use Rattle.shell_reports.specs.Faults.{arena_outcome, refused_outcome};
 ghost use Rattle.shell_reports.specs.Saved.{outcome_of};
 ghost use Rattle.shell_sectors.specs.Write.{length_text};
@@ -30,7 +29,7 @@ use namespace_bytes::{ArenaAt, PlainWords, put_raw, put_sectors, read_arenas, si
 use power_cut::SetWords;
 use shell_changes::{Answer, without_set};
 use shell_export::is_sector;
-use shell_reports::{Ending, Report, arena_answer, refused_answer};
+use shell_reports::{Report, arena_answer, done_answer, refused_answer};
 use shell_sectors::{FoundSet, SetFound, saved_answer};
 use std::alloc::{AllocError, Global};
 use uuid::Uuid;
@@ -175,18 +174,6 @@ fn import_found(
     }
 }
 
-/// The answer of an import that is made.
-fn done_report(alloc: Global) -> Result<Report, AllocError>
-    ensures done { IfOk result (λ report. report.ending ≡ Ending.Done) }
-    ensures text { IfOk result (λ report. report.text.items ≡ done_text) }
-{
-    let text = Vec::from_slice(alloc, b"ok\n")?;
-    Ok(Report {
-        ending: Ending::Done,
-        text,
-    })
-}
-
 /// Imports into a namespace that was found, and answers with the changed set.
 fn found_answer(
     alloc: Global,
@@ -208,7 +195,7 @@ fn found_answer(
     let imported = import_found(alloc, region, &found, modules, uuid, bytes)?;
     match imported {
         Imported::Done(modules) => {
-            let report = done_report(alloc)?;
+            let report = done_answer(alloc)?;
             saved_answer(alloc, report, rest, modules)
         }
         Imported::Not(report) => Ok(without_set(report)),

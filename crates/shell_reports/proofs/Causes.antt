@@ -9,13 +9,13 @@ use Rattle.namespace_ops.specs.Opening.{sets_of}
 use Rattle.image_set.specs.Load.{ImageSet}
 use Rattle.shell_reports.specs.Outcome.{Outcome}
 use Rattle.shell_reports.specs.List.{open_outcome}
-use Rattle.shell_reports.specs.Faults.{arena_outcome, find_refusal, refused_outcome}
+use Rattle.shell_reports.specs.Faults.{arena_outcome, refusal_text, refused_outcome}
 use Rattle.shell_reports.specs.Sectors.{on_arenas, on_found, on_sectors, unless_fault}
 use Rattle.shell_reports.specs.Causes.{fault_in, found_in, opened_in}
 
 pub data SectorsCase (f : List ArenaState → Outcome) (loaded : ImageSet) (uuid : List ℕ) (o : Outcome) : Type 0 where
   faulty : (fault : OpenFault) → fault_in loaded ≡ Some fault → o ≡ open_outcome fault → SectorsCase f loaded uuid o
-  unfound : (refusal : OpRefused) → fault_in loaded ≡ None → found_in loaded uuid ≡ Err refusal → o ≡ refused_outcome (find_refusal refusal) → SectorsCase f loaded uuid o
+  unfound : (refusal : OpRefused) → fault_in loaded ≡ None → found_in loaded uuid ≡ Err refusal → o ≡ refused_outcome (refusal_text refusal) → SectorsCase f loaded uuid o
   broken : (found : Found) (fault : ChainRefused) → found_in loaded uuid ≡ Ok found → opened_in loaded uuid found ≡ Err fault → o ≡ arena_outcome uuid fault → SectorsCase f loaded uuid o
   opened : (found : Found) (states : List ArenaState) → fault_in loaded ≡ None → found_in loaded uuid ≡ Ok found → opened_in loaded uuid found ≡ Ok states → o ≡ f states → SectorsCase f loaded uuid o
 

@@ -5,4 +5,5 @@ pub mod Regions
 pub mod Listing
 pub mod Arenas
 pub mod Causes
-mod Opened
+pub mod Uncut
+pub mod Opened

@@ -19,7 +19,7 @@ use Rattle.namespace_areas.specs.Opening.{AreWhole, as_area, opened_as}
 use Rattle.shell_reports.specs.List.{shown_by}
 
 -- label areas of a set that was loaded
-are_whole : (labels : List (Option Words)) → All IsArea labels → AreWhole labels
+pub are_whole : (labels : List (Option Words)) → All IsArea labels → AreWhole labels
 are_whole labels all = λ k d lt. let it = all k d lt in record { sized = it.sized; kept = it.kept }
 
 pub held_opened : (labels : List (Option Words)) (areas : List Area) → areas ≡ map opened_as labels → All IsArea labels → AreHeld areas

@@ -15,7 +15,7 @@ use Rattle.arena_open.specs.declared.chain_refused.ChainRefused.{ChainRefused}
 use Rattle.namespace_map.specs.declared.refused.OpRefused.{OpRefused}
 use Rattle.namespace_map.specs.declared.refused.OpRefused.TheVariants as op
 use Rattle.shell_reports.specs.declared.status.Ending.TheVariants as ending
-use Rattle.shell_reports.specs.Outcome.{Outcome, image_fault, joined, lf}
+use Rattle.shell_reports.specs.Outcome.{Outcome, image_fault, joined, lf, no_text}
 use Rattle.shell_reports.specs.Texts.{uuid_text}
 
 -- ---- faults of an arena
@@ -42,20 +42,19 @@ flog_text lane flog.Padding = codes "Flog " ++ (decimal lane ++ codes " Padding"
 flog_text lane (flog.Sequences a b) = codes "Flog " ++ (decimal lane ++ (codes " Sequences " ++ (decimal a ++ (codes " " ++ decimal b))))
 flog_text lane (flog.Range value) = codes "Flog " ++ (decimal lane ++ (codes " Range " ++ decimal value))
 
--- out of memory isn't a finding and has no text
 abbrev pub block_text : BlockFault → List ℕ
 block_text (block.Range number) = codes "Block Range " ++ decimal number
 block_text (block.Twice number) = codes "Block Twice " ++ decimal number
 block_text (block.Count said had) = codes "Block Count " ++ (decimal said ++ (codes " " ++ decimal had))
-block_text block.OutOfMemory = []
+block_text block.OutOfMemory = no_text
 
--- the commands open arenas without a power cut, so it has no text
+-- power stays on as the commands open arenas, so a power cut never comes
 abbrev pub open_refused_text : OpenRefused → List ℕ
 open_refused_text (open_refused.Info fault) = info_text fault
 open_refused_text (open_refused.Flog lane fault) = flog_text lane fault
 open_refused_text (open_refused.Block fault) = block_text fault
 open_refused_text open_refused.PowerCut = codes "PowerCut"
-open_refused_text open_refused.OutOfMemory = []
+open_refused_text open_refused.OutOfMemory = no_text
 
 -- image arena UUID K FAULT
 abbrev pub arena_outcome : List ℕ → ChainRefused → Outcome
@@ -64,13 +63,23 @@ arena_outcome uuid fault =
 
 -- ---- refusals
 
+-- the refusal's name and its numbers
+abbrev pub refusal_text : OpRefused → List ℕ
+refusal_text op.NoSuch = codes "NoSuch"
+refusal_text op.Exists = codes "Exists"
+refusal_text (op.NoRegion region) = codes "NoRegion " ++ decimal region
+refusal_text (op.NoSpace wanted) = codes "NoSpace " ++ decimal wanted
+refusal_text (op.NoSlot number) = codes "NoSlot " ++ decimal number
+refusal_text (op.Busy claims) = codes "Busy " ++ decimal claims
+refusal_text op.NotComplete = codes "NotComplete"
+refusal_text op.NotSector = codes "NotSector"
+refusal_text (op.BadSize bytes) = codes "BadSize " ++ decimal bytes
+refusal_text (op.BadName bytes) = codes "BadName " ++ decimal bytes
+refusal_text (op.ModuleLabels number) = codes "ModuleLabels " ++ decimal number
+refusal_text (op.ReadOnlyLabel number) = codes "ReadOnlyLabel " ++ decimal number
+refusal_text op.PowerCut = no_text
+refusal_text op.OutOfMemory = no_text
+
 -- refused REFUSAL
 abbrev pub refused_outcome : List ℕ → Outcome
 refused_outcome refusal = record { ending = ending.Refused; text = joined (codes "refused " ∷ refusal ∷ lf ∷ []); saved = None }
-
--- why a namespace isn't found; there are no other reasons
-abbrev pub find_refusal : OpRefused → List ℕ
-find_refusal op.NoSuch = codes "NoSuch"
-find_refusal op.NotComplete = codes "NotComplete"
-find_refusal op.NotSector = codes "NotSector"
-find_refusal other = []

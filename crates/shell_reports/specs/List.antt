@@ -21,7 +21,7 @@ use Rattle.namespace_ops.specs.declared.registry.OpenFault.{OpenFault}
 use Rattle.namespace_ops.specs.declared.registry.OpenFault.TheVariants as fault
 use Rattle.namespace_ops.specs.Opening.{set_fault_from, sets_of, overlap_fault}
 use Rattle.image_set.specs.Load.{ImageSet}
-use Rattle.shell_reports.specs.Outcome.{Outcome, image_fault, printed, joined, lf}
+use Rattle.shell_reports.specs.Outcome.{Outcome, image_fault, printed, joined, lf, no_text}
 use Rattle.shell_reports.specs.Texts.{name_text, uuid_text, mode_text}
 use Rattle.shell_reports.specs.Nfit.{set_fault_text}
 
@@ -107,11 +107,11 @@ list_text (ns ∷ namespaces) = namespace_lines ns ++ list_text namespaces
 
 -- ---- the outcome of the command
 
--- why nothing is listed; out of memory isn't a finding and has no text
+-- why nothing is listed
 abbrev pub open_fault_text : OpenFault → List ℕ
 open_fault_text (fault.Set region f) = codes "region " ++ (decimal region ++ (codes " " ++ set_fault_text f))
 open_fault_text (fault.Overlap a b) = codes "labels Overlap " ++ (uuid_text a ++ (codes " " ++ uuid_text b))
-open_fault_text fault.OutOfMemory = []
+open_fault_text fault.OutOfMemory = no_text
 
 abbrev pub open_outcome : OpenFault → Outcome
 open_outcome f = image_fault (open_fault_text f ∷ lf ∷ [])

@@ -7,7 +7,7 @@ use Rattle.nfit_reader.specs.declared.table.NfitFault.{NfitFault}
 use Rattle.nfit_reader.specs.declared.table.NfitFault.TheVariants as nfit
 use Rattle.image_set.specs.declared.fault.LoadFault.{LoadFault}
 use Rattle.image_set.specs.declared.fault.LoadFault.TheVariants as fault
-use Rattle.shell_reports.specs.Outcome.{Outcome, image_fault, lf}
+use Rattle.shell_reports.specs.Outcome.{Outcome, image_fault, lf, no_text}
 
 -- the name of an object
 abbrev pub object_text : Object → List ℕ
@@ -17,7 +17,7 @@ object_text (object.Labels m) = codes "labels " ++ decimal m
 object_text (object.Contents m) = codes "contents " ++ decimal m
 object_text (object.BadRanges m) = codes "badranges " ++ decimal m
 
--- the fault of a firmware table; out of memory isn't a finding and has no text
+-- the fault of a firmware table
 abbrev pub nfit_fault_text : NfitFault → List ℕ
 nfit_fault_text nfit.Signature = codes "Signature"
 nfit_fault_text (nfit.Length said had) = codes "Length " ++ (decimal said ++ (codes " " ++ decimal had))
@@ -27,15 +27,15 @@ nfit_fault_text (nfit.TwiceIndex kind index) = codes "TwiceIndex " ++ (decimal k
 nfit_fault_text (nfit.MissingIndex kind index) = codes "MissingIndex " ++ (decimal kind ++ (codes " " ++ decimal index))
 nfit_fault_text (nfit.TooLarge modules) = codes "TooLarge " ++ decimal modules
 nfit_fault_text (nfit.Alias «module» a b) = codes "Alias " ++ (decimal «module» ++ (codes " " ++ (decimal a ++ (codes " " ++ decimal b))))
-nfit_fault_text nfit.OutOfMemory = []
+nfit_fault_text nfit.OutOfMemory = no_text
 
--- why an image set isn't loaded; read faults and out of memory aren't findings and have no text
+-- why an image set isn't loaded
 abbrev pub load_fault_text : LoadFault → List ℕ
 load_fault_text (fault.Missing object) = object_text object ++ codes " Missing"
 load_fault_text (fault.Size object bytes) = object_text object ++ (codes " Size " ++ decimal bytes)
 load_fault_text (fault.Nfit table) = codes "nfit " ++ nfit_fault_text table
-load_fault_text fault.ReadFault = []
-load_fault_text fault.OutOfMemory = []
+load_fault_text fault.ReadFault = no_text
+load_fault_text fault.OutOfMemory = no_text
 
 -- the outcome for a set that isn't loaded
 abbrev pub load_outcome : LoadFault → Outcome

@@ -11,7 +11,7 @@ use Rattle.interleave.specs.declared.set.SetFault.TheVariants.{Ways, Twice, Offs
 use Rattle.interleave.specs.Places.{cookie_of, unit_of}
 use Rattle.interleave.specs.Sets.{set_reading}
 use Rattle.image_set.specs.Load.{ImageSet}
-use Rattle.shell_reports.specs.Outcome.{Outcome, printed, joined, lf}
+use Rattle.shell_reports.specs.Outcome.{Outcome, printed, joined, lf, no_text}
 
 -- module M handle H
 abbrev pub module_line : ℕ → ℕ → List ℕ
@@ -22,7 +22,7 @@ abbrev pub module_lines : ℕ → List ℕ → List ℕ
 module_lines number [] = []
 module_lines number (handle ∷ handles) = module_line number handle ++ module_lines (number + 1) handles
 
--- why a region isn't an interleave set; out of memory isn't a finding and has no text
+-- why a region isn't an interleave set
 abbrev pub set_fault_text : SetFault → List ℕ
 set_fault_text (Ways said had) = codes "Ways " ++ (decimal said ++ (codes " " ++ decimal had))
 set_fault_text (Twice «module») = codes "Twice " ++ decimal «module»
@@ -31,7 +31,7 @@ set_fault_text (Line «module») = codes "Line " ++ decimal «module»
 set_fault_text (Share bytes) = codes "Share " ++ decimal bytes
 set_fault_text (Size said had) = codes "Size " ++ (decimal said ++ (codes " " ++ decimal had))
 set_fault_text (Cover line) = codes "Cover " ++ decimal line
-set_fault_text OutOfMemory = []
+set_fault_text OutOfMemory = no_text
 
 -- a space and a module's number for each mapping
 abbrev pub members_text : List Mapping → List ℕ

@@ -21,6 +21,11 @@ joined (piece ∷ pieces) = piece ++ joined pieces
 abbrev pub lf : List ℕ
 lf = 10 ∷ []
 
+-- Stands for the text of a fault that is never printed. The function that makes the text of a fault fails there as memory does (clause
+-- `finding`), or requires that it isn't that fault.
+abbrev pub no_text : List ℕ
+no_text = []
+
 -- the words aren't a command line
 abbrev pub usage : Outcome
 usage = record { ending = ending.Usage; text = codes "usage" ++ lf; saved = None }

@@ -25,7 +25,7 @@ use Rattle.image_set.specs.Load.{ImageSet}
 use Rattle.sector_namespaces.specs.View.{rows_of, view_words, opened_view}
 use Rattle.shell_reports.specs.Outcome.{Outcome, printed, joined, lf}
 use Rattle.shell_reports.specs.List.{labels_in_set, open_outcome}
-use Rattle.shell_reports.specs.Faults.{arena_outcome, find_refusal, refused_outcome}
+use Rattle.shell_reports.specs.Faults.{arena_outcome, refusal_text, refused_outcome}
 
 -- ---- opening a namespace
 
@@ -41,7 +41,7 @@ on_arenas uuid f (Err fault) = arena_outcome uuid fault
 -- continues with the namespace, or answers why it isn't found
 abbrev pub on_found : List ℕ → (List ArenaState → Outcome) → List (List Mapping) → List (List ℕ) → Result Found OpRefused → Outcome
 on_found uuid f sets contents (Ok found) = on_arenas uuid f (opened_view (view_words (set_at sets found.region) found (rows_of contents)) uuid)
-on_found uuid f sets contents (Err refusal) = refused_outcome (find_refusal refusal)
+on_found uuid f sets contents (Err refusal) = refused_outcome (refusal_text refusal)
 
 abbrev pub unless_fault : Option OpenFault → Outcome → Outcome
 unless_fault (Some fault) outcome = open_outcome fault

@@ -42,9 +42,9 @@
 //!
 //! Both share the definition `on_sectors` of `specs/Sectors.antt`: the order of faults and
 //! refusals, up to the arenas. `info_outcome` and `read_outcome` add what each command does with
-//! the arenas. `specs/Faults.antt` has the texts for an arena that violates the format. Pending
-//! moves are completed only in memory, and no image set is written. All are this project's rules
-//! over UEFI 2.10, chapter 6.
+//! the arenas. `specs/Faults.antt` has the texts for an arena that violates the format, and those of
+//! all refusals of commands on namespaces (`refusal_text`). Pending moves are completed only in
+//! memory, and no image set is written. All are this project's rules over UEFI 2.10, chapter 6.
 #![tactic(auto)]
 
 mod info;
@@ -56,6 +56,7 @@ mod opening;
 mod outcome;
 mod power;
 mod read;
+mod refusals;
 mod sector_faults;
 mod status;
 mod texts;
@@ -65,9 +66,10 @@ pub use labels::{fault_answer, labels_answer, missing_answer};
 pub use list::{list_answer, open_fault_answer};
 pub use load_faults::load_answer;
 pub use nfit::{nfit_answer, set_fault_text};
-pub use outcome::{Report, image_answer, printed_answer, usage_answer};
+pub use outcome::{Report, done_answer, image_answer, printed_answer, usage_answer};
 pub use power::{Power, cut_line, fuse_of};
 pub use read::read_answer;
-pub use sector_faults::{arena_answer, refused_answer, unfound_answer};
+pub use refusals::{op_refused_answer, refusal_text, refused_answer};
+pub use sector_faults::arena_answer;
 pub use status::{Ending, RunStop, Status};
 pub use texts::{label_fault_text, mode_text, name_text};

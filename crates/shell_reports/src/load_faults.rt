@@ -66,26 +66,27 @@ fn table_text(alloc: Global, fault: NfitFault) -> Result<String, AllocError>
     format!(in alloc; "nfit {}", fault)
 }
 
-/// Returns the text of why an image set isn't loaded. Read faults and out of memory have no text.
+/// Returns the text of why an image set isn't loaded. Out of memory isn't a finding.
 fn load_fault_text(alloc: Global, fault: LoadFault) -> Result<String, AllocError>
+    requires { fault ≢ LoadFault.ReadFault }
     ensures text { IfOk result (λ text. string_bytes text ≡ load_fault_text fault) }
-    ensures source { IfOk result (λ _. fault ≢ LoadFault.ReadFault) }
-    ensures memory { IfOk result (λ _. fault ≢ LoadFault.OutOfMemory) }
+    ensures finding { IfOk result (λ _. fault ≢ LoadFault.OutOfMemory) }
 {
     match fault {
         LoadFault::Missing { object } => missing_text(alloc, object),
         LoadFault::Size { object, bytes } => size_text(alloc, object, bytes),
         LoadFault::Nfit(fault) => table_text(alloc, fault),
-        LoadFault::ReadFault => Err(AllocError),
+        LoadFault::ReadFault => unreachable!(),
         LoadFault::OutOfMemory => Err(AllocError),
     }
 }
 
-/// Answers on an image set that isn't loaded because of a fault of its objects.
+/// Answers on an image set that isn't loaded because of a fault of its objects. The source didn't fail. Out of memory isn't
+/// a finding.
 pub fn load_answer(alloc: Global, fault: LoadFault) -> Result<Report, AllocError>
+    requires { fault ≢ LoadFault.ReadFault }
     ensures text { IfOk result (λ answer. outcome_of answer ≡ load_outcome fault) }
-    ensures source { IfOk result (λ _. fault ≢ LoadFault.ReadFault) }
-    ensures memory { IfOk result (λ _. fault ≢ LoadFault.OutOfMemory) }
+    ensures finding { IfOk result (λ _. fault ≢ LoadFault.OutOfMemory) }
 {
     let fault = load_fault_text(alloc, fault)?;
     Ok(image_answer(format!(in alloc; "image {}\n", fault)?))

@@ -14,8 +14,7 @@ ghost use Rattle.shell_reports.specs.Sectors.{on_arenas, on_found, on_sectors};
 
 use crate::info::lines_answer;
 use crate::read::sector_answer;
-use crate::sector_faults::{arena_answer, unfound_answer};
-use crate::{Report, open_fault_answer};
+use crate::{Report, arena_answer, op_refused_answer, open_fault_answer};
 use arena_open::ReadChain;
 use cut_words::{CutWords, WordSpace};
 use image_set::Loaded;
@@ -90,7 +89,7 @@ fn named_answer(
             let set = registry.set(found.region);
             found_answer(alloc, set, &found, contents, uuid, ask)
         }
-        Err(refused) => unfound_answer(alloc, refused),
+        Err(refused) => op_refused_answer(alloc, refused),
     }
 }
 

@@ -1,5 +1,6 @@
 //! The answer of a command that saves nothing.
 ghost use Rattle.std.specs.Prelude.{◌≡◌, IfOk, None, string_bytes};
+ghost use Rattle.shell_reports.specs.Cut.{done_text};
 ghost use Rattle.shell_reports.specs.Outcome.{printed, usage};
 ghost use Rattle.shell_reports.specs.Saved.{outcome_of};
 
@@ -41,4 +42,16 @@ pub fn printed_answer(text: Vec<u8>) -> Report
         ending: Ending::Done,
         text,
     }
+}
+
+/// The answer of a command that changed the set.
+pub fn done_answer(alloc: Global) -> Result<Report, AllocError>
+    ensures done { IfOk result (λ answer. answer.ending ≡ Ending.Done) }
+    ensures text { IfOk result (λ answer. answer.text.items ≡ done_text) }
+{
+    let text = Vec::from_slice(alloc, b"ok\n")?;
+    Ok(Report {
+        ending: Ending::Done,
+        text,
+    })
 }

@@ -11,7 +11,7 @@ ghost use Rattle.shell_reports.specs.Saved.{outcome_of};
 ghost use Rattle.shell_reports.specs.Sectors.{cell_text, is_fill, read_outcome, sector_outcome, value_text};
 
 use crate::opening::{Ask, set_answer};
-use crate::sector_faults::refused_answer;
+use crate::refusals::refused_answer;
 use crate::{Report, printed_answer};
 use arena_open::{CellKind, ReadChain};
 use cut_words::WordSpace;

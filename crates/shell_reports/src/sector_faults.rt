@@ -1,15 +1,14 @@
-//! The texts of why an arena isn't opened, and why a namespace isn't found.
+//! The texts of why an arena isn't opened.
 ghost use Rattle.std.specs.Prelude.{◌≡◌, ◌≢◌, ◌∷◌, [], IfOk, None, codes, string_bytes};
 ghost use Rattle.shell_reports.specs.Outcome.{joined, lf};
 ghost use Rattle.shell_reports.specs.Saved.{outcome_of};
-ghost use Rattle.shell_reports.specs.Faults.{arena_outcome, block_text, field_text, find_refusal, flog_text, info_text, open_refused_text, refused_outcome};
+ghost use Rattle.shell_reports.specs.Faults.{arena_outcome, block_text, field_text, flog_text, info_text, open_refused_text};
 
-use crate::{Ending, Report, image_answer};
+use crate::{Report, image_answer};
 use arena_layout::{InfoFault, LayoutField};
 use arena_open::{ChainRefused, OpenRefused};
 use flog::FlogFault;
 use map_table::BlockFault;
-use namespace_map::OpRefused;
 use std::alloc::{AllocError, Global};
 use uuid::Uuid;
 
@@ -57,7 +56,8 @@ fn flog_text(alloc: Global, lane: u32, fault: FlogFault) -> Result<String, Alloc
 
 /// Returns the text of a fault of the blocks. Out of memory isn't a finding.
 fn block_text(alloc: Global, fault: BlockFault) -> Result<String, AllocError>
-    ensures { IfOk result (λ text. string_bytes text ≡ block_text fault) }
+    ensures text { IfOk result (λ text. string_bytes text ≡ block_text fault) }
+    ensures finding { IfOk result (λ _. fault ≢ BlockFault.OutOfMemory) }
 {
     match fault {
         BlockFault::Range { block } => format!(in alloc; "Block Range {}", block),
@@ -88,34 +88,4 @@ pub fn arena_answer(alloc: Global, uuid: &Uuid, refused: ChainRefused) -> Result
 {
     let fault = open_refused_text(alloc, refused.fault)?;
     Ok(image_answer(format!(in alloc; "image arena {} {} {}\n", uuid, refused.arena, fault)?))
-}
-
-/// Why a namespace isn't found.
-fn find_refusal(refused: OpRefused) -> &'static str
-    ensures { result.now ≡ find_refusal refused }
-{
-    match refused {
-        OpRefused::NoSuch => "NoSuch",
-        OpRefused::NotComplete => "NotComplete",
-        OpRefused::NotSector => "NotSector",
-        _ => "",
-    }
-}
-
-/// The answer of a command that is refused.
-pub fn refused_answer(alloc: Global, refusal: &str) -> Result<Report, AllocError>
-    ensures { IfOk result (λ answer. outcome_of answer ≡ refused_outcome refusal.now) }
-{
-    let text = format!(in alloc; "refused {}\n", refusal)?;
-    Ok(Report {
-        ending: Ending::Refused,
-        text: text.into_bytes(),
-    })
-}
-
-/// The answer on a namespace that isn't found.
-pub fn unfound_answer(alloc: Global, refused: OpRefused) -> Result<Report, AllocError>
-    ensures { IfOk result (λ answer. outcome_of answer ≡ refused_outcome (find_refusal refused)) }
-{
-    refused_answer(alloc, find_refusal(refused))
 }

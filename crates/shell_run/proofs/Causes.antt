@@ -28,7 +28,6 @@ use Rattle.namespace_map.specs.declared.commands.Command.{Command}
 use Rattle.namespace_map.specs.declared.refused.OpRefused.{OpRefused}
 use Rattle.namespace_map.specs.Areas.{Area}
 use Rattle.shell_changes.specs.Areas.{areas_in}
-use Rattle.shell_changes.specs.Refusals.{refused_outcome}
 use Rattle.shell_changes.specs.Namespaces as changes
 use Rattle.shell_changes.specs.Namespaces.{sets_in, refusal_in, refuses_by, work_in}
 use Rattle.shell_changes.specs.Work.{steps_of_work}
@@ -41,7 +40,7 @@ use Rattle.arena_open.specs.declared.chain_refused.ChainRefused.{ChainRefused}
 use Rattle.arena_open.specs.declared.state.ArenaState.{ArenaState}
 use Rattle.arena_open.specs.ChainCells.{sectors_of}
 use Rattle.namespace_areas.specs.declared.found.Found.{Found}
-use Rattle.shell_reports.specs.Faults.{arena_outcome, find_refusal, refused_outcome as sector_refusal}
+use Rattle.shell_reports.specs.Faults.{arena_outcome, refusal_text, refused_outcome}
 use Rattle.shell_reports.specs.Sectors.{arena_lines, sector_outcome}
 use Rattle.shell_reports.specs.Causes.{breaks, fault_in, found_in, is_broken, is_unfound, lacks, lacks_found, opened_in}
 use Rattle.shell_reports.proofs.Causes.{SectorsCase, faulty, unfound, broken, opened, sectors_case}
@@ -169,7 +168,7 @@ module _ (leaves : ℕ → List (Option Words) → List (Option (List ℕ)) → 
   whole_case sets are None none long ends =
       is_done (ap (λ r. is_err r) are) long (ap (refuses_by seen c) are ∙ ap (λ (o : Option OpRefused). is_some o) none) (ends.saves.ends)
   whole_case sets are (Some f) some long ends =
-      is_turned_down (ap (λ r. is_err r) are) long (ap (refuses_by seen c) are ∙ ap (λ (o : Option OpRefused). is_some o) some) (ending_of outcome (refused_outcome f) ends)
+      is_turned_down (ap (λ r. is_err r) are) long (ap (refuses_by seen c) are ∙ ap (λ (o : Option OpRefused). is_some o) some) (ending_of outcome (refused_outcome (refusal_text f)) ends)
 
   lasting_case : (sets : List (List Mapping)) → sets_in loaded ≡ Ok sets → (b : Bool) → lasts power.steps (steps_of_work seen (work_in sets seen c)) ≡ b
       → MatchBool b (changes.Ends loaded seen (work_in sets seen c) (refusal_in sets seen c) outcome) (changes.IsPowerCut leaves loaded seen (work_in sets seen c) power outcome)
@@ -207,7 +206,7 @@ module _ (uuid : List ℕ) (loaded : ImageSet) where
 info_case : (uuid : List ℕ) (loaded : ImageSet) (outcome : Outcome) → SectorsCase (λ states. printed (arena_lines 0 states)) loaded uuid outcome → CommandCase (Info uuid) (Ok loaded) outcome.ending
 info_case uuid loaded outcome (faulty fault is e) = is_refused (table_broken uuid loaded fault is) (ending_of outcome (open_outcome fault) e)
 info_case uuid loaded outcome (unfound refusal none is e) =
-    is_turned_down (unfound_reads uuid loaded refusal none is) refl (ap is_unfound is) (ending_of outcome (sector_refusal (find_refusal refusal)) e)
+    is_turned_down (unfound_reads uuid loaded refusal none is) refl (ap is_unfound is) (ending_of outcome (refused_outcome (refusal_text refusal)) e)
 info_case uuid loaded outcome (broken found fault is read e) = is_refused (arena_broken uuid loaded found fault is read) (ending_of outcome (arena_outcome uuid fault) e)
 info_case uuid loaded outcome (opened found states none is read e) =
     is_done (opened_reads uuid loaded found states none is read) refl (ap is_unfound is) (ending_of outcome (printed (arena_lines 0 states)) e)
@@ -224,7 +223,7 @@ sector_case uuid sector loaded outcome found states readable is read e false pas
 read_case : (uuid : List ℕ) (sector : ℕ) (loaded : ImageSet) (outcome : Outcome) → SectorsCase (sector_outcome sector) loaded uuid outcome → CommandCase (Read uuid sector) (Ok loaded) outcome.ending
 read_case uuid sector loaded outcome (faulty fault is e) = is_refused (table_broken uuid loaded fault is) (ending_of outcome (open_outcome fault) e)
 read_case uuid sector loaded outcome (unfound refusal none is e) =
-    is_turned_down (unfound_reads uuid loaded refusal none is) refl (ap (lacks_found loaded uuid sector) is) (ending_of outcome (sector_refusal (find_refusal refusal)) e)
+    is_turned_down (unfound_reads uuid loaded refusal none is) refl (ap (lacks_found loaded uuid sector) is) (ending_of outcome (refused_outcome (refusal_text refusal)) e)
 read_case uuid sector loaded outcome (broken found fault is read e) = is_refused (arena_broken uuid loaded found fault is read) (ending_of outcome (arena_outcome uuid fault) e)
 read_case uuid sector loaded outcome (opened found states none is read e) =
     sector_case uuid sector loaded outcome found states (opened_reads uuid loaded found states none is read) is read e (nat_lt sector (sectors_of states)) refl
@@ -232,18 +231,18 @@ read_case uuid sector loaded outcome (opened found states none is read e) =
 -- the arenas take the value at the sector, or they don't
 taken_case : (uuid : List ℕ) (sector : ℕ) (value : Payload) (loaded : ImageSet) (outcome : Outcome) (found : Found) (states : List ArenaState) → is_broken loaded uuid ≡ false → found_in loaded uuid ≡ Ok found
     → opened_in loaded uuid found ≡ Ok states → (o : Option (List ℕ)) → write_refusal sector value states ≡ o
-    → MatchOption o (Writes found uuid sector value loaded states outcome) (λ refusal. outcome ≡ sector_refusal refusal) → CommandCase (Write uuid sector value) (Ok loaded) outcome.ending
+    → MatchOption o (Writes found uuid sector value loaded states outcome) (λ refusal. outcome ≡ refused_outcome refusal) → CommandCase (Write uuid sector value) (Ok loaded) outcome.ending
 taken_case uuid sector value loaded outcome found states readable is read None none writes =
     is_done readable refl (ap (bars_found loaded uuid sector value) is ∙ ap (bars sector value) read ∙ ap (λ (o : Option (List ℕ)). is_some o) none) writes.saves.ends
 taken_case uuid sector value loaded outcome found states readable is read (Some refusal) some said =
     is_turned_down readable refl (ap (bars_found loaded uuid sector value) is ∙ ap (bars sector value) read ∙ ap (λ (o : Option (List ℕ)). is_some o) some)
-    (ending_of outcome (sector_refusal refusal) said)
+    (ending_of outcome (refused_outcome refusal) said)
 
 write_case : (uuid : List ℕ) (sector : ℕ) (value : Payload) (loaded : ImageSet) (outcome : Outcome) → SetCase (WritesArenas uuid sector value loaded outcome) loaded uuid outcome
     → CommandCase (Write uuid sector value) (Ok loaded) outcome.ending
 write_case uuid sector value loaded outcome (set_faulty fault is e) = is_refused (table_broken uuid loaded fault is) (ending_of outcome (open_outcome fault) e)
 write_case uuid sector value loaded outcome (set_unfound refusal none is e) =
-    is_turned_down (unfound_reads uuid loaded refusal none is) refl (ap (bars_found loaded uuid sector value) is) (ending_of outcome (sector_refusal (find_refusal refusal)) e)
+    is_turned_down (unfound_reads uuid loaded refusal none is) refl (ap (bars_found loaded uuid sector value) is) (ending_of outcome (refused_outcome (refusal_text refusal)) e)
 write_case uuid sector value loaded outcome (set_broken found fault is read e) =
     is_refused (arena_broken uuid loaded found fault is read) (ending_of outcome (arena_outcome uuid fault) e)
 write_case uuid sector value loaded outcome (set_opened found states none is read on) =
@@ -253,16 +252,16 @@ write_case uuid sector value loaded outcome (set_opened found states none is rea
 one_case : (leaves : ℕ → List (Option Words) → List (Option (List ℕ)) → Type 0) (uuid : List ℕ) (seed : ℕ) (schedule : Schedule) (loaded : ImageSet) (outcome : Outcome) (found : Found) (states : List ArenaState) → is_broken loaded uuid ≡ false
     → found_in loaded uuid ≡ Ok found → opened_in loaded uuid found ≡ Ok states → ReplaysArenas leaves uuid schedule loaded outcome found states → CommandCase (Replay uuid seed) (Ok loaded) outcome.ending
 one_case leaves uuid seed schedule loaded outcome found [] readable is read said =
-    is_turned_down readable refl (ap (others_found loaded uuid) is ∙ ap has_others read) (ending_of outcome (sector_refusal (arenas_refusal 0)) said)
+    is_turned_down readable refl (ap (others_found loaded uuid) is ∙ ap has_others read) (ending_of outcome (refused_outcome (arenas_refusal 0)) said)
 one_case leaves uuid seed schedule loaded outcome found (state ∷ []) readable is read saved = is_done readable refl (ap (others_found loaded uuid) is ∙ ap has_others read) saved.saves.ends
 one_case leaves uuid seed schedule loaded outcome found (state ∷ next ∷ states) readable is read said =
-    is_turned_down readable refl (ap (others_found loaded uuid) is ∙ ap has_others read) (ending_of outcome (sector_refusal (arenas_refusal (length (state ∷ next ∷ states)))) said)
+    is_turned_down readable refl (ap (others_found loaded uuid) is ∙ ap has_others read) (ending_of outcome (refused_outcome (arenas_refusal (length (state ∷ next ∷ states)))) said)
 
 replay_case : (leaves : ℕ → List (Option Words) → List (Option (List ℕ)) → Type 0) (uuid : List ℕ) (seed : ℕ) (schedule : Schedule) (loaded : ImageSet) (outcome : Outcome)
     → SetCase (ReplaysArenas leaves uuid schedule loaded outcome) loaded uuid outcome → CommandCase (Replay uuid seed) (Ok loaded) outcome.ending
 replay_case leaves uuid seed schedule loaded outcome (set_faulty fault is e) = is_refused (table_broken uuid loaded fault is) (ending_of outcome (open_outcome fault) e)
 replay_case leaves uuid seed schedule loaded outcome (set_unfound refusal none is e) =
-    is_turned_down (unfound_reads uuid loaded refusal none is) refl (ap (others_found loaded uuid) is) (ending_of outcome (sector_refusal (find_refusal refusal)) e)
+    is_turned_down (unfound_reads uuid loaded refusal none is) refl (ap (others_found loaded uuid) is) (ending_of outcome (refused_outcome (refusal_text refusal)) e)
 replay_case leaves uuid seed schedule loaded outcome (set_broken found fault is read e) =
     is_refused (arena_broken uuid loaded found fault is read) (ending_of outcome (arena_outcome uuid fault) e)
 replay_case leaves uuid seed schedule loaded outcome (set_opened found states none is read on) =

@@ -319,10 +319,10 @@ pub reported_is : {E : Type 0} (r : Result Report E) (due outcome : Outcome) →
 reported_is {E} r due outcome says (report, is, same) = same ∙ subst (λ (x : Result Report E). IfOk x (λ report. outcome_of report ≡ due)) is says
 
 -- and that for a set that isn't loaded
-pub reported_unloaded : {E : Type 0} (r : Result Report E) (fault : LoadFault) (outcome : Outcome) → IfOk r (λ report. outcome_of report ≡ load_outcome fault) → IfOk r (λ _. fault ≢ ReadFault)
+pub reported_unloaded : {E : Type 0} (r : Result Report E) (fault : LoadFault) (outcome : Outcome) → IfOk r (λ report. outcome_of report ≡ load_outcome fault) → fault ≢ ReadFault
     → IfOk r (λ _. fault ≢ OutOfMemory) → IsReported r outcome → IsUnloaded fault outcome
 reported_unloaded {E} r fault outcome says read memory (report, is, same) = (
-  subst (λ (x : Result Report E). IfOk x (λ _. fault ≢ ReadFault)) is read,
+  read,
   subst (λ (x : Result Report E). IfOk x (λ _. fault ≢ OutOfMemory)) is memory,
   reported_is r (load_outcome fault) outcome says (report, is, same),
 )

@@ -8,7 +8,7 @@ use Rattle.session_script.specs.declared.fault.ScriptFault.TheVariants as fault
 use Rattle.session_script.specs.declared.fault.ScriptLimit.{ScriptLimit}
 use Rattle.session_script.specs.declared.fault.ScriptLimit.TheVariants as limit
 use Rattle.shell_reports.specs.declared.status.Ending.TheVariants as ending
-use Rattle.shell_reports.specs.Outcome.{Outcome, joined, lf}
+use Rattle.shell_reports.specs.Outcome.{Outcome, joined, lf, no_text}
 use Rattle.shell_run.specs.declared.scripts.ScriptRefused.{ScriptRefused}
 use Rattle.shell_run.specs.declared.scripts.ScriptRefused.TheVariants as refused
 
@@ -50,12 +50,11 @@ limit_text limit.Sessions = codes "Sessions"
 limit_text limit.Calls = codes "Calls"
 limit_text limit.Bytes = codes "Bytes"
 
--- out of memory isn't a finding and has no text
 abbrev pub refused_text : ScriptRefused → List ℕ
 refused_text (refused.TooLong most) = joined (codes "script TooLong " ∷ decimal most ∷ lf ∷ [])
 refused_text (refused.Fault (fault.Line number kind)) = joined (codes "script Line " ∷ decimal number ∷ codes " " ∷ kind_text kind ∷ lf ∷ [])
 refused_text (refused.Fault (fault.TooMany what)) = joined (codes "script TooMany " ∷ limit_text what ∷ lf ∷ [])
-refused_text (refused.Fault fault.OutOfMemory) = []
+refused_text (refused.Fault fault.OutOfMemory) = no_text
 
 -- the outcome for a script that isn't taken
 abbrev pub script_outcome : ScriptRefused → Outcome

@@ -170,9 +170,10 @@ fn limit_text(what: ScriptLimit) -> &'static str
     }
 }
 
-/// Returns the line for a script that isn't taken.
+/// Returns the line for a script that isn't taken. Out of memory isn't a finding.
 fn refused_text(alloc: Global, why: ScriptRefused) -> Result<String, AllocError>
-    ensures { IfOk result (λ text. string_bytes text ≡ refused_text why) }
+    ensures text { IfOk result (λ text. string_bytes text ≡ refused_text why) }
+    ensures finding { IfOk result (λ _. why ≢ ScriptRefused.Fault ScriptFault.OutOfMemory) }
 {
     match why {
         ScriptRefused::TooLong { most } => format!(in alloc; "script TooLong {}\n", most),
@@ -182,13 +183,14 @@ fn refused_text(alloc: Global, why: ScriptRefused) -> Result<String, AllocError>
         ScriptRefused::Fault(ScriptFault::TooMany { what }) => {
             format!(in alloc; "script TooMany {}\n", limit_text(what))
         }
-        ScriptRefused::Fault(ScriptFault::OutOfMemory) => Ok(String::new(alloc)),
+        ScriptRefused::Fault(ScriptFault::OutOfMemory) => Err(AllocError),
     }
 }
 
-/// The answer to a script that isn't taken.
+/// The answer to a script that isn't taken. Out of memory isn't a finding.
 pub(crate) fn script_answer(alloc: Global, why: ScriptRefused) -> Result<Report, AllocError>
-    ensures { IfOk result (λ answer. outcome_of answer ≡ script_outcome why) }
+    ensures text { IfOk result (λ answer. outcome_of answer ≡ script_outcome why) }
+    ensures finding { IfOk result (λ _. why ≢ ScriptRefused.Fault ScriptFault.OutOfMemory) }
 {
     let text = refused_text(alloc, why)?;
     Ok(Report {

@@ -9,13 +9,13 @@ use Rattle.namespace_ops.specs.declared.registry.OpenFault.{OpenFault}
 use Rattle.image_set.specs.Load.{ImageSet}
 use Rattle.shell_reports.specs.Outcome.{Outcome}
 use Rattle.shell_reports.specs.List.{open_outcome}
-use Rattle.shell_reports.specs.Faults.{arena_outcome, find_refusal, refused_outcome}
+use Rattle.shell_reports.specs.Faults.{arena_outcome, refusal_text, refused_outcome}
 use Rattle.shell_reports.specs.Causes.{fault_in, found_in, opened_in}
 use Rattle.shell_sectors.specs.Found.{OnArenas, OnFound, OnSet}
 
 pub data SetCase (on : Found → List ArenaState → Type 0) (loaded : ImageSet) (uuid : List ℕ) (o : Outcome) : Type 0 where
   set_faulty : (fault : OpenFault) → fault_in loaded ≡ Some fault → o ≡ open_outcome fault → SetCase on loaded uuid o
-  set_unfound : (refusal : OpRefused) → fault_in loaded ≡ None → found_in loaded uuid ≡ Err refusal → o ≡ refused_outcome (find_refusal refusal) → SetCase on loaded uuid o
+  set_unfound : (refusal : OpRefused) → fault_in loaded ≡ None → found_in loaded uuid ≡ Err refusal → o ≡ refused_outcome (refusal_text refusal) → SetCase on loaded uuid o
   set_broken : (found : Found) (fault : ChainRefused) → found_in loaded uuid ≡ Ok found → opened_in loaded uuid found ≡ Err fault → o ≡ arena_outcome uuid fault → SetCase on loaded uuid o
   set_opened : (found : Found) (states : List ArenaState) → fault_in loaded ≡ None → found_in loaded uuid ≡ Ok found → opened_in loaded uuid found ≡ Ok states → on found states → SetCase on loaded uuid o
 

@@ -1,25 +1,17 @@
 -- From a loaded set to one whose labels are read.
-use Rattle.std.proofs.Common.{◌≡◌, ℕ, List, [], ◌∷◌, length, map, Option, Some, None, Result, Ok, Err, refl, sym, ap, ◌∙◌, subst, arith}
+use Rattle.std.proofs.Common.{◌≡◌, ℕ, List, length, map, Option, Some, None, Ok, Err, refl, sym, ap, ◌∙◌, subst, arith}
 use Rattle.std.specs.Option.{option_map}
-use Rattle.std.specs.Result.{result_ok}
-use Rattle.std.specs.List.{All}
-use Rattle.cut_words.specs.Words.{Words}
-use Rattle.cut_words.specs.WordBytes.{bytes_of}
-use Rattle.label_index.specs.declared.index.IndexBlock.{IndexBlock}
-use Rattle.label_area.specs.declared.fault.AreaFault.{AreaFault}
-use Rattle.label_area.specs.Area.{block_in, labels_in, slots_with}
-use Rattle.label_area.specs.Opened.{opened_by}
 use Rattle.nfit_reader.specs.declared.table.Mapping.{Mapping}
 use Rattle.label_set.specs.declared.placed.Placed.{Placed}
 use Rattle.image_set.specs.declared.loading.Loaded.{Loaded}
 use Rattle.image_set.specs.Load.{bytes_kept, image_set_in}
-use Rattle.image_set.specs.Sound.{IsArea, IsSound}
+use Rattle.image_set.specs.Sound.{IsSound}
 use Rattle.namespace_areas.specs.declared.area.Area.{Area}
 use Rattle.namespace_areas.specs.Areas.{labels_of, shown_in}
 use Rattle.namespace_areas.specs.Finding.{found_of}
-use Rattle.namespace_areas.specs.Opening.{AreWhole, as_area, opened_as}
+use Rattle.namespace_areas.specs.Opening.{AreWhole, opened_as}
 use Rattle.namespace_areas.specs.Seen.{AreHeld, words_of}
-use Rattle.namespace_areas.proofs.Opening.{held_all, words_all}
+use Rattle.namespace_areas.proofs.Opening.{words_all}
 use Rattle.namespace_map.specs.Namespaces.{NamespaceEntry, entry_at, lookup, placed_of}
 use Rattle.namespace_ops.specs.declared.registry.OpenFault.{OpenFault}
 use Rattle.namespace_ops.specs.Counted.{namespaces_in}
@@ -30,25 +22,11 @@ use Rattle.namespace_ops.proofs.Shown.{shown_at}
 use Rattle.sector_namespaces.specs.View.{AreUsable}
 use Rattle.sector_namespaces.proofs.Usable.{usable_sets}
 use Rattle.shell_reports.specs.Causes.{fault_in, found_in}
-use Rattle.shell_reports.specs.List.{labels_in_set, shown_by}
+use Rattle.shell_reports.specs.List.{labels_in_set}
 use Rattle.shell_reports.specs.Sectors.{registry_fault}
 use Rattle.shell_reports.proofs.Arenas.{IsOpened, fault_is, opened_is, rows_back, set_none}
+use Rattle.shell_reports.proofs.Opened.{are_whole, held_opened, shown_all}
 use Rattle.shell_sectors.specs.Found.{IsOpenOn}
-
-shown_by_block : (values : List ℕ) (b : Result IndexBlock AreaFault) → shown_in (as_area (opened_by values b)) ≡ option_map labels_in (result_ok (slots_with (bytes_of values) b))
-shown_by_block values (Ok block) = refl
-shown_by_block values (Err fault) = refl
-
-shown_one : (words : Option Words) → shown_in (opened_as words) ≡ shown_by (option_map bytes_kept words)
-shown_one None = refl
-shown_one (Some words) = shown_by_block words.kept (block_in (bytes_of words.kept))
-
-shown_all : (labels : List (Option Words)) → map shown_in (map opened_as labels) ≡ map shown_by (map (option_map bytes_kept) labels)
-shown_all [] = refl
-shown_all (words ∷ labels) = λ i. shown_one words i ∷ shown_all labels i
-
-pub are_whole : (labels : List (Option Words)) → All IsArea labels → AreWhole labels
-are_whole labels all = λ k d lt. let it = all k d lt in record { sized = it.sized; kept = it.kept }
 
 module _ (loaded : Loaded) (sound : IsSound loaded) (uuid : List ℕ) (areas : List Area) (are : areas ≡ map opened_as loaded.labels) where
   labels_are : labels_of areas ≡ labels_in_set (image_set_in loaded)
@@ -63,7 +41,7 @@ module _ (loaded : Loaded) (sound : IsSound loaded) (uuid : List ℕ) (areas : L
   fault_found fault is = fault_was ∙ fault_is loaded.nfit areas fault is
 
   pub held : AreHeld areas
-  held = subst (λ (xs : List Area). AreHeld xs) (sym are) (held_all loaded.labels (are_whole loaded.labels sound.areas))
+  held = held_opened loaded.labels areas are sound.areas
 
   module _ (registry : Registered) (is : Ok registry ≡ registry_opening loaded.nfit areas) where
     o : IsOpened loaded.nfit areas registry

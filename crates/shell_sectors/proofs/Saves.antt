@@ -24,7 +24,7 @@ use Rattle.shell_sectors.specs.declared.finding.Unchanged.{Unchanged}
 use Rattle.shell_sectors.specs.Found.{HasModules, IsUnchanged, with_contents}
 use Rattle.shell_sectors.specs.Saving.{SavesWith}
 
-get_map : {A B : Type 0} (f : A → B) (xs : List A) (k : ℕ) (d : A) → get_or (map f xs) k (f d) ≡ f (get_or xs k d)
+pub get_map : {A B : Type 0} (f : A → B) (xs : List A) (k : ℕ) (d : A) → get_or (map f xs) k (f d) ≡ f (get_or xs k d)
 get_map f [] k d = refl
 get_map f (x ∷ xs) zero d = refl
 get_map f (x ∷ xs) (suc k) d = get_map f xs k d

@@ -22,7 +22,7 @@ use Rattle.namespace_ops.specs.Opening.{sets_of}
 use Rattle.sector_namespaces.specs.View.{AreUsable, rows_of}
 use Rattle.shell_reports.specs.declared.status.Ending.{Ending}
 use Rattle.shell_reports.specs.Causes.{fault_in, found_in, opened_in}
-use Rattle.shell_reports.specs.Faults.{arena_outcome, find_refusal, refused_outcome}
+use Rattle.shell_reports.specs.Faults.{arena_outcome, refusal_text, refused_outcome}
 use Rattle.shell_reports.specs.List.{open_outcome}
 use Rattle.shell_reports.specs.Outcome.{Outcome}
 use Rattle.shell_reports.specs.Saved.{IsSaving, outcome_of}
@@ -74,7 +74,7 @@ pub record IsOpenOn (loaded : ImageSet) (uuid : List ℕ) (contents : List Words
 abbrev pub IsUnfound : ImageSet → List ℕ → Outcome → Type 0
 IsUnfound loaded uuid outcome =
     ((fault : OpenFault) × (fault_in loaded ≡ Some fault) × (outcome ≡ open_outcome fault))
-    ⊎ ((fault_in loaded ≡ None) × ((refusal : OpRefused) × (found_in loaded uuid ≡ Err refusal) × (outcome ≡ refused_outcome (find_refusal refusal))))
+    ⊎ ((fault_in loaded ≡ None) × ((refusal : OpRefused) × (found_in loaded uuid ≡ Err refusal) × (outcome ≡ refused_outcome (refusal_text refusal))))
 
 abbrev pub FindsIn : ImageSet → List ℕ → SetFound → Type 0
 FindsIn loaded uuid (set_found.Found set) = IsFoundIn loaded uuid set
@@ -90,7 +90,7 @@ OnArenas on uuid outcome (Err fault) = outcome ≡ arena_outcome uuid fault
 -- on the namespace, or why it isn't found
 abbrev pub OnFound : (Found → List ArenaState → Type 0) → List ℕ → ImageSet → Outcome → Result Found OpRefused → Type 0
 OnFound on uuid loaded outcome (Ok found) = OnArenas (on found) uuid outcome (opened_in loaded uuid found)
-OnFound on uuid loaded outcome (Err refusal) = outcome ≡ refused_outcome (find_refusal refusal)
+OnFound on uuid loaded outcome (Err refusal) = outcome ≡ refused_outcome (refusal_text refusal)
 
 -- What a command on the arenas of a namespace may come to: the table and the labels are checked, then the namespace is found, and
 -- then all of its arenas are opened.

@@ -9,7 +9,7 @@ use image_set::Loaded;
 use namespace_areas::{Found, open_areas};
 use namespace_ops::Registry;
 use nvd_words::Items;
-use shell_reports::{Report, open_fault_answer, unfound_answer};
+use shell_reports::{Report, op_refused_answer, open_fault_answer};
 use std::alloc::{AllocError, Global};
 use uuid::Uuid;
 
@@ -59,7 +59,7 @@ fn find_named(
             rest,
         })),
         Err(refused) => {
-            let report = unfound_answer(alloc, refused)?;
+            let report = op_refused_answer(alloc, refused)?;
             Ok(SetFound::Not(report))
         }
     }

@@ -11,7 +11,6 @@ ghost use Rattle.sector_namespaces.specs.Creation.{AreSettled};
 ghost use Rattle.sector_namespaces.specs.View.{IsUsable};
 ghost use Rattle.shell_changes.specs.Answers.{whole_outcome};
 ghost use Rattle.shell_changes.specs.Saved.{copies_contents};
-ghost use Rattle.shell_reports.specs.Cut.{done_text};
 ghost use Rattle.shell_reports.specs.Faults.{refused_outcome};
 ghost use Rattle.shell_reports.specs.Saved.{outcome_of};
 ghost use Rattle.shell_sectors.specs.Answering.{WritesInto, WritesOn};
@@ -35,7 +34,7 @@ use sector_namespaces::OpenArenas;
 use served_namespaces::open_kept;
 use session_script::Payload;
 use shell_changes::{Answer, without_set};
-use shell_reports::{Ending, Report, arena_answer, refused_answer};
+use shell_reports::{Report, arena_answer, done_answer, refused_answer};
 use std::alloc::{AllocError, Global};
 use uuid::Uuid;
 
@@ -158,18 +157,6 @@ fn write_found(
     }
 }
 
-/// The answer of a write that is made.
-fn done_report(alloc: Global) -> Result<Report, AllocError>
-    ensures done { IfOk result (λ report. report.ending ≡ Ending.Done) }
-    ensures text { IfOk result (λ report. report.text.items ≡ done_text) }
-{
-    let text = Vec::from_slice(alloc, b"ok\n")?;
-    Ok(Report {
-        ending: Ending::Done,
-        text,
-    })
-}
-
 /// Writes a sector of a namespace that was found, and answers with the changed set.
 fn found_answer(
     alloc: Global,
@@ -192,7 +179,7 @@ fn found_answer(
     let written = write_found(alloc, region, &found, modules, uuid, sector, value)?;
     match written {
         Written::Done(modules) => {
-            let report = done_report(alloc)?;
+            let report = done_answer(alloc)?;
             saved_answer(alloc, report, rest, modules)
         }
         Written::Not(report) => Ok(without_set(report)),

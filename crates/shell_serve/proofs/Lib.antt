@@ -12,3 +12,4 @@ pub mod TextLines
 pub mod Parting
 pub mod ScriptLines
 pub mod Opens
+pub mod Told

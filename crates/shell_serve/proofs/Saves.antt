@@ -1,5 +1,5 @@
 -- The set that is saved after sessions.
-use Rattle.std.proofs.Common.{◌≡◌, ℕ, zero, suc, ◌^◌, ◌<◌, List, [], ◌∷◌, length, map, get_or, Option, Some, None, refl, sym, ap, ◌∙◌, subst}
+use Rattle.std.proofs.Common.{◌≡◌, ℕ, List, [], ◌∷◌, length, map, get_or, Option, Some, None, refl, sym, ap, ◌∙◌}
 use Rattle.std.specs.Option.{option_map}
 use Rattle.std.proofs.lemmas.List.Elements.{All-head, All-tail}
 use Rattle.std.proofs.lemmas.Option.{slice_get-map}
@@ -8,11 +8,10 @@ use Rattle.cut_words.specs.WordBytes.{bytes_of}
 use Rattle.nvd_media.specs.declared.object.Object.TheVariants as object
 use Rattle.nvd_media.specs.Images.{IsSameSet}
 use Rattle.power_cut.specs.declared.leaving.Images.{Images as Left}
-use Rattle.power_cut.specs.Left.{Each, IsLeftOf, IsLeftOfAll}
-use Rattle.image_set.specs.Changed.{IsSavable, objects_of}
+use Rattle.power_cut.specs.Left.{Each, IsLeftOfAll}
+use Rattle.image_set.specs.Changed.{objects_of}
 use Rattle.image_set.specs.Load.{ImageSet}
 use Rattle.image_set.specs.Save.{set_of}
-use Rattle.image_set.proofs.Kept.{each_length}
 use Rattle.namespace_areas.specs.declared.area.Area.{Area}
 use Rattle.namespace_areas.specs.Seen.{AreLeft as AreasLeft, areas_shown, words_of as area_words}
 use Rattle.namespace_areas.proofs.Seen.{left_kept}
@@ -28,33 +27,15 @@ use Rattle.shell_reports.specs.declared.status.Ending.TheVariants as ending
 use Rattle.shell_reports.specs.Outcome.{Outcome}
 use Rattle.shell_reports.specs.Saved.{IsSaving}
 use Rattle.shell_sectors.specs.declared.finding.Unchanged.{Unchanged}
-use Rattle.shell_sectors.specs.Found.{HasModules, with_contents}
+use Rattle.shell_sectors.specs.Found.{with_contents}
+use Rattle.shell_sectors.proofs.Saves.{get_map}
 use Rattle.shell_serve.specs.Answering.{SavesLeft}
 use Rattle.shell_serve.specs.Recovered.{KeepsLabels}
 use Rattle.shell_serve.specs.Serving.{SavesParts}
 
-get_map : {A B : Type 0} (f : A → B) (xs : List A) (k : ℕ) (d : A) → get_or (map f xs) k (f d) ≡ f (get_or xs k d)
-get_map f [] k d = refl
-get_map f (x ∷ xs) zero d = refl
-get_map f (x ∷ xs) (suc k) d = get_map f xs k d
-
 -- ---- what is saved
 
-pub left_as : (rest : Unchanged) (contents : List Words) (images : Left) (labels : List (Option Words)) (rows : List Words) → labels ≡ map area_words rest.registry.areas → rows ≡ contents
-    → IsLeftOfAll labels rows images → IsLeftOfAll (map area_words rest.registry.areas) contents images
-left_as rest contents images labels rows are same left =
-    subst (λ (ls : List (Option Words)). IsLeftOfAll ls contents images) are (subst (λ (ws : List Words). IsLeftOfAll labels ws images) same left)
-
 module _ (rest : Unchanged) (contents : List Words) (images : Left) (left : IsLeftOfAll (map area_words rest.registry.areas) contents images) where
-  pub can_be_saved : HasModules rest (length contents) → IsSavable (record { nfit = rest.nfit_bytes; images = images; bad = rest.bad })
-  can_be_saved has =
-      let areas : length images.labels ≡ length (map area_words rest.registry.areas) = each_length IsLeftOf (map area_words rest.registry.areas) images.labels left.labels in
-      let rows : length images.contents ≡ length contents = each_length IsLeft contents images.contents left.contents in
-      record {
-        modules = record { labels = areas ∙ has.labels ∙ sym rows; ranges = has.bad ∙ sym rows };
-        few = subst (λ (n : ℕ). n < 2 ^ 32) (sym rows) has.few;
-      }
-
   same_set : (loaded : ImageSet) → loaded.nfit_bytes ≡ rest.nfit_bytes → loaded.bad ≡ rest.bad
       → IsSameSet (set_of rest.nfit_bytes images rest.bad) (objects_of (with_labels (with_contents loaded images.contents) (map (option_map bytes_of) images.labels)))
   unfolding set_of objects_of

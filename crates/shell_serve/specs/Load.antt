@@ -21,7 +21,7 @@ use Rattle.session_script.specs.declared.script.Script.{Script}
 use Rattle.session_script.specs.Load.{load_script}
 use Rattle.shell_changes.specs.Areas.{areas_in}
 use Rattle.shell_changes.specs.Namespaces.{sets_in}
-use Rattle.shell_reports.specs.Faults.{arena_outcome, find_refusal, refused_outcome}
+use Rattle.shell_reports.specs.Faults.{arena_outcome, refusal_text, refused_outcome}
 use Rattle.shell_reports.specs.List.{open_outcome}
 use Rattle.shell_reports.specs.Outcome.{Outcome}
 use Rattle.shell_sectors.specs.Write.{range_text}
@@ -51,7 +51,7 @@ LoadsOnArenas leaves l sets loaded areas words found (Err fault) outcome = outco
 -- on the namespace, or why it isn't found
 abbrev pub LoadsOnFound : (List (Option Words) → List (Option (List ℕ)) → Type 0) → Load → List (List Mapping) → ImageSet → List (Option Area) → Rows → Result Found OpRefused → Outcome → Type 0
 LoadsOnFound leaves l sets loaded areas words (Ok found) outcome = LoadsOnArenas leaves l sets loaded areas words found (opened_view (words_at sets found (rows_of loaded.contents)) l.uuid) outcome
-LoadsOnFound leaves l sets loaded areas words (Err refusal) outcome = outcome ≡ refused_outcome (find_refusal refusal)
+LoadsOnFound leaves l sets loaded areas words (Err refusal) outcome = outcome ≡ refused_outcome (refusal_text refusal)
 
 -- on label areas that recovery has left, with these words
 abbrev pub LoadsRecovered : (List (Option Words) → List (Option (List ℕ)) → Type 0) → Load → List (List Mapping) → ImageSet → List (Option Area) → Rows → Outcome → Type 0

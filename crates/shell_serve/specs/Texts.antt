@@ -1,19 +1,24 @@
 -- The texts of sessions: a line for each reply, and the summary of a load. This project's rules.
-use Rattle.std.specs.Prelude.{ℕ, ◌+◌, ◌-◌, ◌%◌, Bool, true, false, List, [], ◌∷◌, ◌++◌, length, count_by, sum_by, replicate, codes}
+use Rattle.std.specs.Prelude.{◌≢◌, ℕ, ◌+◌, ◌-◌, ◌%◌, Bool, true, false, List, [], ◌∷◌, ◌++◌, length, count_by, sum_by, replicate, codes}
 use Rattle.std.specs.Int.{w64, to_be_bytes}
 use Rattle.std.specs.Fmt.{decimal}
 use Rattle.hex.specs.Hex.{encode_lower}
 use Rattle.nvd_words.specs.Fletcher.{fletcher64_of}
+use Rattle.namespace_map.specs.declared.refused.OpRefused.TheVariants.{PowerCut}
 use Rattle.session_account.specs.declared.reply.Reply.{Reply}
 use Rattle.session_account.specs.declared.reply.Reply.TheVariants as reply
 use Rattle.session_script.specs.declared.script.Line.{Line}
 use Rattle.session_script.specs.declared.script.Line.TheVariants.{Read, Write}
 use Rattle.session_script.specs.declared.script.Script.{Script}
 use Rattle.session_script.specs.Texts.{cell_text}
-use Rattle.shell_changes.specs.Refusals.{refusal_text}
+use Rattle.shell_reports.specs.Faults.{refusal_text}
 use Rattle.shell_reports.specs.Outcome.{joined, lf}
 
 -- ---- the text of `serve`
+
+-- a reply to a session: of a power cut it is told by `Cut` alone
+abbrev pub IsTold : Reply → Type 0
+IsTold answer = answer ≢ reply.Op PowerCut
 
 -- the line of a reply
 abbrev pub reply_text : Reply → List ℕ

@@ -35,7 +35,7 @@ use sector_service::Waiting;
 use served_namespaces::{FoundNamespace, OpenedSet};
 use session_script::{Script, make_load};
 use shell_changes::{Answer, without_set};
-use shell_reports::{Report, printed_answer, refused_answer, unfound_answer};
+use shell_reports::{Report, op_refused_answer, printed_answer, refused_answer};
 use shell_sectors::Unchanged;
 use std::alloc::{AllocError, Global};
 use std::sync::Wait;
@@ -191,7 +191,7 @@ fn recovered_answer<R: Threads + Wait + Sync, C: Chooser, G: Gate>(
     match set.rest.registry.find(&load.uuid) {
         Ok(found) => found_answer(waiting, alloc, running, load, found, set, choose),
         Err(refused) => {
-            let report = unfound_answer(alloc, refused)?;
+            let report = op_refused_answer(alloc, refused)?;
             Ok(without_set(report))
         }
     }

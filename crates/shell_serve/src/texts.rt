@@ -1,17 +1,18 @@
 //! The texts of sessions: a line for each reply, and the summary of a load.
-ghost use Rattle.std.specs.Prelude.{◌≡◌, ℕ, ◌<◌, ◌+◌, ◌*◌, ◌^◌, ◌++◌, List, IfOk, OnOk, string_bytes, count_by};
+ghost use Rattle.std.specs.Prelude.{◌≡◌, ℕ, ◌<◌, ◌+◌, ◌*◌, ◌^◌, ◌++◌, List, IfOk, OnOk, All, string_bytes, count_by};
 ghost use Rattle.session_account.specs.declared.reply.Reply.{Reply as Replied};
 ghost use Rattle.session_service.specs.Ran.{replies_of};
-ghost use Rattle.shell_serve.specs.Texts.{filled, is_read, is_write, reads_in, replies_sum, replies_text, reply_text, serve_text, session_line, session_text, summary, writes_in};
+ghost use Rattle.shell_serve.specs.Texts.{IsTold, filled, is_read, is_write, reads_in, replies_sum, replies_text, reply_text, serve_text, session_line, session_text, summary, writes_in};
 
 use nvd_words::fletcher64;
 use session_account::Reply;
 use session_script::{Line, Script, SessionLines, cell_text};
-use shell_changes::refusal_text;
+use shell_reports::refusal_text;
 use std::alloc::{AllocError, Global};
 
 /// Returns the line of a reply.
 fn reply_text(alloc: Global, reply: &Reply) -> Result<String, AllocError>
+    requires { IsTold reply.now }
     ensures { IfOk result (λ text. string_bytes text ≡ reply_text reply.now) }
 {
     match reply {
@@ -31,6 +32,7 @@ fn reply_text(alloc: Global, reply: &Reply) -> Result<String, AllocError>
 
 /// Appends the lines of replies.
 fn add_replies(alloc: Global, replies: &[Reply], text: &mut Vec<u8>) -> Result<(), AllocError>
+    requires { All IsTold replies.now }
     ensures { OnOk result (text.new.items ≡ text.old.items ++ replies_text replies.now) }
 {
     for reply in replies {
@@ -53,6 +55,7 @@ fn add_session(
     replies: &[Reply],
     text: &mut Vec<u8>,
 ) -> Result<(), AllocError>
+    requires { All IsTold replies.now }
     ensures { OnOk result (text.new.items ≡ text.old.items ++ session_text q replies.now) }
 {
     text.extend_from_slice(session_line(alloc, q)?.as_bytes())?;
@@ -61,6 +64,7 @@ fn add_session(
 
 /// Returns the text of `serve`: session by session, a line for each reply.
 pub(crate) fn serve_text(alloc: Global, replies: &[Vec<Reply>]) -> Result<Vec<u8>, AllocError>
+    requires { All (All IsTold) (replies_of replies.now) }
     ensures { IfOk result (λ text. text.items ≡ serve_text (replies_of replies.now)) }
 {
     let mut text = Vec::new(alloc);

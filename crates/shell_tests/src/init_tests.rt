@@ -24,6 +24,7 @@ fn an_area_is_initialised(rt: HostRuntime) -> Result<(), AllocError> {
         &rt,
         alloc,
         &["init", "0"],
+        "",
         &objects,
         &mut choose,
         NEVER,

@@ -1,5 +1,6 @@
 use Rattle.std.proofs.Common.{◌≡◌, ◌∙◌, None, Ok, Err, ap, sym, subst}
 use Rattle.std.specs.Prelude.{map}
+use Rattle.namespace_map.specs.declared.refused.OpRefused.{OpRefused}
 use Rattle.namespace_map.specs.declared.refused.OpRefused.TheVariants.{PowerCut}
 use Rattle.namespace_areas.specs.Seen.{words_of}
 use Rattle.shell_reports.specs.declared.status.Ending.TheVariants as ending
@@ -8,7 +9,7 @@ use Rattle.shell_reports.proofs.More.{if_more}
 use Rattle.shell_changes.specs.declared.answer.Answer.{Answer}
 use Rattle.shell_changes.specs.declared.saving.Remains.{Remains}
 use Rattle.shell_changes.specs.Answers.{Fits}
-use Rattle.shell_changes.specs.Refusals.{refused_outcome}
+use Rattle.shell_reports.specs.Faults.{refusal_text, refused_outcome}
 use Rattle.shell_changes.specs.Remains.{AnswersCut, AnswersDone, CanLeave, SavesLeft, remains_of}
 use Rattle.shell_changes.proofs.Remains.{fits_left, fits_none}
 use Rattle.shell_changes.proofs.Runs.{err_same}
@@ -89,7 +90,7 @@ returns-else-is_cut-clause-cut g c =
 
 pub returns-else-is_cut-clause-refused : goal.returns-else-is_cut-clause-refused
 returns-else-is_cut-clause-refused g c =
-    if_more _ _ c.refusing_answer.result (λ answer said f is other contents. said contents ∙ ap refused_outcome (err_same c.in-Err.refused f (sym c.in-Err.is ∙ is))) c.refusing_answer.ensures.text
+    if_more _ _ c.refusing_answer.result (λ answer said f is other contents. said contents ∙ ap (λ (r : OpRefused). refused_outcome (refusal_text r)) (err_same c.in-Err.refused f (sym c.in-Err.is ∙ is))) c.refusing_answer.ensures.text
 
 pub returns-else-is_cut-clause-fits : goal.returns-else-is_cut-clause-fits
 returns-else-is_cut-clause-fits g c =

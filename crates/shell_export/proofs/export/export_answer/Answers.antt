@@ -11,8 +11,9 @@ use Rattle.sector_namespaces.specs.View.{AreUsable}
 use Rattle.sector_namespaces.proofs.Usable.{usable_sets}
 use Rattle.shell_reports.specs.Outcome.{Outcome}
 use Rattle.shell_reports.proofs.Arenas.{IsOpened, opened_is, set_none}
+use Rattle.shell_reports.proofs.Opened.{held_opened, shown_all}
 use Rattle.shell_export.specs.Printing.{IsPrinted}
-use Rattle.shell_export.proofs.Opened.{held_opened, on_fault, on_open, shown_all}
+use Rattle.shell_export.proofs.Opened.{on_fault, on_open}
 use Rattle.shell_export.proofs.export.export_answer.Goals as goal
 
 pub open_all-requires-clause-held : goal.open_all-requires-clause-held

@@ -6,7 +6,11 @@ use Rattle.shell_reports.specs.Outcome.{Outcome}
 use Rattle.shell_reports.proofs.Arenas.{rows_back}
 use Rattle.shell_export.specs.Export.{on_place, words_outcome}
 use Rattle.shell_export.specs.Printing.{IsPrinted}
+use Rattle.shell_export.proofs.Unplaced.{unplaced_uncut}
 use Rattle.shell_export.proofs.export.named_answer.Goals as goal
+
+pub op_refused_answer-requires : goal.op_refused_answer-requires
+op_refused_answer-requires g c = unplaced_uncut _ _ c.in-Err.refused (sym c.in-Err.is ∙ c.in_ok-found.ensures.place)
 
 pub returns-in-Ok-clause-printed : goal.returns-in-Ok-clause-printed
 returns-in-Ok-clause-printed g c =

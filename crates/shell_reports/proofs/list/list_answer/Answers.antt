@@ -1,13 +1,9 @@
-use Rattle.std.proofs.Common.{◌≡◌, ◌∙◌, ℕ, List, map, sym, ap, subst}
+use Rattle.std.proofs.Common.{◌≡◌, ◌∙◌, ℕ, List, map, sym, ap}
 use Rattle.namespace_map.specs.Namespaces.{listed, placed_of}
 use Rattle.namespace_ops.specs.Counted.{namespaces_in}
 use Rattle.namespace_ops.specs.Registered.{Registered, state_of}
 use Rattle.namespace_ops.proofs.Regions.{was_opened}
-use Rattle.namespace_areas.specs.declared.area.Area.{Area}
 use Rattle.namespace_areas.specs.Areas.{shown_in}
-use Rattle.namespace_areas.specs.Seen.{AreHeld}
-use Rattle.namespace_areas.specs.Opening.{opened_as}
-use Rattle.namespace_areas.proofs.Opening.{held_all}
 use Rattle.image_set.specs.Outline.{image_set_with}
 use Rattle.shell_reports.specs.declared.outcome.Report.{Report}
 use Rattle.shell_reports.specs.Outcome.{printed}

@@ -8,6 +8,7 @@ use Rattle.shell_reports.specs.Saved.{outcome_of}
 use Rattle.shell_reports.specs.Asked.{asked}
 use Rattle.shell_reports.specs.Sectors.{on_arenas, on_found}
 use Rattle.shell_reports.proofs.Arenas.{rows_back}
+use Rattle.shell_reports.proofs.Uncut.{unfound_uncut}
 use Rattle.shell_reports.proofs.opening.named_answer.Goals as goal
 
 pub found_answer-requires-clause-lies : goal.found_answer-requires-clause-lies
@@ -18,6 +19,9 @@ found_answer-requires-clause-lies c =
 pub found_answer-requires-clause-usable : goal.found_answer-requires-clause-usable
 found_answer-requires-clause-usable c =
     subst (λ (set : List Mapping). IsUsable set c.args.contents) (sym c.set-set.ensures) (c.requires.usable c.in-Ok.found.region c.in-Ok.ensures.lies.region)
+
+pub op_refused_answer-requires : goal.op_refused_answer-requires
+op_refused_answer-requires c = unfound_uncut _ _ c.in-Err.refused c.in-Err.ensures.found
 
 pub returns-in-Ok : goal.returns-in-Ok
 returns-in-Ok c =

@@ -29,9 +29,9 @@ returns-in-OutOfMemory-clause-stored g c = λ kept.
 pub returns-in_default-clause-ends : goal.returns-in_default-clause-ends
 returns-in_default-clause-ends g c = λ made.
     printing_more ⊥ (c.args.fault ≡ fault.ReadFault) false (IsReported c.load_answer.result) (IsUnloaded c.args.fault) made (g.O.TextSink.written c.args.text.now) (g.O.TextSink.written c.report.new.text) c.report.result
-    (λ never. absurd never) (λ outcome is. reported_unloaded c.load_answer.result c.args.fault outcome c.load_answer.ensures.text c.load_answer.ensures.source c.load_answer.ensures.memory is) c.report.ensures.ends
+    (λ never. absurd never) (λ outcome is. reported_unloaded c.load_answer.result c.args.fault outcome c.load_answer.ensures.text c.in_default.not-ReadFault c.load_answer.ensures.finding is) c.report.ensures.ends
 
 pub returns-in_default-clause-stored : goal.returns-in_default-clause-stored
 returns-in_default-clause-stored g c = λ kept.
     stored_more (IsReported c.load_answer.result) (IsUnloaded c.args.fault) kept (g.O.TextSink.kept c.args.text.now) (g.O.TextSink.kept c.report.new.text) c.report.result
-    (λ outcome is. reported_unloaded c.load_answer.result c.args.fault outcome c.load_answer.ensures.text c.load_answer.ensures.source c.load_answer.ensures.memory is) c.report.ensures.stored
+    (λ outcome is. reported_unloaded c.load_answer.result c.args.fault outcome c.load_answer.ensures.text c.in_default.not-ReadFault c.load_answer.ensures.finding is) c.report.ensures.stored

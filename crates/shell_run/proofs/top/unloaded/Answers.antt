@@ -1,9 +1,18 @@
-use Rattle.std.proofs.Common.{◌≡◌, ℕ, List, None}
+use Rattle.std.proofs.Common.{◌≡◌, ◌≢◌, ℕ, List, None, Result, Ok, Err}
+use Rattle.std.specs.Prelude.{IfOk}
+use Rattle.image_set.specs.declared.fault.LoadFault.TheVariants as fault
 use Rattle.shell_reports.specs.LoadFaults.{load_outcome}
 use Rattle.shell_changes.specs.declared.answer.Answer.{Answer}
 use Rattle.shell_changes.specs.Answers.{outcome_with}
 use Rattle.shell_run.proofs.Comes.{if_same, report_is}
 use Rattle.shell_run.proofs.top.unloaded.Goals as goal
+
+always : {A E : Type 0} (P : Type 0) (r : Result A E) → P → IfOk r (λ _. P)
+always P (Ok x) p = p
+always P (Err e) p = tt
+
+pub returns-in_default-clause-source : goal.returns-in_default-clause-source
+returns-in_default-clause-source c = always (c.args.fault ≢ fault.ReadFault) c.found_memory.result c.in_default.not-ReadFault
 
 pub returns-in_default-clause-text : goal.returns-in_default-clause-text
 returns-in_default-clause-text c =

@@ -1,8 +1,9 @@
 use Rattle.std.proofs.Common.{◌≡◌, inl}
 use Rattle.image_set.specs.Load.{image_set_in}
+use Rattle.shell_reports.proofs.Opened.{are_whole}
 use Rattle.shell_sectors.specs.Found.{FindsIn}
 use Rattle.shell_sectors.proofs.Coming.{ok_then}
-use Rattle.shell_sectors.proofs.Loaded.{are_whole, fault_found, held, open_on}
+use Rattle.shell_sectors.proofs.Loaded.{fault_found, held, open_on}
 use Rattle.shell_sectors.proofs.finding.find_in_set.Goals as goal
 
 pub open_areas-requires : goal.open_areas-requires

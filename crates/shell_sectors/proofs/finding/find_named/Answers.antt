@@ -1,8 +1,12 @@
 use Rattle.std.proofs.Common.{◌∙◌, sym, inr}
+use Rattle.shell_reports.proofs.Uncut.{unfound_uncut}
 use Rattle.shell_sectors.proofs.finding.find_named.Goals as goal
 
 pub find-requires : goal.find-requires
 find-requires c = record { running = c.requires.1.running }
+
+pub op_refused_answer-requires : goal.op_refused_answer-requires
+op_refused_answer-requires c = unfound_uncut _ _ c.in-Err.refused c.in-Err.ensures.found
 
 pub returns-in-Ok : goal.returns-in-Ok
 returns-in-Ok c = λ loaded o. record {
@@ -18,4 +22,4 @@ returns-in-Ok c = λ loaded o. record {
 }
 
 pub returns-in_ok-report-in-Err : goal.returns-in_ok-report-in-Err
-returns-in_ok-report-in-Err c = λ loaded o. inr (o.none, (c.in-Err.refused, sym o.is ∙ sym c.in-Err.ensures.found, c.in_ok-report-in-Err.ensures))
+returns-in_ok-report-in-Err c = λ loaded o. inr (o.none, (c.in-Err.refused, sym o.is ∙ sym c.in-Err.ensures.found, c.in_ok-report-in-Err.ensures.text))

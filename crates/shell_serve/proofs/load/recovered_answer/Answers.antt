@@ -7,6 +7,7 @@ use Rattle.namespace_map.specs.Namespaces.{Namespaces, lookup}
 use Rattle.shell_changes.specs.declared.answer.Answer.{Answer}
 use Rattle.shell_changes.specs.Answers.{whole_outcome}
 use Rattle.shell_changes.specs.Remains.{LeavesBy}
+use Rattle.shell_reports.proofs.Uncut.{unfound_uncut}
 use Rattle.shell_serve.specs.Load.{LoadsRecovered}
 use Rattle.shell_serve.specs.Recovered.{IsRecovered}
 use Rattle.shell_serve.proofs.Coming.{load_found, ok_then, unclaimed_same}
@@ -14,6 +15,9 @@ use Rattle.shell_serve.proofs.load.recovered_answer.Goals as goal
 
 pub find-requires : goal.find-requires
 find-requires g c = record { running = c.requires.recovered.1.rest.fresh.running }
+
+pub op_refused_answer-requires : goal.op_refused_answer-requires
+op_refused_answer-requires g c = unfound_uncut _ _ c.in-Err.refused c.in-Err.ensures.found
 
 pub returns-in-Ok-clause-comes : goal.returns-in-Ok-clause-comes
 returns-in-Ok-clause-comes g c =

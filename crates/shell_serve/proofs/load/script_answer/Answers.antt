@@ -1,4 +1,5 @@
-use Rattle.std.proofs.Common.{◌∙◌, List, Vec, Global, ap}
+use Rattle.std.proofs.Common.{◌∙◌, List, Vec, Global, ap, sym, subst}
+use Rattle.std.specs.List.{All}
 use Rattle.image_set.specs.Load.{ImageSet}
 use Rattle.namespace_areas.specs.Seen.{areas_seen}
 use Rattle.namespace_areas.specs.Steps.{rows_of as label_rows}
@@ -10,11 +11,17 @@ use Rattle.shell_reports.specs.Outcome.{Outcome}
 use Rattle.shell_changes.specs.Remains.{LeavesBy}
 use Rattle.shell_serve.specs.Answering.{IsOpen}
 use Rattle.shell_serve.specs.Serving.{Serves}
-use Rattle.shell_serve.specs.Texts.{serve_text, summary}
+use Rattle.shell_serve.specs.Texts.{IsTold, serve_text, summary}
 use Rattle.shell_serve.specs.Chosen.{LeavesOn, LeavesTo}
 use Rattle.shell_serve.proofs.Choosing.{joined}
 use Rattle.shell_serve.proofs.Coming.{ok_then, serves}
+use Rattle.shell_serve.proofs.Told.{all_told}
 use Rattle.shell_serve.proofs.load.script_answer.Goals as goal
+
+pub serve_text-requires : goal.serve_text-requires
+serve_text-requires g c =
+    subst (λ (rs : List (Vec Reply Global)). All (All IsTold) (replies_of rs)) (sym c.deref.ensures.value)
+    (all_told _ _ _ _ _ (c.in_ok-served.ensures c.requires.open.0 c.requires.open.1).accounts)
 
 pub saved_answer-requires : goal.saved_answer-requires
 saved_answer-requires g c = record { modules = (c.in_ok-served.ensures c.requires.open.0 c.requires.open.1).modules }

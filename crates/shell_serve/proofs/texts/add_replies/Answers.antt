@@ -1,6 +1,12 @@
 use Rattle.shell_serve.proofs.TextLines.{all_replies, one_reply}
-use Rattle.std.proofs.Common.{◌∙◌, arith}
+use Rattle.std.proofs.Common.{◌∙◌, sym, subst, arith}
+use Rattle.std.proofs.lemmas.List.Elements.{All-get_or}
+use Rattle.shell_serve.specs.Texts.{IsTold}
 use Rattle.shell_serve.proofs.texts.add_replies.Goals as goal
+
+pub reply_text-requires : goal.reply_text-requires
+reply_text-requires c =
+    subst IsTold (sym c.reply-item.is) (All-get_or IsTold c.args.replies.now c.loop-reply.reply-index c.reply-item.result c.loop-reply-test.true c.requires)
 
 pub loop-reply-preserved : goal.loop-reply-preserved
 loop-reply-preserved c =

@@ -1,6 +1,14 @@
-use Rattle.std.proofs.Common.{arith}
+use Rattle.std.proofs.Common.{List, sym, subst, arith}
+use Rattle.std.specs.List.{All}
+use Rattle.session_account.specs.declared.reply.Reply.{Reply}
+use Rattle.shell_serve.specs.Texts.{IsTold}
 use Rattle.shell_serve.proofs.TextLines.{all_sessions, one_session}
+use Rattle.shell_serve.proofs.Told.{told_at}
 use Rattle.shell_serve.proofs.texts.serve_text.Goals as goal
+
+pub add_session-requires : goal.add_session-requires
+add_session-requires c =
+    subst (λ (own : List Reply). All IsTold own) (sym c.deref.ensures.value) (told_at c.args.replies.now c.loop-q.q c.index-replies-q.result c.loop-q-test.true c.index-replies-q.is c.requires)
 
 pub loop-q-preserved : goal.loop-q-preserved
 loop-q-preserved c =

@@ -1,0 +1,53 @@
+//! The texts of commands that are refused.
+ghost use Rattle.std.specs.Prelude.{◌≡◌, ◌≢◌, IfOk, string_bytes};
+ghost use Rattle.shell_reports.specs.Faults.{refusal_text, refused_outcome};
+ghost use Rattle.shell_reports.specs.Saved.{outcome_of};
+
+use crate::{Ending, Report};
+use namespace_map::OpRefused;
+use std::alloc::{AllocError, Global};
+
+/// Returns the text of a refusal: its name and its numbers. Power wasn't cut. Out of memory isn't a finding.
+pub fn refusal_text(alloc: Global, refused: OpRefused) -> Result<String, AllocError>
+    requires { refused ≢ OpRefused.PowerCut }
+    ensures text { IfOk result (λ text. string_bytes text ≡ refusal_text refused) }
+    ensures finding { IfOk result (λ _. refused ≢ OpRefused.OutOfMemory) }
+{
+    match refused {
+        OpRefused::NoSuch => String::from_str(alloc, "NoSuch"),
+        OpRefused::Exists => String::from_str(alloc, "Exists"),
+        OpRefused::NoRegion { region } => format!(in alloc; "NoRegion {}", region),
+        OpRefused::NoSpace { wanted } => format!(in alloc; "NoSpace {}", wanted),
+        OpRefused::NoSlot { module } => format!(in alloc; "NoSlot {}", module),
+        OpRefused::Busy { claims } => format!(in alloc; "Busy {}", claims),
+        OpRefused::NotComplete => String::from_str(alloc, "NotComplete"),
+        OpRefused::NotSector => String::from_str(alloc, "NotSector"),
+        OpRefused::BadSize { bytes } => format!(in alloc; "BadSize {}", bytes),
+        OpRefused::BadName { bytes } => format!(in alloc; "BadName {}", bytes),
+        OpRefused::ModuleLabels { module } => format!(in alloc; "ModuleLabels {}", module),
+        OpRefused::ReadOnlyLabel { module } => format!(in alloc; "ReadOnlyLabel {}", module),
+        OpRefused::PowerCut => unreachable!(),
+        OpRefused::OutOfMemory => Err(AllocError),
+    }
+}
+
+/// The answer of a command that is refused with this text.
+pub fn refused_answer(alloc: Global, refusal: &str) -> Result<Report, AllocError>
+    ensures { IfOk result (λ answer. outcome_of answer ≡ refused_outcome refusal.now) }
+{
+    let text = format!(in alloc; "refused {}\n", refusal)?;
+    Ok(Report {
+        ending: Ending::Refused,
+        text: text.into_bytes(),
+    })
+}
+
+/// The answer of a command that is refused on namespaces. Power wasn't cut. Out of memory isn't a finding.
+pub fn op_refused_answer(alloc: Global, refused: OpRefused) -> Result<Report, AllocError>
+    requires { refused ≢ OpRefused.PowerCut }
+    ensures text { IfOk result (λ answer. outcome_of answer ≡ refused_outcome (refusal_text refused)) }
+    ensures finding { IfOk result (λ _. refused ≢ OpRefused.OutOfMemory) }
+{
+    let refusal = refusal_text(alloc, refused)?;
+    refused_answer(alloc, &refusal)
+}
