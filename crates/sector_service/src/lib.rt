@@ -18,11 +18,11 @@
 //!
 //! | call | promise | clause |
 //! |---|---|---|
-//! | [`write_at`], [`read_at`] | an answer has its entry, and an entry its answer; all else that the session knows is as it was | `done`, `failed` |
+//! | [`write_at`], [`read_at`] | an answer has its entry, and an entry its answer; all else that the session knows is as it was | `done`, `refused` |
 //! | the same | a call that is cut stands or not, and somebody switched power off | `cut`, `told` |
 //! | the same | an answer paid for its least steps | `paid` |
 //! | [`ServedCore::begin_write`], [`ServedCore::begin_read`] | no lane is found only if each is in a call | `busy` |
-//! | [`write`], [`read`] | the same for a session with a pass of each core: the other cores' parts are as they were, and the next call has the next number | `done`, `cut`, `caller` |
+//! | [`write`], [`read`] | the same for a session with a pass of each core: the other cores' parts are as they were, and the next call has the next number | `done`, `cut`, `next` |
 #![tactic(auto)]
 
 mod calls;
