@@ -1,6 +1,6 @@
 //! Whether power is off, and the steps that a session may still make.
 ghost use Rattle.std.specs.Prelude.{◌≡◌, IsTrue, false};
-ghost use Rattle.turn_lock.specs.Passes.{lock_id, number_of, IsSamePass};
+ghost use Rattle.turn_lock.specs.Passes.{lock_id, IsSamePass};
 ghost use Rattle.turn_callers.specs.Switch.{CanAsk, IsTold, KeepsStopped};
 ghost use Rattle.sector_service.specs.Calls.{Paid};
 ghost use Rattle.sector_service.specs.Switch.{StaysWhole, StopsWhenSpent};

@@ -1,6 +1,6 @@
 //! The locks are closed, and hand back the cores.
-ghost use Rattle.std.specs.Prelude.{◌≡◌, ◌^◌, ◌<◌, [], ◌∷◌, ◌++◌, length, map, true, false, IfOk, OnOk, All};
-ghost use Rattle.turn_lock.specs.Passes.{lock_id, callers_of, first_of};
+ghost use Rattle.std.specs.Prelude.{◌≡◌, ◌^◌, ◌<◌, [], ◌∷◌, ◌++◌, length, map, IfOk, OnOk, All};
+ghost use Rattle.turn_lock.specs.Passes.{lock_id};
 ghost use Rattle.session_service.specs.Closed.{AreShared, LoseCorePass, HaveCorePasses, KnowAll, PartsAreKnown};
 ghost use Rattle.session_service.specs.Seated.{IsSameRest, KeepAllButCores};
 ghost use Rattle.session_service.specs.Services.{IsNewCore, arena_of};

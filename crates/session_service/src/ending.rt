@@ -1,5 +1,5 @@
 //! The locks are closed, and the accounts hold.
-ghost use Rattle.std.specs.Prelude.{◌≡◌, ℕ, ◌<◌, List, length, map, true, false, IfOk, All};
+ghost use Rattle.std.specs.Prelude.{◌≡◌, ◌<◌, List, length, map, true, false, IfOk, All};
 ghost use Rattle.turn_lock.specs.Passes.{lock_id};
 ghost use Rattle.namespace_ops.specs.Registered.{Registered};
 ghost use Rattle.session_service.specs.declared.namespaces.ServedNamespace.{ServedNamespace as Given};

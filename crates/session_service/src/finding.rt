@@ -1,5 +1,5 @@
 //! Where a sector of the namespace that a session has open lies.
-ghost use Rattle.std.specs.Prelude.{◌≡◌, ℕ, ◌^◌, ◌<◌, ◌≤◌, length, Option, Err, IfOk, MatchOption};
+ghost use Rattle.std.specs.Prelude.{◌≡◌, ◌^◌, ◌<◌, ◌≤◌, length, Option, Err, IfOk, MatchOption};
 ghost use Rattle.session_account.specs.Sectors.{on_open};
 ghost use Rattle.session_account.specs.Serving.{Shape};
 ghost use Rattle.session_account.specs.declared.reply.Reply.{Reply as Replied};

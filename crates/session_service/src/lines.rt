@@ -1,10 +1,9 @@
 //! A session makes one call of its script.
 ghost use Rattle.std.specs.Prelude.{◌≡◌, ℕ, ◌+◌, ◌^◌, ◌<◌, IfOk};
 ghost use Rattle.session_account.specs.declared.reply.Reply.TheVariants as reply;
-ghost use Rattle.session_account.specs.Made.{is_cut, on_after};
+ghost use Rattle.session_account.specs.Made.{on_after};
 ghost use Rattle.session_account.specs.Sectors.{wrong_length, size_of};
 ghost use Rattle.session_script.specs.declared.script.Line.TheVariants as line;
-ghost use Rattle.session_script.specs.declared.script.Order.{Order as Ordered};
 ghost use Rattle.session_script.specs.declared.script.Script.{Script};
 ghost use Rattle.session_service.specs.Runners.{Goes, IsNext, KeepsReplies, counted};
 

@@ -1,9 +1,8 @@
 //! A session makes its calls, and all sessions do at once.
-ghost use Rattle.std.specs.Prelude.{◌≡◌, ◌+◌, ◌^◌, ◌<◌, ℕ, length, true, false, IsTrue};
+ghost use Rattle.std.specs.Prelude.{◌≡◌, ◌+◌, ◌^◌, ◌<◌, length, true, false, IsTrue};
 ghost use Rattle.session_account.specs.Account.{session_at};
 ghost use Rattle.session_account.specs.Made as made;
-ghost use Rattle.session_service.specs.Runners.{AreEnded, AreRunnersReady, IsAt, IsEnded, IsRunnerReady, IsRunning, KeepsReplies};
-ghost use Rattle.session_service.specs.Services.{orders_of};
+ghost use Rattle.session_service.specs.Runners.{AreEnded, AreRunnersReady, IsEnded, IsRunnerReady, IsRunning};
 
 use crate::lines::make_line;
 use crate::runner::Runner;

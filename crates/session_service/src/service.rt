@@ -1,12 +1,11 @@
 //! The locks around all cores, around the registry and around the power switch.
-ghost use Rattle.std.specs.Prelude.{◌≡◌, ◌+◌, ◌^◌, ◌<◌, [], ◌∷◌, ◌++◌, All, false, length, map, IfOk, OnOk};
-ghost use Rattle.turn_lock.specs.Passes.{callers_of, first_of};
+ghost use Rattle.std.specs.Prelude.{◌≡◌, ◌+◌, ◌^◌, ◌<◌, [], ◌∷◌, ◌++◌, All, length, map, IfOk, OnOk};
 ghost use Rattle.sector_service.specs.Served.{fresh};
 ghost use Rattle.session_service.specs.Made.{IsMade, IsUnused, rooms_of};
 ghost use Rattle.session_service.specs.Namespaces.{AreOpened};
 ghost use Rattle.session_script.specs.Names.{ScriptHasText};
 ghost use Rattle.session_service.specs.Runners.{AreRunnersReady};
-ghost use Rattle.session_service.specs.Seated.{AreSeated, HaveNone, IsQuiet, KnowCores};
+ghost use Rattle.session_service.specs.Seated.{AreSeated, HaveNone, KnowCores};
 ghost use Rattle.session_service.specs.Services.{IsNewCore, arenas_of};
 
 use crate::laying::lay;

@@ -10,7 +10,7 @@ ghost use Rattle.shell_reports.specs.Labels.{labels_outcome};
 ghost use Rattle.shell_reports.specs.List.{list_outcome};
 ghost use Rattle.shell_reports.specs.LoadFaults.{load_outcome};
 ghost use Rattle.shell_reports.specs.Nfit.{nfit_outcome};
-ghost use Rattle.shell_reports.specs.Outcome.{Outcome, lf, status_of, usage};
+ghost use Rattle.shell_reports.specs.Outcome.{Outcome, lf, status_of};
 ghost use Rattle.shell_reports.specs.Saved.{Saves};
 ghost use Rattle.shell_reports.specs.Sectors.{info_outcome, read_outcome};
 ghost use Rattle.shell_changes.specs.Answers.{ComesFrom, HasSizes, outcome_with, whole_outcome};

@@ -1,5 +1,5 @@
 //! Namespaces of a set whose labels are recovered are opened.
-ghost use Rattle.std.specs.Prelude.{◌≡◌, IfOk, length};
+ghost use Rattle.std.specs.Prelude.{◌≡◌, IfOk};
 ghost use Rattle.std.specs.List.{All};
 ghost use Rattle.image_set.specs.Load.{ImageSet};
 ghost use Rattle.served_namespaces.specs.Places.{AreDisjoint, CanOpen};

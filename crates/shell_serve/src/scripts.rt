@@ -1,6 +1,5 @@
 //! The namespaces that a script opens.
-ghost use Rattle.std.specs.Prelude.{◌≡◌, ◌++◌, IfOk, OnOk, filter_map, length, map};
-ghost use Rattle.session_script.specs.declared.script.Line.{Line as AnyLine};
+ghost use Rattle.std.specs.Prelude.{◌≡◌, ◌++◌, IfOk, OnOk, filter_map};
 ghost use Rattle.shell_serve.specs.Scripts.{open_lines, opens};
 
 use session_script::{Line, Order, Script};
