@@ -39,23 +39,25 @@ import sys
 from rows import row
 
 PROVED, TWIN = sys.argv[1:]
-CALLS, RUNS = 50000, 7
+# Many reads: else what the system takes to start the threads counts.
+CALLS, RUNS = {"write": 50000, "read": 400000}, 7
 MOST = {1: 1.5, 4: 1.3}
 
 
 def run(words):
     """Nanoseconds of a write and of a read."""
     text = subprocess.run([str(word) for word in words], stdout=subprocess.PIPE, check=True).stdout.decode()
-    return {name: int(nanos) / CALLS for name, nanos in (line.split(": ") for line in text.splitlines())}
+    return {name: int(nanos) / CALLS[name] for name, nanos in (line.split(": ") for line in text.splitlines()) if name in CALLS}
 
 
 def kinds(threads, apart):
     """The programs that are compared, by turns, and for each the median of its runs."""
+    words = [threads, CALLS["write"], CALLS["read"], apart]
     wanted = {
-        "proved": [PROVED, threads, CALLS, apart],
-        "twin": [TWIN, threads, CALLS, apart, 1, 0],
-        "spread": [TWIN, threads, CALLS, apart, 8, 0],
-        "logged": [TWIN, threads, CALLS, apart, 1, 1],
+        "proved": [PROVED, *words],
+        "twin": [TWIN, *words, 1, 0],
+        "spread": [TWIN, *words, 8, 0],
+        "logged": [TWIN, *words, 1, 1],
     }
     runs = {name: [] for name in wanted}
     for _ in range(RUNS):

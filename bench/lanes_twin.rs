@@ -1,6 +1,6 @@
 //! What lanes cost without proofs: the steps of lane_table's writes and reads on plain atomic words, without fuses.
-//! usage: lanes_twin THREADS CALLS APART LINE LOGS, as bench/lanes.rt.txt; reader words stand LINE words apart (1: side by side)
-//! LOGS 0: no logs; 1: each lane keeps its calls with their words, in room that was reserved before, as lane_table does
+//! usage: lanes_twin THREADS WRITES READS APART LINE LOGS, as bench/lanes.rt.txt; reader words stand LINE words apart (1: side by side)
+//! LOGS 0: no logs; 1: each lane keeps its calls and the words of its writes, in room that was reserved before, as lane_table does
 use std::env;
 use std::hint::black_box;
 use std::sync::atomic::{AtomicU64, Ordering::SeqCst};
@@ -31,37 +31,51 @@ struct Lane {
     log: Option<Log>,
 }
 
-/// A lane's calls, and room for the words of those to come.
+/// A lane's calls, the words of its writes, and room for the words of those to come.
 struct Log {
     calls: Vec<Call>,
+    written: Vec<Vec<u64>>,
     rooms: Vec<Vec<u64>>,
 }
 
 /// A call in a log.
+#[derive(Clone)]
 struct Call {
-    _lane: u32,
-    _tag: u64,
+    _session: u32,
+    _call: u32,
     _sector: u32,
     _is_write: bool,
-    _words: Vec<u64>,
 }
 
 impl Log {
-    fn new(calls: usize) -> Log {
-        Log { calls: Vec::with_capacity(calls), rooms: (0..calls).map(|_| vec![0; WIDTH]).collect() }
+    /// The room is touched, so that no call waits for the system to find a page.
+    fn new(writes: usize, reads: usize) -> Log {
+        let none = Call { _session: 0, _call: 0, _sector: 0, _is_write: false };
+        let rooms = (0..writes).map(|_| vec![0; WIDTH]).collect();
+        let mut log = Log { calls: vec![none; writes + reads], written: vec![Vec::new(); writes], rooms };
+        log.calls.clear();
+        log.written.clear();
+        log
     }
 
-    fn add(&mut self, lane: u32, sector: u32, is_write: bool, words: &[u64; WIDTH]) {
-        let mut room = self.rooms.pop().unwrap();
-        room.copy_from_slice(words);
-        self.calls.push(Call { _lane: lane, _tag: 0, _sector: sector, _is_write: is_write, _words: room });
+    fn add(&mut self, sector: u32, is_write: bool) {
+        self.calls.push(Call { _session: 0, _call: 0, _sector: sector, _is_write: is_write });
     }
 }
 
 impl Lane {
-    fn keep(&mut self, sector: u32, is_write: bool, words: &[u64; WIDTH]) {
+    fn keep_write(&mut self, sector: u32, words: &[u64; WIDTH]) {
         if let Some(log) = &mut self.log {
-            log.add(self.number, sector, is_write, words);
+            let mut room = log.rooms.pop().unwrap();
+            room.copy_from_slice(words);
+            log.written.push(room);
+            log.add(sector, true);
+        }
+    }
+
+    fn keep_read(&mut self, sector: u32) {
+        if let Some(log) = &mut self.log {
+            log.add(sector, false);
         }
     }
 }
@@ -164,7 +178,7 @@ impl Arena {
     fn write(&self, lane: &mut Lane, sector: u32, words: &[u64; WIDTH]) {
         while !self.try_stage(lane, words) {}
         while !self.try_commit(lane, sector) {}
-        lane.keep(sector, true, words);
+        lane.keep_write(sector, words);
     }
 }
 
@@ -206,7 +220,7 @@ fn read_many(arena: &Arena, lane: &mut Lane, calls: u32) {
     for _ in 0..calls {
         seed = random(seed);
         while !arena.try_read(lane, sector_of(seed), &mut words) {}
-        lane.keep(sector_of(seed), false, &words);
+        lane.keep_read(sector_of(seed));
         sum ^= words[(seed % 64) as usize];
     }
     black_box(sum);
@@ -225,19 +239,19 @@ fn run(arena: &Arena, lanes: &mut [Lane], calls: u32, many: fn(&Arena, &mut Lane
 
 fn main() {
     let numbers: Vec<u32> = env::args().skip(1).map(|word| word.parse().unwrap()).collect();
-    let [threads, calls, apart, line, logs] = numbers[..] else { panic!("lanes_twin THREADS CALLS APART LINE LOGS") };
+    let [threads, writes, reads, apart, line, logs] = numbers[..] else { panic!("lanes_twin THREADS WRITES READS APART LINE LOGS") };
     let (arena, lanes) = Arena::new(line as usize);
     let mut lanes: Vec<Lane> = lanes.into_iter().step_by(apart as usize).take(threads as usize).collect();
     if logs == 1 {
         for lane in &mut lanes {
-            lane.log = Some(Log::new(SECTORS as usize + 4 * calls as usize));
+            lane.log = Some(Log::new((SECTORS + 2 * writes) as usize, 2 * reads as usize));
         }
     }
     for sector in 0..SECTORS {
         arena.write(&mut lanes[0], sector, &[7; WIDTH]);
     }
-    run(&arena, &mut lanes, calls, write_many);
-    println!("write: {}", run(&arena, &mut lanes, calls, write_many));
-    run(&arena, &mut lanes, calls, read_many);
-    println!("read: {}", run(&arena, &mut lanes, calls, read_many));
+    run(&arena, &mut lanes, writes, write_many);
+    println!("write: {}", run(&arena, &mut lanes, writes, write_many));
+    run(&arena, &mut lanes, reads, read_many);
+    println!("read: {}", run(&arena, &mut lanes, reads, read_many));
 }

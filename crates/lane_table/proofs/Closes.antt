@@ -23,7 +23,7 @@ use Rattle.lane_table.specs.declared.table.View.{View}
 use Rattle.lane_table.specs.Closed.{IsClosed, AreInOrder}
 use Rattle.lane_table.specs.Kits.{kit_in, log_in, owned_in}
 use Rattle.lane_table.specs.Law.{holds, opening_of, cells_in, areas_in, words_of, keeper, Tells}
-use Rattle.lane_table.specs.Logs.{call_logged}
+use Rattle.lane_table.specs.Logs.{call_logged, written_in}
 use Rattle.lane_table.proofs.Starts.{data_low, map_low}
 use Rattle.lane_table.proofs.WriteLines.{map_word_in}
 
@@ -40,7 +40,7 @@ seen_at : (total : ℕ) (row : List ℕ) (i : ℕ) → i < total → slice_index
 seen_at total row i lt = get_or-take total row i 0 lt
 
 module _ {S : Type 0} (k : Key) (id : ℕ) (ends : List LaneEnd) (c : Closed) (ws : List ℕ) (xs : List S) (order : AreInOrder k.shape.lanes ends)
-    (seen : c.seen.items ≡ take k.shape.total ws) (kept : c.kept.items ≡ take k.shape.total (drop k.shape.total ws)) (logs : c.logs.items ≡ map (λ e. (kit_in e).log.calls) ends) where
+    (seen : c.seen.items ≡ take k.shape.total ws) (kept : c.kept.items ≡ take k.shape.total (drop k.shape.total ws)) (logs : c.logs.items ≡ map (λ e. (kit_in e).log.past) ends) where
   pub closes : Final (Seen (holds k) id (keeper (owned_of ends))) ws xs → IsClosed k ends c
   closes final =
       record {
@@ -58,7 +58,7 @@ module _ {S : Type 0} (k : Key) (id : ℕ) (ends : List LaneEnd) (c : Closed) (w
         legal = past.1.legal;
         each = own;
         logs = logs;
-        logged = λ l e at. (kit_in e).logged ∙ ap (map call_logged) (sym (own l e at));
+        logged = λ l e at. ((kit_in e).logged.0 ∙ ap (map call_logged) (sym (own l e at)), (kit_in e).logged.1 ∙ ap written_in (sym (own l e at)));
         no_other = past.1.no_other;
         leaves = λ t lt. past.1.leaves t lt ∙ cells t lt;
         same_end = λ t lt. past.1.leaves t lt ∙ sym (told.sound.cells t lt);
@@ -103,6 +103,6 @@ module _ {S : Type 0} (k : Key) (id : ℕ) (ends : List LaneEnd) (c : Closed) (w
 
 -- as the code has it
 pub closes_as : {S : Type 0} (k : Key) (id total : ℕ) (ends : List LaneEnd) (c : Closed) (me : Me S View) (ws : List ℕ) (xs : List S) → AreInOrder k.shape.lanes ends → total ≡ k.shape.total → c.seen.items ≡ take total (drop 0 ws) → c.kept.items ≡ take total (drop total ws)
-    → c.logs.items ≡ map (λ e. (kit_in e).log.calls) ends → me ≡ (keeper (owned_of ends), []) → Final (Seen (holds k) id me.0) ws xs → IsClosed k ends c
+    → c.logs.items ≡ map (λ e. (kit_in e).log.past) ends → me ≡ (keeper (owned_of ends), []) → Final (Seen (holds k) id me.0) ws xs → IsClosed k ends c
 closes_as k id total ends c me ws xs order t seen kept logs is final =
     closes k id ends c ws xs order (seen ∙ ap (λ n. take n ws) t) (kept ∙ ap (λ n. take n (drop n ws)) t) logs (subst (λ v. Final (Seen (holds k) id v) ws xs) (ap (λ m. m.0) is) final)

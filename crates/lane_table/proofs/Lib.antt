@@ -7,6 +7,7 @@ pub mod Starts
 pub mod Addresses
 pub mod Dealt
 pub mod Gathers
+pub mod Logs
 pub mod Closes
 pub mod Loads
 pub mod Opens

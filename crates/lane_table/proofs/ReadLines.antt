@@ -15,7 +15,7 @@ use Rattle.lane_core.specs.Areas.{put, block_in, kind_in, has_bytes, entry_at}
 use Rattle.lane_core.specs.History.{cell_of}
 use Rattle.lane_core.specs.Machine as machine
 use Rattle.lane_core.specs.Machine.{State, looked, read}
-use Rattle.lane_core.specs.Places.{SeenData, SeenMap, Reader, word_of, geometry}
+use Rattle.lane_core.specs.Places.{SeenData, SeenMap, SeenA, Reader, word_of, geometry}
 use Rattle.lane_core.proofs.Put.{put_at, put_other, put_elim, same_or_not}
 use Rattle.lane_core.proofs.Elsewhere.{nowhere, but_reader}
 use Rattle.lane_core.proofs.Own.{free_called}
@@ -52,10 +52,10 @@ module _ {S : Type 0} (key : Key) (slots id i : ℕ) (me : Me S View) (live : me
 
   -- ---- the looks at the map
 
-  begins : (t : Call) → v.lane.phase ≡ Idle → t.sector < x.sectors → Allows (holds key) slots id me (word_of x (Reader v.number)) (λ n. either (n == 0) 0 n) (λ n w. w ≡ called t me)
+  begins : (t : Call) → v.lane.phase ≡ Idle → t.sector < x.sectors → Allows (holds key) slots id me (word_of x (SeenA v.number 0)) (λ n. either (n == 0) 0 n) (λ n w. w ≡ called t me)
   begins t e ls =
-      allows_line uncounted x o ws slots id v me.1 (Reader v.number) (λ n. either (n == 0) 0 n) (λ n p. record p { phase = Called; tag = t.tag; sector = t.sector }) live
-      (λ s h. h.number)
+      allows_line uncounted x o ws slots id v me.1 (SeenA v.number 0) (λ n. either (n == 0) 0 n) (λ n p. record p { phase = Called; tag = t.tag; sector = t.sector }) live
+      (λ s h. (h.number, omega arith))
       (λ s h n is. record {
         next = machine.begin_read (geometry x) s v.number t.tag t.sector;
         sound = begin_read_sound (geometry x) o s v.number h.sound h.number t.tag t.sector (phase_of x o v s _ h e) ls;
@@ -65,11 +65,11 @@ module _ {S : Type 0} (key : Key) (slots id i : ℕ) (me : Me S View) (live : me
       })
 
   -- ReadBegin: the exchange changes no word, and tells the call
-  pub begins_read : (call : Call) → v.lane.phase ≡ Idle → call.sector < x.sectors → i ≡ word_of x (Reader v.number)
+  pub begins_read : (call : Call) → v.lane.phase ≡ Idle → call.sector < x.sectors → i ≡ word_of x (SeenA v.number 0)
       → Allows (holds key) slots id me i (λ n. either (n == 0) 0 n) (λ n w. (t : Call) → some call ≡ some t → w ≡ called t me)
   begins_read call e ls ei =
       let b : ℕ → Me S View → Type 0 = λ n w. (t : Call) → some call ≡ some t → w ≡ called t me in
-      at_place key slots id i me live (Reader v.number) (λ n. either (n == 0) 0 n) b ei
+      at_place key slots id i me live (SeenA v.number 0) (λ n. either (n == 0) 0 n) b ei
       (allows_weaker (holds key) slots id me _ (λ n. either (n == 0) 0 n) (λ n w. w ≡ called call me) b
       (λ n w q t et. let same : call ≡ t = cc in q ∙ ap (λ t. called t me) same) (begins call e ls))
 

@@ -15,7 +15,7 @@ use Rattle.lane_table.specs.declared.lanes.LaneEnd.{LaneEnd}
 use Rattle.lane_table.specs.declared.table.Key.{Key}
 use Rattle.lane_table.specs.Kits.{kit_in, log_in}
 use Rattle.lane_table.specs.Law.{opening_of, cells_in, words_of}
-use Rattle.lane_table.specs.Logs.{call_logged}
+use Rattle.lane_table.specs.Logs.{IsLogOf}
 
 -- every lane of n, each at its number
 pub record AreInOrder (n : ℕ) (ends : List LaneEnd) : Type 0 where
@@ -40,9 +40,9 @@ pub record IsClosed (k : Key) (ends : List LaneEnd) (c : Closed) : Type 0 where
   pub history : List Entry
   pub legal : IsLegal (opening_of k) history
   pub each : (l : ℕ) (e : LaneEnd) → get_elem? ends l ≡ some e → of_lane l history ≡ log_in (kit_in e)
-  -- the log of lane l has these calls, without the words of reads
-  pub logs : c.logs.items ≡ map (λ e. (kit_in e).log.calls) ends
-  pub logged : (l : ℕ) (e : LaneEnd) → get_elem? ends l ≡ some e → (kit_in e).log.calls.items ≡ map call_logged (of_lane l history)
+  -- the log of lane l has these calls and the words of its writes, without the words of reads
+  pub logs : c.logs.items ≡ map (λ e. (kit_in e).log.past) ends
+  pub logged : (l : ℕ) (e : LaneEnd) → get_elem? ends l ≡ some e → IsLogOf (kit_in e).log.past (of_lane l history)
   pub no_other : (l : ℕ) → k.shape.lanes ≤ l → of_lane l history ≡ []
   -- it ends in the cells that the seen words encode
   pub leaves : (t : ℕ) → t < k.shape.sectors → end_of (opening_of k) history t ≡ cells_in k.shape c.seen.items t

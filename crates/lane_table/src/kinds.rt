@@ -158,8 +158,8 @@ impl Play<Call, View> for LockFree {
 
 // ---- a read
 
-/// The lane's own reader word is exchanged, 0 by 0. No line of the algorithm: the view learns the
-/// read's call.
+/// A word of the lane's own log group is exchanged, 0 by 0. No line of the algorithm: the view learns
+/// the read's call.
 pub struct ReadBegin;
 
 impl Play<Call, View> for ReadBegin {

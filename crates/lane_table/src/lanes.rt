@@ -1,9 +1,9 @@
 //! A lane with its seat, in each of its states. A call takes the lane in one state and returns it
 //! in another, so a state has no method for a call that it doesn't allow.
-ghost use Rattle.std.specs.Prelude.{◌≡◌, ◌+◌, ◌<◌, true, [], All, map, vec_len, vec_capacity};
+ghost use Rattle.std.specs.Prelude.{◌≡◌, ◌+◌, ◌<◌, true, [], All, vec_len, vec_capacity};
 ghost use Rattle.lane_core.specs.declared.phase.Phase.TheVariants.{Idle as IsIdle, Staged as IsStaged};
 ghost use Rattle.lane_table.specs.Conditions.{IsMine, IsRoom};
-ghost use Rattle.lane_table.specs.Logs.{call_logged};
+ghost use Rattle.lane_table.specs.Logs.{IsLogOf};
 ghost use Rattle.lane_table.specs.Told.{blocks};
 
 use crate::fuse::Fuse;
@@ -21,7 +21,7 @@ pub struct Kit {
     ghost live: { seat.me.0.live ≡ true },
     ghost numbered: { (seat.me.0.number ≡ number) × (number < seat.me.0.shape.lanes) },
     ghost alone: { (seat.me.0.rest ≡ []) × (seat.me.1 ≡ []) },
-    ghost logged: { log.calls.items ≡ map call_logged seat.me.0.lane.log },
+    ghost logged: { IsLogOf log.past seat.me.0.lane.log },
     ghost rooms_are: { All (IsRoom seat.me.0.shape.width) log.rooms.items },
 }
 
@@ -30,7 +30,7 @@ pub(crate) fn kit_of(seat: LaneSeat, number: u32, fuse: Fuse, log: LaneLog) -> K
     requires live { seat.me.0.live ≡ true }
     requires numbered { (seat.me.0.number ≡ number) × (number < seat.me.0.shape.lanes) }
     requires alone { (seat.me.0.rest ≡ []) × (seat.me.1 ≡ []) }
-    requires logged { log.calls.items ≡ map call_logged seat.me.0.lane.log }
+    requires logged { IsLogOf log.past seat.me.0.lane.log }
     requires rooms_are { All (IsRoom seat.me.0.shape.width) log.rooms.items }
     ensures me { result.seat.me ≡ seat.me }
     ensures parts { (result.seat ≡ seat) × (result.number ≡ number) × (result.fuse ≡ fuse) }
@@ -64,7 +64,8 @@ pub struct Staged {
     ghost mine_is: { IsMine mine kit.seat.me.0 },
     ghost in_range: { mine.block < blocks kit.seat.me.0.shape },
     ghost words_are: { kit.seat.me.0.lane.words ≡ words.items },
-    ghost taken: { vec_len kit.log.calls + kit.log.spare < vec_capacity kit.log.calls },
+    ghost taken: { vec_len kit.log.past.calls + kit.log.spare < vec_capacity kit.log.past.calls },
+    ghost taken_list: { vec_len kit.log.past.written + kit.log.spare < vec_capacity kit.log.past.written },
 }
 
 /// A lane whose fuse was spent when a step was due. It stays in that step.

@@ -54,7 +54,7 @@
 //! | a read stands in its lane's part of the history with the cell that it returns, after the number of steps that its entry needs | [`Lane::try_read`] | `Reads`, `Stands` of specs/Outcomes.antt |
 //! | a read says that the sector moved only if its two looks found different entries | the same | `Reads`, case Moved |
 //! | a fuse that is set falls by one with each step; a step that is due without one isn't made | each step | `Fell`, `Burnt` of specs/Fuse.antt |
-//! | the words at the end meet the invariant with the lanes' ends; one legal history has their calls, of which the logs have all but the words of reads; and each sector survives a power cut | [`Arena::close`] | `IsClosed` of specs/Closed.antt |
+//! | the words at the end meet the invariant with the lanes' ends; one legal history has their calls, and the logs have these, with the words of writes and without those of reads; and each sector survives a power cut | [`Arena::close`] | `IsClosed` of specs/Closed.antt |
 //! | each word that no lane stores, such as those of the info blocks, is as the arena was opened | the same | `IsClosed`, fields `seen_fixed` and `kept_fixed` |
 //! | after a power loss these words open again, with the history's cells or those of a write in flight | [`closed_words_reopen`] | `ClosedWordsReopen` of specs/Reopened.antt |
 //!
@@ -91,6 +91,6 @@ pub use fuse::Fuse;
 pub use lanes::{Kit, Lane, LaneEnd, Staged, Stopped};
 pub use law::closed_words_reopen;
 pub use loading::Pause;
-pub use log::{LaneLog, LoggedAct, LoggedCall};
+pub use log::{LaneCalls, LaneLog, LoggedAct, LoggedCall};
 pub use outcome::{CommitOutcome, ReadOutcome, StageOutcome};
 pub use table::{Call, Count, Key, LaneSeat, Law, Owned, View, WordTable, Words};

@@ -16,7 +16,7 @@ use crate::steps::{
     data_load, map_check, map_look, read_begin, rtt_clear, rtt_clear_moved, rtt_set,
 };
 use crate::table::{Call, LaneSeat, Words};
-use crate::words::{block_word, map_word, reader_word};
+use crate::words::{block_word, log_word, map_word, reader_word};
 use arena_open::CellKind;
 use map_table::{Kind, entry, entry_in};
 
@@ -166,7 +166,7 @@ pub fn read<P: Pause>(
     let table = &arena.table.shared;
     let reader = reader_word(&arena.shape, number);
     let map = map_word(&arena.shape, call.sector);
-    read_begin(table, seat, reader, call);
+    read_begin(table, seat, log_word(&arena.shape, number, 0), call);
     let Some(word) = map_look(table, seat, fuse, map) else {
         return ReadFate::Cut;
     };

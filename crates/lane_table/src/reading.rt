@@ -20,11 +20,10 @@ impl Pause for Straight {
 }
 
 /// A read that found a cell of this kind, as it stands in its lane's log.
-fn found(lane: u32, call: Call, kind: CellKind) -> LoggedCall
-    ensures { result ≡ record { lane = lane; tag = call.tag; sector = call.sector; act = logged.Read kind } }
+fn found(call: Call, kind: CellKind) -> LoggedCall
+    ensures { result ≡ record { tag = call.tag; sector = call.sector; act = logged.Read kind } }
 {
     LoggedCall {
-        lane,
         tag: call.tag,
         sector: call.sector,
         act: LoggedAct::Read(kind),
@@ -89,7 +88,7 @@ impl Lane {
         let call = Call { tag, sector };
         match read(arena, &mut seat, &mut fuse, number, call, into, between) {
             ReadFate::Got(kind) => {
-                log.add_read(found(number, call, kind));
+                log.add_read(found(call, kind));
                 let kit = kit_of(seat, number, fuse, log);
                 let lane = Lane { kit, mine };
                 ReadOutcome::Got { lane, kind }

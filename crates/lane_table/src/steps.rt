@@ -304,13 +304,13 @@ pub fn lock_free(table: &Words, seat: &mut LaneSeat, fuse: &mut Fuse, at: usize,
 // ---- a read
 
 /// A read begins. This is no line of the algorithm, changes no word and takes nothing from the
-/// fuse. It exchanges the lane's own reader word, which is 0, for 0, so that the view learns the
-/// read's call.
+/// fuse. It exchanges a word of the lane's own log group for 0 if it is 0, so that the view learns
+/// the read's call. No other lane looks at that word's line of cache, as scans do at reader words.
 #[inline]
 pub fn read_begin(table: &Words, seat: &mut LaneSeat, at: usize, call: Call)
     requires seat { IsSeated Idle table.now.table_id seat.old.table_id seat.old.me }
     requires sector { call.sector < table.now.key.shape.sectors }
-    requires at { IsWord table.now.table_id table.now.key.shape at (Reader seat.old.me.0.number) }
+    requires at { IsWord table.now.table_id table.now.key.shape at (SeenA seat.old.me.0.number 0) }
     ensures table { seat.new.table_id ≡ seat.old.table_id }
     ensures called { seat.new.me ≡ called call seat.old.me }
 {

@@ -13,17 +13,16 @@ use crate::outcome::CommitOutcome;
 use crate::pieces::{Mine, seq_after};
 use crate::spots::commit_words;
 use crate::table::Call;
-use nvd_words::{Items, Tag};
+use nvd_words::Tag;
 
 /// A write, as it stands in its lane's log.
-fn written(lane: u32, call: Call, words: Vec<u64>) -> LoggedCall
-    ensures { result ≡ record { lane = lane; tag = call.tag; sector = call.sector; act = logged.Write words.items } }
+fn written(call: Call) -> LoggedCall
+    ensures { result ≡ record { tag = call.tag; sector = call.sector; act = logged.Write } }
 {
     LoggedCall {
-        lane,
         tag: call.tag,
         sector: call.sector,
-        act: LoggedAct::Write(Items::from_vec(words)),
+        act: LoggedAct::Write,
     }
 }
 
@@ -79,7 +78,7 @@ impl Staged {
         let call = Call { tag, sector };
         match commit(&arena.table.shared, &mut seat, &mut fuse, at, mine, call) {
             Fate::Done(block) => {
-                log.add_write(written(number, call, words));
+                log.add_write(written(call), words);
                 CommitOutcome::Done(Lane {
                     kit: kit_of(seat, number, fuse, log),
                     mine: mine_after(mine, block),
@@ -92,7 +91,7 @@ impl Staged {
             }
             Fate::Cut(made) => {
                 if made >= 7 {
-                    log.add_write(written(number, call, words));
+                    log.add_write(written(call), words);
                 }
                 CommitOutcome::Cut(Stopped {
                     kit: kit_of(seat, number, fuse, log),

@@ -166,7 +166,7 @@ fn close(alloc: Global, arena: Arena, first: LaneEnd, second: LaneEnd) -> Result
 /// How many calls a lane's log has.
 fn calls_of(closed: &Closed, lane: usize) -> Option<usize> {
     if lane < closed.logs.len() {
-        Some(closed.logs[lane].len())
+        Some(closed.logs[lane].calls.len())
     } else {
         None
     }

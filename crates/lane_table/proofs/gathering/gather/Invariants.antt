@@ -8,7 +8,7 @@ abbrev pub invariant-loop-end : goal.invariant-loop-end
 invariant-loop-end l = record {
   table : l.host.table_id ≡ l.shared.table_id;
   known : l.host.me ≡ (keeper (map (λ e. owned_in (kit_in e)) l.yielded), []);
-  logs : l.logs.items ≡ map (λ e. (kit_in e).log.calls) l.yielded;
+  logs : l.logs.items ≡ map (λ e. (kit_in e).log.past) l.yielded;
   room : vec_capacity l.logs ≡ vec_capacity l.initial.logs;
   rest : l.yielded ++ l.end-iterator.rest.items ≡ l.fn.ends.items;
 }

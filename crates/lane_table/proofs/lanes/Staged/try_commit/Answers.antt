@@ -3,11 +3,16 @@ use Rattle.lane_core.specs.declared.shape.Shape.{Shape}
 use Rattle.lane_core.specs.Areas.{next_seq}
 use Rattle.lane_core.specs.Machine.{other}
 use Rattle.lane_core.proofs.Entries.{next_newer}
+use Rattle.lane_table.specs.declared.log.LaneLog.{LaneLog}
 use Rattle.lane_table.specs.declared.pieces.Mine.{Mine}
+use Rattle.lane_table.specs.declared.table.Call.{Call}
 use Rattle.lane_table.specs.Committed.{AreCommitWords}
 use Rattle.lane_table.specs.Conditions.{IsMine}
+use Rattle.lane_table.specs.Logs.{IsLogOf}
 use Rattle.lane_table.specs.Told.{blocks}
+use Rattle.lane_table.proofs.Logs.{joining, write_added, log_before, log_after}
 use Rattle.lane_table.proofs.lanes.Staged.try_commit.Goals as goal
+use Rattle.lane_table.proofs.lanes.Staged.try_commit.Goals.{then-made-ge7, else-made-ge7}
 
 pub commit-requires-clause-words : goal.commit-requires-clause-words
 commit-requires-clause-words c =
@@ -36,3 +41,30 @@ invariant_of-result c =
           };
       in_range = subst (λ b. b < blocks c.kit_of.result.seat.me.0.shape) (sym (ap (λ (m : Mine). m.block) c.mine_after.ensures)) (subst (λ (x : Shape). c.in-Done.block < blocks x) (sym (ap (λ m. m.0.shape) me)) d.3);
     }
+
+pub kit_of-requires-clause-logged : goal.kit_of-requires-clause-logged
+kit_of-requires-clause-logged c =
+    let s = c.args.self in
+    let d = c.in-Done.ensures.ended in
+    let me = s.kit.seat.me in
+    let t : Call = record { tag = c.args.tag; sector = c.args.sector } in
+    subst (λ m. IsLogOf c.add_write.new.self.past m.0.lane.log) (sym d.1)
+    (write_added s.kit.log.past c.add_write.new.self.past me.0.lane.log me.0.number (joining t d.0 me) c.written.result s.kit.logged c.add_write.ensures.added s.words.items c.written.ensures (sym s.words_are) c.add_write.ensures.words)
+
+pub kit_of-requires-in-Cut-clause-logged : goal.kit_of-requires-in-Cut-clause-logged
+kit_of-requires-in-Cut-clause-logged c =
+    let s = c.args.self in
+    let d = c.in-Cut.ensures.ended in
+    let me = s.kit.seat.me in
+    let t : Call = record { tag = c.args.tag; sector = c.args.sector } in
+    let is = ap (λ m. m.0.lane.log) d.2 in
+    elim c.if-made-ge7.branch [
+      | then-made-ge7 w ↦
+          subst (λ (log : LaneLog). IsLogOf log.past c.commit.new.seat.me.0.lane.log) (sym w.log-is)
+          (subst (λ h. IsLogOf w.add_write-then-made-ge7.new.self.past h) (sym (is ∙ log_after t d.0 me c.in-Cut.made (omega (arith, w.if-made-ge7.true)) d.1))
+          (write_added s.kit.log.past w.add_write-then-made-ge7.new.self.past me.0.lane.log me.0.number (joining t d.0 me) w.written-then-made-ge7.result s.kit.logged w.add_write-then-made-ge7.ensures.added s.words.items
+          w.written-then-made-ge7.ensures (sym s.words_are) w.add_write-then-made-ge7.ensures.words))
+      | else-made-ge7 w ↦
+          subst (λ (log : LaneLog). IsLogOf log.past c.commit.new.seat.me.0.lane.log) (sym w.log-is)
+          (subst (λ h. IsLogOf s.kit.log.past h) (sym (is ∙ log_before t d.0 me c.in-Cut.made (omega (arith, w.if-made-ge7.false)))) s.kit.logged)
+    ]
