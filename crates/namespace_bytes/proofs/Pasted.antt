@@ -47,15 +47,21 @@ words_drop bytes n =
     ∙ sym (get_or-drop n (words_in bytes) j 0 ∙ word_index bytes (n + j) (omega (arith, lt, short, length_words bytes))))
 
 -- words behind those that were put
+pub put_more : (words values : List ℕ) (at done more : ℕ) → at ≤ length words → done ≤ length values
+    → put_at (put_at words at (take done values)) (at + done) (take more (drop done values)) ≡ put_at words at (take (done + more) values)
+put_more words values at done more le inside =
+    let front : List ℕ = take done values in
+    let long : length (take done values) ≡ done = length-take-le done values inside in
+    ap (λ (m : ℕ). put_at (put_at words at front) (at + m) (take more (drop done values))) (sym long)
+    ∙ put_twice words at front (take more (drop done values)) le
+    ∙ ap (put_at words at) (sym (take-add done more values))
+
+-- the same with the words of bytes
 pub put_behind : (words bytes : List ℕ) (at done more : ℕ) → at ≤ length words → done ≤ length (words_in bytes)
     → put_at (put_at words at (take done (words_in bytes))) (at + done) (take more (words_in (drop (8 * done) bytes))) ≡ put_at words at (take (done + more) (words_in bytes))
 put_behind words bytes at done more le inside =
-    let front : List ℕ = take done (words_in bytes) in
-    let long : length (take done (words_in bytes)) ≡ done = length-take-le done (words_in bytes) inside in
-    ap (λ (m : ℕ). put_at (put_at words at front) (at + m) (take more (words_in (drop (8 * done) bytes)))) (sym long)
-    ∙ put_twice words at front (take more (words_in (drop (8 * done) bytes))) le
-    ∙ ap (λ (ws : List ℕ). put_at words at (front ++ take more ws)) (words_drop bytes done)
-    ∙ ap (put_at words at) (sym (take-add done more (words_in bytes)))
+    ap (λ (ws : List ℕ). put_at (put_at words at (take done (words_in bytes))) (at + done) (take more ws)) (words_drop bytes done)
+    ∙ put_more words (words_in bytes) at done more le inside
 
 -- ---- a run of words
 

@@ -19,13 +19,13 @@ use std::marker::Model;
 /// The size of a word, in bytes.
 const WORD: u64 = 8;
 
-/// The words of a module. Contracts see them as words of which none is pending.
+/// The words of a module, of which none is pending. Contracts see the same as of `CutWords`.
 #[derive(Debug, Drop)]
-struct Row {
+pub struct PlainRow {
     words: Vec<u64>,
 }
 
-impl Model for Row {
+impl Model for PlainRow {
     ghost use Rattle.cut_words.specs.Words.{Words, settled};
 
     ghost Value = { Words };
@@ -33,18 +33,18 @@ impl Model for Row {
     ghost view = { λ row. settled row.words.items };
 }
 
-impl Row {
-    fn of(words: Vec<u64>) -> Row
+impl PlainRow {
+    fn of(words: Vec<u64>) -> PlainRow
         ensures { result ≡ settled words.items }
     {
-        Row { words }
+        PlainRow { words }
     }
 
     /// Returns the same words, as ones that can be stored and flushed.
     fn into_cut(self, alloc: Global) -> Result<CutWords, AllocError>
         ensures { IfOk result (λ words. words ≡ self) }
     {
-        let Row { words } = self;
+        let PlainRow { words } = self;
         CutWords::new(alloc, words)
     }
 
@@ -75,23 +75,35 @@ impl Row {
             self.words[first + i] = word_at(bytes, 8 * i);
         }
     }
+
+    /// Puts these words into those from `first` on.
+    fn put_words(&mut self, first: u64, words: &[u64])
+        requires { first + length words.now ≤ length self.old.kept }
+        ensures put { self.new ≡ settled (put_at self.old.kept first words.now) }
+        ensures was { IsSettled self.old }
+    {
+        let first = first as usize;
+        self.words[first..first + words.len()].copy_from_slice(words);
+    }
 }
 
-/// Takes the words of all modules, of which none is pending, as plain words.
-fn plain_rows(alloc: Global, modules: Vec<CutWords>) -> Result<Vec<Row>, AllocError>
+/// Takes the words of all modules, of which none is pending, as plain words. It takes a few bytes for each module, and fails only
+/// if memory runs out.
+pub fn plain_rows(alloc: Global, modules: Vec<CutWords>) -> Result<Vec<PlainRow>, AllocError>
     requires { AreSettled modules.items }
     ensures { IfOk result (λ rows. rows.items ≡ modules.items) }
 {
     let mut chooser = ListChooser::new(Vec::new(alloc));
     let mut rows = Items::new(alloc);
     for words in modules {
-        rows.push(Row::of(words.leave(&mut chooser)))?;
+        rows.push(PlainRow::of(words.leave(&mut chooser)))?;
     }
     Ok(rows.into_vec())
 }
 
-/// Returns plain words as the words of all modules.
-fn cut_rows(alloc: Global, rows: Vec<Row>) -> Result<Vec<CutWords>, AllocError>
+/// Returns the plain words of all modules as words that can be stored and flushed. It takes a few bytes for each module, and fails
+/// only if memory runs out.
+pub fn cut_rows(alloc: Global, rows: Vec<PlainRow>) -> Result<Vec<CutWords>, AllocError>
     ensures { IfOk result (λ modules. modules.items ≡ rows.items) }
 {
     let mut modules = Items::new(alloc);
@@ -114,7 +126,7 @@ pub struct PlainWords<'a> {
     /// Its size in each mapping, in bytes.
     raw: u64,
     /// The words of all modules, by number.
-    rows: Vec<Row>,
+    rows: Vec<PlainRow>,
 }
 
 impl<'a> Model for PlainWords<'a> {
@@ -147,23 +159,47 @@ impl<'a> PlainWords<'a> {
         requires reach { ReachEnds set.now modules.items }
         ensures made { IfOk result (λ words. words ≡ over set.now offset raw modules.items) }
     {
+        let rows = plain_rows(alloc, modules)?;
+        Ok(PlainWords::of_rows(set, offset, raw, rows))
+    }
+
+    /// The same with words that are plain already. It takes no memory.
+    pub fn of_rows(
+        set: &'a InterleaveSet,
+        offset: u64,
+        raw: u64,
+        rows: Vec<PlainRow>,
+    ) -> PlainWords<'a>
+        requires from { offset % unit_of set.now ≡ 0 }
+        requires to { raw % unit_of set.now ≡ 0 }
+        requires inside { offset + raw ≤ span_of set.now }
+        requires settled { AreSettled rows.items }
+        requires reach { ReachEnds set.now rows.items }
+        ensures made { result ≡ over set.now offset raw rows.items }
+    {
         let _unit = set.unit();
         let _span = set.span();
-        let rows = plain_rows(alloc, modules)?;
-        Ok(PlainWords {
+        PlainWords {
             set,
             offset,
             raw,
             rows,
-        })
+        }
+    }
+
+    /// Returns the words of the modules, as plain words.
+    pub fn into_rows(self) -> Vec<PlainRow>
+        ensures rows { result.items ≡ self.entry.modules }
+    {
+        let PlainWords { rows, .. } = self;
+        rows
     }
 
     /// Returns the words of the modules. It fails only if memory runs out.
     pub fn into_modules(self, alloc: Global) -> Result<Vec<CutWords>, AllocError>
         ensures { IfOk result (λ modules. modules.items ≡ self.entry.modules) }
     {
-        let PlainWords { rows, .. } = self;
-        cut_rows(alloc, rows)
+        cut_rows(alloc, self.into_rows())
     }
 
     /// Returns the number of words.
@@ -230,6 +266,23 @@ impl<'a> PlainWords<'a> {
         let (module, word) = self.locate(first);
         let size = self.run_length(first).min(bytes.len() as u64 / WORD) as usize;
         self.rows[module].put_from(word, bytes, size);
+        size
+    }
+
+    /// Puts the first of these words into those from `first` on. It stops at the end of the interleave line, and returns how many
+    /// words it put.
+    pub(crate) fn put_words_run(&mut self, first: u64, words: &[u64]) -> usize
+        requires some { 0 < length words.now }
+        requires inside { first + length words.now ≤ length (words_of self.old).kept }
+        requires settled { IsSettled (words_of self.old) }
+        ensures some { 0 < result }
+        ensures fits { result ≤ length words.now }
+        ensures put { words_of self.new ≡ settled (put_at (words_of self.old).kept first (take result words.now)) }
+        ensures beside { beside_and_place self.new ≡ beside_and_place self.old }
+    {
+        let (module, word) = self.locate(first);
+        let size = self.run_length(first).min(words.len() as u64) as usize;
+        self.rows[module].put_words(word, &words[..size]);
         size
     }
 }

@@ -1,4 +1,4 @@
-//! Bytes are put into the words of a namespace and of its arenas.
+//! Bytes and words are put into the words of a namespace, and bytes into its arenas.
 ghost use Rattle.std.specs.Prelude.{◌≡◌, ℕ, ◌+◌, ◌*◌, ◌/◌, ◌%◌, ◌^◌, ◌<◌, ◌≤◌, length, drop, slice_index};
 ghost use Rattle.cut_words.specs.WordBytes.{put_at, words_in};
 ghost use Rattle.cut_words.specs.Words.{settled};
@@ -26,6 +26,23 @@ pub(crate) fn put_bytes(space: &mut PlainWords<'_>, first: u64, bytes: &[u8])
     let mut done = 0;
     while done < count {
         done += space.put_run(first + done as u64, &bytes[8 * done..]);
+    }
+}
+
+/// Puts words into those of a namespace from word `first` on, where they must fit. The namespace has fewer than 2^60 words, of
+/// which none is pending.
+///
+/// No word beside the namespace changes.
+pub fn put_words(space: &mut PlainWords<'_>, first: u64, words: &[u64])
+    requires inside { first + length words.now ≤ length (words_of space.old).kept }
+    requires small { length (words_of space.old).kept < 2 ^ 60 }
+    requires settled { IsSettled (words_of space.old) }
+    ensures put { words_of space.new ≡ settled (put_at (words_of space.old).kept first words.now) }
+    ensures beside { beside_and_place space.new ≡ beside_and_place space.old }
+{
+    let mut done = 0;
+    while done < words.len() {
+        done += space.put_words_run(first + done as u64, &words[done..]);
     }
 }
 

@@ -1,8 +1,9 @@
 //! The arenas of namespaces are put back into the words of the modules.
-ghost use Rattle.std.specs.Prelude.{◌≡◌, ◌^◌, ◌+◌, ◌<◌, ◌≤◌, List, length, map};
+ghost use Rattle.std.specs.Prelude.{◌≡◌, ◌^◌, ◌+◌, ◌<◌, ◌≤◌, IfOk, List, length, map};
 ghost use Rattle.cut_words.specs.Words.{Words, settled};
 ghost use Rattle.arena_open.specs.Writes.{IsSettled};
 ghost use Rattle.power_cut.specs.Namespace.{beside_of, over, words_of};
+ghost use Rattle.power_cut.specs.Placed.{beside_and_place};
 ghost use Rattle.sector_namespaces.specs.Creation.{AreSettled};
 ghost use Rattle.sector_namespaces.specs.View.{IsUsable, LiesOn};
 ghost use Rattle.served_namespaces.specs.declared.places.OpenedNamespace.{OpenedNamespace as Opened};
@@ -12,19 +13,20 @@ ghost use Rattle.served_namespaces.specs.Serving.{AreLeft};
 
 use crate::places::FoundNamespace;
 use crate::sets::{know_sets, set_at};
-use cut_words::{CutWords, WordSpace};
+use cut_words::CutWords;
 use interleave::InterleaveSet;
+use namespace_bytes::{PlainRow, PlainWords, cut_rows, plain_rows, put_words};
 use nvd_words::Items;
-use power_cut::{SetWords, beside_tells_the_place};
-use sector_namespaces::put_words;
+use power_cut::beside_tells_the_place;
+use std::alloc::{AllocError, Global};
 
-/// Puts parts one behind another, from the first word of the space on.
-fn put_parts<W: WordSpace>(space: &mut W, parts: &[Items<u64>])
-    requires room { total_of parts.now ≤ length (W.words space.old).kept }
-    requires small { length (W.words space.old).kept < 2 ^ 60 }
-    requires settled { IsSettled (W.words space.old) }
-    ensures put { W.words space.new ≡ settled (put_parts 0 parts.now (W.words space.old).kept) }
-    ensures beside { W.beside space.new ≡ W.beside space.old }
+/// Puts parts one behind another, from the first word of the namespace on.
+fn put_parts(space: &mut PlainWords<'_>, parts: &[Items<u64>])
+    requires room { total_of parts.now ≤ length (words_of space.old).kept }
+    requires small { length (words_of space.old).kept < 2 ^ 60 }
+    requires settled { IsSettled (words_of space.old) }
+    ensures put { words_of space.new ≡ settled (put_parts 0 parts.now (words_of space.old).kept) }
+    ensures beside { beside_and_place space.new ≡ beside_and_place space.old }
 {
     let mut at = 0;
     for part in parts {
@@ -38,8 +40,8 @@ fn put_arenas(
     set: &InterleaveSet,
     place: &FoundNamespace,
     parts: &[Items<u64>],
-    modules: Vec<CutWords>,
-) -> Vec<CutWords>
+    modules: Vec<PlainRow>,
+) -> Vec<PlainRow>
     requires lies { LiesOn set.now place.now.found }
     requires settled { AreSettled modules.items }
     requires usable { IsUsable set.now modules.items }
@@ -49,27 +51,18 @@ fn put_arenas(
 {
     beside_tells_the_place();
     let _few = set.ways();
-    let mut space = SetWords::of(set, place.found.offset, place.found.raw, modules);
+    let mut space = PlainWords::of_rows(set, place.found.offset, place.found.raw, modules);
     put_parts(&mut space, parts);
-    space.into_modules()
+    space.into_rows()
 }
 
-/// Puts the words of all arenas of namespaces that are open back into the words of the modules.
-/// It takes no memory.
-///
-/// `places` are those with which `open_each` opened them, and `modules` the words that it returned. `words` has for each namespace, in
-/// order, the words of each of its arenas, in order: what a power cut of the arena's core may
-/// leave (`ArenaCut`).
-///
-/// Each namespace begins with these words, one arena behind another, and opens in its place as
-/// arenas with the same info. No word is pending, and no word that isn't an arena's has changed
-/// since the words were loaded (`AreLeft`).
-pub fn put_each(
+/// Puts the words of all arenas of all namespaces.
+fn put_namespaces(
     sets: &[InterleaveSet],
     places: &[FoundNamespace],
     words: &[Items<Items<u64>>],
-    modules: Vec<CutWords>,
-) -> Vec<CutWords>
+    modules: Vec<PlainRow>,
+) -> Vec<PlainRow>
     requires ready { (loaded : List Words) × ((opened : List Opened) × IsReady sets.now loaded places.now opened words.now modules.items) }
     ensures { (loaded : List Words) (opened : List Opened) → IsReady sets.now loaded places.now opened words.now modules.items → AreLeft sets.now loaded opened words.now result.items }
 {
@@ -80,4 +73,27 @@ pub fn put_each(
         modules = put_arenas(set, &places[i], words[i].as_slice(), modules);
     }
     modules
+}
+
+/// Puts the words of all arenas of namespaces that are open back into the words of the modules.
+///
+/// `places` are those with which `open_each` opened them, and `modules` the words that it returned. `words` has for each namespace, in
+/// order, the words of each of its arenas, in order: what a power cut of the arena's core may
+/// leave (`ArenaCut`).
+///
+/// Each namespace begins with these words, one arena behind another, and opens in its place as
+/// arenas with the same info. No word is pending, and no word that isn't an arena's has changed
+/// since the words were loaded (`AreLeft`). The call takes a few bytes for each module; it fails only if memory runs out.
+pub fn put_each(
+    alloc: Global,
+    sets: &[InterleaveSet],
+    places: &[FoundNamespace],
+    words: &[Items<Items<u64>>],
+    modules: Vec<CutWords>,
+) -> Result<Vec<CutWords>, AllocError>
+    requires ready { (loaded : List Words) × ((opened : List Opened) × IsReady sets.now loaded places.now opened words.now modules.items) }
+    ensures { IfOk result (λ now. (loaded : List Words) (opened : List Opened) → IsReady sets.now loaded places.now opened words.now modules.items → AreLeft sets.now loaded opened words.now now.items) }
+{
+    let rows = plain_rows(alloc, modules)?;
+    cut_rows(alloc, put_namespaces(sets, places, words, rows))
 }

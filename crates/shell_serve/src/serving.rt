@@ -135,7 +135,7 @@ pub(crate) fn serve_opened<R: Threads + Wait + Sync, C: Chooser, G: Gate>(
     } = ran;
     choose.begin(running.seed);
     let words = cut_all(alloc, cores, choose)?;
-    let modules = put_each(registry.sets(), &places, &words, modules);
+    let modules = put_each(alloc, registry.sets(), &places, &words, modules)?;
     Ok(Served {
         replies,
         rest: Unchanged {

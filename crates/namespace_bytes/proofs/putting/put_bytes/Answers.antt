@@ -1,4 +1,4 @@
-use Rattle.std.proofs.Common.{◌≡◌, ◌∙◌, ℕ, ◌+◌, ◌-◌, ◌*◌, ◌/◌, ◌<◌, ◌≤◌, List, ◌++◌, length, length-drop, take, drop, ap, sym, arith}
+use Rattle.std.proofs.Common.{◌≡◌, ◌∙◌, ℕ, ◌+◌, ◌-◌, ◌*◌, ◌≤◌, List, length, length-drop, take, drop, ap, arith}
 use Rattle.std.proofs.lemmas.List.{length-take-le, take_all}
 use Rattle.cut_words.specs.Words.{Words, settled}
 use Rattle.cut_words.specs.WordBytes.{put_at, words_in}

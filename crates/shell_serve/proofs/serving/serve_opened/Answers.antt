@@ -23,8 +23,8 @@ run_all-requires-clause-opened g c = λ κs lives. opened_all c.args.opened.name
 pub cut_all-requires : goal.cut_all-requires
 cut_all-requires g c = cores_shown c.args.opened.namespaces c.in_ok-parted.parted.served.items c.in_ok-parted.ensures.served c.args.rest.registry c.args.script.now c.in_ok-ran.ran c.in_ok-ran.ensures
 
-pub put_each-modules-requires : goal.put_each-modules-requires
-put_each-modules-requires g c = record {
+pub put_each-requires : goal.put_each-requires
+put_each-requires g c = record {
   ready = (
     rows_of c.requires.open.0.contents,
     (
@@ -41,9 +41,9 @@ returns g c = λ loaded is.
     let leaves = LeavesTo g.C.Chooser.begins g.C.Chooser.picks c.args.choose.now c.args.running.seed c.cut_all.new.choose in
     is_served loaded c.args.rest c.args.opened is c.in_ok-parted.parted.served.items c.in_ok-parted.ensures.served c.args.script.now c.in_ok-ran.ran c.in_ok-ran.ensures c.in_ok-words.words.items c.in_ok-words.ensures.cut
     leaves (c.begin.new.self, c.begin.ensures, cores_in_turn g.C.Chooser.picks c.in_ok-ran.ran.cores.items c.in_ok-words.words.items c.begin.new.self c.cut_all.new.choose c.in_ok-words.ensures.asked)
-    c.put_each-modules.result c.sets.result.now c.sets.ensures
-    (subst (λ (ws : List (List (List ℕ))). AreLeft c.sets.result.now (rows_of loaded.contents) c.args.opened.namespaces ws c.put_each-modules.result.items) c.deref-2.ensures.value
-    (c.put_each-modules.ensures (rows_of loaded.contents) c.args.opened.namespaces
+    c.in_ok-modules.modules c.sets.result.now c.sets.ensures
+    (subst (λ (ws : List (List (List ℕ))). AreLeft c.sets.result.now (rows_of loaded.contents) c.args.opened.namespaces ws c.in_ok-modules.modules.items) c.deref-2.ensures.value
+    (c.in_ok-modules.ensures (rows_of loaded.contents) c.args.opened.namespaces
     (subst (λ (ws : List (List (List ℕ))). IsReady c.sets.result.now (rows_of loaded.contents) c.deref.result.now c.args.opened.namespaces ws c.args.opened.modules.items) (sym c.deref-2.ensures.value)
     (is_ready loaded c.args.rest c.args.opened is c.in_ok-parted.parted.served.items c.in_ok-parted.ensures.served c.args.script.now c.in_ok-ran.ran c.in_ok-ran.ensures c.in_ok-words.words.items c.in_ok-words.ensures.cut
     c.deref.result.now c.sets.result.now (c.deref.ensures.value ∙ c.in_ok-parted.ensures.places) c.sets.ensures))))

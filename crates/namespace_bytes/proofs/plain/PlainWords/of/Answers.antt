@@ -1,19 +1,7 @@
-use Rattle.std.proofs.Common.{◌≡◌, List, sym, subst}
-use Rattle.std.specs.List.{All}
-use Rattle.cut_words.specs.Words.{Words, settled}
-use Rattle.power_cut.specs.Namespace.{IsRow, ReachEnds}
-use Rattle.power_cut.proofs.Spread.{laid_of}
-use Rattle.sector_namespaces.proofs.Formats.{settled_row}
-use Rattle.namespace_bytes.proofs.Puts.{all_to}
+use Rattle.std.proofs.Common.{List, sym, subst}
+use Rattle.cut_words.specs.Words.{Words}
+use Rattle.power_cut.specs.Namespace.{ReachEnds}
 use Rattle.namespace_bytes.proofs.plain.PlainWords.of.Goals as goal
 
-pub invariant_of-result : goal.invariant_of-result
-invariant_of-result c = (
-  laid_of c.args.set.now c.args.offset c.args.raw c.span-span.result c.unit-unit.result c.in_ok-rows.rows.items c.requires.from c.requires.to c.requires.inside
-      c.unit-unit.ensures.unit c.unit-unit.ensures.whole c.unit-unit.ensures.parts c.span-span.ensures.span c.span-span.ensures.fits c.span-span.ensures.each c.span-span.ensures.apart
-      c.span-span.ensures.places c.span-span.ensures.words,
-  record {
-    rows = subst (λ (ws : List Words). All IsRow ws) (sym c.in_ok-rows.ensures) (all_to (λ (w : Words). w ≡ settled w.kept) IsRow c.args.modules.items settled_row c.requires.settled);
-    reach = subst (λ (ws : List Words). ReachEnds c.args.set.now ws) (sym c.in_ok-rows.ensures) c.requires.reach;
-  },
-)
+pub of_rows-requires-clause-reach : goal.of_rows-requires-clause-reach
+of_rows-requires-clause-reach c = subst (λ (ws : List Words). ReachEnds c.args.set.now ws) (sym c.in_ok-rows.ensures) c.requires.reach

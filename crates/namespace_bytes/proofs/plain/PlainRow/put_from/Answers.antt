@@ -1,12 +1,12 @@
-use Rattle.std.proofs.Common.{◌≡◌, ◌∙◌, ℕ, ◌+◌, ◌/◌, ◌<◌, List, length, take, ap, sym, arith}
+use Rattle.std.proofs.Common.{◌≡◌, ◌∙◌, ℕ, ◌+◌, ◌<◌, List, length, ap, sym, arith}
 use Rattle.std.proofs.Math.ListN.{set}
 use lib.Seq.{paste}
-use Rattle.std.proofs.lemmas.List.Edits.{length-paste, paste_more, paste_none}
+use Rattle.std.proofs.lemmas.List.Edits.{paste_more, paste_none}
 use Rattle.cut_words.specs.Words.{Words, settled}
 use Rattle.cut_words.specs.WordBytes.{words_in}
 use Rattle.arena_open.proofs.Bytes.{length_words, word_index}
 use Rattle.namespace_bytes.proofs.Pasted.{paste_put}
-use Rattle.namespace_bytes.proofs.plain.Row.put_from.Goals as goal
+use Rattle.namespace_bytes.proofs.plain.PlainRow.put_from.Goals as goal
 
 pub loop-i-init : goal.loop-i-init
 loop-i-init c = ap (λ (w : Words). w.kept) c.self.view_is ∙ paste_none c.args.self.now.kept c.args.first (words_in c.args.bytes.now)
