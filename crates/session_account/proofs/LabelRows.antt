@@ -118,9 +118,13 @@ abbrev renamed_by : ℕ → List (Option Area)
 renamed_by steps = after_steps made (changes_of (namespaces_of sets made) made rename_b) steps true
 
 -- after the first of them recovery leads back to the old name
+same_before : recovered sets (renamed_by 200) ≡ recovered sets made
+unfolding after_steps steps_of_all all_changed put_all put status_of first_fault checked by_position by_position_with taken_from given_to unfinished_gone
+same_before = refl
+
 pub to_before : LeftRecovers sets (opening_of made) (Some 200) (entry 0 0 rename_b (Err PowerCut) ∷ []) (renamed_by 200)
 unfolding LeftRecovers after_steps steps_of_all all_changed put_all put status_of first_fault checked by_position by_position_with taken_from given_to unfinished_gone
-to_before = inl refl
+to_before = inl same_before
 
 abbrev statuses : Namespaces → List SetStatus
 statuses ns = map (λ (e : NamespaceEntry). e.status) ns.entries
