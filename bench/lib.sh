@@ -9,6 +9,8 @@ work=$(mktemp -d)
 trap 'rm -rf "$work"' EXIT
 trap 'exit 130' INT
 trap 'exit 143' TERM
+# shellcheck source=lib/memory.sh
+. "$top/lib/memory.sh"
 export PYTHONDONTWRITEBYTECODE=1 PYTHONPATH="$top/bench:$top/samples"
 
 # skip REASON: prints why the script can't run here, and ends it
