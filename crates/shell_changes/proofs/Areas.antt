@@ -44,6 +44,7 @@ use Rattle.shell_changes.specs.Areas.{area_by, area_in, areas_in, rows_in, with_
 use Rattle.shell_changes.specs.Reading.{set_parted}
 use Rattle.shell_changes.specs.Rest.{IsBeside, is_whole, objects_by, objects_left, objects_with, with_rows, words_beside}
 use Rattle.shell_changes.specs.Work.{with_contents}
+use Rattle.shell_changes.proofs.Saved.{get_map}
 
 -- ---- what areas show, by their bytes
 
@@ -230,11 +231,6 @@ same_loaded loaded rows left all each (object.BadRanges m) = refl
 
 all_settled : (rows : List Words) → All IsContents rows → AreSettled rows
 all_settled rows all = λ k d lt. (all k d lt).kept
-
-get_map : {A B : Type 0} (f : A → B) (xs : List A) (k : ℕ) (d : A) → get_or (map f xs) k (f d) ≡ f (get_or xs k d)
-get_map f [] k d = refl
-get_map f (x ∷ xs) zero d = refl
-get_map f (x ∷ xs) (suc k) d = get_map f xs k d
 
 -- what an outline has beside its label areas
 abbrev pub outline_rest : Outline → OutlineRest

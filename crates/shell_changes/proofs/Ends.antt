@@ -93,21 +93,23 @@ module _ (leaves : ℕ → List (Option Words) → List (Option (List ℕ)) → 
       → map unready news ≡ map unready opened → map size_of news ≡ map size_of opened → (s : SavesCut leaves objects power news made outcome)
       → SavedAs leaves (begun (lasts power.steps (steps_of_all seen work.recovery)) work.arena) set words objects made (burnt power.steps (steps_of_all seen work.recovery)) s.rows s.contents_left
       → IsPowerCut leaves set seen work power outcome
-  all_cut work news n made given now leave beside sizes s at = record {
-    steps = n;
-    given = given;
-    leave = λ rows left_of. leave rows (subst (λ (ws : List (Option Words)). Each IsLeftOf ws rows) (sym now) left_of);
-    contents = at.contents;
-    contents_left = at.left;
-    now = at.now;
-    formats = at.formats;
-    rows = s.rows;
-    asked = subst (λ (ws : List (Option Words)). leaves power.seed (ws ++ map (λ w. Some w) at.contents) (s.rows ++ map (λ row. Some row) at.left)) now (at.asks power.seed (map words_of news) s.asked_first s.asked);
-    left_of = subst (λ (ws : List (Option Words)). Each IsLeftOf ws s.rows) now s.kept;
-    set = s.saves.saved;
-    has = has_rows at.now words at.labels news s.rows s.saves.saved beside sizes s.kept (λ o. s.saves.same o ∙ at.same o);
-    saves = saving_itself ending.PowerCut (cut_text power.steps) (objects s.rows s.contents_left) outcome s.saves;
-  }
+  all_cut work news n made given now leave beside sizes s at =
+      let same : s.steps ≡ n = (let both : Some s.steps ≡ Some n = sym s.given ∙ given in cc) in
+      record {
+        steps = n;
+        given = given;
+        leave = λ rows left_of. leave rows (subst (λ (ws : List (Option Words)). Each IsLeftOf ws rows) (sym now) left_of);
+        contents = at.contents;
+        contents_left = at.left;
+        now = at.now;
+        formats = at.formats;
+        rows = s.rows;
+        asked = subst (λ (ws : List (Option Words)). leaves power.seed (ws ++ map (λ w. Some w) at.contents) (s.rows ++ map (λ row. Some row) at.left)) now (at.asks power.seed (map words_of news) s.asked_first s.asked);
+        left_of = subst (λ (ws : List (Option Words)). Each IsLeftOf ws s.rows) now s.kept;
+        set = s.saves.saved;
+        has = has_rows at.now words at.labels news s.rows s.saves.saved beside sizes s.kept (λ o. s.saves.same o ∙ at.same o);
+        saves = subst (λ (k : ℕ). IsSaving ending.PowerCut (cut_text k) s.saves.saved outcome) same (saving_itself ending.PowerCut (cut_text s.steps) (objects s.rows s.contents_left) outcome s.saves);
+      }
 
   goes_whole : (work : Work) (refusal : Option OpRefused) → lasts power.steps (steps_of_work seen work) ≡ true → Ends set seen work refusal outcome → Goes leaves set seen work refusal power outcome
   goes_whole work refusal long ends = subst (λ b. MatchBool b (Ends set seen work refusal outcome) (IsPowerCut leaves set seen work power outcome)) (sym long) ends

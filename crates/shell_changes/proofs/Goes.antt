@@ -1,6 +1,5 @@
 -- From what became of the areas and contents to what the command comes to.
 use Rattle.std.proofs.Common.{◌≡◌, ℕ, Bool, true, false, List, ◌∷◌, [], map, Option, Some, None, Result, Ok, Err, refl, sym, ap, ◌∙◌, subst, inl, inr}
-use Rattle.std.specs.List.{All}
 use Rattle.std.specs.Option.{option_map}
 use Rattle.cut_words.specs.Words.{Words, IsLeft}
 use Rattle.cut_words.specs.Fuses.{burnt, lasts}
@@ -26,10 +25,10 @@ use Rattle.namespace_ops.specs.Registered.{Registered, opened_on}
 use Rattle.namespace_ops.specs.Opening.{registry_opening, overlap_fault, set_fault_from, sets_of}
 use Rattle.nvd_media.specs.Images.{Images}
 use Rattle.image_set.specs.Load.{ImageSet, bytes_kept}
-use Rattle.image_set.specs.Sound.{IsArea}
 use Rattle.shell_reports.specs.declared.power.Power.{Power}
 use Rattle.shell_reports.specs.Outcome.{Outcome}
 use Rattle.shell_reports.specs.List.{open_outcome}
+use Rattle.shell_reports.proofs.Opened.{are_whole}
 use Rattle.shell_changes.specs.declared.saving.Beside.{Beside}
 use Rattle.shell_changes.specs.Areas.{areas_in, rows_in}
 use Rattle.shell_changes.specs.Going.{GoesOn, GoesThen, GoesFrom, SavesCut, StopsFirst, Works}
@@ -104,10 +103,6 @@ module _ (leaves : ℕ → List (Option Words) → List (Option (List ℕ)) → 
   pub goes : GoesFrom leaves objects power sets opened contents c outcome → Goes leaves set seen (work_in sets seen c) (refusal_in sets seen c) power outcome
   goes (inl s) = stopped s (refusal_in sets seen c)
   goes (inr g) = gone_then g (refusal_in sets seen c) refl
-
--- label areas of a set that was loaded
-pub are_whole : (labels : List (Option Words)) → All IsArea labels → AreWhole labels
-are_whole labels all = λ k d lt. let it = all k d lt in record { sized = it.sized; kept = it.kept }
 
 reading : Nfit → Option OpenFault → Result (List (List Mapping)) OpenFault
 reading nfit overlap = value_unless (sets_of nfit) (first_fault (set_fault_from 0 nfit.regions ∷ overlap ∷ []))

@@ -65,6 +65,7 @@ use Rattle.shell_changes.specs.Namespaces.{Ends, IsPowerCut, IsDone, OnSets, ref
 use Rattle.namespace_ops.specs.Counted.{makes_sectors}
 use Rattle.shell_changes.specs.Work.{Arena, Formats, Work, arena_of, begun, count_of, label_changes, label_steps, steps_of_work}
 use Rattle.shell_reports.specs.Faults.{refusal_text, refused_outcome}
+use Rattle.shell_reports.proofs.More.{ending_of}
 use Rattle.shell_changes.proofs.Apart.{labels_apart}
 use Rattle.shell_changes.proofs.Own.{found_before, own_left, to_either}
 use Rattle.shell_changes.proofs.RecoveryApart.{stopped_apart}
@@ -292,9 +293,6 @@ saves_shown sets loaded now formats rows ns e text set outcome same kept has s i
 }
 
 -- ---- a command
-
-ending_of : (a b : Outcome) → a ≡ b → a.ending ≡ b.ending
-ending_of a b is = ap (λ (o : Outcome). o.ending) is
 
 add_none : (n : ℕ) → n + 0 ≡ n
 add_none n = omega arith

@@ -11,15 +11,16 @@ use Rattle.label_area.specs.declared.fault.AreaRefused.{AreaRefused}
 use Rattle.label_area.specs.Area.{block_in}
 use Rattle.label_area.specs.State.{AreaState}
 use Rattle.label_area.specs.Initialise.{initial, initialised, initialised_by, init_count}
+use Rattle.label_area.proofs.Blocks.{read_fault}
 use Rattle.image_set.specs.Load.{ImageSet, bytes_kept}
 use Rattle.image_set.specs.Changed.{objects_of, with_area}
 use Rattle.shell_reports.specs.declared.status.Ending.TheVariants as ending
 use Rattle.shell_reports.specs.declared.power.Power.{Power}
 use Rattle.shell_reports.specs.Outcome.{Outcome}
 use Rattle.shell_reports.specs.Saved.{IsSaving}
-use Rattle.shell_reports.specs.Labels.{module_outcome}
+use Rattle.shell_reports.specs.Labels.{fault_outcome, module_outcome}
 use Rattle.shell_changes.specs.declared.answer.Answer.{Answer}
-use Rattle.shell_changes.specs.Init.{InitArea, InitModule, RefusedArea, not_initialised}
+use Rattle.shell_changes.specs.Init.{InitArea, InitModule, RefusedArea}
 use Rattle.shell_changes.specs.Answers.{outcome_with}
 use Rattle.shell_reports.specs.Cut.{cut_text, done_text}
 
@@ -50,20 +51,30 @@ area_settled values fuse area is = settled_by values fuse area (block_in (bytes_
 
 -- a fault that isn't a power cut
 pub kept_is : (leaves : ℕ → List (Option Words) → List (Option (List ℕ)) → Type 0) (m : ℕ) (power : Power) (loaded : ImageSet) (words : Words) (outcome : Outcome) (fault : AreaFault) → fault ≢ PowerCut
-    → outcome ≡ not_initialised m fault → RefusedArea leaves m power loaded words fault outcome
+    → outcome ≡ fault_outcome m fault → RefusedArea leaves m power loaded words fault outcome
 kept_is leaves m power loaded words outcome (Unsupported major minor) other is = is
 kept_is leaves m power loaded words outcome NoIndex other is = is
 kept_is leaves m power loaded words outcome OutOfMemory other is = is
 kept_is leaves m power loaded words outcome (AlreadyInitialised seq) other is = is
 kept_is leaves m power loaded words outcome PowerCut other is = absurd (other refl)
 
--- an area that isn't initialised saves nothing
-pub kept_saves_none : (m : ℕ) (fault : AreaFault) → (not_initialised m fault).saved ≡ None
-kept_saves_none m (Unsupported major minor) = refl
-kept_saves_none m NoIndex = refl
-kept_saves_none m OutOfMemory = refl
-kept_saves_none m (AlreadyInitialised seq) = refl
-kept_saves_none m PowerCut = refl
+-- power that is cut has a number of steps
+cut_given : (values : List ℕ) (fuse : Option ℕ) (refused : AreaRefused) (found : Result IndexBlock AreaFault) → block_in (bytes_of values) ≡ found → initialised_by values fuse found ≡ Err refused
+    → refused.fault ≡ PowerCut → fuse ≢ None
+cut_given values fuse refused (Ok block) was is cut none = let same : AlreadyInitialised block.seq ≡ refused.fault = (let e = is in cc) in let e = same ∙ cut in cc
+cut_given values fuse refused (Err NoIndex) was is cut none =
+    let e : ◌≡◌ {A = Result AreaState AreaRefused} (Ok (initial values)) (Err refused) = subst (λ (f : Option ℕ). initialised_by values f (Err NoIndex) ≡ Err refused) none is in cc
+cut_given values fuse refused (Err (Unsupported major minor)) was is cut none = let same : Unsupported major minor ≡ refused.fault = (let e = is in cc) in let e = same ∙ cut in cc
+cut_given values fuse refused (Err OutOfMemory) was is cut none = let same : OutOfMemory ≡ refused.fault = (let e = is in cc) in let e = same ∙ cut in cc
+cut_given values fuse refused (Err (AlreadyInitialised seq)) was is cut none = let same : AlreadyInitialised seq ≡ refused.fault = (let e = is in cc) in let e = same ∙ cut in cc
+cut_given values fuse refused (Err PowerCut) was is cut none = read_fault (bytes_of values) PowerCut was refl
+
+pub init_given : (values : List ℕ) (fuse : Option ℕ) (words : Words) (refused : AreaRefused) (found : Result AreaState AreaRefused) → found ≡ Err refused
+    → (found ≢ Err (record { words = words; fault = OutOfMemory }) → found ≡ initialised values fuse) → refused.fault ≡ PowerCut → fuse ≢ None
+init_given values fuse words refused found is told cut =
+    let finding : found ≢ Err (record { words = words; fault = OutOfMemory }) =
+    λ wanting. (let same : refused.fault ≡ OutOfMemory = (let e = sym is ∙ wanting in cc) in let e = sym same ∙ cut in cc) in
+    cut_given values fuse refused (block_in (bytes_of values)) refl (sym (told finding) ∙ is) cut
 
 -- ---- what was answered, by what was found
 
@@ -106,7 +117,7 @@ module _ (leaves : ℕ → List (Option Words) → List (Option (List ℕ)) → 
     refused_by words NoIndex said = said
     refused_by words OutOfMemory said = said
     refused_by words (AlreadyInitialised seq) said = said
-    refused_by words PowerCut (left, cut, said) = (left, cut, saving ending.PowerCut (cut_text power.steps) (bytes_of left) said)
+    refused_by words PowerCut (left, steps, given, cut, said) = (left, steps, given, cut, saving ending.PowerCut (cut_text steps) (bytes_of left) said)
 
     pub answered : (found : Result AreaState AreaRefused) → InitArea leaves m power rest found outcome → InitArea leaves m power loaded found outcome
     answered (Ok area) said = saving ending.Done done_text (bytes_of area.words.kept) said

@@ -155,15 +155,19 @@ module _ {C : Type 0} (begins : C → ℕ → C → Type 0) (picks : C → ℕ �
     kept = cut.saved.leaves.2.left_of;
     contents_left = [];
     left = refl;
+    steps = cut.steps;
+    given = cut.given;
     asked_first = (cut.begun, cut.after, cut.begins_so, cut.saved.leaves.2.asked);
     asked = (cut.begun, cut.after, cut.begins_so, both_in_turn picks (map words_of areas) cut.saved.leaves.0.labels [] [] cut.begun cut.after cut.after cut.saved.leaves.2.asked (refl, refl));
-    saves = areas_save picks ending.PowerCut (cut_text power.steps) answer cut.begun cut.after rest (map words_of areas) cut.saved contents;
+    saves = areas_save picks ending.PowerCut (cut_text cut.steps) answer cut.begun cut.after rest (map words_of areas) cut.saved contents;
   }
   cut_saves (beside.Whole rest) cut = record {
     rows = cut.saved.leaves.images.labels;
     kept = cut.saved.leaves.left_of.labels;
     contents_left = cut.saved.leaves.images.contents;
     left = cut.saved.leaves.left_of.contents;
+    steps = cut.steps;
+    given = cut.given;
     asked_first = (cut.begun, cut.saved.leaves.asked.between, cut.begins_so, cut.saved.leaves.asked.labels);
     asked = (
       cut.begun,
@@ -171,7 +175,7 @@ module _ {C : Type 0} (begins : C → ℕ → C → Type 0) (picks : C → ℕ �
       cut.begins_so,
       both_in_turn picks (map words_of areas) cut.saved.leaves.images.labels rest.contents cut.saved.leaves.images.contents cut.begun cut.saved.leaves.asked.between cut.after cut.saved.leaves.asked.labels cut.saved.leaves.asked.contents,
     );
-    saves = parts_saved picks ending.PowerCut (cut_text power.steps) answer cut.begun cut.after rest (map words_of areas) cut.saved contents;
+    saves = parts_saved picks ending.PowerCut (cut_text cut.steps) answer cut.begun cut.after rest (map words_of areas) cut.saved contents;
   }
 
 -- the objects of a set with other words in memory are told by what is left of these

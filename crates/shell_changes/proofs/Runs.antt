@@ -1,6 +1,6 @@
 -- What became of label areas and contents by a command, by what carried it out.
 use Rattle.std.proofs.Common.{◌≡◌, ◌≢◌, ℕ, ◌<◌, ◌^◌, Bool, true, false, List, [], length, map, Option, Some, None, Result, Ok, Err, refl, sym, ap, ◌∙◌, subst, inl, inr}
-use Rattle.std.specs.Prelude.{IfOk, is_ok}
+use Rattle.std.specs.Prelude.{is_ok}
 use Rattle.std.proofs.lemmas.Bool.{false≢true, true≢false}
 use Rattle.std.proofs.lemmas.Option.{none-some}
 use Rattle.std.proofs.lemmas.List.{length-map}
@@ -15,7 +15,7 @@ use Rattle.namespace_map.specs.declared.commands.Command.TheVariants.{Create, De
 use Rattle.namespace_map.specs.declared.commands.CreateSpec.{CreateSpec}
 use Rattle.namespace_map.specs.declared.refused.OpRefused.{OpRefused}
 use Rattle.namespace_map.specs.declared.refused.OpRefused.TheVariants.{OutOfMemory, PowerCut}
-use Rattle.namespace_map.specs.Areas.{Change}
+use Rattle.namespace_map.specs.Areas.{Change, steps_of_all}
 use Rattle.namespace_map.specs.Commands.{refusal_of}
 use Rattle.namespace_map.specs.Changes.{changes_of, recovery_changes}
 use Rattle.namespace_areas.specs.Seen.{areas_seen, words_of}
@@ -38,15 +38,6 @@ use Rattle.namespace_ops.specs.Counted.{makes_sectors}
 use Rattle.shell_changes.specs.Work.{Arena, arena_by, arena_of, count_of}
 
 -- ---- results
-
--- what holds of an answer for two reasons, and for three
-pub if_both : {A E : Type 0} (P Q R : A → Type 0) (r : Result A E) → ((x : A) → P x → Q x → R x) → IfOk r P → IfOk r Q → IfOk r R
-if_both P Q R (Ok x) both p q = both x p q
-if_both P Q R (Err e) both p q = tt
-
-pub if_three : {A E : Type 0} (P Q R S : A → Type 0) (r : Result A E) → ((x : A) → P x → Q x → R x → S x) → IfOk r P → IfOk r Q → IfOk r R → IfOk r S
-if_three P Q R S (Ok x) all p q s = all x p q s
-if_three P Q R S (Err e) all p q s = tt
 
 pub err_same : (f g : OpRefused) → ◌≡◌ {A = Result (Unit {0}) OpRefused} (Err f) (Err g) → f ≡ g
 err_same f g e = let e' = e in cc
@@ -120,6 +111,25 @@ answered_runs s new contents contents' fuse left c reply none running other is f
       cut = λ allowed f err. is.cut goes (refusal ∙ allowed) f err;
     }
 
+-- ---- a fuse that doesn't last has a number of steps
+
+steps_given : (fuse : Option ℕ) (count : ℕ) → lasts fuse count ≡ false → fuse ≢ None
+steps_given None count short none = true≢false short
+steps_given (Some n) count short none = let e = none in cc
+
+pub left_none : (old new : List Area) (fuse left : Option ℕ) (changes : List Change) (whole : Bool) → Went old new fuse left changes whole → fuse ≡ None → left ≡ None
+left_none old new fuse left changes whole went none = went.left_is ∙ ap (λ (f : Option ℕ). burnt f (steps_of_all (areas_seen old) changes)) none
+
+pub went_given : (old new : List Area) (fuse left : Option ℕ) (changes : List Change) (whole : Bool) → Went old new fuse left changes whole → whole ≡ false → fuse ≢ None
+went_given old new fuse left changes whole went short = steps_given fuse (steps_of_all (areas_seen old) changes) (sym went.made ∙ short)
+
+works_given : (arena : Option Arena) (old news : List Area) (contents contents' : List Words) (fuse left : Option ℕ) (changes : List Change) (whole : Bool) → Works arena old news contents contents' fuse left changes whole → whole ≡ false → fuse ≢ None
+works_given arena old news contents contents' fuse left changes whole works short none = by (lasts fuse (count_of arena)) refl
+  where
+    by : (b : Bool) → lasts fuse (count_of arena) ≡ b → ⊥
+    by true long = went_given old news (burnt fuse (count_of arena)) left changes whole (works.labels long) short (ap (λ (f : Option ℕ). burnt f (count_of arena)) none)
+    by false within = steps_given fuse (count_of arena) within none
+
 -- ---- how many areas and modules there are
 
 rows_in : (arena : Option Arena) (contents contents' : List Words) (fuse : Option ℕ) → FormatsIn arena contents contents' fuse → length contents' ≡ length contents
@@ -152,6 +162,14 @@ module _ (sets : List (List Mapping)) (old news : List Area) (contents contents'
 
   pub refused_is : (outcome : Outcome) → ((f : OpRefused) → reply ≡ Err f → f ≢ PowerCut → outcome ≡ refused_outcome (refusal_text f)) → (f : OpRefused) → refusal_of (shown sets old) c ≡ Some f → outcome ≡ refused_outcome (refusal_text f)
   refused_is outcome said f some = said f (runs.refused f some).0 (uncut f some)
+
+  pub runs_given : reply ≡ Err PowerCut → fuse ≢ None
+  runs_given cut none = by (refusal_of (shown sets old) c) refl
+    where
+      by : (o : Option OpRefused) → refusal_of (shown sets old) c ≡ o → ⊥
+      by (Some f) some = uncut f some (err_same f PowerCut (sym (runs.refused f some).0 ∙ cut))
+      by None allowed =
+          works_given _ old news contents contents' fuse left _ (is_ok reply) (runs.went allowed) (ap (λ (r : Result (Unit {0}) OpRefused). is_ok r) cut) none
 
   ok_is : (r : Result (Unit {0}) OpRefused) → is_ok r ≡ true → r ≡ Ok tt
   ok_is (Ok u) e = refl

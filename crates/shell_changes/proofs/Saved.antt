@@ -17,7 +17,7 @@ use Rattle.image_set.proofs.Kept.{each_length}
 use Rattle.shell_changes.specs.declared.saving.Rest.{Rest}
 use Rattle.shell_changes.specs.Rest.{objects_with, with_rows}
 
-get_map : {A B : Type 0} (f : A → B) (xs : List A) (k : ℕ) (d : A) → get_or (map f xs) k (f d) ≡ f (get_or xs k d)
+pub get_map : {A B : Type 0} (f : A → B) (xs : List A) (k : ℕ) (d : A) → get_or (map f xs) k (f d) ≡ f (get_or xs k d)
 get_map f [] k d = refl
 get_map f (x ∷ xs) zero d = refl
 get_map f (x ∷ xs) (suc k) d = get_map f xs k d

@@ -45,7 +45,9 @@ pub record SavesCut (leaves : ℕ → List (Option Words) → List (Option (List
   -- it is asked about the areas first, and then about the contents
   pub asked_first : leaves power.seed (map words_of areas) rows
   pub asked : leaves power.seed (map words_of areas ++ map (λ words. Some words) contents) (rows ++ map (λ row. Some row) contents_left)
-  pub saves : IsSaving ending.PowerCut (cut_text power.steps) (objects rows contents_left) outcome
+  pub steps : ℕ
+  pub given : power.steps ≡ Some steps
+  pub saves : IsSaving ending.PowerCut (cut_text steps) (objects rows contents_left) outcome
 
 -- ---- what a command does
 

@@ -63,7 +63,7 @@ pub record IsPowerCut (leaves : ℕ → List (Option Words) → List (Option (Li
   pub left_of : Each IsLeftOf (words_after (rows_in loaded) (label_changes work) (label_steps areas work steps)) rows
   pub set : Images
   pub has : HasRows now rows set
-  pub saves : IsSaving ending.PowerCut (cut_text power.steps) set outcome
+  pub saves : IsSaving ending.PowerCut (cut_text steps) set outcome
 
 -- ---- a command
 

@@ -75,4 +75,6 @@ pub record AnswersCut {C : Type 0} (begins : C → ℕ → C → Type 0) (picks 
   pub begun : C
   pub after : C
   pub begins_so : begins choose power.seed begun
-  pub saved : SavesLeft picks ending.PowerCut (cut_text power.steps) remains answer begun after
+  pub steps : ℕ
+  pub given : power.steps ≡ Some steps
+  pub saved : SavesLeft picks ending.PowerCut (cut_text steps) remains answer begun after

@@ -1,5 +1,5 @@
 //! What a command answers, and the image set that it saves.
-ghost use Rattle.std.specs.Prelude.{◌≡◌, ◌≢◌, ◌≤◌, ℕ, List, Some, None, IfSome, IsTrue, OnOk, Err};
+ghost use Rattle.std.specs.Prelude.{◌≡◌, ◌≢◌, ◌≤◌, ℕ, List, Some, None, IsTrue, OnOk, Err};
 ghost use Rattle.std.specs.Option.{ForSome};
 ghost use Rattle.nvd_media.specs.Causes.{LeavesOutside, Rose};
 ghost use Rattle.nvd_media.specs.Images.{Becomes, IsEmptySet, IsUnfinished, Images};

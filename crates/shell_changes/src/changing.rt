@@ -55,6 +55,7 @@ fn reply_answer<C: Chooser>(
     choose: &mut C,
 ) -> Result<Answer, AllocError>
     requires can { CanLeave (remains_of ran.beside (map words_of ran.areas.items)) }
+    requires given { ran.reply ≡ Err OpRefused.PowerCut → power.steps ≢ None }
     ensures done { IfOk result (λ answer. ran.reply ≡ Ok tt → AnswersDone C.picks (remains_of ran.beside (map words_of ran.areas.items)) choose.old answer) }
     ensures cut { IfOk result (λ answer. ran.reply ≡ Err OpRefused.PowerCut → AnswersCut C.begins C.picks power (remains_of ran.beside (map words_of ran.areas.items)) choose.old answer) }
     ensures refused { IfOk result (λ answer. (f : Refused) → ran.reply ≡ Err f → f ≢ OpRefused.PowerCut → (contents : List (List ℕ)) → outcome_with answer contents ≡ refused_outcome (refusal_text f)) }
@@ -91,6 +92,7 @@ fn command_answer<C: Chooser>(
 ) -> Result<Answer, AllocError>
     requires fresh { IsFresh registry }
     requires run { CanRun registry.sets registry.areas beside change.now }
+    requires given { power.steps ≡ None → fuse ≡ None }
     ensures refused { IfOk result (λ answer. (contents : List (List ℕ)) (f : Refused) → refusal_of (shown registry.sets registry.areas) change.now ≡ Some f → outcome_with answer contents ≡ refused_outcome (refusal_text f)) }
     ensures went { IfOk result (λ answer. (contents : List (List ℕ)) → refusal_of (shown registry.sets registry.areas) change.now ≡ None
         → GoesOn (LeavesBy C.begins C.picks choose.old) (objects_left beside contents) power registry.sets registry.areas (words_beside beside) fuse change.now (outcome_with answer contents)) }
@@ -110,6 +112,7 @@ fn stopped_answer<C: Chooser>(
     choose: &mut C,
 ) -> Result<Answer, AllocError>
     requires can { CanLeave (remains_of beside (map words_of areas.items)) }
+    requires given { power.steps ≢ None }
     ensures cut { IfOk result (AnswersCut C.begins C.picks power (remains_of beside (map words_of areas.items)) choose.old) }
     ensures fits { IfOk result (Fits beside) }
 {

@@ -6,12 +6,12 @@ ghost use Rattle.label_index.specs.Area.{IsAreaSize};
 ghost use Rattle.label_area.specs.Initialise.{initialised};
 ghost use Rattle.image_set.specs.Changed.{objects_of, with_area};
 ghost use Rattle.image_set.specs.Outline.{IsOutlined, image_set_with};
-ghost use Rattle.shell_reports.specs.Saved.{IsSaving, outcome_of};
-ghost use Rattle.shell_changes.specs.Init.{not_initialised, InitArea, InitComes, RefusedArea};
+ghost use Rattle.shell_reports.specs.Saved.{IsSaving};
+ghost use Rattle.shell_changes.specs.Init.{InitArea, InitComes, RefusedArea};
 ghost use Rattle.shell_changes.specs.Answers.{HasSizes, outcome_with};
 ghost use Rattle.shell_changes.specs.Remains.{LeavesBy};
 ghost use Rattle.shell_reports.specs.Cut.{done_text};
-ghost use Rattle.shell_reports.specs.Labels.{module_outcome};
+ghost use Rattle.shell_reports.specs.Labels.{fault_outcome, module_outcome};
 
 use crate::answer::{Answer, without_set};
 use crate::saving::{Remains, cut_answer, done_answer};
@@ -19,10 +19,10 @@ use cut_words::CutWords;
 use image_set::Outline;
 use label_area::{AreaFault, AreaRefused, LabelArea, init_area};
 use nvd_media::Chooser;
-use shell_reports::{Ending, Power, Report, fault_answer, fuse_of, image_answer, missing_answer};
+use shell_reports::{Ending, Power, fault_answer, fuse_of, missing_answer};
 use std::alloc::{AllocError, Global};
 
-/// The answer after a crash, with the words as they were then.
+/// The answer after a crash, with the words as they were then. The number of steps before it was given.
 fn cut_area_answer<C: Chooser>(
     alloc: Global,
     power: Power,
@@ -33,6 +33,7 @@ fn cut_area_answer<C: Chooser>(
 ) -> Result<Answer, AllocError>
     requires sound { IsOutlined rest }
     requires there { «module» < length rest.labels }
+    requires given { power.steps ≢ None }
     ensures comes { IfOk result (λ answer. (contents : List (List ℕ)) → RefusedArea (LeavesBy C.begins C.picks choose.old) «module» power (image_set_with rest contents) words AreaFault.PowerCut (outcome_with answer contents)) }
     ensures sizes { IfOk result (λ answer. HasSizes rest.sizes answer) }
 {
@@ -61,27 +62,14 @@ fn done_area_answer<C: Chooser>(
     )
 }
 
-/// The text on an area that isn't initialised.
-fn kept_text(alloc: Global, module: u32, fault: AreaFault) -> Result<Report, AllocError>
-    ensures text { IfOk result (λ answer. outcome_of answer ≡ not_initialised «module» fault) }
-    ensures finding { IfOk result (λ _. fault ≢ AreaFault.OutOfMemory) }
-{
-    match fault {
-        AreaFault::AlreadyInitialised { seq } => Ok(image_answer(format!(in alloc;
-            "image labels {} AlreadyInitialised {}\n",
-            module, seq
-        )?)),
-        _ => fault_answer(alloc, module, fault),
-    }
-}
-
-/// The answer on an area that isn't initialised.
+/// The answer on an area that isn't initialised. Power wasn't cut. Out of memory isn't a finding.
 fn kept_answer(alloc: Global, module: u32, fault: AreaFault) -> Result<Answer, AllocError>
-    ensures text { IfOk result (λ answer. (contents : List (List ℕ)) → outcome_with answer contents ≡ not_initialised «module» fault) }
+    requires { fault ≢ AreaFault.PowerCut }
+    ensures text { IfOk result (λ answer. (contents : List (List ℕ)) → outcome_with answer contents ≡ fault_outcome «module» fault) }
     ensures finding { IfOk result (λ _. fault ≢ AreaFault.OutOfMemory) }
     ensures saved { IfOk result (λ answer. answer.saved ≡ None) }
 {
-    let report = kept_text(alloc, module, fault)?;
+    let report = fault_answer(alloc, module, fault)?;
     Ok(without_set(report))
 }
 
@@ -96,6 +84,7 @@ fn refused_answer<C: Chooser>(
 ) -> Result<Answer, AllocError>
     requires sound { IsOutlined rest }
     requires there { «module» < length rest.labels }
+    requires given { refused.fault ≡ AreaFault.PowerCut → power.steps ≢ None }
     ensures comes { IfOk result (λ answer. (contents : List (List ℕ)) → RefusedArea (LeavesBy C.begins C.picks choose.old) «module» power (image_set_with rest contents) refused.words refused.fault (outcome_with answer contents)) }
     ensures finding { IfOk result (λ _. refused.fault ≢ AreaFault.OutOfMemory) }
     ensures sizes { IfOk result (λ answer. HasSizes rest.sizes answer) }

@@ -1,5 +1,5 @@
 //! What remains of an image set as a command ends is saved: to its end, or as a power cut leaves it.
-ghost use Rattle.std.specs.Prelude.{◌≡◌, ◌<◌, IfOk, length};
+ghost use Rattle.std.specs.Prelude.{◌≡◌, ◌≢◌, ◌<◌, IfOk, None, length};
 ghost use Rattle.image_set.specs.declared.changing.OutlineLeft.{OutlineLeft as LeftOutline};
 ghost use Rattle.image_set.specs.Outline.{IsOutlined, IsOutlineRest, LeavesAreas, LeavesOutline};
 ghost use Rattle.shell_changes.specs.Remains.{AnswersCut, AnswersDone, CanLeave, IsWholeRest, LeavesSet, LeavesWhole, SavesLeft, remains_of};
@@ -10,7 +10,7 @@ use image_set::{Outline, OutlineRest, SetLeft};
 use nvd_media::Chooser;
 use nvd_words::Items;
 use power_cut::leave_all;
-use shell_reports::{Ending, Power, Report, cut_line};
+use shell_reports::{Ending, Power, Report, cut_line, steps_of};
 use std::alloc::{AllocError, Global};
 
 /// What a loaded set has beside its table's meaning and its label areas.
@@ -143,18 +143,19 @@ fn saved_answer<C: Chooser>(
     })
 }
 
-/// The answer after a crash, with the set after it.
+/// The answer after a crash, with the set after it. The number of steps before it was given.
 pub(crate) fn cut_answer<C: Chooser>(
     alloc: Global,
     power: Power,
     remains: Remains,
     choose: &mut C,
 ) -> Result<Answer, AllocError>
-    requires { CanLeave remains }
+    requires can { CanLeave remains }
+    requires given { power.steps ≢ None }
     ensures { IfOk result (AnswersCut C.begins C.picks power remains choose.old) }
 {
     choose.begin(power.seed);
-    let text = cut_line(alloc, power.steps)?;
+    let text = cut_line(alloc, steps_of(power))?;
     saved_answer(alloc, Ending::PowerCut, text.into_bytes(), remains, choose)
 }
 

@@ -1,11 +1,11 @@
 -- A text that is printed piece by piece.
-use Rattle.std.proofs.Common.{◌≡◌, ℕ, zero, suc, ◌+◌, ◌<◌, ◌≤◌, List, [], ◌++◌, length, take, drop, get_or, ◌-◌, Option, Result, Ok, Err, refl, sym, ap, ◌∙◌, subst, subst₂, arith, append_assoc, append-nil, take-append-drop, length-append}
+use Rattle.std.proofs.Common.{◌≡◌, ℕ, zero, suc, ◌+◌, ◌<◌, ◌≤◌, List, [], ◌++◌, length, take, drop, ◌-◌, Option, Result, Ok, Err, refl, sym, ap, ◌∙◌, subst, subst₂, arith, append_assoc, append-nil, take-append-drop, length-append}
 use Rattle.std.specs.Prelude.{OnOk, OnErr}
 use Rattle.std.specs.Io.KnownBytes.{Appends}
 use Rattle.std.specs.List.{flat_map, range_with_len}
 use Rattle.std.proofs.KnownBytes.{Appends-trans}
 use Rattle.std.proofs.Math.Seq.{take-add}
-use Rattle.std.proofs.lemmas.List.{take-append-le, take_all, ext_get_or, get_or-take, get_or-drop, length-take, length-drop}
+use Rattle.std.proofs.lemmas.List.{take-append-le, take_all, length-take}
 use Rattle.nvd_media.specs.Images.{Keeps}
 use Rattle.cut_words.specs.WordBytes.{bytes_of}
 use Rattle.cut_words.proofs.Put.{bytes_of-append}

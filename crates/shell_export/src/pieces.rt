@@ -1,8 +1,7 @@
 //! Pieces of a text, on their way to a sink.
-ghost use Rattle.std.specs.Prelude.{◌≡◌, ◌≤◌, IfOk, OnOk, OnErr, length};
+ghost use Rattle.std.specs.Prelude.{◌≡◌, ◌≤◌, OnOk, OnErr, length};
 ghost use Rattle.nvd_media.specs.Causes.{HasCause, Rose};
 ghost use Rattle.cut_words.specs.WordBytes.{bytes_of};
-ghost use Rattle.shell_reports.specs.Outcome.{status_of};
 ghost use Rattle.shell_reports.specs.Saved.{outcome_of};
 ghost use Rattle.shell_export.specs.Printing.{AppendsAll, AppendsFront, IsPrinted};
 

@@ -5,7 +5,7 @@ ghost use Rattle.std.specs.Str.{bytes_eq};
 ghost use Rattle.label_set.specs.Rules.{counted_from, mapping_of};
 ghost use Rattle.namespace_map.specs.Namespaces.{listed, lookup};
 ghost use Rattle.namespace_map.specs.Commands.{is_complete, is_sector};
-ghost use Rattle.namespace_areas.specs.Finding.{LiesInSet, found_at, set_at};
+ghost use Rattle.namespace_areas.specs.Finding.{LiesInSet, set_at};
 ghost use Rattle.namespace_areas.specs.Seen.{AreHeld};
 ghost use Rattle.namespace_ops.specs.Counted.{namespaces_in};
 ghost use Rattle.namespace_ops.specs.Registered.{state_of};

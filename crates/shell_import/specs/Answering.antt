@@ -11,10 +11,10 @@ use Rattle.sector_namespaces.specs.View.{opened_view}
 use Rattle.shell_reports.specs.Faults.{arena_outcome, refused_outcome}
 use Rattle.shell_reports.specs.Outcome.{Outcome}
 use Rattle.shell_reports.specs.Saved.{outcome_of}
+use Rattle.shell_sectors.specs.declared.saving.Changed.{Changed}
+use Rattle.shell_sectors.specs.declared.saving.Changed.TheVariants as changed
 use Rattle.shell_sectors.specs.Changed.{moved_to}
 use Rattle.shell_sectors.specs.Write.{length_refusal}
-use Rattle.shell_import.specs.declared.import.Imported.{Imported}
-use Rattle.shell_import.specs.declared.import.Imported.TheVariants as imported
 use Rattle.namespace_bytes.specs.Contents.{HasContents}
 
 -- the namespace's words are like this, none is pending, and nothing beside the namespace has changed
@@ -24,29 +24,29 @@ pub record IsPut (n : Namespace) (Like : List ℕ → Type 0) (modules : List Wo
   pub beside : beside_of (moved_to n modules) ≡ beside_of n
 
 -- `said` bytes are put into a namespace that has `had`
-abbrev pub Puts : Namespace → ℕ → ℕ → (List ℕ → Type 0) → Imported → Type 0
-Puts n said had Like (imported.Done modules) = (length_refusal said had ≡ None) × IsPut n Like modules.items
-Puts n said had Like (imported.Not report) = (refusal : List ℕ) × (length_refusal said had ≡ Some refusal) × (outcome_of report ≡ refused_outcome refusal)
+abbrev pub Puts : Namespace → ℕ → ℕ → (List ℕ → Type 0) → Changed → Type 0
+Puts n said had Like (changed.Done modules) = (length_refusal said had ≡ None) × IsPut n Like modules.items
+Puts n said had Like (changed.Not report) = (refusal : List ℕ) × (length_refusal said had ≡ Some refusal) × (outcome_of report ≡ refused_outcome refusal)
 
 -- into a raw one
-abbrev pub PutsWords : Namespace → List ℕ → Imported → Type 0
+abbrev pub PutsWords : Namespace → List ℕ → Changed → Type 0
 PutsWords n bytes done = Puts n (length bytes) (8 * length (words_of n).kept) (λ now. now ≡ words_in bytes) done
 
 -- into one of sectors, with these arenas
-abbrev pub PutsStates : Namespace → List ℕ → List ArenaState → List ℕ → Imported → Type 0
+abbrev pub PutsStates : Namespace → List ℕ → List ArenaState → List ℕ → Changed → Type 0
 PutsStates n uuid states bytes done = Puts n (length bytes) (sum (sizes_of states)) (HasContents uuid bytes states (words_of n).kept) done
 
 -- nothing is imported, with this answer
-abbrev pub IsNot : Outcome → Imported → Type 0
-IsNot outcome (imported.Done modules) = ⊥
-IsNot outcome (imported.Not report) = outcome_of report ≡ outcome
+abbrev pub IsNot : Outcome → Changed → Type 0
+IsNot outcome (changed.Done modules) = ⊥
+IsNot outcome (changed.Not report) = outcome_of report ≡ outcome
 
 -- into one of sectors
-abbrev pub PutsSectors : Namespace → List ℕ → List ℕ → Imported → Type 0
+abbrev pub PutsSectors : Namespace → List ℕ → List ℕ → Changed → Type 0
 PutsSectors n uuid bytes done =
     ((states : List ArenaState) × (opened_view (words_of n).kept uuid ≡ Ok states) × PutsStates n uuid states bytes done)
     ⊎ ((fault : ChainRefused) × (opened_view (words_of n).kept uuid ≡ Err fault) × IsNot (arena_outcome uuid fault) done)
 
-abbrev pub PutsOn : Bool → Namespace → List ℕ → List ℕ → Imported → Type 0
+abbrev pub PutsOn : Bool → Namespace → List ℕ → List ℕ → Changed → Type 0
 PutsOn true n uuid bytes done = PutsSectors n uuid bytes done
 PutsOn false n uuid bytes done = PutsWords n bytes done

@@ -1,5 +1,6 @@
 //! The command `import`: bytes become the contents of a whole namespace.
-ghost use Rattle.std.specs.Prelude.{◌≡◌, ◌%◌, ◌^◌, ◌≤◌, ℕ, List, IfOk, false, length, map};
+ghost use Rattle.std.specs.Prelude.{◌≡◌, ◌≢◌, ◌^◌, ◌≤◌, ℕ, List, IfOk, false, length, map};
+ghost use Rattle.arena_open.specs.declared.refused.OpenRefused.TheVariants as open_refused;
 ghost use Rattle.arena_open.specs.Chain.{state_at};
 ghost use Rattle.arena_open.specs.Writes.{IsSettled};
 ghost use Rattle.image_set.specs.Load.{ImageSet, image_set_in};
@@ -29,22 +30,13 @@ use namespace_bytes::{ArenaAt, PlainWords, put_raw, put_sectors, read_arenas, si
 use power_cut::SetWords;
 use shell_changes::{Answer, without_set};
 use shell_export::is_sector;
-use shell_reports::{Report, arena_answer, done_answer, refused_answer};
-use shell_sectors::{FoundSet, SetFound, saved_answer};
+use shell_reports::{Report, arena_answer, refused_answer};
+use shell_sectors::{Changed, FoundSet, SetFound, changed_answer};
 use std::alloc::{AllocError, Global};
 use uuid::Uuid;
 
 /// The size of a word, in bytes.
 const WORD: u64 = 8;
-
-/// What an import comes to before anything is saved.
-#[derive(Drop)]
-enum Imported {
-    /// The words of all modules, with the bytes in the namespace.
-    Done(Vec<CutWords>),
-    /// It is refused.
-    Not(Report),
-}
 
 /// The answer to `said` bytes for a namespace of `had`.
 fn length_answer(alloc: Global, said: usize, had: u64) -> Result<Report, AllocError>
@@ -54,16 +46,16 @@ fn length_answer(alloc: Global, said: usize, had: u64) -> Result<Report, AllocEr
 }
 
 /// Puts bytes into a raw namespace, if it has as many.
-fn import_words(alloc: Global, space: PlainWords<'_>, bytes: &[u8]) -> Result<Imported, AllocError>
+fn import_words(alloc: Global, space: PlainWords<'_>, bytes: &[u8]) -> Result<Changed, AllocError>
     requires few { length (words_of space).kept ≤ 2 ^ 52 }
     requires settled { IsSettled (words_of space) }
     ensures { IfOk result (PutsWords space.entry bytes.now) }
 {
     let had = WORD * space.count();
     if bytes.len() as u64 == had {
-        return Ok(Imported::Done(put_raw(alloc, space, bytes)?));
+        return Ok(Changed::Done(put_raw(alloc, space, bytes)?));
     }
-    Ok(Imported::Not(length_answer(alloc, bytes.len(), had)?))
+    Ok(Changed::Not(length_answer(alloc, bytes.len(), had)?))
 }
 
 /// Puts bytes into the sectors of these arenas, which are all of a namespace, if they have as many.
@@ -72,7 +64,7 @@ fn import_arenas(
     space: PlainWords<'_>,
     arenas: &[ArenaAt],
     bytes: &[u8],
-) -> Result<Imported, AllocError>
+) -> Result<Changed, AllocError>
     requires arenas { (uuid : List ℕ) × AreAll (words_of space).kept uuid arenas.now }
     requires few { length (words_of space).kept ≤ 2 ^ 52 }
     requires settled { IsSettled (words_of space) }
@@ -80,17 +72,18 @@ fn import_arenas(
 {
     let had = size_of_all(arenas);
     if bytes.len() as u64 == had {
-        return Ok(Imported::Done(put_sectors(alloc, space, arenas, bytes)?));
+        return Ok(Changed::Done(put_sectors(alloc, space, arenas, bytes)?));
     }
-    Ok(Imported::Not(length_answer(alloc, bytes.len(), had)?))
+    Ok(Changed::Not(length_answer(alloc, bytes.len(), had)?))
 }
 
-/// The answer that nothing is imported, since the arenas aren't opened.
-fn unopened(alloc: Global, uuid: &Uuid, refused: ChainRefused) -> Result<Imported, AllocError>
+/// The answer that nothing is imported, since the arenas aren't opened. Power wasn't cut.
+fn unopened(alloc: Global, uuid: &Uuid, refused: ChainRefused) -> Result<Changed, AllocError>
+    requires { refused.fault ≢ open_refused.PowerCut }
     ensures text { IfOk result (IsNot (arena_outcome uuid.now refused)) }
     ensures finding { IfOk result (λ _. IsFinding refused) }
 {
-    Ok(Imported::Not(arena_answer(alloc, uuid, refused)?))
+    Ok(Changed::Not(arena_answer(alloc, uuid, refused)?))
 }
 
 /// Takes the words of a namespace that was found in a set as plain words.
@@ -119,7 +112,7 @@ fn import_sectors(
     modules: Vec<CutWords>,
     uuid: &Uuid,
     bytes: &[u8],
-) -> Result<Imported, AllocError>
+) -> Result<Changed, AllocError>
     requires within { IsWithin set.now found.now }
     requires settled { AreSettled modules.items }
     requires usable { IsUsable set.now modules.items }
@@ -143,7 +136,7 @@ fn import_raw(
     found: &Found,
     modules: Vec<CutWords>,
     bytes: &[u8],
-) -> Result<Imported, AllocError>
+) -> Result<Changed, AllocError>
     requires within { IsWithin set.now found.now }
     requires settled { AreSettled modules.items }
     requires usable { IsUsable set.now modules.items }
@@ -161,7 +154,7 @@ fn import_found(
     modules: Vec<CutWords>,
     uuid: &Uuid,
     bytes: &[u8],
-) -> Result<Imported, AllocError>
+) -> Result<Changed, AllocError>
     requires within { IsWithin set.now found.now }
     requires settled { AreSettled modules.items }
     requires usable { IsUsable set.now modules.items }
@@ -193,13 +186,7 @@ fn found_answer(
     let modules = contents.into_vec();
     let region = rest.registry.set(found.region);
     let imported = import_found(alloc, region, &found, modules, uuid, bytes)?;
-    match imported {
-        Imported::Done(modules) => {
-            let report = done_answer(alloc)?;
-            saved_answer(alloc, report, rest, modules)
-        }
-        Imported::Not(report) => Ok(without_set(report)),
-    }
+    changed_answer(alloc, imported, rest)
 }
 
 /// Answers `import` on an image set: `ok`, and the set in which the namespace has these bytes; or the first region that isn't

@@ -2,7 +2,7 @@
 //!
 //! ```text
 //! loaded set ── find_in_set ──► namespace ──┬── raw ──────► put_raw ───────────────────┐
-//!                                  bytes ───┤                                          ├──► contents ── saved_answer ──► saved set
+//!                                  bytes ───┤                                          ├──► contents ── changed_answer ──► saved set
 //!                                           └── sectors ──► read_arenas, put_sectors ──┘
 //!                                                  └──► refused Length, if the namespace has more bytes or fewer
 //! ```

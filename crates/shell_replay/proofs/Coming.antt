@@ -19,7 +19,8 @@ use Rattle.shell_sectors.specs.declared.finding.FoundSet.{FoundSet}
 use Rattle.shell_sectors.specs.Changed.{moved_to}
 use Rattle.shell_sectors.specs.Found.{IsFoundIn, OnArenas, SavesNamespace, place_of}
 use Rattle.shell_sectors.specs.Saving.{SavesWith}
-use Rattle.shell_sectors.proofs.Coming.{found_comes, on_words, saves_namespace}
+use Rattle.shell_sectors.proofs.Coming.{found_comes, on_words}
+use Rattle.shell_sectors.proofs.Held.{saves_namespace}
 use Rattle.shell_replay.specs.declared.replay.Replayed.{Replayed}
 use Rattle.shell_replay.specs.declared.replay.Replayed.TheVariants as replayed
 use Rattle.shell_replay.specs.declared.schedule.Schedule.{Schedule}
@@ -83,7 +84,7 @@ module _ (leaves : ℕ → List (Option Words) → List (Option (List ℕ)) → 
       let kept : IsSettled (words_of (place_of loaded set.found modules)) = subst (λ (m : Namespace). IsSettled (words_of m)) moved r.settled in
       let beside : beside_of (place_of loaded set.found modules) ≡ beside_of (place_of loaded set.found (rows_of loaded.contents)) = ap beside_of (sym moved) ∙ r.beside ∙ ap beside_of is in
       let saved : SavesNamespace set.found loaded (HasReplayed leaves uuid schedule state (words_of (place_of loaded set.found (rows_of loaded.contents))).kept) report.ending report.text.items outcome =
-      saves_namespace loaded uuid set f report modules outcome (HasReplayed leaves uuid schedule state (words_of (place_of loaded set.found (rows_of loaded.contents))).kept) saves kept beside has in
+      saves_namespace loaded set f.held report modules outcome (HasReplayed leaves uuid schedule state (words_of (place_of loaded set.found (rows_of loaded.contents))).kept) saves kept beside has in
       on_read (Ok (state ∷ [])) read
       (subst (λ (e : Ending). SavesNamespace set.found loaded (HasReplayed leaves uuid schedule state (words_of (place_of loaded set.found (rows_of loaded.contents))).kept) e (replay_text (opened_held state) schedule.lines) outcome) ends
       (subst (λ (t : List ℕ). SavesNamespace set.found loaded (HasReplayed leaves uuid schedule state (words_of (place_of loaded set.found (rows_of loaded.contents))).kept) report.ending t outcome) says saved))

@@ -6,4 +6,5 @@ pub mod Listing
 pub mod Arenas
 pub mod Causes
 pub mod Uncut
+pub mod UncutArenas
 pub mod Opened

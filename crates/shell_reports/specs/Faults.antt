@@ -53,7 +53,7 @@ abbrev pub open_refused_text : OpenRefused → List ℕ
 open_refused_text (open_refused.Info fault) = info_text fault
 open_refused_text (open_refused.Flog lane fault) = flog_text lane fault
 open_refused_text (open_refused.Block fault) = block_text fault
-open_refused_text open_refused.PowerCut = codes "PowerCut"
+open_refused_text open_refused.PowerCut = no_text
 open_refused_text open_refused.OutOfMemory = no_text
 
 -- image arena UUID K FAULT

@@ -11,10 +11,10 @@ use Rattle.label_codec.specs.declared.label.LabelFault.{LabelFault}
 use Rattle.label_codec.specs.Label.{label_reading}
 use Rattle.label_codec.specs.Mode.{mode_of}
 use Rattle.label_area.specs.declared.fault.AreaFault.{AreaFault}
-use Rattle.label_area.specs.declared.fault.AreaFault.TheVariants.{Unsupported}
+use Rattle.label_area.specs.declared.fault.AreaFault.TheVariants.{Unsupported, NoIndex, AlreadyInitialised, PowerCut, OutOfMemory}
 use Rattle.label_area.specs.Area.{block_in, slot_bytes}
 use Rattle.image_set.specs.Load.{ImageSet, area_of}
-use Rattle.shell_reports.specs.Outcome.{Outcome, image_fault, printed, joined, lf}
+use Rattle.shell_reports.specs.Outcome.{Outcome, image_fault, printed, joined, lf, no_text}
 use Rattle.shell_reports.specs.Texts.{name_text, uuid_text, mode_text, label_fault_text}
 
 abbrev pub side_number : Side → ℕ
@@ -66,10 +66,17 @@ lines_from area size slot (free ∷ others) = slot_line area size slot free ++ l
 abbrev pub block_outcome : List ℕ → IndexBlock → Outcome
 block_outcome area block = printed (index_line block ++ lines_from area block.size 0 block.free)
 
--- the outcome for an area without one
+-- why an area is refused: it has no current block, or `init` found one
+abbrev pub area_fault_text : AreaFault → List ℕ
+area_fault_text (Unsupported major minor) = codes "Unsupported " ++ (decimal major ++ (codes " " ++ decimal minor))
+area_fault_text NoIndex = codes "NoIndex"
+area_fault_text (AlreadyInitialised seq) = codes "AlreadyInitialised " ++ decimal seq
+area_fault_text PowerCut = no_text
+area_fault_text OutOfMemory = no_text
+
+-- image labels M FAULT
 abbrev pub fault_outcome : ℕ → AreaFault → Outcome
-fault_outcome m (Unsupported major minor) = image_fault (codes "labels " ∷ decimal m ∷ codes " Unsupported " ∷ decimal major ∷ codes " " ∷ decimal minor ∷ lf ∷ [])
-fault_outcome m other = image_fault (codes "labels " ∷ decimal m ∷ codes " NoIndex" ∷ lf ∷ [])
+fault_outcome m fault = image_fault (codes "labels " ∷ decimal m ∷ codes " " ∷ area_fault_text fault ∷ lf ∷ [])
 
 -- the outcome for an area, from its current block, or why there is none
 abbrev pub found_outcome : ℕ → List ℕ → Result IndexBlock AreaFault → Outcome

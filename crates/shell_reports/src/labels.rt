@@ -1,8 +1,8 @@
 //! The command `labels`: a module's current index block and its labels.
-ghost use Rattle.std.specs.Prelude.{◌≡◌, ◌≢◌, ◌≤◌, ◌<◌, ◌+◌, ◌*◌, ◌++◌, ℕ, List, IfOk, IfSome, OnOk, None, length, string_bytes};
+ghost use Rattle.std.specs.Prelude.{◌≡◌, ◌≢◌, ◌≤◌, ◌+◌, ◌*◌, ◌++◌, ℕ, List, IfOk, IfSome, OnOk, None, length, string_bytes};
 ghost use Rattle.std.specs.Option.{option_map};
 ghost use Rattle.image_set.specs.Outline.{IsOutlined, image_set_with};
-ghost use Rattle.shell_reports.specs.Labels.{labels_outcome, module_outcome, area_outcome, block_outcome, fault_outcome, index_line, label_line, bad_line, numbers_text, ending_text, used_line, slot_line, lines_from};
+ghost use Rattle.shell_reports.specs.Labels.{labels_outcome, module_outcome, area_outcome, area_fault_text, block_outcome, fault_outcome, index_line, label_line, bad_line, numbers_text, ending_text, used_line, slot_line, lines_from};
 ghost use Rattle.shell_reports.specs.Saved.{outcome_of};
 ghost use Rattle.label_index.specs.Area.{IsAreaSize};
 
@@ -126,22 +126,32 @@ fn block_answer(alloc: Global, area: &[u8], block: &IndexBlock) -> Result<Report
     Ok(printed_answer(text))
 }
 
-/// Answers on an area without a current block.
-pub fn fault_answer(alloc: Global, module: u32, fault: AreaFault) -> Result<Report, AllocError>
-    ensures text { IfOk result (λ answer. outcome_of answer ≡ fault_outcome «module» fault) }
+/// Returns the text of why an area is refused. Power wasn't cut. Out of memory isn't a finding.
+fn area_fault_text(alloc: Global, fault: AreaFault) -> Result<String, AllocError>
+    requires { fault ≢ AreaFault.PowerCut }
+    ensures text { IfOk result (λ text. string_bytes text ≡ area_fault_text fault) }
     ensures finding { IfOk result (λ _. fault ≢ AreaFault.OutOfMemory) }
 {
     match fault {
-        AreaFault::Unsupported { major, minor } => Ok(image_answer(format!(in alloc;
-            "image labels {} Unsupported {} {}\n",
-            module, major, minor
-        )?)),
+        AreaFault::Unsupported { major, minor } => {
+            format!(in alloc; "Unsupported {} {}", major, minor)
+        }
+        AreaFault::NoIndex => String::from_str(alloc, "NoIndex"),
+        AreaFault::AlreadyInitialised { seq } => format!(in alloc; "AlreadyInitialised {}", seq),
+        AreaFault::PowerCut => unreachable!(),
         AreaFault::OutOfMemory => Err(AllocError),
-        // Reading an area never returns the last two.
-        AreaFault::NoIndex | AreaFault::AlreadyInitialised { .. } | AreaFault::PowerCut => Ok(
-            image_answer(format!(in alloc; "image labels {} NoIndex\n", module)?),
-        ),
     }
+}
+
+/// Answers on an area that is refused: it has no current block, or `init` found one. Power wasn't cut.
+/// Out of memory isn't a finding.
+pub fn fault_answer(alloc: Global, module: u32, fault: AreaFault) -> Result<Report, AllocError>
+    requires { fault ≢ AreaFault.PowerCut }
+    ensures text { IfOk result (λ answer. outcome_of answer ≡ fault_outcome «module» fault) }
+    ensures finding { IfOk result (λ _. fault ≢ AreaFault.OutOfMemory) }
+{
+    let fault = area_fault_text(alloc, fault)?;
+    Ok(image_answer(format!(in alloc; "image labels {} {}\n", module, fault)?))
 }
 
 /// Answers on a whole area.

@@ -1,5 +1,5 @@
 //! The lines of the command `nfit`: the modules and regions of a firmware table.
-ghost use Rattle.std.specs.Prelude.{◌≡◌, ◌≢◌, ◌<◌, ◌^◌, ◌++◌, IfOk, OnOk, Result, Ok, Err, length, slice_index_or, string_bytes};
+ghost use Rattle.std.specs.Prelude.{◌≡◌, ◌≢◌, ◌<◌, ◌^◌, ◌++◌, IfOk, OnOk, Ok, Err, length, slice_index_or, string_bytes};
 ghost use Rattle.nfit_reader.specs.declared.table.Region.{Region};
 ghost use Rattle.nfit_reader.specs.Counted.{AreCounted};
 ghost use Rattle.shell_reports.specs.Outcome.{printed};

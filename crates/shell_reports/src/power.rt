@@ -1,5 +1,5 @@
 //! When power is cut, and how a run reports it.
-ghost use Rattle.std.specs.Prelude.{◌≡◌, IfOk, string_bytes};
+ghost use Rattle.std.specs.Prelude.{◌≡◌, ◌≢◌, IfOk, None, Some, string_bytes};
 ghost use Rattle.shell_reports.specs.Cut.{cut_text};
 
 use cut_words::Fuse;
@@ -25,12 +25,20 @@ pub fn fuse_of(power: Power) -> Fuse
     }
 }
 
+/// Returns the number of `--cut`, which is given.
+pub fn steps_of(power: Power) -> u64
+    requires { power.steps ≢ None }
+    ensures { power.steps ≡ Some result }
+{
+    match power.steps {
+        Some(steps) => steps,
+        None => unreachable!(),
+    }
+}
+
 /// Returns the line that says after how many steps power was cut.
-pub fn cut_line(alloc: Global, steps: Option<u64>) -> Result<String, AllocError>
+pub fn cut_line(alloc: Global, steps: u64) -> Result<String, AllocError>
     ensures { IfOk result (λ text. string_bytes text ≡ cut_text steps) }
 {
-    match steps {
-        Some(steps) => format!(in alloc; "cut {}\n", steps),
-        None => Ok(String::new(alloc)),
-    }
+    format!(in alloc; "cut {}\n", steps)
 }

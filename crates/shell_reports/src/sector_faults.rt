@@ -1,6 +1,5 @@
 //! The texts of why an arena isn't opened.
-ghost use Rattle.std.specs.Prelude.{◌≡◌, ◌≢◌, ◌∷◌, [], IfOk, None, codes, string_bytes};
-ghost use Rattle.shell_reports.specs.Outcome.{joined, lf};
+ghost use Rattle.std.specs.Prelude.{◌≡◌, ◌≢◌, IfOk, string_bytes};
 ghost use Rattle.shell_reports.specs.Saved.{outcome_of};
 ghost use Rattle.shell_reports.specs.Faults.{arena_outcome, block_text, field_text, flog_text, info_text, open_refused_text};
 
@@ -67,8 +66,9 @@ fn block_text(alloc: Global, fault: BlockFault) -> Result<String, AllocError>
     }
 }
 
-/// Returns the text of why an arena isn't opened. Out of memory isn't a finding.
+/// Returns the text of why an arena isn't opened. Power wasn't cut. Out of memory isn't a finding.
 fn open_refused_text(alloc: Global, refused: OpenRefused) -> Result<String, AllocError>
+    requires { refused ≢ OpenRefused.PowerCut }
     ensures text { IfOk result (λ text. string_bytes text ≡ open_refused_text refused) }
     ensures finding { IfOk result (λ _. refused ≢ OpenRefused.OutOfMemory) }
 {
@@ -76,13 +76,14 @@ fn open_refused_text(alloc: Global, refused: OpenRefused) -> Result<String, Allo
         OpenRefused::Info(fault) => info_text(alloc, fault),
         OpenRefused::Flog { lane, fault } => flog_text(alloc, lane, fault),
         OpenRefused::Block(fault) => block_text(alloc, fault),
-        OpenRefused::PowerCut => String::from_str(alloc, "PowerCut"),
+        OpenRefused::PowerCut => unreachable!(),
         OpenRefused::OutOfMemory => Err(AllocError),
     }
 }
 
-/// The answer on a namespace whose arenas aren't opened.
+/// The answer on a namespace whose arenas aren't opened. Power wasn't cut. Out of memory isn't a finding.
 pub fn arena_answer(alloc: Global, uuid: &Uuid, refused: ChainRefused) -> Result<Report, AllocError>
+    requires { refused.fault ≢ OpenRefused.PowerCut }
     ensures text { IfOk result (λ answer. outcome_of answer ≡ arena_outcome uuid.now refused) }
     ensures finding { IfOk result (λ _. refused.fault ≢ OpenRefused.OutOfMemory) }
 {

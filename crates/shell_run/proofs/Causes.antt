@@ -34,7 +34,7 @@ use Rattle.shell_changes.specs.Work.{steps_of_work}
 use Rattle.shell_run.specs.Words.{command_of}
 use Rattle.shell_reports.specs.Outcome.{Outcome, usage, printed, status_of}
 use Rattle.shell_reports.specs.Labels.{module_outcome, found_outcome, fault_outcome}
-use Rattle.shell_changes.specs.Init.{InitArea, InitModule, not_initialised}
+use Rattle.shell_changes.specs.Init.{InitArea, InitModule}
 use Rattle.shell_reports.specs.List.{listed_of, listed_outcome, open_outcome}
 use Rattle.arena_open.specs.declared.chain_refused.ChainRefused.{ChainRefused}
 use Rattle.arena_open.specs.declared.state.ArenaState.{ArenaState}
@@ -44,6 +44,7 @@ use Rattle.shell_reports.specs.Faults.{arena_outcome, refusal_text, refused_outc
 use Rattle.shell_reports.specs.Sectors.{arena_lines, sector_outcome}
 use Rattle.shell_reports.specs.Causes.{breaks, fault_in, found_in, is_broken, is_unfound, lacks, lacks_found, opened_in}
 use Rattle.shell_reports.proofs.Causes.{SectorsCase, faulty, unfound, broken, opened, sectors_case}
+use Rattle.shell_reports.proofs.More.{ending_of}
 use Rattle.session_script.specs.declared.payload.Payload.{Payload}
 use Rattle.shell_sectors.specs.Causes.{bars, bars_found}
 use Rattle.shell_sectors.specs.Write.{Writes, WritesArenas, write_refusal}
@@ -84,18 +85,7 @@ abbrev AreaCase : Option (List ℕ) → Ending → Type 0
 AreaCase found e = ((refuses_area found ≡ true) × (e ≡ ending.Image)) ⊎ ((refuses_area found ≡ false) × (e ≡ ending.Done))
 
 fault_ending : (m : ℕ) (fault : AreaFault) → (fault_outcome m fault).ending ≡ ending.Image
-fault_ending m (Unsupported major minor) = refl
-fault_ending m NoIndex = refl
-fault_ending m OutOfMemory = refl
-fault_ending m (AlreadyInitialised seq) = refl
-fault_ending m PowerCut = refl
-
-kept_ending : (m : ℕ) (fault : AreaFault) → (not_initialised m fault).ending ≡ ending.Image
-kept_ending m (Unsupported major minor) = refl
-kept_ending m NoIndex = refl
-kept_ending m OutOfMemory = refl
-kept_ending m (AlreadyInitialised seq) = refl
-kept_ending m PowerCut = refl
+fault_ending m fault = refl
 
 area_case : (m : ℕ) (area : List ℕ) (found : Result IndexBlock AreaFault) → block_in area ≡ found → AreaCase (Some area) (found_outcome m area found).ending
 area_case m area (Ok block) is = inr (ap (λ r. is_err r) is, refl)
@@ -112,9 +102,6 @@ labels_case m loaded e (inr accepted) = is_done accepted.0 refl refl accepted.1
 list_case : (loaded : ImageSet) (found : Result (List Namespace) OpenFault) → listed_of loaded ≡ found → CommandCase command.List (Ok loaded) (listed_outcome found).ending
 list_case loaded (Ok namespaces) is = is_done (ap (λ r. is_err r) is) refl refl refl
 list_case loaded (Err fault) is = is_refused (ap (λ r. is_err r) is) refl
-
-ending_of : (a b : Outcome) → a ≡ b → a.ending ≡ b.ending
-ending_of a b is = ap (λ (o : Outcome). o.ending) is
 
 -- ---- `init`
 
@@ -136,15 +123,15 @@ module _ (leaves : ℕ → List (Option Words) → List (Option (List ℕ)) → 
       (let done = rw long at comes in done.ends)
   blank_case values area is none false short comes =
       is_blank_short (ap has_block none) (ap (λ (n : ℕ). not (lasts power.steps (init_count n))) (words_in_area values area is) ∙ ap not short)
-      (let cut = rw short at comes in cut.2.ends)
+      (let cut = rw short at comes in cut.4.ends)
 
   found_case : (values area : List ℕ) → bytes_of values ≡ area → (found : Result IndexBlock AreaFault) → block_in area ≡ found
       → InitArea leaves m power loaded (initialised_by values power.steps found) outcome → InitCase power.steps (Some area) outcome.ending
-  found_case values area is (Ok block) read comes = is_kept (ap has_block read) (ending_of outcome _ comes ∙ kept_ending m (AlreadyInitialised block.seq))
+  found_case values area is (Ok block) read comes = is_kept (ap has_block read) (ending_of outcome _ comes ∙ fault_ending m (AlreadyInitialised block.seq))
   found_case values area is (Err NoIndex) read comes = blank_case values area is read (lasts power.steps (init_count (length values))) refl comes
-  found_case values area is (Err (Unsupported major minor)) read comes = is_kept (ap has_block read) (ending_of outcome _ comes ∙ kept_ending m (Unsupported major minor))
-  found_case values area is (Err OutOfMemory) read comes = is_kept (ap has_block read) (ending_of outcome _ comes ∙ kept_ending m OutOfMemory)
-  found_case values area is (Err (AlreadyInitialised seq)) read comes = is_kept (ap has_block read) (ending_of outcome _ comes ∙ kept_ending m (AlreadyInitialised seq))
+  found_case values area is (Err (Unsupported major minor)) read comes = is_kept (ap has_block read) (ending_of outcome _ comes ∙ fault_ending m (Unsupported major minor))
+  found_case values area is (Err OutOfMemory) read comes = is_kept (ap has_block read) (ending_of outcome _ comes ∙ fault_ending m OutOfMemory)
+  found_case values area is (Err (AlreadyInitialised seq)) read comes = is_kept (ap has_block read) (ending_of outcome _ comes ∙ fault_ending m (AlreadyInitialised seq))
   found_case values area is (Err PowerCut) read comes = absurd (read_fault area PowerCut read refl)
 
   init_case : (found : Option (List ℕ)) → InitModule leaves m power loaded found outcome → InitCase power.steps found outcome.ending

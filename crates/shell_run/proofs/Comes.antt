@@ -14,11 +14,13 @@ use Rattle.shell_reports.specs.declared.outcome.Report.{Report}
 use Rattle.shell_reports.specs.LoadFaults.{load_outcome}
 use Rattle.shell_reports.specs.Outcome.{Outcome, usage}
 use Rattle.shell_reports.specs.Saved.{Saves, outcome_of}
+use Rattle.shell_reports.proofs.More.{if_more}
 use Rattle.shell_changes.specs.declared.answer.Answer.{Answer}
 use Rattle.shell_changes.specs.declared.answer.Left.{Left}
 use Rattle.shell_changes.specs.declared.answer.Left.TheVariants.{Whole, Copied}
 use Rattle.shell_changes.specs.Answers.{ComesFrom, HasSizes, outcome_with, whole_outcome}
 use Rattle.shell_changes.specs.Saved.{AreObjects, AreSaved, HasContentsOf, HasItsContents, HasSize, Stores, copies_contents, objects_saved}
+use Rattle.shell_changes.proofs.Remains.{copies_none}
 use Rattle.session_script.specs.declared.schedule.Replay.{Replay}
 use Rattle.session_script.specs.declared.script.Script.{Script}
 use Rattle.session_script.specs.Schedule.{replay_reading}
@@ -65,12 +67,9 @@ whole_by held contents (Some (Copied left)) set whole are = absurd (let e = whol
 pub from_whole : (held : Option Images) (contents : List (List ℕ)) (answer : Answer) (outcome : Outcome) → copies_contents answer.saved ≡ false → ComesFrom held answer outcome → outcome ≡ outcome_with answer contents
 from_whole held contents answer outcome whole comes = outcome_is answer outcome contents comes.ends comes.says (whole_by held contents answer.saved outcome.saved whole comes.saves)
 
-copies_nothing : (answer : Answer) → answer.saved ≡ None → copies_contents answer.saved ≡ false
-copies_nothing answer none = ap copies_contents none
-
 -- what an answer that saves nothing comes to
 pub from_none : (held : Option Images) (answer : Answer) (outcome due : Outcome) → answer.saved ≡ None → ((contents : List (List ℕ)) → outcome_with answer contents ≡ due) → ComesFrom held answer outcome → outcome ≡ due
-from_none held answer outcome due none says comes = from_whole held [] answer outcome (copies_nothing answer none) comes ∙ says []
+from_none held answer outcome due none says comes = from_whole held [] answer outcome (copies_none answer none) comes ∙ says []
 
 -- ---- reports
 
@@ -91,14 +90,6 @@ pub if_all : {A E : Type 0} (P : A → Type 0) (r : Result A E) → ((x : A) →
 if_all P (Ok x) all = all x
 if_all P (Err e) all = tt
 
-pub if_then : {A E : Type 0} (P Q : A → Type 0) (r : Result A E) → ((x : A) → P x → Q x) → IfOk r P → IfOk r Q
-if_then P Q (Ok x) then p = then x p
-if_then P Q (Err e) then p = tt
-
-pub if_both : {A E : Type 0} (P Q R : A → Type 0) (r : Result A E) → ((x : A) → P x → Q x → R x) → IfOk r P → IfOk r Q → IfOk r R
-if_both P Q R (Ok x) both p q = both x p q
-if_both P Q R (Err e) both p q = tt
-
 -- ---- by the command
 
 module _ (leaves : ℕ → List (Option Words) → List (Option (List ℕ)) → Type 0) (command like : CommandLine) (is : command ≡ like) where
@@ -118,12 +109,12 @@ module _ (leaves : ℕ → List (Option Words) → List (Option (List ℕ)) → 
 -- a report
 pub report_comes : {E F : Type 0} (r : Result Report E) (a : Result Answer F) (due : List (List ℕ) → Outcome) → IfOk a (λ answer. r ≡ Ok answer.report) → IfOk a (λ answer. answer.saved ≡ None)
     → IfOk r (λ report. (contents : List (List ℕ)) → outcome_of report ≡ due contents) → IfOk a (λ answer. (contents : List (List ℕ)) → outcome_with answer contents ≡ due contents)
-report_comes r a due same none says = if_then _ _ a (λ answer all contents. all contents contents) (reported_with r a due same none says)
+report_comes r a due same none says = if_more _ _ a (λ answer all contents. all contents contents) (reported_with r a due same none says)
 
 pub report_is : {E F : Type 0} (r : Result Report E) (a : Result Answer F) (due : Outcome) → IfOk a (λ answer. r ≡ Ok answer.report) → IfOk a (λ answer. answer.saved ≡ None)
     → IfOk r (λ report. outcome_of report ≡ due) → IfOk a (λ answer. (contents : List (List ℕ)) → outcome_with answer contents ≡ due)
 report_is {E} r a due same none says =
-    report_comes r a (λ _. due) same none (if_then _ (λ report. (contents : List (List ℕ)) → outcome_of report ≡ due) r (λ report said contents. said) says)
+    report_comes r a (λ _. due) same none (if_more _ (λ report. (contents : List (List ℕ)) → outcome_of report ≡ due) r (λ report said contents. said) says)
 
 -- ---- contents that are copied
 

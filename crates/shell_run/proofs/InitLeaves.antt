@@ -23,7 +23,8 @@ use Rattle.shell_reports.specs.declared.status.Ending.{Ending}
 use Rattle.shell_reports.specs.declared.power.Power.{Power}
 use Rattle.shell_reports.specs.Outcome.{Outcome}
 use Rattle.shell_reports.specs.Saved.{IsSaving}
-use Rattle.shell_changes.specs.Init.{InitArea, InitModule, not_initialised}
+use Rattle.shell_reports.specs.Labels.{fault_outcome}
+use Rattle.shell_changes.specs.Init.{InitArea, InitModule}
 use Rattle.shell_changes.specs.Remains.{LeavesBy}
 use Rattle.shell_changes.proofs.Remains.{row_alone}
 use Rattle.shell_run.specs.Laws.{HasBlocks, IsLeftByInit, InitLeavesWhole}
@@ -78,12 +79,8 @@ module _ {C : Type 0} (begins : C → ℕ → C → Type 0) (picks : C → ℕ �
   not_saved : (o : Outcome) → o.saved ≡ None → outcome ≡ o → ⊥
   not_saved o none is = let e = sym saved ∙ ap (λ (x : Outcome). x.saved) is ∙ none in cc
 
-  kept_saves_none : (fault : AreaFault) → (not_initialised m fault).saved ≡ None
-  kept_saves_none (Unsupported major minor) = refl
-  kept_saves_none NoIndex = refl
-  kept_saves_none OutOfMemory = refl
-  kept_saves_none (AlreadyInitialised seq) = refl
-  kept_saves_none PowerCut = refl
+  kept_saves_none : (fault : AreaFault) → (fault_outcome m fault).saved ≡ None
+  kept_saves_none fault = refl
 
   abbrev Left : List ℕ → Type 0
   Left area = (now : List ℕ) × IsSameSet set (objects_of (with_area loaded m now)) × IsLeftByInit power.steps area now
@@ -117,7 +114,7 @@ module _ {C : Type 0} (begins : C → ℕ → C → Type 0) (picks : C → ℕ �
         let full = full_words values (size_for (length values)) (slots_for (length values)) in
         (bytes_of full, saved_is _ _ (objects_of (with_area loaded m (bytes_of full))) done, by_area full (done_whole values power.steps ok long) (done_blocks values power.steps ok long))
     blank_left none false short comes =
-        let (left, (begun, after, begins_at, leaves_from), cut) = rw short at comes in
+        let (left, n, given, (begun, after, begins_at, leaves_from), cut) = rw short at comes in
         let bare : block_in (bytes_of values) ≡ Err NoIndex = ap block_in is ∙ none in
         let ok = is_init values words_size bare in
         let words = reached values power.steps ok in

@@ -2,11 +2,9 @@
 use Rattle.std.proofs.Common.{◌≡◌, ◌≢◌, ℕ, ◌%◌, ◌<◌, ◌≤◌, List, [], ◌∷◌, length, get_or, Option, Some, None, Result, Ok, Err, refl, sym, ap, ◌∙◌, subst, inl, inr, arith}
 use Rattle.std.specs.Prelude.{slice_index, MatchOption, IsTrue}
 use Rattle.std.proofs.lemmas.Bool.{eq-eqb, ne_eqb, le-ltb, lt-ltb}
-use Rattle.std.proofs.lemmas.List.FromFn.{length-map-range_with_len}
 use Rattle.std.proofs.lemmas.List.Sums.{sum_by_more_le}
 use Rattle.cut_words.specs.Words.{Words}
 use Rattle.cut_words.specs.WordBytes.{words_in}
-use Rattle.nfit_reader.specs.declared.table.Mapping.{Mapping}
 use Rattle.arena_layout.specs.Layout.{is_sector}
 use Rattle.arena_open.specs.declared.chain_refused.ChainRefused.{ChainRefused}
 use Rattle.arena_open.specs.declared.state.ArenaState.{ArenaState}
@@ -14,13 +12,11 @@ use Rattle.arena_open.specs.ChainCells.{AreOpen, LiesIn, external_of, sectors_of
 use Rattle.arena_open.specs.Moves.{IsOpenState}
 use Rattle.arena_open.specs.Writes.{IsSettled}
 use Rattle.arena_open.proofs.ChainSectors.{size_there}
-use Rattle.power_cut.specs.Namespace.{Namespace, beside_of, over, row_beside, words_of}
+use Rattle.power_cut.specs.Namespace.{Namespace, beside_of, words_of}
 use Rattle.power_cut.specs.Placed.{IsBesideSame}
 use Rattle.image_set.specs.Load.{ImageSet}
-use Rattle.namespace_areas.specs.Finding.{set_at}
-use Rattle.sector_namespaces.specs.Changing.{AreServed, IsWithin}
-use Rattle.sector_namespaces.specs.Creation.{AreSettled}
-use Rattle.sector_namespaces.specs.View.{IsUsable, opened_view, rows_of}
+use Rattle.sector_namespaces.specs.Changing.{AreServed}
+use Rattle.sector_namespaces.specs.View.{opened_view, rows_of}
 use Rattle.served_namespaces.specs.Places.{KeepsBehind}
 use Rattle.session_script.specs.declared.payload.Payload.{Payload}
 use Rattle.shell_reports.specs.declared.outcome.Report.{Report}
@@ -30,19 +26,16 @@ use Rattle.shell_reports.specs.Cut.{done_text}
 use Rattle.shell_reports.specs.Faults.{refused_outcome}
 use Rattle.shell_reports.specs.Outcome.{Outcome}
 use Rattle.shell_sectors.specs.declared.finding.FoundSet.{FoundSet}
-use Rattle.shell_sectors.specs.declared.write.Written.{Written}
-use Rattle.shell_sectors.specs.declared.write.Written.TheVariants as written
+use Rattle.shell_sectors.specs.declared.saving.Changed.{Changed}
+use Rattle.shell_sectors.specs.declared.saving.Changed.TheVariants as changed
 use Rattle.shell_sectors.specs.Answering.{IsTurnedDown, IsWrittenTo, WritesInto, WritesOn, words_at}
 use Rattle.shell_sectors.specs.Changed.{IsChanged, IsReady, moved_to}
-use Rattle.shell_sectors.specs.Found.{IsFoundIn, OnArenas, SavesNamespace, place_of}
-use Rattle.shell_sectors.specs.Saving.{SavesWith}
+use Rattle.shell_sectors.specs.Found.{HasModules, IsFoundIn, IsHeldIn, OnArenas, SavesNamespace, place_of}
+use Rattle.shell_sectors.specs.Saving.{AnswersWith, FitsWith, SavesWith}
 use Rattle.shell_sectors.specs.Value.{bytes_for}
 use Rattle.shell_sectors.specs.Write.{HasSector, WriteComes, Writes, WritesArenas, length_refusal, length_text, loaded_words, range_text, write_refusal}
-use Rattle.shell_sectors.proofs.Coming.{found_comes, on_words, rows_settled, saves_namespace}
-
-count_beside : (n : Namespace) → length (beside_of n) ≡ length n.modules
-unfolding beside_of
-count_beside n = length-map-range_with_len (row_beside n) 0 (length n.modules)
+use Rattle.shell_sectors.proofs.Coming.{found_comes, on_words}
+use Rattle.shell_sectors.proofs.Held.{count_kept, saves_namespace}
 
 -- ---- arenas that are open
 
@@ -69,21 +62,21 @@ since uuid sector words states first was now kept h = record {
 }
 
 -- what is written into the words that are served is written on the namespace
-pub served_on : (n now : Namespace) (uuid : List ℕ) (states : List ArenaState) (sector : ℕ) (value : Payload) (done : Written) → AreServed n now uuid states
+pub served_on : (n now : Namespace) (uuid : List ℕ) (states : List ArenaState) (sector : ℕ) (value : Payload) (done : Changed) → AreServed n now uuid states
     → KeepsBehind (words_of n).kept (words_of now).kept states → WritesInto now states sector value done → WritesOn n uuid sector value done
-served_on n now uuid states sector value (written.Done modules) s kept (accepted, (which, own, lies, changed)) =
+served_on n now uuid states sector value (changed.Done modules) s kept (accepted, (which, own, lies, put)) =
     let same : moved_to now modules.items ≡ moved_to n modules.items = moved_same n now modules.items s.beside in (
       states,
       s.read,
       record {
         accepted = accepted;
         has = subst (λ (m : Namespace). HasSector uuid sector (words_at states sector value) states (words_of n).kept (words_of m).kept) same
-            (since uuid sector (words_at states sector value) states (words_of n).kept (words_of now).kept (words_of (moved_to now modules.items)).kept kept (changed.has uuid sector s.found lies));
-        settled = subst (λ (m : Namespace). IsSettled (words_of m)) same changed.settled;
-        beside = ap beside_of (sym same) ∙ changed.beside ∙ s.beside.beside;
+            (since uuid sector (words_at states sector value) states (words_of n).kept (words_of now).kept (words_of (moved_to now modules.items)).kept kept (put.has uuid sector s.found lies));
+        settled = subst (λ (m : Namespace). IsSettled (words_of m)) same put.settled;
+        beside = ap beside_of (sym same) ∙ put.beside ∙ s.beside.beside;
       },
     )
-served_on n now uuid states sector value (written.Not report) s kept (refusal, some, said) = inl (states, s.read, (refusal, some, said))
+served_on n now uuid states sector value (changed.Not report) s kept (refusal, some, said) = inl (states, s.read, (refusal, some, said))
 
 -- ---- a sector that is there
 
@@ -130,25 +123,13 @@ past states sector value le = rw (le-ltb sector (sectors_of states) le) refl
 
 -- ---- a namespace that was found
 
+-- each module has as many words as it had
+pub fits : (loaded : ImageSet) (set : FoundSet) → IsHeldIn loaded set → (uuid : List ℕ) (sector : ℕ) (value : Payload) (n : Namespace) → n ≡ place_of loaded set.found (rows_of loaded.contents)
+    → (done : Changed) → WritesOn n uuid sector value done → FitsWith set.rest done
+fits loaded set h uuid sector value n is (changed.Done modules) (states, read, w) = subst (λ (k : ℕ). HasModules set.rest k) (sym (count_kept loaded set h n modules.items is w.beside)) h.modules
+fits loaded set h uuid sector value n is (changed.Not report) it = tt
+
 module _ (loaded : ImageSet) (uuid : List ℕ) (set : FoundSet) (f : IsFoundIn loaded uuid set) where
-  module _ (region : List Mapping) (is : region ≡ set_at set.rest.registry.sets set.found.region) where
-    pub within_at : IsWithin region set.found
-    within_at = subst (λ (s : List Mapping). IsWithin s set.found) (sym is) (record { from = f.lies.from; to = f.lies.to; inside = f.lies.inside })
-
-    pub usable_at : (modules : List Words) → modules ≡ set.contents → IsUsable region modules
-    usable_at modules are = subst (λ (s : List Mapping). IsUsable s modules) (sym is) (subst (λ (ms : List Words). IsUsable (set_at set.rest.registry.sets set.found.region) ms) (sym are) (f.usable set.found.region f.lies.region))
-
-    -- it lies there in the loaded set
-    pub at_place : (modules : List Words) → modules ≡ set.contents → over region set.found.offset set.found.raw modules ≡ place_of loaded set.found (rows_of loaded.contents)
-    at_place modules are = λ i. over ((is ∙ ap (λ (ss : List (List Mapping)). set_at ss set.found.region) f.sets) i) set.found.offset set.found.raw ((are ∙ f.contents) i)
-
-  pub settled_rows : (modules : List Words) → modules ≡ set.contents → AreSettled modules
-  settled_rows modules are = subst AreSettled (sym (are ∙ f.contents)) (rows_settled loaded.contents)
-
-  pub count_kept : (n : Namespace) (modules : List Words) → n ≡ place_of loaded set.found (rows_of loaded.contents) → beside_of (moved_to n modules) ≡ beside_of n → length modules ≡ length set.contents
-  count_kept n modules is same =
-      sym (count_beside (moved_to n modules)) ∙ ap length same ∙ count_beside n ∙ ap (λ (m : Namespace). length m.modules) is ∙ sym (ap length f.contents)
-
   module _ (sector : ℕ) (value : Payload) (n : Namespace) (is : n ≡ place_of loaded set.found (rows_of loaded.contents)) (outcome : Outcome) where
     on_read : (r : Result (List ArenaState) ChainRefused) → opened_view (words_of n).kept uuid ≡ r → OnArenas (WritesArenas uuid sector value loaded outcome set.found) uuid outcome r → WriteComes uuid sector value loaded outcome
     on_read r read arenas =
@@ -161,17 +142,17 @@ module _ (loaded : ImageSet) (uuid : List ℕ) (set : FoundSet) (f : IsFoundIn l
         subst (λ (x : Option (List ℕ)). MatchOption x (Writes set.found uuid sector value loaded states outcome) (λ refusal. outcome ≡ refused_outcome refusal)) (sym e) it
 
     -- nothing is written
-    pub comes_not : IsTurnedDown n uuid sector value outcome → WriteComes uuid sector value loaded outcome
+    comes_not : IsTurnedDown n uuid sector value outcome → WriteComes uuid sector value loaded outcome
     comes_not (inl (states, read, (refusal, some, said))) = on_read (Ok states) read (on_refusal states (Some refusal) some said)
     comes_not (inr (fault, read, said)) = on_read (Err fault) read said
 
     -- the set is saved
-    pub comes_done : (states : List ArenaState) (modules : List Words) (report : Report) → opened_view (words_of n).kept uuid ≡ Ok states → IsWrittenTo n uuid states sector value modules
+    comes_done : (states : List ArenaState) (modules : List Words) (report : Report) → opened_view (words_of n).kept uuid ≡ Ok states → IsWrittenTo n uuid states sector value modules
         → report.ending ≡ ending.Done → report.text.items ≡ done_text → SavesWith report set.rest modules outcome → WriteComes uuid sector value loaded outcome
     comes_done states modules report read w ends says saves =
         let moved : moved_to n modules ≡ place_of loaded set.found modules = ap (λ (m : Namespace). moved_to m modules) is in
         let saved : SavesNamespace set.found loaded (HasSector uuid sector (words_at states sector value) states (loaded_words loaded set.found)) report.ending report.text.items outcome =
-        saves_namespace loaded uuid set f report modules outcome (HasSector uuid sector (words_at states sector value) states (loaded_words loaded set.found)) saves
+        saves_namespace loaded set f.held report modules outcome (HasSector uuid sector (words_at states sector value) states (loaded_words loaded set.found)) saves
         (subst (λ (m : Namespace). IsSettled (words_of m)) moved w.settled)
         (ap beside_of (sym moved) ∙ w.beside ∙ ap beside_of is)
         (subst (λ (m : Namespace). HasSector uuid sector (words_at states sector value) states (words_of m).kept (words_of (place_of loaded set.found modules)).kept) is
@@ -180,3 +161,8 @@ module _ (loaded : ImageSet) (uuid : List ℕ) (set : FoundSet) (f : IsFoundIn l
         (on_refusal states None w.accepted
         (subst (λ (t : List ℕ). SavesNamespace set.found loaded (HasSector uuid sector (words_at states sector value) states (loaded_words loaded set.found)) ending.Done t outcome) says
         (subst (λ (x : Ending). SavesNamespace set.found loaded (HasSector uuid sector (words_at states sector value) states (loaded_words loaded set.found)) x report.text.items outcome) ends saved)))
+
+    -- one or the other
+    pub comes : (done : Changed) → WritesOn n uuid sector value done → AnswersWith done set.rest outcome → WriteComes uuid sector value loaded outcome
+    comes (changed.Done modules) (states, read, w) (report, ends, says, saves) = comes_done states modules.items report read w ends says saves
+    comes (changed.Not report) it said = comes_not (subst (λ (o : Outcome). IsTurnedDown n uuid sector value o) (sym said) it)

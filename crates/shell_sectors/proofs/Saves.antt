@@ -1,5 +1,5 @@
 -- The set that is saved with the words of the contents.
-use Rattle.std.proofs.Common.{◌≡◌, ℕ, zero, suc, ◌^◌, ◌<◌, List, [], ◌∷◌, length, map, get_or, Option, Some, None, refl, sym, ap, ◌∙◌, subst}
+use Rattle.std.proofs.Common.{◌≡◌, ℕ, ◌^◌, ◌<◌, List, [], ◌∷◌, length, map, get_or, Option, Some, None, refl, sym, ap, ◌∙◌, subst}
 use Rattle.std.specs.Option.{option_map}
 use Rattle.std.proofs.lemmas.List.Elements.{All-head, All-tail}
 use Rattle.std.proofs.lemmas.Option.{slice_get-map}
@@ -20,14 +20,10 @@ use Rattle.shell_reports.specs.declared.outcome.Report.{Report}
 use Rattle.shell_changes.specs.declared.answer.Left.{Left as SavedLeft}
 use Rattle.shell_changes.specs.declared.answer.Left.TheVariants.{Whole}
 use Rattle.shell_changes.specs.Saved.{objects_saved}
+use Rattle.shell_changes.proofs.Saved.{get_map}
 use Rattle.shell_sectors.specs.declared.finding.Unchanged.{Unchanged}
 use Rattle.shell_sectors.specs.Found.{HasModules, IsUnchanged, with_contents}
 use Rattle.shell_sectors.specs.Saving.{SavesWith}
-
-pub get_map : {A B : Type 0} (f : A → B) (xs : List A) (k : ℕ) (d : A) → get_or (map f xs) k (f d) ≡ f (get_or xs k d)
-get_map f [] k d = refl
-get_map f (x ∷ xs) zero d = refl
-get_map f (x ∷ xs) (suc k) d = get_map f xs k d
 
 area_left : (area : Option Words) (left : Option (List ℕ)) → IsWhole area → IsLeftOf area left → option_map bytes_of left ≡ option_map bytes_kept area
 area_left None left whole is = ap (option_map bytes_of) is

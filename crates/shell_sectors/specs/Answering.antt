@@ -12,8 +12,8 @@ use Rattle.session_script.specs.declared.payload.Payload.{Payload}
 use Rattle.shell_reports.specs.Faults.{arena_outcome, refused_outcome}
 use Rattle.shell_reports.specs.Outcome.{Outcome}
 use Rattle.shell_reports.specs.Saved.{outcome_of}
-use Rattle.shell_sectors.specs.declared.write.Written.{Written}
-use Rattle.shell_sectors.specs.declared.write.Written.TheVariants as written
+use Rattle.shell_sectors.specs.declared.saving.Changed.{Changed}
+use Rattle.shell_sectors.specs.declared.saving.Changed.TheVariants as changed
 use Rattle.shell_sectors.specs.Changed.{IsChanged, moved_to}
 use Rattle.shell_sectors.specs.Value.{bytes_for}
 use Rattle.shell_sectors.specs.Write.{HasSector, write_refusal}
@@ -25,11 +25,11 @@ abbrev pub words_at : List ArenaState → ℕ → Payload → List ℕ
 words_at states sector value = words_in (bytes_for (slice_index (sizes_of states) sector) value)
 
 -- a write on these arenas: the words are changed, or it is refused
-abbrev pub WritesInto : Namespace → List ArenaState → ℕ → Payload → Written → Type 0
-WritesInto n states sector value (written.Done modules) =
+abbrev pub WritesInto : Namespace → List ArenaState → ℕ → Payload → Changed → Type 0
+WritesInto n states sector value (changed.Done modules) =
     (write_refusal sector value states ≡ None)
     × ((which own : ℕ) × LiesIn states sector which own × IsChanged n states which own (words_at states sector value) modules.items)
-WritesInto n states sector value (written.Not report) = (refusal : List ℕ) × (write_refusal sector value states ≡ Some refusal) × (outcome_of report ≡ refused_outcome refusal)
+WritesInto n states sector value (changed.Not report) = (refusal : List ℕ) × (write_refusal sector value states ≡ Some refusal) × (outcome_of report ≡ refused_outcome refusal)
 
 -- ---- on a namespace
 
@@ -47,7 +47,7 @@ IsTurnedDown n uuid sector value outcome =
     × ((refusal : List ℕ) × (write_refusal sector value states ≡ Some refusal) × (outcome ≡ refused_outcome refusal)))
     ⊎ ((fault : ChainRefused) × (opened_view (words_of n).kept uuid ≡ Err fault) × (outcome ≡ arena_outcome uuid fault))
 
-abbrev pub WritesOn : Namespace → List ℕ → ℕ → Payload → Written → Type 0
-WritesOn n uuid sector value (written.Done modules) =
+abbrev pub WritesOn : Namespace → List ℕ → ℕ → Payload → Changed → Type 0
+WritesOn n uuid sector value (changed.Done modules) =
     (states : List ArenaState) × (opened_view (words_of n).kept uuid ≡ Ok states) × IsWrittenTo n uuid states sector value modules.items
-WritesOn n uuid sector value (written.Not report) = IsTurnedDown n uuid sector value (outcome_of report)
+WritesOn n uuid sector value (changed.Not report) = IsTurnedDown n uuid sector value (outcome_of report)

@@ -11,10 +11,10 @@ use Rattle.image_set.specs.Changed.{objects_of}
 use Rattle.image_set.specs.Load.{ImageSet, bytes_kept}
 use Rattle.namespace_map.specs.declared.refused.OpRefused.{OpRefused}
 use Rattle.namespace_areas.specs.declared.found.Found.{Found}
-use Rattle.namespace_areas.specs.Finding.{LiesInSet, found_of, set_at}
+use Rattle.namespace_areas.specs.Finding.{LiesInSet, set_at}
 use Rattle.namespace_areas.specs.Opening.{AreWhole}
-use Rattle.namespace_areas.specs.Seen.{words_of as area_words}
-use Rattle.namespace_map.specs.Namespaces.{lookup}
+use Rattle.namespace_areas.specs.Seen.{AreHeld, words_of as area_words}
+use Rattle.namespace_map.specs.Namespaces.{entry_at, lookup}
 use Rattle.namespace_ops.specs.Counted.{namespaces_in}
 use Rattle.namespace_ops.specs.Registered.{state_of}
 use Rattle.namespace_ops.specs.declared.registry.OpenFault.{OpenFault}
@@ -23,10 +23,11 @@ use Rattle.sector_namespaces.specs.View.{AreUsable, rows_of}
 use Rattle.shell_reports.specs.declared.status.Ending.{Ending}
 use Rattle.shell_reports.specs.Causes.{fault_in, found_in, opened_in}
 use Rattle.shell_reports.specs.Faults.{arena_outcome, refusal_text, refused_outcome}
-use Rattle.shell_reports.specs.List.{open_outcome}
+use Rattle.shell_reports.specs.List.{labels_in_set, open_outcome}
 use Rattle.shell_reports.specs.Outcome.{Outcome}
 use Rattle.shell_reports.specs.Saved.{IsSaving, outcome_of}
 use Rattle.shell_sectors.specs.declared.finding.FoundSet.{FoundSet}
+use Rattle.shell_sectors.specs.declared.finding.OpenSet.{OpenSet}
 use Rattle.shell_sectors.specs.declared.finding.SetFound.{SetFound}
 use Rattle.shell_sectors.specs.declared.finding.SetFound.TheVariants as set_found
 use Rattle.shell_sectors.specs.declared.finding.Unchanged.{Unchanged}
@@ -47,11 +48,8 @@ pub record HasModules (rest : Unchanged) (count : ℕ) : Type 0 where
   pub bad : length rest.bad ≡ count
   pub few : count < 2 ^ 32
 
--- A namespace of a loaded set, and all parts of the set.
-pub record IsFoundIn (loaded : ImageSet) (uuid : List ℕ) (set : FoundSet) : Type 0 where
-  pub none : fault_in loaded ≡ None
-  pub is : found_in loaded uuid ≡ Ok set.found
-  pub sector : set.found.mode ≡ mode.Sector
+-- A namespace lies in its region's set, and all parts of the set are as loaded.
+pub record IsHeldIn (loaded : ImageSet) (set : FoundSet) : Type 0 where
   pub lies : LiesInSet set.rest.registry.sets set.found
   pub sets : set.rest.registry.sets ≡ sets_of loaded.nfit
   pub contents : set.contents ≡ rows_of loaded.contents
@@ -59,16 +57,24 @@ pub record IsFoundIn (loaded : ImageSet) (uuid : List ℕ) (set : FoundSet) : Ty
   pub unchanged : IsUnchanged loaded set.rest
   pub modules : HasModules set.rest (length set.contents)
 
--- All parts of a loaded set whose labels are read.
-pub record IsOpenOn (loaded : ImageSet) (uuid : List ℕ) (contents : List Words) (rest : Unchanged) : Type 0 where
+-- A sector namespace of a loaded set, and all parts of the set.
+pub record IsFoundIn (loaded : ImageSet) (uuid : List ℕ) (set : FoundSet) : Type 0 where
   pub none : fault_in loaded ≡ None
-  pub running : rest.registry.stopped ≡ false
-  pub sets : rest.registry.sets ≡ sets_of loaded.nfit
-  pub is : found_of rest.registry.sets (lookup uuid (namespaces_in (state_of rest.registry)).entries) ≡ found_in loaded uuid
-  pub contents_are : contents ≡ rows_of loaded.contents
-  pub usable : AreUsable rest.registry.sets contents
-  pub unchanged : IsUnchanged loaded rest
-  pub modules : HasModules rest (length contents)
+  pub is : found_in loaded uuid ≡ Ok set.found
+  pub sector : set.found.mode ≡ mode.Sector
+  pub held : IsHeldIn loaded set
+
+-- All parts of a loaded set whose labels are read.
+pub record IsOpenOn (loaded : ImageSet) (set : OpenSet) : Type 0 where
+  pub none : fault_in loaded ≡ None
+  pub running : set.rest.registry.stopped ≡ false
+  pub held : AreHeld set.rest.registry.areas
+  pub sets : set.rest.registry.sets ≡ sets_of loaded.nfit
+  pub entry : (uuid : List ℕ) → lookup uuid (namespaces_in (state_of set.rest.registry)).entries ≡ entry_at (sets_of loaded.nfit) (labels_in_set loaded) uuid
+  pub contents_are : set.contents ≡ rows_of loaded.contents
+  pub usable : AreUsable set.rest.registry.sets set.contents
+  pub unchanged : IsUnchanged loaded set.rest
+  pub modules : HasModules set.rest (length set.contents)
 
 -- The set or its labels have a fault, or they have no such namespace.
 abbrev pub IsUnfound : ImageSet → List ℕ → Outcome → Type 0

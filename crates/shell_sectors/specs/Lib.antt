@@ -1,4 +1,5 @@
 pub mod Value
+pub mod Labels
 pub mod Found
 pub mod Saving
 pub mod Write

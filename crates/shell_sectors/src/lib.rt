@@ -5,7 +5,7 @@
 //!                                                               │
 //!                            Range, Length ◄────────────────────┤ the sector's arena ── write_alone ──► its new words
 //!                                                               ▼
-//! saved set ◄── saved_answer ── contents ◄── put_arena ── the namespace's words
+//! saved set ◄── changed_answer ── contents ◄── put_arena ── the namespace's words
 //! ```
 //!
 //! A write goes through the log of the sector's arena, as a driver makes it. One lane alone is in a
@@ -29,6 +29,6 @@ mod value;
 mod write;
 
 pub use changing::put_arena;
-pub use finding::{FoundSet, SetFound, Unchanged, find_in_set};
-pub use saving::saved_answer;
+pub use finding::{FoundSet, LabelsRead, OpenSet, SetFound, Unchanged, find_in_set, read_labels};
+pub use saving::{Changed, changed_answer, saved_answer};
 pub use write::write_answer;

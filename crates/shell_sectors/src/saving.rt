@@ -1,11 +1,11 @@
-//! The set that is saved after sectors were changed.
+//! The set that is saved after a namespace was changed.
 ghost use Rattle.std.specs.Prelude.{◌≡◌, IfOk, false, length, map};
 ghost use Rattle.namespace_areas.specs.Opening.{AreWhole};
 ghost use Rattle.namespace_areas.specs.Seen.{words_of};
 ghost use Rattle.shell_changes.specs.Answers.{whole_outcome};
 ghost use Rattle.shell_changes.specs.Saved.{copies_contents};
 ghost use Rattle.shell_sectors.specs.Found.{HasModules};
-ghost use Rattle.shell_sectors.specs.Saving.{SavesWith};
+ghost use Rattle.shell_sectors.specs.Saving.{AnswersWith, FitsWith, SavesWith};
 
 use crate::finding::Unchanged;
 use cut_words::CutWords;
@@ -14,9 +14,18 @@ use namespace_areas::into_words;
 use nvd_media::ListChooser;
 use nvd_words::Items;
 use power_cut::leave_all;
-use shell_changes::{Answer, Left, SavedSet};
-use shell_reports::Report;
+use shell_changes::{Answer, Left, SavedSet, without_set};
+use shell_reports::{Report, done_answer};
 use std::alloc::{AllocError, Global};
+
+/// What a command on a namespace comes to before anything is saved.
+#[derive(Drop)]
+pub enum Changed {
+    /// The words of all modules, with what it changed.
+    Done(Vec<CutWords>),
+    /// It is refused.
+    Not(Report),
+}
 
 /// Answers with a report, and with the loaded set in which the modules have these contents.
 ///
@@ -52,4 +61,25 @@ pub fn saved_answer(
         report,
         saved: Some(SavedSet::new(Left::Whole(left))),
     })
+}
+
+/// Answers with `ok` and with the loaded set in which the modules have the changed contents, as `saved_answer` does; or with
+/// the refusal, and without a set. The call fails only if memory runs out.
+pub fn changed_answer(
+    alloc: Global,
+    changed: Changed,
+    rest: Unchanged,
+) -> Result<Answer, AllocError>
+    requires whole { AreWhole (map words_of rest.registry.areas) }
+    requires fits { FitsWith rest changed }
+    ensures answers { IfOk result (λ answer. AnswersWith changed rest (whole_outcome answer)) }
+    ensures whole { IfOk result (λ answer. copies_contents answer.saved ≡ false) }
+{
+    match changed {
+        Changed::Done(contents) => {
+            let report = done_answer(alloc)?;
+            saved_answer(alloc, report, rest, contents)
+        }
+        Changed::Not(report) => Ok(without_set(report)),
+    }
 }

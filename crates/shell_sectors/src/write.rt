@@ -21,7 +21,7 @@ ghost use Rattle.shell_sectors.specs.Write.{WriteComes, length_text, range_text}
 
 use crate::changing::change_sector;
 use crate::finding::{FoundSet, SetFound, find_in_set};
-use crate::saving::saved_answer;
+use crate::saving::{Changed, changed_answer};
 use crate::value::{length_for, words_for};
 use arena_open::Chain;
 use cut_words::CutWords;
@@ -34,18 +34,9 @@ use sector_namespaces::OpenArenas;
 use served_namespaces::open_kept;
 use session_script::Payload;
 use shell_changes::{Answer, without_set};
-use shell_reports::{Report, arena_answer, done_answer, refused_answer};
+use shell_reports::{Report, arena_answer, refused_answer};
 use std::alloc::{AllocError, Global};
 use uuid::Uuid;
-
-/// What a write comes to before anything is saved.
-#[derive(Drop)]
-enum Written {
-    /// The words of all modules, with the sector's value.
-    Done(Vec<CutWords>),
-    /// It is refused.
-    Not(Report),
-}
 
 /// Returns the size of the sectors of an arena, in bytes.
 fn size_at(chain: &Chain, which: usize) -> u32
@@ -96,7 +87,7 @@ fn write_located(
     chain: Chain,
     place: (usize, u32),
     value: Payload,
-) -> Result<Written, AllocError>
+) -> Result<Changed, AllocError>
     requires ready { IsReady space chain }
     requires lies { (sector : ℕ) × LiesIn chain sector place.0 place.1 }
     ensures { IfOk result (λ written. (sector : ℕ) → LiesIn chain sector place.0 place.1 → WritesInto space.entry chain sector value written) }
@@ -105,10 +96,10 @@ fn write_located(
     let said = length_for(had, &value);
     if said == had as usize {
         let modules = write_fitting(alloc, space, chain, place, had, value)?;
-        Ok(Written::Done(modules))
+        Ok(Changed::Done(modules))
     } else {
         let report = length_answer(alloc, said, had)?;
-        Ok(Written::Not(report))
+        Ok(Changed::Not(report))
     }
 }
 
@@ -118,7 +109,7 @@ fn write_opened(
     opened: OpenArenas<'_>,
     sector: u64,
     value: Payload,
-) -> Result<Written, AllocError>
+) -> Result<Changed, AllocError>
     requires { IsReady opened.words opened.chain }
     ensures { IfOk result (WritesInto opened.entry.words opened.entry.chain sector value) }
 {
@@ -127,7 +118,7 @@ fn write_opened(
         Some(place) => write_located(alloc, words, chain, place, value),
         None => {
             let report = range_answer(alloc, chain.sectors())?;
-            Ok(Written::Not(report))
+            Ok(Changed::Not(report))
         }
     }
 }
@@ -141,7 +132,7 @@ fn write_found(
     uuid: &Uuid,
     sector: u64,
     value: Payload,
-) -> Result<Written, AllocError>
+) -> Result<Changed, AllocError>
     requires sector { found.now.mode ≡ Mode.Sector }
     requires within { IsWithin set.now found.now }
     requires settled { AreSettled modules.items }
@@ -152,7 +143,7 @@ fn write_found(
         Ok(opened) => write_opened(alloc, opened, sector, value),
         Err(refused) => {
             let report = arena_answer(alloc, uuid, refused)?;
-            Ok(Written::Not(report))
+            Ok(Changed::Not(report))
         }
     }
 }
@@ -177,13 +168,7 @@ fn found_answer(
     let modules = contents.into_vec();
     let region = rest.registry.set(found.region);
     let written = write_found(alloc, region, &found, modules, uuid, sector, value)?;
-    match written {
-        Written::Done(modules) => {
-            let report = done_answer(alloc)?;
-            saved_answer(alloc, report, rest, modules)
-        }
-        Written::Not(report) => Ok(without_set(report)),
-    }
+    changed_answer(alloc, written, rest)
 }
 
 /// Answers `write` on an image set: `ok`, and the set in which the sector has the value; or the

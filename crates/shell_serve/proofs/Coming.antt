@@ -1,6 +1,6 @@
 -- From what sessions come to, to what `serve` and `load` come to.
 use Rattle.std.proofs.Common.{◌≡◌, ℕ, Bool, true, false, List, [], ◌∷◌, ◌++◌, map, Option, Result, Ok, Err, refl, sym, ap, ◌∙◌, subst}
-use Rattle.std.specs.Prelude.{IfOk, MatchBool, nat_lt, slice_index_or}
+use Rattle.std.specs.Prelude.{MatchBool, nat_lt, slice_index_or}
 use Rattle.cut_words.specs.Words.{Words, settled}
 use Rattle.nfit_reader.specs.declared.table.Mapping.{Mapping}
 use Rattle.arena_open.specs.declared.chain_refused.ChainRefused.{ChainRefused}
@@ -51,10 +51,6 @@ use Rattle.shell_serve.specs.Texts.{serve_text}
 use Rattle.shell_serve.proofs.Choosing.{all_chosen}
 use Rattle.shell_serve.proofs.Journals.{left_apart}
 use Rattle.shell_serve.proofs.Saves.{rows_settled, saves_parts}
-
-pub ok_then : {A E : Type 0} (P Q : A → Type 0) (r : Result A E) → ((x : A) → P x → Q x) → IfOk r P → IfOk r Q
-ok_then P Q (Ok x) then p = then x p
-ok_then P Q (Err e) then p = tt
 
 -- ---- what is saved
 

@@ -27,10 +27,13 @@ use Rattle.shell_changes.specs.Maps.{HasTable}
 use Rattle.shell_changes.specs.Namespaces.{sets_in}
 use Rattle.shell_changes.specs.Reading.{IsFresh}
 use Rattle.shell_changes.proofs.Areas.{rows_are, rows_opened}
-use Rattle.shell_changes.proofs.Goes.{are_whole, labels_are, sets_err, sets_ok}
+use Rattle.shell_reports.proofs.Opened.{are_whole}
+use Rattle.shell_changes.proofs.Goes.{labels_are, sets_err, sets_ok}
 use Rattle.shell_changes.proofs.Maps.{areas_read, keep_apart, recovered_read, regions_of}
 use Rattle.shell_sectors.proofs.Loaded.{open_on}
-use Rattle.shell_serve.specs.Recovered.{IsRecovered, IsRecovery, recovered_words}
+use Rattle.shell_sectors.specs.declared.finding.OpenSet.{OpenSet}
+use Rattle.shell_sectors.specs.Labels.{IsOpenSet}
+use Rattle.shell_serve.specs.Recovered.{IsRecovered, IsRecovery, recovered_words, with_registry}
 
 -- labels are the kept words' bytes
 loaded_labels : (loaded : Loaded) → (image_set_in loaded).labels ≡ map (option_map bytes_kept) loaded.labels
@@ -118,7 +121,7 @@ module _ (loaded : Loaded) (sound : IsSound loaded) (areas : List Area) (are : a
 
     pub is_recovered : IsRecovered (image_set_in loaded) (record { contents = loaded.contents; rest = record { registry = now; nfit_bytes = loaded.nfit_bytes; bad = loaded.bad } })
     is_recovered =
-        let o = open_on loaded sound [] areas are old is in
+        let o = open_on loaded sound areas are old is in
         let same : now.sets ≡ old.sets = r.sets in
         record {
           rest = record {
@@ -153,3 +156,9 @@ module _ (loaded : Loaded) (sound : IsSound loaded) (areas : List Area) (are : a
             usable = subst (λ (s : List (List Mapping)). AreUsable s loaded.contents) (sym same) o.usable;
           };
         }
+
+-- a set whose labels were read, once they are recovered
+pub set_recovered : (loaded : Loaded) → IsSound loaded → (old now : OpenSet) → IsOpenSet loaded old → IsRecovery old.rest.registry now.rest.registry → now ≡ with_registry old now.rest.registry → IsRecovered (image_set_in loaded) now
+set_recovered loaded sound old now read r parts =
+    subst (λ (s : OpenSet). IsRecovered (image_set_in loaded) s) (sym (parts ∙ ap (λ (s : OpenSet). with_registry s now.rest.registry) read.parts))
+    (is_recovered loaded sound (map opened_as loaded.labels) refl old.rest.registry read.registry now.rest.registry r)

@@ -28,7 +28,7 @@ use Rattle.shell_reports.specs.Outcome.{Outcome}
 use Rattle.shell_reports.specs.Saved.{IsSaving}
 use Rattle.shell_sectors.specs.declared.finding.Unchanged.{Unchanged}
 use Rattle.shell_sectors.specs.Found.{with_contents}
-use Rattle.shell_sectors.proofs.Saves.{get_map}
+use Rattle.shell_changes.proofs.Saved.{get_map}
 use Rattle.shell_serve.specs.Answering.{SavesLeft}
 use Rattle.shell_serve.specs.Recovered.{KeepsLabels}
 use Rattle.shell_serve.specs.Serving.{SavesParts}

@@ -21,11 +21,11 @@ use Rattle.shell_changes.specs.Namespaces.{sets_in}
 use Rattle.shell_changes.specs.Reading.{IsFresh}
 use Rattle.shell_reports.specs.List.{open_outcome}
 use Rattle.shell_reports.specs.Saved.{outcome_of}
+use Rattle.shell_sectors.specs.declared.finding.LabelsRead.{LabelsRead}
+use Rattle.shell_sectors.specs.declared.finding.LabelsRead.TheVariants as read
+use Rattle.shell_sectors.specs.declared.finding.OpenSet.{OpenSet}
 use Rattle.shell_sectors.specs.declared.finding.Unchanged.{Unchanged}
 use Rattle.shell_sectors.specs.Found.{HasModules}
-use Rattle.shell_serve.specs.declared.recovered.Recovered.{Recovered}
-use Rattle.shell_serve.specs.declared.recovered.SetRecovered.{SetRecovered}
-use Rattle.shell_serve.specs.declared.recovered.SetRecovered.TheVariants as set
 
 -- ---- recovery
 
@@ -36,6 +36,10 @@ pub record IsRecovery (old new : Registered) : Type 0 where
   pub sets : new.sets ≡ old.sets
   pub opening : new.opening ≡ new.areas
   pub running : IsFresh old → IsFresh new
+
+-- a set with another registry
+abbrev pub with_registry : OpenSet → Registered → OpenSet
+with_registry set registry = record { contents = set.contents; rest = record { registry = registry; nfit_bytes = set.rest.nfit_bytes; bad = set.rest.bad } }
 
 -- the words of the label areas then, as recovery's stores and flushes make them of those that were loaded
 abbrev pub recovered_words : List (List Mapping) → ImageSet → Rows
@@ -77,11 +81,11 @@ pub record HoldsContents (loaded : ImageSet) (sets : List (List Mapping)) (conte
   pub settled : AreSettled contents
   pub usable : AreUsable sets contents
 
-pub record IsRecovered (loaded : ImageSet) (recovered : Recovered) : Type 0 where
-  pub rest : IsRecoveredIn loaded recovered.rest
-  pub contents : HoldsContents loaded recovered.rest.registry.sets recovered.contents
+pub record IsRecovered (loaded : ImageSet) (set : OpenSet) : Type 0 where
+  pub rest : IsRecoveredIn loaded set.rest
+  pub contents : HoldsContents loaded set.rest.registry.sets set.contents
 
 -- labels are recovered, or the table or the labels have a fault
-abbrev pub RecoversIn : ImageSet → SetRecovered → Type 0
-RecoversIn loaded (set.Done recovered) = IsRecovered loaded recovered
-RecoversIn loaded (set.Not report) = (fault : OpenFault) × (sets_in loaded ≡ Err fault) × (outcome_of report ≡ open_outcome fault)
+abbrev pub RecoversIn : ImageSet → LabelsRead → Type 0
+RecoversIn loaded (read.Done set) = IsRecovered loaded set
+RecoversIn loaded (read.Not report) = (fault : OpenFault) × (sets_in loaded ≡ Err fault) × (outcome_of report ≡ open_outcome fault)

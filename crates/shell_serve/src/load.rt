@@ -23,7 +23,7 @@ ghost use Rattle.shell_serve.specs.Serving.{Serves};
 ghost use Rattle.shell_serve.specs.Texts.{summary};
 
 use crate::opening::{OpenOutcome, open_namespaces};
-use crate::recovered::{Recovered, SetRecovered, recover_set};
+use crate::recovered::recover_set;
 use crate::saving::saved_answer;
 use crate::serving::{Running, Served, serve_opened};
 use crate::texts::{serve_text, summary};
@@ -36,7 +36,7 @@ use served_namespaces::{FoundNamespace, OpenedSet};
 use session_script::{Script, make_load};
 use shell_changes::{Answer, without_set};
 use shell_reports::{Report, op_refused_answer, printed_answer, refused_answer};
-use shell_sectors::Unchanged;
+use shell_sectors::{LabelsRead, OpenSet, Unchanged};
 use std::alloc::{AllocError, Global};
 use std::sync::Wait;
 use std::thread::Threads;
@@ -147,7 +147,7 @@ fn found_answer<R: Threads + Wait + Sync, C: Chooser, G: Gate>(
     running: Running,
     load: &Load,
     found: Found,
-    set: Recovered,
+    set: OpenSet,
     choose: &mut C,
 ) -> Result<Answer, AllocError>
     requires workers { 0 < running.workers }
@@ -158,7 +158,7 @@ fn found_answer<R: Threads + Wait + Sync, C: Chooser, G: Gate>(
         → LoadsOnFound (LeavesBy C.begins C.picks choose.old running.seed) load.now set.rest.registry.sets loaded (areas_seen set.rest.registry.areas) (rows_of set.rest.registry.areas) (Ok found) (whole_outcome answer)) }
     ensures whole { IfOk result (λ answer. copies_contents answer.saved ≡ false) }
 {
-    let Recovered { contents, rest } = set;
+    let OpenSet { contents, rest } = set;
     let place = FoundNamespace {
         uuid: load.uuid,
         found,
@@ -178,7 +178,7 @@ fn recovered_answer<R: Threads + Wait + Sync, C: Chooser, G: Gate>(
     alloc: Global,
     running: Running,
     load: &Load,
-    set: Recovered,
+    set: OpenSet,
     choose: &mut C,
 ) -> Result<Answer, AllocError>
     requires workers { 0 < running.workers }
@@ -221,7 +221,7 @@ pub fn load_answer<R: Threads + Wait + Sync, C: Chooser, G: Gate>(
 {
     let read = recover_set(alloc, loaded)?;
     match read {
-        SetRecovered::Done(set) => recovered_answer(waiting, alloc, running, load, set, choose),
-        SetRecovered::Not(report) => Ok(without_set(report)),
+        LabelsRead::Done(set) => recovered_answer(waiting, alloc, running, load, set, choose),
+        LabelsRead::Not(report) => Ok(without_set(report)),
     }
 }

@@ -1,6 +1,8 @@
 //! Namespaces of a set whose labels are recovered are opened.
-ghost use Rattle.std.specs.Prelude.{◌≡◌, IfOk};
+ghost use Rattle.std.specs.Prelude.{◌≡◌, ◌≢◌, ℕ, List, IfOk};
 ghost use Rattle.std.specs.List.{All};
+ghost use Rattle.arena_open.specs.declared.chain_refused.ChainRefused.{ChainRefused as Refusal};
+ghost use Rattle.arena_open.specs.declared.refused.OpenRefused.TheVariants as open_refused;
 ghost use Rattle.image_set.specs.Load.{ImageSet};
 ghost use Rattle.served_namespaces.specs.Places.{AreDisjoint, CanOpen};
 ghost use Rattle.shell_serve.specs.Answering.{NamesBroken, OpensIn};
@@ -22,8 +24,9 @@ pub(crate) enum OpenOutcome {
     Not(Report),
 }
 
-/// The answer that says why namespaces aren't opened.
+/// The answer that says why namespaces aren't opened. Power wasn't cut.
 fn unopened(alloc: Global, refused: NotOpened) -> Result<OpenOutcome, AllocError>
+    requires { (uuid : List ℕ) (fault : Refusal) → refused ≡ NotOpened.Broken uuid fault → fault.fault ≢ open_refused.PowerCut }
     ensures { IfOk result (NamesBroken refused) }
 {
     match refused {

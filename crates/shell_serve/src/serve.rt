@@ -15,7 +15,7 @@ ghost use Rattle.namespace_areas.specs.Seen.{areas_seen};
 ghost use Rattle.namespace_areas.specs.Steps.{rows_of};
 
 use crate::opening::{OpenOutcome, open_namespaces};
-use crate::recovered::{Recovered, SetRecovered, recover_set};
+use crate::recovered::recover_set;
 use crate::saving::saved_answer;
 use crate::scripts::open_lines;
 use crate::serving::{Running, Served, serve_opened};
@@ -27,7 +27,7 @@ use served_namespaces::{OpenedSet, find_each, first_ones};
 use session_script::Script;
 use shell_changes::{Answer, without_set};
 use shell_reports::printed_answer;
-use shell_sectors::Unchanged;
+use shell_sectors::{LabelsRead, OpenSet, Unchanged};
 use std::alloc::{AllocError, Global};
 use std::sync::Wait;
 use std::thread::Threads;
@@ -65,7 +65,7 @@ fn recovered_answer<R: Threads + Wait + Sync, C: Chooser, G: Gate>(
     alloc: Global,
     running: Running,
     script: &Script,
-    set: Recovered,
+    set: OpenSet,
     choose: &mut C,
 ) -> Result<Answer, AllocError>
     requires workers { 0 < running.workers }
@@ -75,7 +75,7 @@ fn recovered_answer<R: Threads + Wait + Sync, C: Chooser, G: Gate>(
         → OnRecovered (LeavesBy C.begins C.picks choose.old running.seed) set.rest.registry.sets loaded (areas_seen set.rest.registry.areas) (rows_of set.rest.registry.areas) script.now (whole_outcome answer)) }
     ensures whole { IfOk result (λ answer. copies_contents answer.saved ≡ false) }
 {
-    let Recovered { contents, rest } = set;
+    let OpenSet { contents, rest } = set;
     let lines = open_lines(alloc, script)?;
     let uuids = first_ones(alloc, &lines)?;
     let places = find_each(alloc, &rest.registry, &uuids)?;
@@ -123,7 +123,7 @@ pub fn serve_answer<R: Threads + Wait + Sync, C: Chooser, G: Gate>(
 {
     let read = recover_set(alloc, loaded)?;
     match read {
-        SetRecovered::Done(set) => recovered_answer(waiting, alloc, running, script, set, choose),
-        SetRecovered::Not(report) => Ok(without_set(report)),
+        LabelsRead::Done(set) => recovered_answer(waiting, alloc, running, script, set, choose),
+        LabelsRead::Not(report) => Ok(without_set(report)),
     }
 }

@@ -1,5 +1,5 @@
 //! Sessions run on namespaces that are open, and power is cut behind them.
-ghost use Rattle.std.specs.Prelude.{◌≡◌, ◌<◌, [], IfOk, map, All};
+ghost use Rattle.std.specs.Prelude.{◌≡◌, ◌<◌, IfOk, map, All};
 ghost use Rattle.image_set.specs.Load.{ImageSet};
 ghost use Rattle.namespace_areas.specs.Seen.{areas_seen};
 ghost use Rattle.namespace_areas.specs.Steps.{rows_of};

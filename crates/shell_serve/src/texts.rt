@@ -1,5 +1,5 @@
 //! The texts of sessions: a line for each reply, and the summary of a load.
-ghost use Rattle.std.specs.Prelude.{◌≡◌, ◌<◌, ◌+◌, ◌*◌, ◌^◌, ◌++◌, List, IfOk, OnOk, All, string_bytes, count_by};
+ghost use Rattle.std.specs.Prelude.{◌≡◌, ◌<◌, ◌+◌, ◌^◌, ◌++◌, List, IfOk, OnOk, All, string_bytes, count_by};
 ghost use Rattle.session_account.specs.declared.reply.Reply.{Reply as Replied};
 ghost use Rattle.session_service.specs.Ran.{replies_of};
 ghost use Rattle.shell_serve.specs.Texts.{IsTold, filled, is_read, is_write, reads_in, replies_sum, replies_text, reply_text, serve_text, session_line, session_text, summary, writes_in};

@@ -4,7 +4,7 @@ use Rattle.nvd_media.specs.Images.{Images}
 use Rattle.namespace_map.specs.Commands.{refusal_of}
 use Rattle.namespace_areas.specs.Seen.{words_of}
 use Rattle.namespace_areas.specs.Refusals.{shown}
-use Rattle.shell_reports.proofs.More.{if_more}
+use Rattle.shell_reports.proofs.More.{if_both, if_more}
 use Rattle.shell_changes.specs.declared.answer.Answer.{Answer}
 use Rattle.shell_changes.specs.declared.saving.Beside.{Beside}
 use Rattle.shell_changes.specs.Answers.{Fits, outcome_with}
@@ -12,17 +12,21 @@ use Rattle.shell_changes.specs.Going.{GoesOn, SavesCut, SavesDone}
 use Rattle.shell_changes.specs.Remains.{CanLeave, LeavesBy, remains_of}
 use Rattle.shell_changes.specs.Rest.{objects_left, words_beside}
 use Rattle.shell_changes.proofs.Remains.{cut_saves, done_saves, fits_with_words, objects_with_words}
-use Rattle.shell_changes.proofs.Runs.{can_leave, counts, if_both, refused_is, went_is}
+use Rattle.shell_changes.proofs.Runs.{can_leave, counts, refused_is, runs_given, went_is}
 use Rattle.shell_changes.proofs.changing.command_answer.Goals as goal
 
-pub reply_answer-requires : goal.reply_answer-requires
-reply_answer-requires g c =
+pub reply_answer-requires-clause-can : goal.reply_answer-requires-clause-can
+reply_answer-requires-clause-can g c =
     let ran = c.in_ok-ran.ran in
     let count = counts c.args.registry.sets c.args.registry.areas ran.areas.items (words_beside c.args.beside) (words_beside ran.beside) c.args.fuse c.run_command.new.fuse c.args.change.now ran.reply c.in_ok-ran.ensures.runs in
-    record {
-      can = subst (λ (b : Beside). CanLeave (remains_of b (map words_of ran.areas.items))) (sym c.in_ok-ran.ensures.beside)
-          (can_leave c.args.beside (words_beside ran.beside) ran.areas.items c.requires.run.rest (count.0 ∙ c.requires.run.count) count.1);
-    }
+    subst (λ (b : Beside). CanLeave (remains_of b (map words_of ran.areas.items))) (sym c.in_ok-ran.ensures.beside)
+    (can_leave c.args.beside (words_beside ran.beside) ran.areas.items c.requires.run.rest (count.0 ∙ c.requires.run.count) count.1)
+
+pub reply_answer-requires-clause-given : goal.reply_answer-requires-clause-given
+reply_answer-requires-clause-given g c = λ cut none.
+    let ran = c.in_ok-ran.ran in
+    runs_given c.args.registry.sets c.args.registry.areas ran.areas.items (words_beside c.args.beside) (words_beside ran.beside) c.args.fuse c.run_command.new.fuse c.args.change.now ran.reply c.in_ok-ran.ensures.runs
+    cut (c.requires.given none)
 
 pub returns-clause-refused : goal.returns-clause-refused
 returns-clause-refused g c =

@@ -6,14 +6,14 @@ use Rattle.nfit_reader.specs.declared.table.Mapping.{Mapping}
 use Rattle.namespace_areas.specs.declared.area.Area.{Area}
 use Rattle.namespace_areas.specs.Seen.{words_of}
 use Rattle.namespace_areas.specs.Went.{size_of}
-use Rattle.shell_reports.proofs.More.{if_more}
+use Rattle.shell_reports.proofs.More.{if_both, if_more}
 use Rattle.shell_changes.specs.declared.answer.Answer.{Answer}
 use Rattle.shell_changes.specs.Answers.{outcome_with}
 use Rattle.shell_changes.specs.Going.{GoesFrom, SavesCut}
 use Rattle.shell_changes.specs.Remains.{AnswersCut, CanLeave, LeavesBy, remains_of}
 use Rattle.shell_changes.specs.Rest.{IsUsableBeside, count_beside, objects_left, words_beside}
 use Rattle.shell_changes.proofs.Remains.{cut_saves}
-use Rattle.shell_changes.proofs.Runs.{can_stop, goes_then, if_both, stops_first}
+use Rattle.shell_changes.proofs.Runs.{can_stop, goes_then, left_none, stops_first, went_given}
 use Rattle.shell_changes.proofs.changing.opened_answer.Goals as goal
 
 -- areas that recovery has changed are as many
@@ -42,12 +42,18 @@ command_answer-requires-clause-fresh g c =
       room = c.recover.ensures.kept.room ∙ fresh.room;
     }
 
-pub stopped_answer-requires : goal.stopped_answer-requires
-stopped_answer-requires g c = record {
-  can = subst (λ (xs : List Area). CanLeave (remains_of c.args.beside (map words_of xs))) (sym c.into_areas.ensures.areas)
-      (can_stop c.args.beside c.recover.new.self.areas c.requires.run.rest
-      (kept c.args.registry.areas c.recover.new.self.areas c.args.registry.areas (count_beside c.args.beside) c.recover.ensures.went.sizes refl c.requires.run.count));
-}
+pub command_answer-requires-clause-given : goal.command_answer-requires-clause-given
+command_answer-requires-clause-given g c = λ none. left_none _ _ c.fuse_of-fuse.result c.recover.new.fuse _ _ c.recover.ensures.went (c.fuse_of-fuse.ensures ∙ none)
+
+pub stopped_answer-requires-clause-can : goal.stopped_answer-requires-clause-can
+stopped_answer-requires-clause-can g c =
+    subst (λ (xs : List Area). CanLeave (remains_of c.args.beside (map words_of xs))) (sym c.into_areas.ensures.areas)
+    (can_stop c.args.beside c.recover.new.self.areas c.requires.run.rest
+    (kept c.args.registry.areas c.recover.new.self.areas c.args.registry.areas (count_beside c.args.beside) c.recover.ensures.went.sizes refl c.requires.run.count))
+
+pub stopped_answer-requires-clause-given : goal.stopped_answer-requires-clause-given
+stopped_answer-requires-clause-given g c = λ none.
+    went_given _ _ c.fuse_of-fuse.result c.recover.new.fuse _ _ c.recover.ensures.went (ap (λ (r : Result (Unit {0}) PowerCut). is_ok r) c.in-Err.is) (c.fuse_of-fuse.ensures ∙ none)
 
 pub returns-in-Ok-clause-comes : goal.returns-in-Ok-clause-comes
 returns-in-Ok-clause-comes g c =

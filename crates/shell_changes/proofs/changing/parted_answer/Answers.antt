@@ -10,7 +10,7 @@ use Rattle.namespace_ops.specs.Registered.{Registered}
 use Rattle.namespace_ops.specs.Opening.{registry_opening, set_in}
 use Rattle.namespace_ops.specs.declared.registry.OpenFault.TheVariants.{OutOfMemory}
 use Rattle.shell_reports.specs.List.{open_outcome}
-use Rattle.shell_reports.proofs.More.{if_more}
+use Rattle.shell_reports.proofs.More.{if_both, if_more}
 use Rattle.shell_changes.specs.declared.answer.Answer.{Answer}
 use Rattle.shell_changes.specs.Answers.{Fits, outcome_with}
 use Rattle.shell_changes.specs.Namespaces.{ChangeComes}
@@ -18,8 +18,8 @@ use Rattle.shell_changes.specs.Reading.{set_parted, table_beside}
 use Rattle.shell_changes.specs.Remains.{LeavesBy}
 use Rattle.shell_changes.specs.Rest.{IsUsableBeside}
 use Rattle.shell_changes.proofs.Remains.{fits_none}
-use Rattle.shell_changes.proofs.Runs.{if_both}
-use Rattle.shell_changes.proofs.Goes.{comes, comes_not, are_whole}
+use Rattle.shell_reports.proofs.Opened.{are_whole}
+use Rattle.shell_changes.proofs.Goes.{comes, comes_not}
 use Rattle.namespace_ops.proofs.Regions.{was_opened}
 use Rattle.shell_changes.proofs.changing.parted_answer.Goals as goal
 

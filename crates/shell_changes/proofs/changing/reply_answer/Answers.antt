@@ -20,10 +20,14 @@ done_answer-requires g c =
     let is : c.remaining-remains.result ≡ remains_of c.args.ran.beside (map words_of c.args.ran.areas.items) = c.remaining-remains.ensures ∙ ap (remains_of c.args.ran.beside) c.in_ok-labels.ensures in
     subst CanLeave (sym is) c.requires.can
 
-pub cut_answer-requires : goal.cut_answer-requires
-cut_answer-requires g c =
+pub cut_answer-requires-clause-can : goal.cut_answer-requires-clause-can
+cut_answer-requires-clause-can g c =
     let is : c.remaining-remains.result ≡ remains_of c.args.ran.beside (map words_of c.args.ran.areas.items) = c.remaining-remains.ensures ∙ ap (remains_of c.args.ran.beside) c.in_ok-labels.ensures in
     subst CanLeave (sym is) c.requires.can
+
+pub cut_answer-requires-clause-given : goal.cut_answer-requires-clause-given
+cut_answer-requires-clause-given g c =
+    c.requires.given (subst (λ (f : OpRefused). c.args.ran.reply ≡ Err f) (c.is_cut.ensures.cut c.if-is_cut.true) c.in-Err.is)
 
 pub returns-in-Ok-clause-done : goal.returns-in-Ok-clause-done
 returns-in-Ok-clause-done g c =
@@ -77,8 +81,8 @@ returns-then-is_cut-clause-fits g c =
     let due = remains_of c.args.ran.beside (map words_of c.args.ran.areas.items) in
     let is : c.remaining-remains.result ≡ due = c.remaining-remains.ensures ∙ ap (remains_of c.args.ran.beside) c.in_ok-labels.ensures in
     if_more (AnswersCut begins picks c.args.power c.remaining-remains.result c.args.choose.now) (Fits c.args.ran.beside) c.cut_answer.result
-    (λ answer cut. fits_left picks ending.PowerCut (cut_text c.args.power.steps) answer cut.begun cut.after c.args.ran.beside (map words_of c.args.ran.areas.items)
-    (subst (λ (r : Remains). SavesLeft picks ending.PowerCut (cut_text c.args.power.steps) r answer cut.begun cut.after) is cut.saved))
+    (λ answer cut. fits_left picks ending.PowerCut (cut_text cut.steps) answer cut.begun cut.after c.args.ran.beside (map words_of c.args.ran.areas.items)
+    (subst (λ (r : Remains). SavesLeft picks ending.PowerCut (cut_text cut.steps) r answer cut.begun cut.after) is cut.saved))
     c.cut_answer.ensures
 
 pub returns-else-is_cut-clause-done : goal.returns-else-is_cut-clause-done

@@ -10,8 +10,8 @@ use Rattle.shell_changes.specs.Remains.{AnswersCut, CanLeave, SavesLeft, remains
 use Rattle.shell_changes.proofs.Remains.{fits_left}
 use Rattle.shell_changes.proofs.changing.stopped_answer.Goals as goal
 
-pub cut_answer-requires : goal.cut_answer-requires
-cut_answer-requires g c =
+pub cut_answer-requires-clause-can : goal.cut_answer-requires-clause-can
+cut_answer-requires-clause-can g c =
     let is : c.remaining-remains.result ≡ remains_of c.args.beside (map words_of c.args.areas.items) = c.remaining-remains.ensures ∙ ap (remains_of c.args.beside) c.in_ok-labels.ensures in
     subst CanLeave (sym is) c.requires.can
 
@@ -27,6 +27,6 @@ returns-clause-fits g c =
     let due = remains_of c.args.beside (map words_of c.args.areas.items) in
     let is : c.remaining-remains.result ≡ due = c.remaining-remains.ensures ∙ ap (remains_of c.args.beside) c.in_ok-labels.ensures in
     if_more (AnswersCut begins picks c.args.power c.remaining-remains.result c.args.choose.now) (Fits c.args.beside) c.cut_answer.result
-    (λ answer cut. fits_left picks ending.PowerCut (cut_text c.args.power.steps) answer cut.begun cut.after c.args.beside (map words_of c.args.areas.items)
-    (subst (λ (r : Remains). SavesLeft picks ending.PowerCut (cut_text c.args.power.steps) r answer cut.begun cut.after) is cut.saved))
+    (λ answer cut. fits_left picks ending.PowerCut (cut_text cut.steps) answer cut.begun cut.after c.args.beside (map words_of c.args.areas.items)
+    (subst (λ (r : Remains). SavesLeft picks ending.PowerCut (cut_text cut.steps) r answer cut.begun cut.after) is cut.saved))
     c.cut_answer.ensures

@@ -21,8 +21,10 @@ returns-clause-comes g c =
     (λ answer cut contents.
     let s = cut.saved in (
       s.leaves.3.row,
+      cut.steps,
+      cut.given,
       (cut.begun, cut.after, cut.begins_so, one_row picks c.args.words s.leaves.3.row cut.begun cut.after s.leaves.3.asked),
-      area_saves picks ending.PowerCut (cut_text c.args.power.steps) answer cut.begun cut.after c.args.rest c.args.«module» c.args.words s contents,
+      area_saves picks ending.PowerCut (cut_text cut.steps) answer cut.begun cut.after c.args.rest c.args.«module» c.args.words s contents,
     ))
     c.cut_answer.ensures
 
@@ -30,5 +32,5 @@ pub returns-clause-sizes : goal.returns-clause-sizes
 returns-clause-sizes g c =
     let picks = g.C.Chooser.picks in
     if_more (AnswersCut g.C.Chooser.begins picks c.args.power (kind.Area c.args.rest c.args.«module» c.args.words) c.args.choose.now) (HasSizes c.args.rest.sizes) c.cut_answer.result
-    (λ answer cut. area_sizes picks ending.PowerCut (cut_text c.args.power.steps) answer cut.begun cut.after c.args.rest c.args.«module» c.args.words cut.saved)
+    (λ answer cut. area_sizes picks ending.PowerCut (cut_text cut.steps) answer cut.begun cut.after c.args.rest c.args.«module» c.args.words cut.saved)
     c.cut_answer.ensures

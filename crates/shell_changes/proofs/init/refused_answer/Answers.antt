@@ -4,13 +4,19 @@ use Rattle.label_area.specs.declared.fault.AreaFault.{AreaFault}
 use Rattle.image_set.specs.Outline.{image_set_with}
 use Rattle.shell_changes.specs.Remains.{LeavesBy}
 use Rattle.shell_changes.specs.declared.answer.Answer.{Answer}
-use Rattle.shell_reports.proofs.More.{if_more}
-use Rattle.shell_changes.specs.Init.{RefusedArea, not_initialised}
-use Rattle.shell_changes.proofs.Runs.{if_both}
+use Rattle.shell_reports.proofs.More.{if_both, if_more}
+use Rattle.shell_reports.specs.Labels.{fault_outcome}
+use Rattle.shell_changes.specs.Init.{RefusedArea}
 use Rattle.shell_changes.proofs.Parts.{kept_is}
 use Rattle.shell_changes.proofs.Remains.{no_sizes}
 use Rattle.shell_changes.specs.Answers.{HasSizes, outcome_with}
 use Rattle.shell_changes.proofs.init.refused_answer.Goals as goal
+
+pub kept_answer-requires : goal.kept_answer-requires
+kept_answer-requires g c = c.in_default.not-PowerCut
+
+pub cut_area_answer-requires-clause-given : goal.cut_area_answer-requires-clause-given
+cut_area_answer-requires-clause-given g c = c.requires.given c.in-PowerCut.is
 
 pub returns-in-PowerCut-clause-comes : goal.returns-in-PowerCut-clause-comes
 returns-in-PowerCut-clause-comes g c =
@@ -22,7 +28,7 @@ returns-in-PowerCut-clause-comes g c =
 
 pub returns-in_default-clause-comes : goal.returns-in_default-clause-comes
 returns-in_default-clause-comes g c =
-    if_both (λ (answer : Answer). (contents : List (List ℕ)) → outcome_with answer contents ≡ not_initialised c.args.«module» c.args.refused.fault) (λ (answer : Answer). answer.saved ≡ None)
+    if_both (λ (answer : Answer). (contents : List (List ℕ)) → outcome_with answer contents ≡ fault_outcome c.args.«module» c.args.refused.fault) (λ (answer : Answer). answer.saved ≡ None)
     (λ (answer : Answer). (contents : List (List ℕ)) → RefusedArea (LeavesBy g.C.Chooser.begins g.C.Chooser.picks c.args.choose.now) c.args.«module» c.args.power (image_set_with c.args.rest contents)
     c.args.refused.words c.args.refused.fault (outcome_with answer contents)) c.kept_answer.result
     (λ answer said none contents. kept_is (LeavesBy g.C.Chooser.begins g.C.Chooser.picks c.args.choose.now) c.args.«module» c.args.power (image_set_with c.args.rest contents) c.args.refused.words (outcome_with answer contents) c.args.refused.fault

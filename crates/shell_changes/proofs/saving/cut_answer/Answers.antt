@@ -16,6 +16,8 @@ returns g c =
       begun = c.begin.new.self;
       after = c.saved_answer.new.choose;
       begins_so = c.begin.ensures;
+      steps = c.steps_of.result;
+      given = c.steps_of.ensures;
       saved = subst (λ (text : List ℕ). SavesLeft picks ending.PowerCut text c.args.remains answer begun after) (ap (λ (v : Vec ℕ Global). v.items) c.into_bytes.ensures.value ∙ c.in_ok-text.ensures) saved;
     })
     c.saved_answer.ensures

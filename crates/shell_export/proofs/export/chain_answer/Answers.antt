@@ -10,6 +10,7 @@ use Rattle.sector_namespaces.specs.View.{opened_view, view_words}
 use Rattle.sector_namespaces.proofs.Views.{length_view, page_words, pages_of, view_settled}
 use Rattle.shell_reports.specs.Outcome.{Outcome}
 use Rattle.shell_reports.specs.Sectors.{on_arenas}
+use Rattle.shell_reports.proofs.UncutArenas.{finding_uncut}
 use Rattle.shell_export.specs.Export.{IsRefusedAt, bytes_unless, sectors_outcome}
 use Rattle.shell_export.specs.Printing.{IsPrinted}
 use Rattle.shell_export.proofs.Searched.{on_same}
@@ -33,6 +34,9 @@ refused_at-requires-clause-settled g c =
     view_settled c.of-space.result
     (subst (λ (ws : List Words). All (λ w. w ≡ settled w.kept) ws) (sym (ap (λ (n : Namespace). n.modules) c.of-space.ensures.made ∙ c.into_vec.ensures))
     (λ k d lt. (c.requires.rows k d lt).kept))
+
+pub arena_answer-requires : goal.arena_answer-requires
+arena_answer-requires g c = finding_uncut _ _ c.in-Err.refused (c.in-Err.ensures.refused c.in-Err.refused refl)
 
 pub returns-in-Ok-clause-printed : goal.returns-in-Ok-clause-printed
 unfolding view_words

@@ -4,9 +4,13 @@ use Rattle.arena_open.specs.declared.chain_refused.ChainRefused.{ChainRefused}
 use Rattle.arena_open.specs.Chain.{HasMemory, wants_memory}
 use Rattle.shell_reports.specs.Outcome.{Outcome}
 use Rattle.shell_reports.specs.Sectors.{on_arenas}
+use Rattle.shell_reports.proofs.UncutArenas.{read_uncut}
 use Rattle.shell_export.specs.Export.{bytes_unless}
 use Rattle.shell_export.specs.Printing.{IsPrinted}
 use Rattle.shell_export.proofs.export.opened_answer.Goals as goal
+
+pub arena_answer-requires : goal.arena_answer-requires
+arena_answer-requires g c = read_uncut _ _ c.in-Err.refused c.in-Err.ensures
 
 pub returns-in_ok-report-in-Err-clause-printed : goal.returns-in_ok-report-in-Err-clause-printed
 returns-in_ok-report-in-Err-clause-printed g c =

@@ -1,4 +1,4 @@
-use Rattle.std.proofs.Common.{◌≡◌, ◌∙◌, ℕ, ◌%◌, List, length, map, ap, sym, subst, inl}
+use Rattle.std.proofs.Common.{◌≡◌, ◌∙◌, ℕ, ◌%◌, List, length, map, refl, ap, sym, subst, inl}
 use Rattle.std.specs.List.{All}
 use Rattle.interleave.specs.Places.{unit_of}
 use Rattle.cut_words.specs.Words.{Words, settled}
@@ -6,7 +6,8 @@ use Rattle.arena_open.specs.Chain.{Link, state_at}
 use Rattle.power_cut.specs.Namespace.{Namespace, over, words_of}
 use Rattle.sector_namespaces.proofs.Views.{length_view, page_words, pages_of, view_settled}
 use Rattle.namespace_bytes.specs.Putting.{AreAll}
-use Rattle.shell_sectors.proofs.Coming.{ok_then}
+use Rattle.shell_reports.proofs.UncutArenas.{finding_uncut}
+use Rattle.shell_reports.proofs.More.{if_more}
 use Rattle.shell_import.specs.Answering.{PutsStates}
 use Rattle.shell_import.proofs.import.import_sectors.Goals as goal
 
@@ -22,6 +23,9 @@ read_arenas-requires-clause-settled c =
     view_settled c.of-space.result
     (subst (λ (ws : List Words). All (λ w. w ≡ settled w.kept) ws) (sym (ap (λ (n : Namespace). n.modules) c.of-space.ensures.made)) c.requires.settled)
 
+pub unopened-requires : goal.unopened-requires
+unopened-requires c = finding_uncut _ _ c.in-Err.refused (c.in-Err.ensures.refused c.in-Err.refused refl)
+
 pub returns-in_ok-space-in-Ok : goal.returns-in_ok-space-in-Ok
 returns-in_ok-space-in-Ok c =
     let n : Namespace = over c.args.set.now c.args.found.now.offset c.args.found.now.raw c.args.modules.items in
@@ -31,7 +35,7 @@ returns-in_ok-space-in-Ok c =
     let all : AreAll (words_of n).kept c.args.uuid.now c.as_slice.result.now =
     subst (λ (links : List Link). AreAll (words_of n).kept c.args.uuid.now links) (sym c.as_slice.ensures)
     (subst (λ (m : Namespace). AreAll (words_of m).kept c.args.uuid.now c.in-Ok.arenas) c.of-space.ensures.made c.in-Ok.ensures.all) in
-    ok_then _ _ c.import_arenas.result
+    if_more _ _ c.import_arenas.result
     (λ done puts. inl (
       map (state_at (words_of n).kept) c.as_slice.result.now,
       all.read,

@@ -4,9 +4,10 @@ use Rattle.shell_changes.specs.declared.answer.Answer.{Answer}
 use Rattle.shell_changes.specs.Answers.{whole_outcome}
 use Rattle.shell_changes.specs.Remains.{LeavesBy}
 use Rattle.shell_reports.specs.Outcome.{Outcome}
+use Rattle.shell_reports.proofs.More.{if_more}
 use Rattle.shell_sectors.specs.declared.finding.SetFound.{SetFound}
 use Rattle.shell_sectors.specs.Found.{FindsIn, IsUnfound}
-use Rattle.shell_sectors.proofs.Coming.{ok_then, unfound_comes}
+use Rattle.shell_sectors.proofs.Coming.{unfound_comes}
 use Rattle.shell_replay.specs.Replay.{ReplayComes, ReplaysArenas}
 use Rattle.shell_replay.proofs.replay.replay_answer.Goals as goal
 
@@ -15,7 +16,7 @@ found_answer-requires-clause-found g c = (image_set_in c.args.loaded, subst (λ 
 
 pub returns-in-Found-clause-comes : goal.returns-in-Found-clause-comes
 returns-in-Found-clause-comes g c =
-    ok_then _ (λ (answer : Answer). ReplayComes (LeavesBy g.C.Chooser.begins g.C.Chooser.picks c.args.choose.now) c.args.uuid.now c.args.schedule.now (image_set_in c.args.loaded) (whole_outcome answer)) c.found_answer.result
+    if_more _ (λ (answer : Answer). ReplayComes (LeavesBy g.C.Chooser.begins g.C.Chooser.picks c.args.choose.now) c.args.uuid.now c.args.schedule.now (image_set_in c.args.loaded) (whole_outcome answer)) c.found_answer.result
     (λ answer comes. comes (image_set_in c.args.loaded) (subst (λ (found : SetFound). FindsIn (image_set_in c.args.loaded) c.args.uuid.now found) c.in-Found.is c.in_ok-found.ensures)) c.found_answer.ensures.comes
 
 pub returns-in-Not-clause-comes : goal.returns-in-Not-clause-comes

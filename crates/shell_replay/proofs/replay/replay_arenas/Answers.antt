@@ -2,7 +2,7 @@ use Rattle.std.proofs.Common.{◌∙◌, ℕ, List, sym, ap, subst}
 use Rattle.arena_open.specs.declared.state.ArenaState.{ArenaState}
 use Rattle.shell_changes.specs.Remains.{LeavesBy}
 use Rattle.shell_reports.specs.Faults.{refused_outcome}
-use Rattle.shell_sectors.proofs.Coming.{ok_then}
+use Rattle.shell_reports.proofs.More.{if_more}
 use Rattle.shell_replay.specs.Answering.{AreKept, ReplaysInto}
 use Rattle.shell_replay.specs.Replay.{arenas_refusal}
 use Rattle.shell_replay.proofs.replay.replay_arenas.Goals as goal
@@ -14,7 +14,7 @@ replay_only-requires-clause-ready g c =
 pub returns-in-Ok : goal.returns-in-Ok
 returns-in-Ok g c =
     let leaves = LeavesBy g.C.Chooser.begins g.C.Chooser.picks c.args.choose.now in
-    ok_then _ _ c.replay_only.result
+    if_more _ _ c.replay_only.result
     (λ done into uuid was k.
     subst (λ (ss : List ArenaState). ReplaysInto leaves c.args.space uuid c.args.schedule.now was ss done) (sym c.in-Ok.ensures.one)
     (into uuid was (subst (λ (ss : List ArenaState). AreKept c.args.space uuid was ss) c.in-Ok.ensures.one k)))

@@ -1,4 +1,4 @@
-use Rattle.std.proofs.Common.{◌≡◌, ◌≢◌, ◌∙◌, List, map, Result, Ok, Err, ap, sym, subst}
+use Rattle.std.proofs.Common.{◌≡◌, ◌≢◌, ◌∙◌, List, map, ap, sym, subst}
 use Rattle.std.specs.Prelude.{IfOk}
 use Rattle.nfit_reader.specs.declared.table.Mapping.{Mapping}
 use Rattle.namespace_ops.specs.declared.registry.OpenFault.TheVariants as open_fault
@@ -15,6 +15,7 @@ use Rattle.shell_reports.specs.List.{open_outcome}
 use Rattle.shell_reports.specs.Asked.{asked}
 use Rattle.shell_reports.specs.Sectors.{on_sectors}
 use Rattle.shell_reports.proofs.Arenas.{IsOpened, opened_is, set_none, on_open, on_fault}
+use Rattle.shell_reports.proofs.More.{if_both}
 use Rattle.shell_reports.proofs.Opened.{held_opened, shown_all}
 use Rattle.shell_reports.proofs.opening.set_answer.Goals as goal
 
@@ -39,13 +40,10 @@ returns-in-Ok c =
     subst (λ (o : Outcome). IfOk c.named_answer.result (λ answer. outcome_of answer ≡ o))
     (on_open c.args.loaded c.args.uuid.now c.in_ok-areas.areas (ap (map shown_in) c.in_ok-areas.ensures ∙ shown_all c.args.loaded.labels) (held_opened c.args.loaded.labels c.in_ok-areas.areas c.in_ok-areas.ensures c.requires.areas) c.in-Ok.registry (c.in-Ok.ensures (λ e. cc)) (asked c.args.ask)) c.named_answer.ensures
 
-both : {A E : Type 0} (P Q R : A → Type 0) (r : Result A E) → IfOk r P → IfOk r Q → ((a : A) → P a → Q a → R a) → IfOk r R
-both P Q R (Ok a) p q h = h a p q
-both P Q R (Err e) p q h = tt
-
 pub returns : goal.returns
 returns c =
-    both (λ answer. outcome_of answer ≡ open_outcome c.in-Err.fault) (λ _. c.in-Err.fault ≢ open_fault.OutOfMemory) (λ answer. outcome_of answer ≡ on_sectors (asked c.args.ask) (image_set_in c.args.loaded) c.args.uuid.now)
-    c.open_fault_answer.result c.open_fault_answer.ensures.text c.open_fault_answer.ensures.finding
+    if_both (λ answer. outcome_of answer ≡ open_outcome c.in-Err.fault) (λ _. c.in-Err.fault ≢ open_fault.OutOfMemory) (λ answer. outcome_of answer ≡ on_sectors (asked c.args.ask) (image_set_in c.args.loaded) c.args.uuid.now)
+    c.open_fault_answer.result
     (λ answer text finding. text ∙ sym (on_fault c.args.loaded c.args.uuid.now c.in_ok-areas.areas (ap (map shown_in) c.in_ok-areas.ensures ∙ shown_all c.args.loaded.labels) c.in-Err.fault
     (c.in-Err.ensures (λ e. finding (let same : c.in-Err.fault ≡ _ = cc in same))) (asked c.args.ask)))
+    c.open_fault_answer.ensures.text c.open_fault_answer.ensures.finding

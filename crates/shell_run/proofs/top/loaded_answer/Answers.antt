@@ -1,4 +1,5 @@
 use Rattle.std.proofs.Common.{◌≡◌, ◌∙◌, false, [], sym, ap, subst}
+use Rattle.shell_reports.proofs.More.{if_more}
 use Rattle.shell_changes.specs.declared.answer.Answer.{Answer}
 use Rattle.shell_changes.specs.Remains.{LeavesBy}
 use Rattle.shell_changes.specs.Saved.{copies_contents}
@@ -8,7 +9,7 @@ use Rattle.shell_run.specs.declared.words.CommandLine.TheVariants.{Change, Info,
 use Rattle.shell_changes.specs.Answers.{whole_outcome}
 use Rattle.shell_run.specs.Run.{LoadedComes, needs_contents, reads_script, streams}
 use Rattle.shell_run.specs.Words.{HasGoodValues}
-use Rattle.shell_run.proofs.Comes.{if_then, loaded_by}
+use Rattle.shell_run.proofs.Comes.{loaded_by}
 use Rattle.shell_run.proofs.top.loaded_answer.Goals as goal
 
 pub unreachable-requires : goal.unreachable-requires
@@ -35,21 +36,21 @@ pub returns-in-Change-clause-comes : goal.returns-in-Change-clause-comes
 returns-in-Change-clause-comes g c =
     let leaves = LeavesBy g.C.Chooser.begins g.C.Chooser.picks c.args.choose.now in
     loaded_by leaves c.args.command (Change c.in-Change.change c.in-Change.power) c.in-Change.is (image_set_in c.args.loaded) c.change_answer.result
-    (if_then _ (λ (answer : Answer). LoadedComes leaves (Change c.in-Change.change c.in-Change.power) (image_set_in c.args.loaded) (whole_outcome answer)) c.change_answer.result (λ answer comes. comes []) c.change_answer.ensures.comes)
+    (if_more _ (λ (answer : Answer). LoadedComes leaves (Change c.in-Change.change c.in-Change.power) (image_set_in c.args.loaded) (whole_outcome answer)) c.change_answer.result (λ answer comes. comes []) c.change_answer.ensures.comes)
 
 pub returns-in-Info-clause-comes : goal.returns-in-Info-clause-comes
 returns-in-Info-clause-comes g c =
     loaded_by (LeavesBy g.C.Chooser.begins g.C.Chooser.picks c.args.choose.now) c.args.command (Info c.in-Info.uuid) c.in-Info.is (image_set_in c.args.loaded) c.arenas_found.result c.arenas_found.ensures.comes
 
 pub returns-in-Info-clause-whole : goal.returns-in-Info-clause-whole
-returns-in-Info-clause-whole g c = if_then _ (λ (answer : Answer). copies_contents answer.saved ≡ false) c.arenas_found.result (λ answer none. copies_none answer none) c.arenas_found.ensures.saved
+returns-in-Info-clause-whole g c = if_more _ (λ (answer : Answer). copies_contents answer.saved ≡ false) c.arenas_found.result (λ answer none. copies_none answer none) c.arenas_found.ensures.saved
 
 pub returns-in-Read-clause-comes : goal.returns-in-Read-clause-comes
 returns-in-Read-clause-comes g c =
     loaded_by (LeavesBy g.C.Chooser.begins g.C.Chooser.picks c.args.choose.now) c.args.command (Read c.in-Read.uuid c.in-Read.sector) c.in-Read.is (image_set_in c.args.loaded) c.sector_found.result c.sector_found.ensures.comes
 
 pub returns-in-Read-clause-whole : goal.returns-in-Read-clause-whole
-returns-in-Read-clause-whole g c = if_then _ (λ (answer : Answer). copies_contents answer.saved ≡ false) c.sector_found.result (λ answer none. copies_none answer none) c.sector_found.ensures.saved
+returns-in-Read-clause-whole g c = if_more _ (λ (answer : Answer). copies_contents answer.saved ≡ false) c.sector_found.result (λ answer none. copies_none answer none) c.sector_found.ensures.saved
 
 pub returns-in-Write-clause-comes : goal.returns-in-Write-clause-comes
 returns-in-Write-clause-comes g c =

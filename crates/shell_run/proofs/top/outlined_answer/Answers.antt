@@ -1,5 +1,6 @@
 use Rattle.std.proofs.Common.{◌∙◌, refl, sym, ap, subst}
 use Rattle.std.specs.Prelude.{IsTrue, not}
+use Rattle.shell_reports.proofs.More.{if_more}
 use Rattle.shell_changes.specs.declared.answer.Answer.{Answer}
 use Rattle.shell_changes.specs.Answers.{HasSizes}
 use Rattle.shell_changes.specs.Remains.{LeavesBy}
@@ -9,38 +10,38 @@ use Rattle.shell_run.specs.declared.words.CommandLine.TheVariants.{Labels, Nfit,
 use Rattle.shell_run.specs.declared.words.CommandLine.TheVariants as command
 use Rattle.shell_run.specs.Run.{copies, needs_contents}
 use Rattle.shell_run.specs.Words.{HasGoodValues}
-use Rattle.shell_run.proofs.Comes.{copies_by_it, if_then, none_copied, outlined_by}
+use Rattle.shell_run.proofs.Comes.{copies_by_it, none_copied, outlined_by}
 use Rattle.shell_run.proofs.top.outlined_answer.Goals as goal
 
 pub returns-in-Labels-clause-comes : goal.returns-in-Labels-clause-comes
 returns-in-Labels-clause-comes g c = outlined_by (LeavesBy g.C.Chooser.begins g.C.Chooser.picks c.args.choose.now) c.args.command (Labels c.in-Labels.«module») c.in-Labels.is c.args.outline c.labels_found.result c.labels_found.ensures.comes
 
 pub returns-in-Labels-clause-sizes : goal.returns-in-Labels-clause-sizes
-returns-in-Labels-clause-sizes g c = if_then _ (HasSizes c.args.outline.sizes) c.labels_found.result (λ answer none. no_sizes c.args.outline.sizes answer none) c.labels_found.ensures.saved
+returns-in-Labels-clause-sizes g c = if_more _ (HasSizes c.args.outline.sizes) c.labels_found.result (λ answer none. no_sizes c.args.outline.sizes answer none) c.labels_found.ensures.saved
 
 pub returns-in-Labels-clause-copying : goal.returns-in-Labels-clause-copying
 returns-in-Labels-clause-copying g c =
-    if_then _ (λ (answer : Answer). IsTrue (copies_contents answer.saved) → IsTrue (copies c.args.command)) c.labels_found.result (λ answer none. none_copied answer.saved (IsTrue (copies c.args.command)) (copies_none answer none)) c.labels_found.ensures.saved
+    if_more _ (λ (answer : Answer). IsTrue (copies_contents answer.saved) → IsTrue (copies c.args.command)) c.labels_found.result (λ answer none. none_copied answer.saved (IsTrue (copies c.args.command)) (copies_none answer none)) c.labels_found.ensures.saved
 
 pub returns-in-Nfit-clause-comes : goal.returns-in-Nfit-clause-comes
 returns-in-Nfit-clause-comes g c = outlined_by (LeavesBy g.C.Chooser.begins g.C.Chooser.picks c.args.choose.now) c.args.command (Nfit) c.in-Nfit.is c.args.outline c.table_found.result c.table_found.ensures.comes
 
 pub returns-in-Nfit-clause-sizes : goal.returns-in-Nfit-clause-sizes
-returns-in-Nfit-clause-sizes g c = if_then _ (HasSizes c.args.outline.sizes) c.table_found.result (λ answer none. no_sizes c.args.outline.sizes answer none) c.table_found.ensures.saved
+returns-in-Nfit-clause-sizes g c = if_more _ (HasSizes c.args.outline.sizes) c.table_found.result (λ answer none. no_sizes c.args.outline.sizes answer none) c.table_found.ensures.saved
 
 pub returns-in-Nfit-clause-copying : goal.returns-in-Nfit-clause-copying
 returns-in-Nfit-clause-copying g c =
-    if_then _ (λ (answer : Answer). IsTrue (copies_contents answer.saved) → IsTrue (copies c.args.command)) c.table_found.result (λ answer none. none_copied answer.saved (IsTrue (copies c.args.command)) (copies_none answer none)) c.table_found.ensures.saved
+    if_more _ (λ (answer : Answer). IsTrue (copies_contents answer.saved) → IsTrue (copies c.args.command)) c.table_found.result (λ answer none. none_copied answer.saved (IsTrue (copies c.args.command)) (copies_none answer none)) c.table_found.ensures.saved
 
 pub returns-in-List-clause-comes : goal.returns-in-List-clause-comes
 returns-in-List-clause-comes g c = outlined_by (LeavesBy g.C.Chooser.begins g.C.Chooser.picks c.args.choose.now) c.args.command (command.List) c.in-List.is c.args.outline c.list_found.result c.list_found.ensures.comes
 
 pub returns-in-List-clause-sizes : goal.returns-in-List-clause-sizes
-returns-in-List-clause-sizes g c = if_then _ (HasSizes c.args.outline.sizes) c.list_found.result (λ answer none. no_sizes c.args.outline.sizes answer none) c.list_found.ensures.saved
+returns-in-List-clause-sizes g c = if_more _ (HasSizes c.args.outline.sizes) c.list_found.result (λ answer none. no_sizes c.args.outline.sizes answer none) c.list_found.ensures.saved
 
 pub returns-in-List-clause-copying : goal.returns-in-List-clause-copying
 returns-in-List-clause-copying g c =
-    if_then _ (λ (answer : Answer). IsTrue (copies_contents answer.saved) → IsTrue (copies c.args.command)) c.list_found.result (λ answer none. none_copied answer.saved (IsTrue (copies c.args.command)) (copies_none answer none)) c.list_found.ensures.saved
+    if_more _ (λ (answer : Answer). IsTrue (copies_contents answer.saved) → IsTrue (copies c.args.command)) c.list_found.result (λ answer none. none_copied answer.saved (IsTrue (copies c.args.command)) (copies_none answer none)) c.list_found.ensures.saved
 
 pub returns-in-Init-clause-comes : goal.returns-in-Init-clause-comes
 returns-in-Init-clause-comes g c = outlined_by (LeavesBy g.C.Chooser.begins g.C.Chooser.picks c.args.choose.now) c.args.command (Init c.in-Init.«module» c.in-Init.power) c.in-Init.is c.args.outline c.init_answer.result c.init_answer.ensures.comes

@@ -1,7 +1,8 @@
 use Rattle.std.proofs.Common.{refl}
+use Rattle.shell_reports.proofs.More.{if_more}
 use Rattle.shell_changes.specs.Remains.{LeavesBy}
 use Rattle.shell_changes.proofs.Remains.{copies_none}
-use Rattle.shell_run.proofs.Comes.{if_then, misread_due, read_due}
+use Rattle.shell_run.proofs.Comes.{misread_due, read_due}
 use Rattle.shell_run.proofs.top.perform_replay.Goals as goal
 
 pub returns-in-Ok-clause-told : goal.returns-in-Ok-clause-told
@@ -15,4 +16,4 @@ returns-in-Err-Refused-clause-told g c =
     c.args.uuid c.args.seed c.in-Err-Refused.why c.misread.result (c.read_schedule.ensures.refused c.in-Err-Refused.why (rw c.in-Err-Refused.field-0-is at c.in-Err-Refused.is)) (rw c.in-Err-Refused.field-0-is at c.misread.ensures.text) c.misread.ensures.saved
 
 pub returns-in-Err-Refused-clause-whole : goal.returns-in-Err-Refused-clause-whole
-returns-in-Err-Refused-clause-whole g c = if_then _ _ c.misread.result (λ answer none. copies_none answer none) c.misread.ensures.saved
+returns-in-Err-Refused-clause-whole g c = if_more _ _ c.misread.result (λ answer none. copies_none answer none) c.misread.ensures.saved

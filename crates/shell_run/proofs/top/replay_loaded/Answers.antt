@@ -1,10 +1,11 @@
 use Rattle.std.proofs.Common.{◌≡◌, false}
+use Rattle.shell_reports.proofs.More.{if_both, if_more}
 use Rattle.shell_changes.specs.declared.answer.Answer.{Answer}
 use Rattle.shell_changes.specs.Remains.{LeavesBy}
 use Rattle.shell_changes.specs.Saved.{copies_contents}
 use Rattle.shell_changes.proofs.Remains.{copies_none}
 use Rattle.shell_replay.specs.Replay.{ReplayComes}
-use Rattle.shell_run.proofs.Comes.{IsTold, if_both, if_same, if_then, if_told, loaded_told, unloaded_told}
+use Rattle.shell_run.proofs.Comes.{IsTold, if_same, if_told, loaded_told, unloaded_told}
 use Rattle.shell_run.proofs.top.replay_loaded.Goals as goal
 
 pub returns-in-Ok-clause-told : goal.returns-in-Ok-clause-told
@@ -30,4 +31,4 @@ returns-in-Err-clause-told g c =
 
 pub returns-in-Err-clause-whole : goal.returns-in-Err-clause-whole
 returns-in-Err-clause-whole g c =
-    if_then (λ (answer : Answer). _) (λ (answer : Answer). copies_contents answer.saved ≡ false) c.unloaded.result (λ answer none. copies_none answer none) c.unloaded.ensures.saved
+    if_more (λ (answer : Answer). _) (λ (answer : Answer). copies_contents answer.saved ≡ false) c.unloaded.result (λ answer none. copies_none answer none) c.unloaded.ensures.saved

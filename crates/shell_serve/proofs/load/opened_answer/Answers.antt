@@ -12,13 +12,14 @@ use Rattle.session_script.specs.Load.{load_script}
 use Rattle.shell_changes.specs.declared.answer.Answer.{Answer}
 use Rattle.shell_changes.specs.Answers.{whole_outcome}
 use Rattle.shell_reports.specs.Faults.{refused_outcome}
+use Rattle.shell_reports.proofs.More.{if_more}
 use Rattle.shell_sectors.specs.Write.{range_text}
 use Rattle.shell_changes.specs.Remains.{LeavesBy}
 use Rattle.shell_serve.specs.Answering.{IsOpen}
 use Rattle.shell_serve.specs.Load.{LoadsOnArenas, one_opened, script_for}
 use Rattle.shell_serve.specs.Serving.{Serves}
 use Rattle.shell_serve.specs.Texts.{summary}
-use Rattle.shell_serve.proofs.Coming.{load_few, load_on, ok_then}
+use Rattle.shell_serve.proofs.Coming.{load_few, load_on}
 use Rattle.shell_serve.proofs.load.opened_answer.Goals as goal
 
 pub sectors_of-sectors-requires : goal.sectors_of-sectors-requires
@@ -41,7 +42,7 @@ script_answer-requires-clause-text g c κs within = c.in_ok-script.ensures.text
 pub returns-clause-comes : goal.returns-clause-comes
 returns-clause-comes g c =
     let leaves = LeavesBy g.C.Chooser.begins g.C.Chooser.picks c.args.choose.now c.args.running.seed in
-    ok_then _ (λ (answer : Answer). (loaded : ImageSet) (found : Found) (states : List ArenaState) → IsOpen loaded c.args.rest c.args.opened → c.args.opened.namespaces ≡ one_opened c.args.load.now found states
+    if_more _ (λ (answer : Answer). (loaded : ImageSet) (found : Found) (states : List ArenaState) → IsOpen loaded c.args.rest c.args.opened → c.args.opened.namespaces ≡ one_opened c.args.load.now found states
     → LoadsOnArenas leaves c.args.load.now c.args.rest.registry.sets loaded (areas_seen c.args.rest.registry.areas) (label_rows c.args.rest.registry.areas) found (Ok states) (whole_outcome answer)) c.script_answer.result
     (λ answer comes loaded found states ready is.
     let count : c.sectors_of-sectors.result ≡ sectors_of states = c.sectors_of-sectors.ensures (record { place = record { uuid = c.args.load.now.uuid; found = found }; states = states }) is in

@@ -8,13 +8,14 @@ use Rattle.session_service.specs.Ran.{replies_of}
 use Rattle.shell_changes.specs.declared.answer.Answer.{Answer}
 use Rattle.shell_changes.specs.Answers.{whole_outcome}
 use Rattle.shell_reports.specs.Outcome.{Outcome}
+use Rattle.shell_reports.proofs.More.{if_more}
 use Rattle.shell_changes.specs.Remains.{LeavesBy}
 use Rattle.shell_serve.specs.Answering.{IsOpen}
 use Rattle.shell_serve.specs.Serving.{Serves}
 use Rattle.shell_serve.specs.Texts.{IsTold, serve_text}
 use Rattle.shell_serve.specs.Chosen.{LeavesOn, LeavesTo}
 use Rattle.shell_serve.proofs.Choosing.{joined}
-use Rattle.shell_serve.proofs.Coming.{ok_then, serves}
+use Rattle.shell_serve.proofs.Coming.{serves}
 use Rattle.shell_serve.proofs.Told.{all_told}
 use Rattle.shell_serve.proofs.serve.opened_answer.Goals as goal
 
@@ -29,7 +30,7 @@ saved_answer-requires g c = record { modules = (c.in_ok-served.ensures c.require
 pub returns-clause-comes : goal.returns-clause-comes
 returns-clause-comes g c =
     let leaves = LeavesBy g.C.Chooser.begins g.C.Chooser.picks c.args.choose.now c.args.running.seed in
-    ok_then _ (λ (answer : Answer). (loaded : ImageSet) → IsOpen loaded c.args.rest c.args.opened
+    if_more _ (λ (answer : Answer). (loaded : ImageSet) → IsOpen loaded c.args.rest c.args.opened
     → Serves leaves serve_text c.args.rest.registry.sets loaded (areas_seen c.args.rest.registry.areas) (label_rows c.args.rest.registry.areas) c.args.opened.namespaces c.args.script.now (whole_outcome answer)) c.saved_answer.result
     (λ answer saves loaded is.
     serves leaves (LeavesTo g.C.Chooser.begins g.C.Chooser.picks c.args.choose.now c.args.running.seed c.serve_opened.new.choose) (LeavesOn g.C.Chooser.picks c.serve_opened.new.choose)

@@ -7,6 +7,7 @@ use Rattle.sector_namespaces.specs.View.{rows_of}
 use Rattle.served_namespaces.specs.declared.places.FoundNamespace.{FoundNamespace}
 use Rattle.served_namespaces.specs.Places.{AreDifferent, AreDisjoint, CanOpen}
 use Rattle.served_namespaces.specs.Opening.{found_each, firsts, opened_each}
+use Rattle.shell_reports.proofs.More.{if_more}
 use Rattle.shell_changes.specs.declared.answer.Answer.{Answer}
 use Rattle.shell_changes.specs.Answers.{whole_outcome}
 use Rattle.shell_changes.specs.Remains.{LeavesBy}
@@ -15,7 +16,7 @@ use Rattle.shell_serve.specs.Answering.{OpensIn}
 use Rattle.shell_serve.specs.Recovered.{IsRecovered}
 use Rattle.shell_serve.specs.Scripts.{opened_by}
 use Rattle.shell_serve.specs.Serve.{OnRecovered}
-use Rattle.shell_serve.proofs.Coming.{apart_in, found_there, ok_then, serve_on}
+use Rattle.shell_serve.proofs.Coming.{apart_in, found_there, serve_on}
 use Rattle.shell_serve.proofs.serve.recovered_answer.Goals as goal
 
 pub find_each-requires : goal.find_each-requires
@@ -42,7 +43,7 @@ opened_answer-requires-clause-open g c = λ κs lives.
 pub returns-in-Done-clause-comes : goal.returns-in-Done-clause-comes
 returns-in-Done-clause-comes g c =
     let leaves = LeavesBy g.C.Chooser.begins g.C.Chooser.picks c.args.choose.now c.args.running.seed in
-    ok_then _ (λ (answer : Answer). (loaded : ImageSet) → IsRecovered loaded c.args.set → OnRecovered leaves c.args.set.rest.registry.sets loaded (areas_seen c.args.set.rest.registry.areas) (label_rows c.args.set.rest.registry.areas) c.args.script.now (whole_outcome answer)) c.opened_answer.result
+    if_more _ (λ (answer : Answer). (loaded : ImageSet) → IsRecovered loaded c.args.set → OnRecovered leaves c.args.set.rest.registry.sets loaded (areas_seen c.args.set.rest.registry.areas) (label_rows c.args.set.rest.registry.areas) c.args.script.now (whole_outcome answer)) c.opened_answer.result
     (λ answer comes loaded r.
     let opens = subst (λ (o : OpenOutcome). OpensIn loaded c.args.set.rest c.deref-3.result.now o) c.in-Done.is (c.in_ok-open.ensures loaded r.contents) in
     let named : c.deref-2.result.now ≡ opened_by c.args.script.now = c.deref-2.ensures.value ∙ c.in_ok-uuids.ensures.ones ∙ ap firsts (c.deref.ensures.value ∙ c.in_ok-lines.ensures) in
