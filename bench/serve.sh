@@ -1,7 +1,7 @@
 #!/bin/sh
 # Times the sessions of `serve`: mixed reads and writes of one session by one worker, what a step of a write costs with its turns, and
 # four sessions on four namespaces by one worker and by four. Sectors of 512 bytes, 256 lanes. Each figure is beyond a script
-# that opens the same namespaces and makes no call on sectors, which is what opening and saving take; medians of five rounds. A
+# that opens the same namespaces and makes no call on sectors, which is what opening and saving take; medians of fifteen rounds. A
 # script has at most 65,536 calls, so the session of 100,000 is two scripts of 50,000.
 # usage: bench/serve.sh   (wants the proved build: NVD_BUILD=proved ./nvd samples/small - list)
 # shellcheck source=bench/lib.sh
@@ -13,7 +13,7 @@ import os, random, shutil, sys
 from rows import row, timed
 
 work, program = sys.argv[1:]
-ROUNDS, ARENA, WRITE, READ = 5, 16 << 20, 255 + 128 + 9, 64 + 4
+ROUNDS, ARENA, WRITE, READ = 15, 16 << 20, 255 + 128 + 9, 64 + 4
 UUIDS = [f"{k * 8}-{k * 4}-4{k * 3}-8{k * 3}-{k * 12}" for k in "1234"]
 folder, out, script = (os.path.join(work, name) for name in ("blank", "out", "script"))
 draw, number = random.Random(1), 0
