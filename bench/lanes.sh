@@ -55,9 +55,10 @@ def kinds(threads, apart):
     words = [threads, CALLS["write"], CALLS["read"], apart]
     wanted = {
         "proved": [PROVED, *words],
-        "twin": [TWIN, *words, 1, 0],
-        "spread": [TWIN, *words, 8, 0],
-        "logged": [TWIN, *words, 1, 1],
+        "twin": [TWIN, *words, 1, 0, 0],
+        "spread": [TWIN, *words, 8, 0, 0],
+        "logged": [TWIN, *words, 1, 1, 0],
+        "ahead": [TWIN, *words, 1, 1, 1],
     }
     runs = {name: [] for name in wanted}
     for _ in range(RUNS):
@@ -73,12 +74,13 @@ for apart in (64, 1):
             continue
         took = kinds(threads, apart)
         for call in ("write", "read"):
-            proved, twin, spread, logged = (took[name][call] for name in ("proved", "twin", "spread", "logged"))
+            proved, twin, spread, logged, ahead = (took[name][call] for name in ("proved", "twin", "spread", "logged", "ahead"))
+            loads = f", and with the lines loaded ahead too {ahead:.0f} ns" if call == "write" else ""
             most = MOST.get(threads)
             row(
                 f"a {call} by a lane, {threads} thread{'s' if threads > 1 else ''}{lanes}",
                 f"at most {most} times a plain twin" if most else "none",
-                f"{proved / twin:.2f} times: {proved:.0f} ns and {twin:.0f} ns; the twin with reader words in lines of their own {spread:.0f} ns, with logs {logged:.0f} ns",
+                f"{proved / twin:.2f} times: {proved:.0f} ns and {twin:.0f} ns; the twin with reader words in lines of their own {spread:.0f} ns, with logs {logged:.0f} ns{loads}",
                 not most or proved <= most * twin,
             )
 PY

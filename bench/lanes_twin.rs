@@ -1,6 +1,7 @@
 //! What lanes cost without proofs: the steps of lane_table's writes and reads on plain atomic words, without fuses.
-//! usage: lanes_twin THREADS WRITES READS APART LINE LOGS, as bench/lanes.rt.txt; reader words stand LINE words apart (1: side by side)
+//! usage: lanes_twin THREADS WRITES READS APART LINE LOGS AHEAD, as bench/lanes.rt.txt; reader words stand LINE words apart (1: side by side)
 //! LOGS 0: no logs; 1: each lane keeps its calls and the words of its writes, in room that was reserved before, as lane_table does
+//! AHEAD 1: before its scan a write loads a word of each line of its free block, as lane_table does
 use std::env;
 use std::hint::black_box;
 use std::sync::atomic::{AtomicU64, Ordering::SeqCst};
@@ -19,6 +20,7 @@ const TOTAL: usize = 33_554_432 / 8;
 struct Arena {
     words: Vec<AtomicU64>,
     line: usize,
+    ahead: bool,
 }
 
 struct Lane {
@@ -82,9 +84,9 @@ impl Lane {
 
 impl Arena {
     /// Every sector has zeros, and lane `l` has the free block behind the sectors'.
-    fn new(line: usize) -> (Arena, Vec<Lane>) {
+    fn new(line: usize, ahead: bool) -> (Arena, Vec<Lane>) {
         let words = (0..2 * TOTAL + LANES as usize * (line + 1)).map(|_| AtomicU64::new(0)).collect();
-        let arena = Arena { words, line };
+        let arena = Arena { words, line, ahead };
         for sector in 0..SECTORS {
             let word = arena.load(MAP_AT + sector as usize / 2);
             arena.keep(MAP_AT + sector as usize / 2, with_entry(word, sector, sector | 0x8000_0000));
@@ -124,10 +126,17 @@ impl Arena {
     }
 
     fn try_stage(&self, lane: &Lane, words: &[u64; WIDTH]) -> bool {
+        let at = DATA_AT + lane.block as usize * WIDTH;
+        if self.ahead {
+            for first in [at, TOTAL + at] {
+                for k in (0..WIDTH).step_by(8) {
+                    self.load(first + k);
+                }
+            }
+        }
         if !self.scan(lane) {
             return false;
         }
-        let at = DATA_AT + lane.block as usize * WIDTH;
         for (k, word) in words.iter().enumerate() {
             self.store(at + k, *word);
         }
@@ -239,8 +248,8 @@ fn run(arena: &Arena, lanes: &mut [Lane], calls: u32, many: fn(&Arena, &mut Lane
 
 fn main() {
     let numbers: Vec<u32> = env::args().skip(1).map(|word| word.parse().unwrap()).collect();
-    let [threads, writes, reads, apart, line, logs] = numbers[..] else { panic!("lanes_twin THREADS WRITES READS APART LINE LOGS") };
-    let (arena, lanes) = Arena::new(line as usize);
+    let [threads, writes, reads, apart, line, logs, ahead] = numbers[..] else { panic!("lanes_twin THREADS WRITES READS APART LINE LOGS AHEAD") };
+    let (arena, lanes) = Arena::new(line as usize, ahead == 1);
     let mut lanes: Vec<Lane> = lanes.into_iter().step_by(apart as usize).take(threads as usize).collect();
     if logs == 1 {
         for lane in &mut lanes {

@@ -1,5 +1,5 @@
 -- After a power loss the words of a closed arena open as the same arena.
-use Rattle.std.proofs.Common.{◌≡◌, ℕ, zero, suc, ◌+◌, ◌*◌, ◌/◌, ◌<◌, ◌≤◌, ◌⊎◌, inl, inr, List, [], ◌∷◌, ◌++◌, length, take, drop, get_or, Ok, refl, sym, ap, ◌∙◌, subst, arith, get_or-take, get_or-drop, length-drop, length-take-le}
+use Rattle.std.proofs.Common.{◌≡◌, ℕ, zero, suc, ◌+◌, ◌*◌, ◌/◌, ◌<◌, ◌≤◌, ◌⊎◌, inl, inr, List, [], ◌∷◌, ◌++◌, length, drop, get_or, Ok, refl, sym, ap, ◌∙◌, subst, arith, get_or-take, get_or-drop, length-drop, length-take-le}
 use Rattle.std.proofs.lemmas.List.{take-append-le}
 use mathlib.Core.Option.{some}
 use lib.ListN.{get_elem?}
@@ -37,7 +37,7 @@ use Rattle.lane_table.specs.declared.table.Key.{Key}
 use Rattle.lane_table.specs.Closed.{AreInOrder, IsClosed}
 use Rattle.lane_table.specs.Kits.{kit_in}
 use Rattle.lane_table.specs.Law.{opening_of, words_of}
-use Rattle.lane_table.specs.Reopened.{ClosedWordsReopen, IsFoundAgain, IsInFlight, IsLeftOf, MaySurvive}
+use Rattle.lane_table.specs.Reopened.{ClosedWordsReopen, IsFoundAgain, IsLeftOf, MaySurvive}
 
 -- an element below the length
 some_at : {A : Type 0} (xs : List A) (i : ℕ) → i < length xs → (x : A) × (get_elem? xs i ≡ some x)

@@ -1,5 +1,5 @@
 -- What a read does to its seat, to its fuse, and to the room for the sector's words.
-use Rattle.std.specs.Prelude.{◌≡◌, ◌≢◌, ⊤, ℕ, ◌+◌, ◌/◌, ◌^◌, ◌<◌, ◌≤◌, List, [], ◌++◌, length, take, drop, replicate}
+use Rattle.std.specs.Prelude.{◌≡◌, ◌≢◌, ⊤, ℕ, ◌+◌, ◌/◌, ◌^◌, ◌<◌, ◌≤◌, List, [], ◌∷◌, ◌++◌, suc, length, take, drop, replicate, vec_len}
 use Rattle.atomic_table.specs.Seated.{TableId}
 use Rattle.atomic_table.specs.Table.{Me}
 use Rattle.map_table.specs.declared.kinds.Kind.{Kind}
@@ -21,6 +21,9 @@ use Rattle.lane_table.specs.declared.loading.Found.TheVariants as found
 use Rattle.lane_table.specs.declared.loading.ReadFate.{ReadFate}
 use Rattle.lane_table.specs.declared.loading.ReadWords.{ReadWords}
 use Rattle.lane_table.specs.declared.loading.ReadFate.TheVariants as fate
+use Rattle.lane_table.specs.declared.log.LaneLog.{LaneLog}
+use Rattle.lane_table.specs.declared.log.LoggedAct.TheVariants as logged
+use Rattle.lane_table.specs.declared.log.LoggedCall.{LoggedCall}
 use Rattle.lane_table.specs.declared.table.Call.{Call}
 use Rattle.lane_table.specs.declared.table.View.{View}
 use Rattle.lane_table.specs.Conditions.{IsWord}
@@ -105,3 +108,14 @@ module _ {S : Type 0} (me me' : Me S View) (new : List ℕ) where
   Answers t (fate.Got k) = (n m : ℕ) × (g : List ℕ) × IsAfter n me (record (answered me.0.number (calling t me.0.lane) (cell_of_kind k new)) { loaded = m; got = g }) me'
   Answers t (fate.Moved e f) = ⊤
   Answers t fate.Cut = ⊤
+
+-- a read that found a cell of this kind, as it stands in its lane's log
+abbrev pub read_logged : Call → CellKind → LoggedCall
+read_logged t k = record { tag = t.tag; sector = t.sector; act = logged.Read k }
+
+-- What a read leaves in its lane's log. Got: one call more. Moved: what was there. Cut: what was there
+-- stands first
+abbrev pub LogEnds : Call → LaneLog → LaneLog → ReadFate → Type 0
+LogEnds t a b (fate.Got k) = (b.past.calls.items ≡ a.past.calls.items ++ read_logged t k ∷ []) × (b.past.written ≡ a.past.written) × (b.rooms ≡ a.rooms) × (suc b.spare ≡ a.spare)
+LogEnds t a b (fate.Moved e f) = b ≡ a
+LogEnds t a b fate.Cut = (take (vec_len a.past.calls) b.past.calls.items ≡ a.past.calls.items) × (b.past.written ≡ a.past.written) × (b.rooms ≡ a.rooms)

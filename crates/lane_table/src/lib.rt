@@ -66,6 +66,7 @@ mod arena;
 mod closing;
 mod committing;
 mod dealing;
+mod fetching;
 mod fuse;
 mod gathering;
 mod kinds;

@@ -6,11 +6,12 @@ ghost use Rattle.lane_core.specs.Areas.{block_in, kind_in};
 ghost use Rattle.lane_core.specs.Machine.{looked};
 ghost use Rattle.lane_core.specs.Places.{word_of, SeenData, SeenMap, Reader};
 ghost use Rattle.lane_table.specs.Conditions.{IsSeated, IsWord};
-ghost use Rattle.lane_table.specs.Reads.{found_by, Loaded, BlockEnds, ReadEnds, Answers, AreReadWords};
+ghost use Rattle.lane_table.specs.Reads.{found_by, read_logged, Loaded, BlockEnds, ReadEnds, LogEnds, Answers, AreReadWords};
 ghost use Rattle.lane_table.specs.Told.{blocks};
 
 use crate::arena::Arena;
 use crate::fuse::Fuse;
+use crate::log::{LaneLog, LoggedAct, LoggedCall};
 use crate::pieces::looked_in;
 use crate::steps::{
     data_load, map_check, map_look, read_begin, rtt_clear, rtt_clear_moved, rtt_set,
@@ -46,6 +47,13 @@ pub enum Found {
     Block(u32),
 }
 
+/// What a read uses up: the steps of its lane's fuse, and the room of its log.
+#[derive(Drop)]
+pub struct Supplies {
+    pub fuse: Fuse,
+    pub log: LaneLog,
+}
+
 /// How a read ends.
 #[derive(Clone, Copy, Debug, PartialEq, Eq)]
 pub enum ReadFate {
@@ -69,6 +77,17 @@ fn found_in(word: u64, sector: u32) -> Found
         Kind::Bad => Found::Bad,
         Kind::Initial => Found::Block(entry.block),
         Kind::Normal => Found::Block(entry.block),
+    }
+}
+
+/// A read that found a cell of this kind, as it stands in its lane's log.
+fn read_entry(call: Call, kind: CellKind) -> LoggedCall
+    ensures { result ≡ read_logged call kind }
+{
+    LoggedCall {
+        tag: call.tag,
+        sector: call.sector,
+        act: LoggedAct::Read(kind),
     }
 }
 
@@ -103,52 +122,58 @@ fn load_words(
 }
 
 /// Reads the block that the first look found. It publishes the block in the reader word, looks at
-/// the map word again, and loads the words if the entry is the same.
+/// the map word again, and loads the words if the entry is the same. The read stands from then on,
+/// so its log has it before the words are loaded: its line of cache comes meanwhile.
 fn read_block(
     table: &Words,
     seat: &mut LaneSeat,
-    fuse: &mut Fuse,
+    supplies: &mut Supplies,
     at: ReadWords,
     word: u64,
-    sector: u32,
+    call: Call,
     into: &mut [u64],
 ) -> ReadFate
     requires seat { IsSeated Looking table.now.table_id seat.old.table_id seat.old.me }
     requires shape { seat.old.me.0.shape ≡ table.now.key.shape }
-    requires looked { (word ≡ seat.old.me.0.lane.loaded) × (sector ≡ seat.old.me.0.lane.sector) }
+    requires looked { (word ≡ seat.old.me.0.lane.loaded) × (call.sector ≡ seat.old.me.0.lane.sector) }
     requires block { looked seat.old.me.0.lane < blocks table.now.key.shape }
     requires into { length into.old ≡ table.now.key.shape.width }
     requires at { AreReadWords table.now.table_id table.now.key.shape seat.old.me.0.number seat.old.me.0.lane.sector (looked seat.old.me.0.lane) at }
+    requires spare { 0 < supplies.old.log.spare }
     ensures table { seat.new.table_id ≡ seat.old.table_id }
-    ensures ends { BlockEnds seat.old.me seat.new.me fuse.old fuse.new into.old into.new result }
+    ensures ends { BlockEnds seat.old.me seat.new.me supplies.old.fuse supplies.new.fuse into.old into.new result }
+    ensures log { LogEnds call supplies.old.log supplies.new.log result }
 {
-    if !rtt_set(table, seat, fuse, at.reader, looked_in(word, sector)) {
+    let block = looked_in(word, call.sector);
+    if !rtt_set(table, seat, &mut supplies.fuse, at.reader, block) {
         return ReadFate::Cut;
     }
-    let Some(again) = map_check(table, seat, fuse, at.map) else {
+    let Some(again) = map_check(table, seat, &mut supplies.fuse, at.map) else {
         return ReadFate::Cut;
     };
-    let (first, then) = (entry_in(word, sector), entry_in(again, sector));
+    let (first, then) = (entry_in(word, call.sector), entry_in(again, call.sector));
     if first != then {
-        if !rtt_clear_moved(table, seat, fuse, at.reader) {
+        if !rtt_clear_moved(table, seat, &mut supplies.fuse, at.reader) {
             return ReadFate::Cut;
         }
         return ReadFate::Moved(first, then);
     }
-    if load_words(table, seat, fuse, at.block, into) < into.len() {
+    supplies.log.add_read(read_entry(call, CellKind::Bytes));
+    if load_words(table, seat, &mut supplies.fuse, at.block, into) < into.len() {
         return ReadFate::Cut;
     }
-    if !rtt_clear(table, seat, fuse, at.reader) {
+    if !rtt_clear(table, seat, &mut supplies.fuse, at.reader) {
         return ReadFate::Cut;
     }
     ReadFate::Got(CellKind::Bytes)
 }
 
-/// Reads a sector's cell. Its words go into `into`, if it isn't bad.
+/// Reads a sector's cell. Its words go into `into`, if it isn't bad. A read that is cut may leave its
+/// entry in the log.
 pub fn read<P: Pause>(
     arena: &Arena,
     seat: &mut LaneSeat,
-    fuse: &mut Fuse,
+    supplies: &mut Supplies,
     number: u32,
     call: Call,
     into: &mut [u64],
@@ -159,28 +184,34 @@ pub fn read<P: Pause>(
     requires number { (seat.old.me.0.number ≡ number) × (number < arena.now.shape.lanes) }
     requires sector { call.sector < arena.now.shape.sectors }
     requires into { length into.old ≡ arena.now.shape.width }
+    requires spare { 0 < supplies.old.log.spare }
     ensures table { seat.new.table_id ≡ seat.old.table_id }
-    ensures ends { ReadEnds seat.old.me seat.new.me fuse.old fuse.new into.old into.new call result }
+    ensures ends { ReadEnds seat.old.me seat.new.me supplies.old.fuse supplies.new.fuse into.old into.new call result }
     ensures answers { Answers seat.old.me seat.new.me into.new call result }
+    ensures log { LogEnds call supplies.old.log supplies.new.log result }
 {
     let table = &arena.table.shared;
     let reader = reader_word(&arena.shape, number);
     let map = map_word(&arena.shape, call.sector);
     read_begin(table, seat, log_word(&arena.shape, number, 0), call);
-    let Some(word) = map_look(table, seat, fuse, map) else {
+    let Some(word) = map_look(table, seat, &mut supplies.fuse, map) else {
         return ReadFate::Cut;
     };
     match found_in(word, call.sector) {
         Found::Zeros => {
             into.fill(0);
+            supplies.log.add_read(read_entry(call, CellKind::Bytes));
             ReadFate::Got(CellKind::Bytes)
         }
-        Found::Bad => ReadFate::Got(CellKind::Bad),
+        Found::Bad => {
+            supplies.log.add_read(read_entry(call, CellKind::Bad));
+            ReadFate::Got(CellKind::Bad)
+        }
         Found::Block(block) => {
             between.pause();
             let block = block_word(&arena.shape, block);
             let at = ReadWords { reader, map, block };
-            read_block(table, seat, fuse, at, word, call.sector, into)
+            read_block(table, seat, supplies, at, word, call, into)
         }
     }
 }

@@ -1,6 +1,6 @@
 //! A lane's calls that stand in the history, and the room for those to come. Each call adds an
 //! entry of 16 bytes, so four share a line of cache. A write adds its words to a list of their own.
-ghost use Rattle.std.specs.Prelude.{◌≡◌, ◌+◌, ◌<◌, ◌≤◌, ◌++◌, [], ◌∷◌, suc, length, vec_len, vec_capacity, All, OnOk};
+ghost use Rattle.std.specs.Prelude.{◌≡◌, ◌+◌, ◌<◌, ◌≤◌, ◌++◌, [], ◌∷◌, suc, length, take, vec_len, vec_capacity, All, OnOk};
 ghost use Rattle.lane_table.specs.Conditions.{IsRoom};
 
 use arena_open::CellKind;
@@ -52,8 +52,9 @@ fn fill(room: &mut Vec<u64>, words: &[u64])
     requires { IsRoom (length words.now) room.old }
     ensures { room.new.items ≡ words.now }
 {
-    for word in words {
-        room.push_reserved(*word);
+    match room.extend_from_slice(words) {
+        Ok(()) => {}
+        Err(AllocError) => unreachable!(),
     }
 }
 
@@ -152,6 +153,22 @@ impl LaneLog {
         more_rooms(alloc, &mut self.rooms, width, calls)?;
         self.spare = calls;
         Ok(())
+    }
+
+    /// How many calls there are.
+    pub(crate) fn count(&self) -> usize
+        ensures { result ≡ vec_len self.now.past.calls }
+    {
+        self.past.calls.len()
+    }
+
+    /// Keeps the first calls, this many. The others go.
+    pub(crate) fn keep_first(&mut self, count: usize)
+        ensures calls { self.new.past.calls.items ≡ take count self.old.past.calls.items }
+        ensures written { self.new.past.written ≡ self.old.past.written }
+        ensures rooms { self.new.rooms ≡ self.old.rooms }
+    {
+        self.past.calls.truncate(count);
     }
 
     /// Takes room for a write, and fills it with the words.

@@ -1,14 +1,9 @@
 //! Reads: a lane without a call reads a sector.
-ghost use Rattle.std.specs.Prelude.{◌≡◌};
-ghost use Rattle.lane_table.specs.declared.log.LoggedAct.TheVariants as logged;
-
 use crate::arena::Arena;
 use crate::lanes::{Kit, Lane, Stopped, kit_of};
-use crate::loading::{Pause, ReadFate, read};
-use crate::log::{LoggedAct, LoggedCall};
+use crate::loading::{Pause, ReadFate, Supplies, read};
 use crate::outcome::ReadOutcome;
 use crate::table::Call;
-use arena_open::CellKind;
 use nvd_words::Tag;
 
 /// A read that goes on at once.
@@ -17,17 +12,6 @@ struct Straight;
 
 impl Pause for Straight {
     fn pause(&mut self) {}
-}
-
-/// A read that found a cell of this kind, as it stands in its lane's log.
-fn found(call: Call, kind: CellKind) -> LoggedCall
-    ensures { result ≡ record { tag = call.tag; sector = call.sector; act = logged.Read kind } }
-{
-    LoggedCall {
-        tag: call.tag,
-        sector: call.sector,
-        act: LoggedAct::Read(kind),
-    }
 }
 
 impl Lane {
@@ -82,13 +66,16 @@ impl Lane {
         let Kit {
             mut seat,
             number,
-            mut fuse,
-            mut log,
+            fuse,
+            log,
         } = kit;
+        let stood = log.count();
+        let mut supplies = Supplies { fuse, log };
         let call = Call { tag, sector };
-        match read(arena, &mut seat, &mut fuse, number, call, into, between) {
+        let fate = read(arena, &mut seat, &mut supplies, number, call, into, between);
+        let Supplies { fuse, mut log } = supplies;
+        match fate {
             ReadFate::Got(kind) => {
-                log.add_read(found(call, kind));
                 let kit = kit_of(seat, number, fuse, log);
                 let lane = Lane { kit, mine };
                 ReadOutcome::Got { lane, kind }
@@ -98,9 +85,12 @@ impl Lane {
                 let lane = Lane { kit, mine };
                 ReadOutcome::Moved { lane, first, then }
             }
-            ReadFate::Cut => ReadOutcome::Cut(Stopped {
-                kit: kit_of(seat, number, fuse, log),
-            }),
+            ReadFate::Cut => {
+                log.keep_first(stood);
+                ReadOutcome::Cut(Stopped {
+                    kit: kit_of(seat, number, fuse, log),
+                })
+            }
         }
     }
 }

@@ -7,6 +7,7 @@ ghost use Rattle.lane_table.specs.Fuse.{Fell, Burnt};
 ghost use Rattle.lane_table.specs.Stages.{Scanned, Stored, Kept, StageEnds};
 ghost use Rattle.lane_table.specs.Told.{scan_phase, blocks};
 
+use crate::fetching::fetch;
 use crate::fuse::Fuse;
 use crate::pieces::Mine;
 use crate::steps::{data_keep, data_store, rtt_scan, write_begin};
@@ -130,16 +131,19 @@ pub fn stage(
     ensures table { seat.new.table_id ≡ seat.old.table_id }
     ensures ends { StageEnds seat.old.me seat.new.me fuse.old fuse.new words.now result }
 {
+    let at = block_word(shape, mine.block);
+    let kept_at = kept(shape, at);
+    fetch(table, at, words.len());
+    fetch(table, kept_at, words.len());
     write_begin(table, seat, reader_word(shape, mine.number));
     match scan(table, seat, fuse, shape, mine) {
         Looked::Reader(reader, _) => StageFate::Tracked(reader),
         Looked::Cut(_) => StageFate::Cut,
         Looked::Clear => {
-            let at = block_word(shape, mine.block);
             if store_words(table, seat, fuse, at, words) < words.len() {
                 return StageFate::Cut;
             }
-            if keep_words(table, seat, fuse, kept(shape, at), words) < words.len() {
+            if keep_words(table, seat, fuse, kept_at, words) < words.len() {
                 return StageFate::Cut;
             }
             StageFate::Staged

@@ -1,7 +1,7 @@
-use Rattle.std.proofs.Common.{sym, subst}
+use Rattle.std.proofs.Common.{refl, sym, subst}
 use Rattle.lane_table.specs.declared.table.Call.{Call}
 use Rattle.lane_table.specs.Logs.{IsLogOf}
-use Rattle.lane_table.specs.Reads.{calling}
+use Rattle.lane_table.specs.Reads.{calling, read_logged}
 use Rattle.lane_table.proofs.Logs.{read_added}
 use Rattle.lane_table.proofs.lanes.Lane.try_read_paused.Goals as goal
 
@@ -10,6 +10,9 @@ kit_of-kit-requires-clause-logged g c =
     let s = c.args.self in
     let me = s.kit.seat.me in
     let t : Call = record { tag = c.args.tag; sector = c.args.sector } in
+    let kind = c.in-Got.kind in
+    let log = c.read-fate.new.supplies.log in
     let a = c.in-Got.ensures.answers in
-    subst (λ m. IsLogOf c.add_read.new.self.past m.0.lane.log) (sym a.3.0)
-    (read_added s.kit.log.past c.add_read.new.self.past me.0.lane.log me.0.number (calling t me.0.lane) c.found.result s.kit.logged c.add_read.ensures.added c.in-Got.kind c.read.new.into c.found.ensures c.add_read.ensures.written)
+    let more = c.in-Got.ensures.log in
+    subst (λ m. IsLogOf log.past m.0.lane.log) (sym a.3.0)
+    (read_added s.kit.log.past log.past me.0.lane.log me.0.number (calling t me.0.lane) (read_logged t kind) s.kit.logged more.0 kind c.read-fate.new.into refl more.1)
