@@ -11,7 +11,7 @@ use Rattle.lane_core.specs.declared.now.LaneNow.{LaneNow}
 use Rattle.lane_core.specs.declared.phase.Phase.TheVariants.{Idle}
 use Rattle.lane_core.specs.declared.shape.Shape.{Shape}
 use Rattle.lane_core.specs.Opening.{opened, opened_lane}
-use Rattle.lane_core.specs.Places.{IsShape, SeenData, KeptData, SeenMap, KeptMap, SeenA, KeptA, SeenB, KeptB, Reader, Lock, Shows, word_of, row_size}
+use Rattle.lane_core.specs.Places.{IsShape, SeenData, KeptData, SeenMap, KeptMap, SeenA, KeptA, SeenB, KeptB, Reader, Lock, Shows, reader_words, reader_place, word_of, row_size}
 use Rattle.lane_core.specs.Rows.{Recorded, new_row}
 use Rattle.lane_core.specs.After.{uses_words, uses_cell, wants_lock, uses_looked}
 use Rattle.lane_core.specs.Ready.{IsFilled}
@@ -43,28 +43,28 @@ length_none n = let z : ℕ = 0 in length-replicate n z
 
 module _ (x : Shape) (hs : IsShape x) (words : List ℕ) (size : length words ≡ x.total) (sides : ℕ → ℕ) where
   abbrev all : List ℕ
-  all = words ++ words ++ none (2 * x.lanes)
+  all = words ++ words ++ none (reader_words x.lanes + x.lanes)
 
-  all_is : all ≡ words ++ (words ++ none (2 * x.lanes))
-  all_is = append_assoc words words (none (2 * x.lanes))
+  all_is : all ≡ words ++ (words ++ none (reader_words x.lanes + x.lanes))
+  all_is = append_assoc words words (none (reader_words x.lanes + x.lanes))
 
   pub first : (i : ℕ) → i < x.total → get_or all i 0 ≡ get_or words i 0
-  first i lt = ap (λ xs. get_or xs i 0) all_is ∙ get_or_append_left words (words ++ none (2 * x.lanes)) 0 i (omega (arith, size))
+  first i lt = ap (λ xs. get_or xs i 0) all_is ∙ get_or_append_left words (words ++ none (reader_words x.lanes + x.lanes)) 0 i (omega (arith, size))
 
   pub second : (i : ℕ) → i < x.total → get_or all (x.total + i) 0 ≡ get_or words i 0
   second i lt =
       ap (λ xs. get_or xs (x.total + i) 0) all_is
-      ∙ get_or-append_right words (words ++ none (2 * x.lanes)) x.total (x.total + i) 0 size (omega arith)
-      ∙ ap (λ j. get_or (words ++ none (2 * x.lanes)) j 0) (omega arith)
-      ∙ get_or_append_left words (none (2 * x.lanes)) 0 i (omega (arith, size))
+      ∙ get_or-append_right words (words ++ none (reader_words x.lanes + x.lanes)) x.total (x.total + i) 0 size (omega arith)
+      ∙ ap (λ j. get_or (words ++ none (reader_words x.lanes + x.lanes)) j 0) (omega arith)
+      ∙ get_or_append_left words (none (reader_words x.lanes + x.lanes)) 0 i (omega (arith, size))
 
   third : (i : ℕ) → get_or all (2 * x.total + i) 0 ≡ 0
   third i =
       ap (λ xs. get_or xs (2 * x.total + i) 0) all_is
-      ∙ get_or-append_right words (words ++ none (2 * x.lanes)) x.total (2 * x.total + i) 0 size (omega arith)
-      ∙ ap (λ j. get_or (words ++ none (2 * x.lanes)) j 0) (let e : 2 * x.total + i - x.total ≡ x.total + i = omega arith in e)
-      ∙ get_or-append_right words (none (2 * x.lanes)) x.total (x.total + i) 0 size (omega arith)
-      ∙ zeros (2 * x.lanes) (x.total + i - x.total)
+      ∙ get_or-append_right words (words ++ none (reader_words x.lanes + x.lanes)) x.total (2 * x.total + i) 0 size (omega arith)
+      ∙ ap (λ j. get_or (words ++ none (reader_words x.lanes + x.lanes)) j 0) (let e : 2 * x.total + i - x.total ≡ x.total + i = omega arith in e)
+      ∙ get_or-append_right words (none (reader_words x.lanes + x.lanes)) x.total (x.total + i) 0 size (omega arith)
+      ∙ zeros (reader_words x.lanes + x.lanes) (x.total + i - x.total)
 
   fresh_shown : Shows x all (opened (areas_of x words) sides)
   fresh_shown (SeenData b k) i = first (word_of x (SeenData b k)) (seen_data_low x hs b k i)
@@ -75,14 +75,14 @@ module _ (x : Shape) (hs : IsShape x) (words : List ℕ) (size : length words �
   fresh_shown (KeptA l side) i = second (word_of x (SeenA l side)) (seen_a_low x hs l side i)
   fresh_shown (SeenB l side) i = first (word_of x (SeenB l side)) (seen_b_low x hs l side i)
   fresh_shown (KeptB l side) i = second (word_of x (SeenB l side)) (seen_b_low x hs l side i)
-  fresh_shown (Reader l) i = third l
-  fresh_shown (Lock k) i = ap (λ j. get_or all j 0) (let e : 2 * x.total + x.lanes + k ≡ 2 * x.total + (x.lanes + k) = omega arith in e) ∙ third (x.lanes + k)
+  fresh_shown (Reader l) i = third (reader_place l)
+  fresh_shown (Lock k) i = ap (λ j. get_or all j 0) (let e : 2 * x.total + reader_words x.lanes + k ≡ 2 * x.total + (reader_words x.lanes + k) = omega arith in e) ∙ third (reader_words x.lanes + k)
 
   all_size : length all ≡ row_size x
   all_size =
-      let a : length (words ++ none (2 * x.lanes)) ≡ length words + 2 * x.lanes = length-append words (none (2 * x.lanes)) ∙ ap (λ n. length words + n) (length_none (2 * x.lanes)) in
-      let b : length (words ++ (words ++ none (2 * x.lanes))) ≡ length words + length (words ++ none (2 * x.lanes)) = length-append words (words ++ none (2 * x.lanes)) in
-      let c : length words + (length words + 2 * x.lanes) ≡ row_size x = omega (arith, size) in
+      let a : length (words ++ none (reader_words x.lanes + x.lanes)) ≡ length words + (reader_words x.lanes + x.lanes) = length-append words (none (reader_words x.lanes + x.lanes)) ∙ ap (λ n. length words + n) (length_none (reader_words x.lanes + x.lanes)) in
+      let b : length (words ++ (words ++ none (reader_words x.lanes + x.lanes))) ≡ length words + length (words ++ none (reader_words x.lanes + x.lanes)) = length-append words (words ++ none (reader_words x.lanes + x.lanes)) in
+      let c : length words + (length words + (reader_words x.lanes + x.lanes)) ≡ row_size x = omega (arith, size) in
       ap length all_is ∙ b ∙ ap (λ n. length words + n) a ∙ c
 
 none_owe : (lanes : List LaneState) → owing (map idle_of lanes) ≡ 0

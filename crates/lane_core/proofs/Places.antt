@@ -4,7 +4,7 @@ use Rattle.lane_core.specs.Machine.{State}
 use Rattle.lane_core.specs.Areas.{put}
 use Rattle.lane_core.proofs.Put.{put_at, put_elim, same_or_not}
 use Rattle.lane_core.specs.declared.shape.Shape.{Shape}
-use Rattle.lane_core.specs.Places.{IsShape, Place, SeenData, KeptData, SeenMap, KeptMap, SeenA, KeptA, SeenB, KeptB, Reader, Lock, IsIn, word_of, row_size, value_of, Shows, PlacesAreApart}
+use Rattle.lane_core.specs.Places.{IsShape, Place, SeenData, KeptData, SeenMap, KeptMap, SeenA, KeptA, SeenB, KeptB, Reader, Lock, IsIn, reader_words, reader_place, word_of, row_size, value_of, Shows, PlacesAreApart}
 
 -- a row ends before the next begins
 row_end : (b c n : ℕ) → b < c → b * n + n ≤ c * n
@@ -19,6 +19,13 @@ same_row n a b j k lj lk e = (rows, let r = rows in let q : a * n ≡ b * n = ap
     rows : a ≡ b
     rows = let l : a < b → ⊥ = not_less a b j k lj lk e in let m : b < a → ⊥ = not_less b a k j lk lj (sym e) in omega arith
 
+-- a reader word lies in the reader table, and is no other lane's
+pub reader_in : (l lanes : ℕ) → l < lanes → reader_place l < reader_words lanes
+reader_in l lanes lt = omega arith
+
+same_reader : (a b : ℕ) → reader_place a ≡ reader_place b → a ≡ b
+same_reader a b e = omega arith
+
 -- the word of each place
 abbrev low : Shape → Place → ℕ
 low x (SeenData b k) = x.data_at
@@ -30,7 +37,7 @@ low x (KeptA l side) = x.total + x.log_at
 low x (SeenB l side) = x.log_at
 low x (KeptB l side) = x.total + x.log_at
 low x (Reader l) = 2 * x.total
-low x (Lock k) = 2 * x.total + x.lanes
+low x (Lock k) = 2 * x.total + reader_words x.lanes
 
 abbrev high : Shape → Place → ℕ
 high x (SeenData b k) = x.map_at
@@ -41,8 +48,8 @@ high x (SeenA l side) = x.total
 high x (KeptA l side) = x.total + x.total
 high x (SeenB l side) = x.total
 high x (KeptB l side) = x.total + x.total
-high x (Reader l) = 2 * x.total + x.lanes
-high x (Lock k) = 2 * x.total + x.lanes + x.lanes
+high x (Reader l) = 2 * x.total + reader_words x.lanes
+high x (Lock k) = 2 * x.total + reader_words x.lanes + x.lanes
 
 pub data_in : (x : Shape) → IsShape x → (b k : ℕ) → b < x.sectors + x.lanes → k < x.width → x.data_at + b * x.inner + k < x.map_at
 data_in x h b k lb lk = let w = h.wide in let bl = h.blocks in let r : b * x.inner + x.inner ≤ (x.sectors + x.lanes) * x.inner = row_end b (x.sectors + x.lanes) x.inner lb in omega arith
@@ -56,7 +63,7 @@ bounds x h (SeenA l side) i = (omega arith, omega (arith, h.log, i.0, i.1))
 bounds x h (KeptA l side) i = (omega arith, omega (arith, h.log, i.0, i.1))
 bounds x h (SeenB l side) i = (omega arith, omega (arith, h.log, i.0, i.1))
 bounds x h (KeptB l side) i = (omega arith, omega (arith, h.log, i.0, i.1))
-bounds x h (Reader l) i = (omega arith, omega arith)
+bounds x h (Reader l) i = (omega arith, omega (arith, reader_in l x.lanes i))
 bounds x h (Lock k) i = (omega arith, omega arith)
 
 pub in_order : (x : Shape) → IsShape x → (x.data_at ≤ x.map_at) × (x.map_at ≤ x.log_at) × (x.log_at ≤ x.total)
@@ -84,7 +91,7 @@ same_place x h (SeenA l s) (SeenA n t) i m e = ap₂ SeenA (omega (arith, i.1, m
 same_place x h (KeptA l s) (KeptA n t) i m e = ap₂ KeptA (omega (arith, i.1, m.1)) (omega (arith, i.1, m.1))
 same_place x h (SeenB l s) (SeenB n t) i m e = ap₂ SeenB (omega (arith, i.1, m.1)) (omega (arith, i.1, m.1))
 same_place x h (KeptB l s) (KeptB n t) i m e = ap₂ KeptB (omega (arith, i.1, m.1)) (omega (arith, i.1, m.1))
-same_place x h (Reader a) (Reader b) i m e = ap Reader (omega arith)
+same_place x h (Reader a) (Reader b) i m e = ap Reader (same_reader a b (omega arith))
 same_place x h (Lock a) (Lock b) i m e = ap Lock (omega arith)
 same_place x h p q i m e = absurd (let a = bounds x h p i in let b = bounds x h q m in let c = in_order x h in omega arith)
 

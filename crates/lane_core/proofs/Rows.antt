@@ -1,5 +1,5 @@
--- Worked rows: two lanes, sectors of one word.
-use Rattle.std.proofs.Common.{◌≡◌, ℕ, ◌+◌, List, [], ◌∷◌, ◌++◌, refl, zero, suc}
+-- Worked rows: two lanes, sectors of one word; and the places of many lanes' reader words.
+use Rattle.std.proofs.Common.{◌≡◌, ℕ, ◌+◌, List, [], ◌∷◌, ◌++◌, map, refl, zero, suc}
 use Rattle.nvd_words.specs.declared.tag.Tag.{Tag}
 use Rattle.map_table.specs.Entry.{entry_of, entry_in, with_entry}
 use Rattle.arena_open.specs.declared.cell.Cell.TheVariants as cell
@@ -10,6 +10,7 @@ use Rattle.lane_core.specs.Machine.{Scanning, Staging, Staged, Locked, Logged, R
 use Rattle.lane_core.specs.Runs.{Event, Write, Store, Take, Read, Step, run}
 use Rattle.lane_core.specs.Cut.{recovered_entry}
 use Rattle.lane_core.specs.Opening.{formatted, opened}
+use Rattle.lane_core.specs.Places.{reader_place, reader_words}
 
 -- two sectors and two lanes: the sectors have the blocks 0 and 1, the lanes 2 and 3
 abbrev two : Geometry
@@ -103,3 +104,16 @@ before_switch = refl
 recovered_write : cell_in 1 (run twelve new_twelve stopped).kept.data_at (recovered_entry (run twelve new_twelve stopped).kept (λ l. l) 2 9) 9 ≡ cell.Bytes (7 ∷ [])
 unfolding run put entry_in with_entry kind_in block_in entry_of normal lba_in old_in new_in seq_in word_a word_b next_seq lock_of cell_in listed recovered_entry
 recovered_write = refl
+
+-- ---- the reader table
+
+-- lanes 0 to 31 have the first words of 32 lines, and lane 32 the second word of the first line
+first_lines : map reader_place (0 ∷ 1 ∷ 2 ∷ 31 ∷ 32 ∷ 33 ∷ []) ≡ 0 ∷ 8 ∷ 16 ∷ 248 ∷ 1 ∷ 9 ∷ []
+first_lines = refl
+
+-- lane 255 has the last word of the last line, and lane 256 begins another group
+next_group : map reader_place (254 ∷ 255 ∷ 256 ∷ 257 ∷ 288 ∷ []) ≡ 247 ∷ 255 ∷ 256 ∷ 264 ∷ 257 ∷ []
+next_group = refl
+
+groups : map reader_words (0 ∷ 1 ∷ 255 ∷ 256 ∷ 257 ∷ 512 ∷ []) ≡ 0 ∷ 256 ∷ 256 ∷ 256 ∷ 512 ∷ 512 ∷ []
+groups = refl

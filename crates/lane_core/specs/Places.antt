@@ -1,6 +1,6 @@
 -- The places of a state's words: a row of the arena's words as they are seen, the same words as
 -- they are kept, the reader table and the map locks. A table that lanes share has the same row.
-use Rattle.std.specs.Prelude.{◌≡◌, ℕ, ◌+◌, ◌*◌, ◌/◌, ◌^◌, ◌<◌, ◌≤◌, List, slice_index}
+use Rattle.std.specs.Prelude.{◌≡◌, ℕ, ◌+◌, ◌*◌, ◌/◌, ◌%◌, ◌^◌, ◌<◌, ◌≤◌, List, slice_index}
 use Rattle.arena_layout.specs.declared.layout.Layout.{Layout}
 use Rattle.lane_core.specs.declared.shape.Shape.{Shape}
 use Rattle.lane_core.specs.Areas.{Geometry}
@@ -59,6 +59,15 @@ IsIn x (KeptB l side) = (l < x.lanes) × (side < 2)
 IsIn x (Reader l) = l < x.lanes
 IsIn x (Lock k) = k < x.lanes
 
+-- how many words the reader table of this many lanes has: 256 for each group of up to 256 lanes
+abbrev pub reader_words : ℕ → ℕ
+reader_words lanes = 256 * ((lanes + 255) / 256)
+
+-- which word of the reader table is a lane's. A line of cache has 8 words, and lanes that run at
+-- once have neighbouring numbers: any 32 of these have their words in 32 lines
+abbrev pub reader_place : ℕ → ℕ
+reader_place l = 256 * (l / 256) + 8 * (l % 32) + l % 256 / 32
+
 -- the word of the row at a place. Half `side` of a group of eight words stands at 2 * side
 abbrev pub word_of : Shape → Place → ℕ
 word_of x (SeenData b k) = x.data_at + b * x.inner + k
@@ -69,12 +78,12 @@ word_of x (SeenA l side) = x.log_at + 8 * l + 2 * side
 word_of x (KeptA l side) = x.total + (x.log_at + 8 * l + 2 * side)
 word_of x (SeenB l side) = x.log_at + 8 * l + 2 * side + 1
 word_of x (KeptB l side) = x.total + (x.log_at + 8 * l + 2 * side + 1)
-word_of x (Reader l) = 2 * x.total + l
-word_of x (Lock k) = 2 * x.total + x.lanes + k
+word_of x (Reader l) = 2 * x.total + reader_place l
+word_of x (Lock k) = 2 * x.total + reader_words x.lanes + k
 
 -- how many words the row has
 abbrev pub row_size : Shape → ℕ
-row_size x = 2 * x.total + 2 * x.lanes
+row_size x = 2 * x.total + reader_words x.lanes + x.lanes
 
 abbrev pub value_of : State → Place → ℕ
 value_of s (SeenData b k) = s.seen.data_at b k

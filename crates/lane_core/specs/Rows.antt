@@ -1,10 +1,10 @@
 -- The row of words of a core, and its history with the room that is kept for entries.
-use Rattle.std.specs.Prelude.{◌≡◌, ℕ, ◌+◌, ◌-◌, ◌*◌, ◌<◌, ◌^◌, Bool, true, false, List, [], ◌∷◌, ◌++◌, length, replicate, slice_index, slice_index_or, slice_set, take, drop}
+use Rattle.std.specs.Prelude.{◌≡◌, ℕ, ◌+◌, ◌-◌, ◌<◌, ◌^◌, Bool, true, false, List, [], ◌∷◌, ◌++◌, length, replicate, slice_index, slice_index_or, slice_set, take, drop}
 use Rattle.cut_words.specs.Words.{Words}
 use Rattle.cut_words.specs.Pending.{options_of}
 use Rattle.lane_core.specs.declared.history.Entry.{Entry}
 use Rattle.lane_core.specs.declared.shape.Shape.{Shape}
-use Rattle.lane_core.specs.Places.{row_size}
+use Rattle.lane_core.specs.Places.{reader_words, row_size}
 
 -- all words, and of each word of the arena whether it was stored since its last keep
 pub record RowWords : Type 0 where
@@ -13,7 +13,7 @@ pub record RowWords : Type 0 where
 
 -- the row of an arena's words with this many lanes, none of which reads or has a lock
 abbrev pub new_row : List ℕ → ℕ → RowWords
-new_row words lanes = record { words = words ++ words ++ replicate (2 * lanes) 0; pending = replicate (length words) false }
+new_row words lanes = record { words = words ++ words ++ replicate (reader_words lanes + lanes) 0; pending = replicate (length words) false }
 
 -- after a reader word or a lock was set
 abbrev pub put_in : RowWords → ℕ → ℕ → RowWords

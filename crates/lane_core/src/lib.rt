@@ -53,7 +53,9 @@
 //! **The code.** A [`Core`] has the arena's words as they are seen and as they are kept, the reader
 //! table and the locks in one row (`specs/Places.antt`), its lanes, and the history as a list of
 //! entries. Each line is one function over the row and a lane (`lines.rt`, `looks.rt`); `steps.rt`
-//! picks the line of the phase. The core shows a `State` (`specs/Showing.antt`).
+//! picks the line of the phase. The core shows a `State` (`specs/Showing.antt`). Lanes that share
+//! their words (the crate `lane_table`) have the same row, so the reader words of neighbouring lanes
+//! stand in different lines of cache (`reader_place`).
 //!
 //! | call | promise | clause |
 //! |---|---|---|
@@ -110,3 +112,4 @@ pub use machine::Core;
 pub use phase::Phase;
 pub use shape::Shape;
 pub use stepped::{Answer, Step, Stepped};
+pub use words::{reader_place, reader_words};

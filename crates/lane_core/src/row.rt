@@ -2,6 +2,7 @@ ghost use Rattle.std.specs.Prelude.{◌≡◌, ◌<◌, ◌+◌, ◌^◌, ◌++�
 ghost use Rattle.cut_words.specs.Leaving.{LeavesFrom, LeavesOne};
 ghost use Rattle.lane_core.specs.Rows.{kept_in, new_row, put_in, stored_in, words_in};
 
+use crate::words::reader_words;
 use nvd_media::Chooser;
 use nvd_words::Flags;
 use std::alloc::{AllocError, Global};
@@ -44,7 +45,7 @@ impl Row {
         ensures { IfOk result (λ row. row ≡ new_row words.now lanes) }
     {
         let count = words.len();
-        let free = 2 * lanes as usize;
+        let free = (reader_words(lanes) + u64::from(lanes)) as usize;
         let pending = Flags::new(alloc, count)?;
         let tables = vec![in alloc; 0; free]?;
         let mut row = Vec::new(alloc);

@@ -1,7 +1,7 @@
 //! The places of words in a row.
 ghost use Rattle.std.specs.Prelude.{◌≡◌, ◌<◌, ◌^◌, ◌%◌, ◌/◌};
 ghost use Rattle.lane_core.specs.Machine.{lock_of};
-ghost use Rattle.lane_core.specs.Places.{geometry, word_of, SeenData, SeenMap, SeenA, Reader, Lock};
+ghost use Rattle.lane_core.specs.Places.{geometry, reader_place, reader_words, word_of, SeenData, SeenMap, SeenA, Reader, Lock};
 
 use crate::shape::Shape;
 
@@ -32,13 +32,32 @@ pub fn log_word(shape: &Shape, lane: u32, side: u32) -> u64
     shape.log_at + 8 * u64::from(lane) + 2 * u64::from(side)
 }
 
+/// Words of the reader table of this many lanes: 256 for each group of up to 256 lanes.
+#[inline]
+pub fn reader_words(lanes: u32) -> u64
+    ensures { result ≡ reader_words lanes }
+{
+    256 * ((u64::from(lanes) + 255) / 256)
+}
+
+/// Which word of the reader table is a lane's. Any 32 lanes with neighbouring numbers have theirs
+/// in 32 lines of cache of 8 words: such lanes run at once, and the store of one would take the
+/// line from the others.
+#[inline]
+pub fn reader_place(lane: u32) -> u64
+    ensures { result ≡ reader_place lane }
+{
+    let lane = u64::from(lane);
+    256 * (lane / 256) + 8 * (lane % 32) + lane % 256 / 32
+}
+
 /// The reader word of a lane.
 #[inline]
 pub fn reader_word(shape: &Shape, lane: u32) -> u64
     requires { word_of shape.now (Reader lane) < 2 ^ 60 }
     ensures { result ≡ word_of shape.now (Reader lane) }
 {
-    2 * shape.total + u64::from(lane)
+    2 * shape.total + reader_place(lane)
 }
 
 /// The lock of a sector's map word.
@@ -49,5 +68,5 @@ pub fn lock_word(shape: &Shape, sector: u32) -> u64
     requires word { word_of shape.now (Lock (lock_of (geometry shape.now) sector)) < 2 ^ 60 }
     ensures { result ≡ word_of shape.now (Lock (lock_of (geometry shape.now) sector)) }
 {
-    2 * shape.total + u64::from(shape.lanes) + u64::from(sector / 2 % shape.lanes)
+    2 * shape.total + reader_words(shape.lanes) + u64::from(sector / 2 % shape.lanes)
 }
