@@ -7,9 +7,9 @@ use Rattle.atomic_table.specs.Table.{opening}
 use Rattle.lane_core.specs.declared.shape.Shape.{Shape}
 use Rattle.lane_core.specs.Machine.{State}
 use Rattle.lane_core.specs.Opening.{opened}
-use Rattle.lane_core.specs.Places.{IsShape, SeenData, KeptData, SeenMap, KeptMap, SeenA, KeptA, SeenB, KeptB, Reader, Lock, row_size, Shows, geometry}
+use Rattle.lane_core.specs.Places.{IsShape, SeenData, KeptData, SeenMap, KeptMap, SeenA, KeptA, SeenB, KeptB, Reader, Lock, reader_place, reader_words, row_size, Shows, geometry}
 use Rattle.lane_core.proofs.Beginning.{opened_sound}
-use Rattle.lane_core.proofs.Places.{data_in}
+use Rattle.lane_core.proofs.Places.{data_in, reader_in}
 use Rattle.lane_table.specs.declared.table.Key.{Key}
 use Rattle.lane_table.specs.declared.table.Owned.{Owned}
 use Rattle.lane_table.specs.declared.table.View.{View}
@@ -20,24 +20,24 @@ use Rattle.lane_table.specs.Law.{holds, first, opened_from, opened_owned, Seats,
 
 module _ (x : Shape) (words : List ℕ) (h : IsShape x) (size : length words ≡ x.total) where
   zeros : List ℕ
-  zeros = replicate (2 * x.lanes) 0
+  zeros = replicate (reader_words x.lanes + x.lanes) 0
 
   pub seen_word : (i : ℕ) → i < x.total → slice_index (row_of x words) i ≡ slice_index words i
   seen_word i lt = let a : i < length words = omega (arith, size) in let b : i < length (words ++ words) = omega (arith, length-append words words) in
-      get_or_append_left (words ++ words) (replicate (2 * x.lanes) 0) 0 i b ∙ get_or_append_left words words 0 i a
+      get_or_append_left (words ++ words) (replicate (reader_words x.lanes + x.lanes) 0) 0 i b ∙ get_or_append_left words words 0 i a
 
   pub kept_word : (i : ℕ) → i < x.total → slice_index (row_of x words) (x.total + i) ≡ slice_index words i
   kept_word i lt = let b : x.total + i < length (words ++ words) = omega (arith, length-append words words, size) in
-      get_or_append_left (words ++ words) (replicate (2 * x.lanes) 0) 0 (x.total + i) b ∙ ap (λ n. get_or (words ++ words) (n + i) 0) (sym size) ∙ get_or-append-add words words i 0
+      get_or_append_left (words ++ words) (replicate (reader_words x.lanes + x.lanes) 0) 0 (x.total + i) b ∙ ap (λ n. get_or (words ++ words) (n + i) 0) (sym size) ∙ get_or-append-add words words i 0
 
   twice : length (words ++ words) ≡ 2 * x.total
   twice = omega (arith, length-append words words, size)
 
-  pub zero_word : (i : ℕ) → i < 2 * x.lanes → slice_index (row_of x words) (2 * x.total + i) ≡ 0
-  zero_word i lt = ap (λ n. get_or (row_of x words) (n + i) 0) (sym twice) ∙ get_or-append-add (words ++ words) (replicate (2 * x.lanes) 0) i 0 ∙ get_or-replicate (2 * x.lanes) i 0 0 lt
+  pub zero_word : (i : ℕ) → i < reader_words x.lanes + x.lanes → slice_index (row_of x words) (2 * x.total + i) ≡ 0
+  zero_word i lt = ap (λ n. get_or (row_of x words) (n + i) 0) (sym twice) ∙ get_or-append-add (words ++ words) (replicate (reader_words x.lanes + x.lanes) 0) i 0 ∙ get_or-replicate (reader_words x.lanes + x.lanes) i 0 0 lt
 
   pub row_length : length (row_of x words) ≡ row_size x
-  row_length = omega (arith, length-append (words ++ words) (replicate (2 * x.lanes) 0), twice, length-replicate {A = ℕ} (2 * x.lanes) 0)
+  row_length = omega (arith, length-append (words ++ words) (replicate (reader_words x.lanes + x.lanes) 0), twice, length-replicate {A = ℕ} (reader_words x.lanes + x.lanes) 0)
 
 -- ---- the lanes
 
@@ -55,8 +55,8 @@ only_first v u (suc i) e = absurd (some-ne-none u (sym e))
 right : (a b c : ℕ) → a + b + c ≡ a + (b + c)
 right a b c = omega arith
 
-in_locks : (n l : ℕ) → l < n → n + l < 2 * n
-in_locks n l lt = omega arith
+in_locks : (m n l : ℕ) → l < n → m + l < m + n
+in_locks m n l lt = omega arith
 
 pub map_low : (x : Shape) → IsShape x → (m : ℕ) → 2 * m < x.sectors → x.map_at + m < x.total
 map_low x h m i = omega (arith, h.map, h.log)
@@ -104,8 +104,8 @@ module _ (k : Key) (b : IsBegun k) where
   shown (KeptA l side) i = kept_word x ws b.shape b.size (x.log_at + 8 * l + 2 * side) (less (log_low x b.shape l side i.0 i.1))
   shown (SeenB l side) i = seen_word x ws b.shape b.size (x.log_at + 8 * l + 2 * side + 1) (log_low x b.shape l side i.0 i.1)
   shown (KeptB l side) i = kept_word x ws b.shape b.size (x.log_at + 8 * l + 2 * side + 1) (log_low x b.shape l side i.0 i.1)
-  shown (Reader l) i = zero_word x ws b.shape b.size l (omega (arith, i))
-  shown (Lock l) i = ap (slice_index (row_of x ws)) (right (2 * x.total) x.lanes l) ∙ zero_word x ws b.shape b.size (x.lanes + l) (in_locks x.lanes l i)
+  shown (Reader l) i = zero_word x ws b.shape b.size (reader_place l) (omega (arith, reader_in l x.lanes i))
+  shown (Lock l) i = ap (slice_index (row_of x ws)) (right (2 * x.total) (reader_words x.lanes) l) ∙ zero_word x ws b.shape b.size (reader_words x.lanes + l) (in_locks (reader_words x.lanes) x.lanes l i)
 
   pub begins : (S : Type 0) → holds {S = S} k (opening (row_of x ws) [] (first k))
   begins S = (s, record { sound = opened_sound (geometry x) (areas_in x ws) (side_of k) b.opens; shape = b.shape; size = row_length x ws b.shape b.size; shown = shown; fixed = λ i f. (seen_word x ws b.shape b.size i f.inside, kept_word x ws b.shape b.size i f.inside); seats = seats })

@@ -1,5 +1,5 @@
 -- What a table is made from: the words of an opened arena, twice, and no reader and no lock.
-use Rattle.std.specs.Prelude.{◌≡◌, ℕ, ◌*◌, ◌<◌, List, [], ◌++◌, length, replicate, slice_index_or, true, false}
+use Rattle.std.specs.Prelude.{◌≡◌, ℕ, ◌+◌, ◌<◌, List, [], ◌++◌, length, replicate, slice_index_or, true, false}
 use mathlib.Core.Option.{some}
 use lib.ListN.{get_elem?}
 use Rattle.atomic_table.specs.Seated.{TableId}
@@ -11,7 +11,7 @@ use Rattle.lane_core.specs.declared.shape.Shape.{Shape}
 use Rattle.lane_core.specs.Arenas.{shape_in}
 use Rattle.lane_core.specs.Cut.{half_at}
 use Rattle.lane_core.specs.Opening.{IsOpen}
-use Rattle.lane_core.specs.Places.{IsShape, geometry}
+use Rattle.lane_core.specs.Places.{IsShape, geometry, reader_words}
 use Rattle.lane_core.specs.Reopening.{first_cells}
 use Rattle.lane_table.specs.declared.arena.Arena.{Arena}
 use Rattle.lane_table.specs.declared.lanes.Lane.{Lane}
@@ -24,7 +24,7 @@ use Rattle.lane_table.specs.Told.{blocks}
 
 -- the row of a table of these words
 abbrev pub row_of : Shape → List ℕ → List ℕ
-row_of x words = words ++ words ++ replicate (2 * x.lanes) 0
+row_of x words = words ++ words ++ replicate (reader_words x.lanes + x.lanes) 0
 
 -- lane l of a list of lanes
 abbrev pub lane_at : List LaneState → ℕ → LaneState

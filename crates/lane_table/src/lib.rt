@@ -8,7 +8,7 @@
 //! # The words
 //!
 //! ```text
-//!   0                total              2 * total       + lanes        + lanes
+//!   0                total              2 * total       + readers      + lanes
 //!   +----------------+------------------+---------------+--------------+
 //!   | the arena, as  | the same words,  | reader word   | lock of map  |
 //!   | a load returns | as they are      | of each lane: | word k:      |
@@ -18,6 +18,12 @@
 //!
 //! To **keep** a word of the arena is one store into its kept word. A lane keeps a word that it
 //! stored itself, so it stores its own value there, and needs no load.
+//!
+//! The reader table has a group of 256 words for each 256 lanes: 32 lines of cache of 8 words. Lane
+//! r of a group has word `8 * (r % 32) + r / 32` (`reader_place` of lane_core's specs/Places.antt).
+//! Lanes with neighbouring numbers run at once, so each stores in a line of its own, and still a
+//! writer's scan of 255 words loads 32 lines. The word before the table is one of the backup info
+//! block, which no lane stores.
 //!
 //! # The rule
 //!

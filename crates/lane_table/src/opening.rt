@@ -1,6 +1,7 @@
 //! Makes a table of an arena.
-ghost use Rattle.std.specs.Prelude.{◌≡◌, ◌<◌, ◌+◌, ◌*◌, ◌^◌, ◌++◌, length, replicate, All, IfOk};
+ghost use Rattle.std.specs.Prelude.{◌≡◌, ◌<◌, ◌+◌, ◌^◌, ◌++◌, length, replicate, All, IfOk};
 ghost use Rattle.arena_open.specs.Moves.{IsOpenState};
+ghost use Rattle.lane_core.specs.Places.{reader_words};
 ghost use Rattle.lane_table.specs.Begun.{row_of, IsMadeOf, IsOpenArena, AreFresh};
 ghost use Rattle.lane_table.specs.Kits.{arena_id, IsOf};
 ghost use Rattle.lane_table.specs.Law.{words_of};
@@ -10,7 +11,7 @@ use crate::dealing::deal;
 use crate::lanes::Lane;
 use crate::table::{Key, WordTable};
 use arena_open::{ArenaState, LaneState};
-use lane_core::Shape;
+use lane_core::{Shape, reader_words};
 use nvd_words::Items;
 use std::alloc::{AllocError, Global};
 use std::snapshot::Snapshot;
@@ -19,12 +20,13 @@ use std::snapshot::Snapshot;
 /// reader words and the locks.
 pub(crate) fn row(alloc: Global, words: &[u64], lanes: u32) -> Result<Vec<u64>, AllocError>
     requires few { (length words.now < 2 ^ 40) × (lanes < 2 ^ 31) }
-    ensures { IfOk result (λ v. v.items ≡ words.now ++ words.now ++ replicate (2 * lanes) 0) }
+    ensures { IfOk result (λ v. v.items ≡ words.now ++ words.now ++ replicate (reader_words lanes + lanes) 0) }
 {
     let mut row = Vec::new(alloc);
     row.extend_from_slice(words)?;
     row.extend_from_slice(words)?;
-    let zeros: Vec<u64> = vec![in alloc; 0; 2 * lanes as usize]?;
+    let free = (reader_words(lanes) + u64::from(lanes)) as usize;
+    let zeros: Vec<u64> = vec![in alloc; 0; free]?;
     row.extend_from_slice(zeros.as_slice())?;
     Ok(row)
 }

@@ -3,7 +3,7 @@ ghost use Rattle.std.specs.Prelude.{◌≡◌, ◌+◌, ◌<◌, ◌^◌, ◌%�
 ghost use Rattle.lane_core.specs.Machine.{lock_of};
 ghost use Rattle.lane_core.specs.Places.{geometry, word_of, SeenData, SeenMap, SeenA, Reader, Lock};
 
-use lane_core::Shape;
+use lane_core::{Shape, reader_place, reader_words};
 
 /// The first word of a block.
 #[inline]
@@ -47,7 +47,7 @@ pub fn reader_word(shape: &Shape, lane: u32) -> usize
     requires { word_of shape.now (Reader lane) < 2 ^ 60 }
     ensures { result ≡ word_of shape.now (Reader lane) }
 {
-    (2 * shape.total + u64::from(lane)) as usize
+    (2 * shape.total + reader_place(lane)) as usize
 }
 
 /// The lock of a sector's map word.
@@ -58,5 +58,5 @@ pub fn lock_word(shape: &Shape, sector: u32) -> usize
     requires word { word_of shape.now (Lock (lock_of (geometry shape.now) sector)) < 2 ^ 60 }
     ensures { result ≡ word_of shape.now (Lock (lock_of (geometry shape.now) sector)) }
 {
-    (2 * shape.total + u64::from(shape.lanes) + u64::from(sector / 2 % shape.lanes)) as usize
+    (2 * shape.total + reader_words(shape.lanes) + u64::from(sector / 2 % shape.lanes)) as usize
 }
