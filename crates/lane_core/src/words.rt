@@ -47,8 +47,9 @@ pub fn reader_words(lanes: u32) -> u64
 pub fn reader_place(lane: u32) -> u64
     ensures { result ≡ reader_place lane }
 {
-    let lane = u64::from(lane);
-    256 * (lane / 256) + 8 * (lane % 32) + lane % 256 / 32
+    // A scan does this for each lane. Of a byte, the sum is one rotation.
+    let low = (lane % 256) as u8;
+    256 * u64::from(lane / 256) + u64::from(8 * (low % 32) + low / 32)
 }
 
 /// The reader word of a lane.
