@@ -42,9 +42,11 @@ pub fn scan(
     ensures table { seat.new.table_id ≡ seat.old.table_id }
     ensures scanned { Scanned seat.old.me seat.new.me fuse.old fuse.new result }
 {
+    // A shape of its own stays in registers between the loads.
+    let own = *shape;
     for j in 0..shape.lanes - 1 {
         let other = if j < mine.number { j } else { j + 1 };
-        let Some(found) = rtt_scan(table, seat, fuse, reader_word(shape, other), j) else {
+        let Some(found) = rtt_scan(table, seat, fuse, reader_word(&own, other), j) else {
             return Looked::Cut(j);
         };
         if found == u64::from(mine.block) + 1 {
