@@ -40,8 +40,11 @@ from rows import row
 
 PROVED, TWIN = sys.argv[1:]
 # Many reads: else what the system takes to start the threads counts.
-CALLS, RUNS = {"write": 50000, "read": 400000}, 7
+CALLS, ROUNDS = {"write": 20000, "read": 200000}, 15
 MOST = {1: 1.5, 4: 1.3}
+# How far apart the lanes' numbers are. The reader words of lanes 0, 9, 18 and 27 share no line of cache if all lie side by side, nor if
+# neighbouring lanes have theirs in lines apart.
+APART = 9
 
 
 def run(words):
@@ -50,37 +53,47 @@ def run(words):
     return {name: int(nanos) / CALLS[name] for name, nanos in (line.split(": ") for line in text.splitlines()) if name in CALLS}
 
 
-def kinds(threads, apart):
-    """The programs that are compared, by turns, and for each the median of its runs."""
+def by_turns(threads, apart):
+    """Runs each program by turns with the plain twin: in each round once before it and, in the next, once behind it. Returns for each
+    program and kind of call the median of its times, that of the twin's beside it, and that of the quotients of the two."""
     words = [threads, CALLS["write"], CALLS["read"], apart]
-    wanted = {
+    programs = {
         "proved": [PROVED, *words],
-        "twin": [TWIN, *words, 1, 0, 0],
         "spread": [TWIN, *words, 8, 0, 0],
         "logged": [TWIN, *words, 1, 1, 0],
         "ahead": [TWIN, *words, 1, 1, 1],
     }
-    runs = {name: [] for name in wanted}
-    for _ in range(RUNS):
-        for name, words in wanted.items():
-            runs[name].append(run(words))
-    return {name: {call: statistics.median(one[call] for one in all_of) for call in ("write", "read")} for name, all_of in runs.items()}
+    pairs = {name: [] for name in programs}
+    for number in range(ROUNDS):
+        for name, program in programs.items():
+            two = [program, [TWIN, *words, 1, 0, 0]]
+            if number % 2:
+                pairs[name].append(tuple(map(run, two)))
+            else:
+                pairs[name].append(tuple(map(run, two[::-1]))[::-1])
+
+    def middle(figure, name, call):
+        return statistics.median(figure(own[call], twin[call]) for own, twin in pairs[name])
+
+    figures = [lambda own, twin: own, lambda own, twin: twin, lambda own, twin: own / twin]
+    return {(name, call): [middle(figure, name, call) for figure in figures] for name in pairs for call in CALLS}
 
 
-for apart in (64, 1):
-    lanes = "" if apart == 64 else ", lanes side by side"
+for apart in (APART, 1):
+    lanes = "" if apart == APART else ", lanes side by side"
     for threads in (1, 2, 4):
         if apart == 1 and threads == 1:
             continue
-        took = kinds(threads, apart)
-        for call in ("write", "read"):
-            proved, twin, spread, logged, ahead = (took[name][call] for name in ("proved", "twin", "spread", "logged", "ahead"))
-            loads = f", and with the lines loaded ahead too {ahead:.0f} ns" if call == "write" else ""
+        took = by_turns(threads, apart)
+        for call in CALLS:
+            own, twin, times = took["proved", call]
+            spread, logged, ahead = (took[name, call][2] for name in ("spread", "logged", "ahead"))
+            loads = f", and with the lines loaded ahead too {ahead:.2f} times" if call == "write" else ""
             most = MOST.get(threads)
             row(
                 f"a {call} by a lane, {threads} thread{'s' if threads > 1 else ''}{lanes}",
                 f"at most {most} times a plain twin" if most else "none",
-                f"{proved / twin:.2f} times: {proved:.0f} ns and {twin:.0f} ns; the twin with reader words in lines of their own {spread:.0f} ns, with logs {logged:.0f} ns{loads}",
-                not most or proved <= most * twin,
+                f"{times:.2f} times: {own:.0f} ns and {twin:.0f} ns; the twin with reader words in lines of their own {spread:.2f} times, with logs {logged:.2f} times{loads}",
+                not most or times <= most,
             )
 PY

@@ -67,6 +67,11 @@ room_left _ got old = old
 abbrev pub calling : Call → Lane → Lane
 calling t p = record p { phase = Called; tag = t.tag; sector = t.sector }
 
+module _ {S : Type 0} (me me' : Me S View) (old new : List ℕ) where
+  -- the first n words were loaded
+  abbrev pub LoadedFirst : ℕ → Type 0
+  LoadedFirst n = (n ≤ length old) × (length new ≡ length old) × IsAfter n me (after_loads new n me.0.lane) me' × (drop n new ≡ drop n old)
+
 module _ {S : Type 0} (me me' : Me S View) (a b : Fuse) (old new : List ℕ) where
   -- how many words were loaded: all, or as many as the fuse had steps
   abbrev pub Loaded : ℕ → Type 0

@@ -3,8 +3,9 @@ ghost use Rattle.std.specs.Prelude.{◌+◌, ◌<◌, ◌≤◌, ◌^◌};
 
 use crate::table::Words;
 
-/// Loads one of each eight of these words, so that their lines of cache come all at once. A step
-/// waits for its line before the next one begins. It is no step: it tells nothing.
+/// Loads one of each eight of these words, so that their lines of cache come all at once. Steps
+/// alone ask for a few at a time: a store waits for its line before the next one begins. It is no
+/// step: it tells nothing.
 pub fn fetch(table: &Words, at: usize, count: usize)
     requires { (at + count ≤ table.now.table_id.words) × (table.now.table_id.words < 2 ^ 60) }
 {

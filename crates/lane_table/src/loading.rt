@@ -6,10 +6,12 @@ ghost use Rattle.lane_core.specs.Areas.{block_in, kind_in};
 ghost use Rattle.lane_core.specs.Machine.{looked};
 ghost use Rattle.lane_core.specs.Places.{word_of, SeenData, SeenMap, Reader};
 ghost use Rattle.lane_table.specs.Conditions.{IsSeated, IsWord};
-ghost use Rattle.lane_table.specs.Reads.{found_by, read_logged, Loaded, BlockEnds, ReadEnds, LogEnds, Answers, AreReadWords};
+ghost use Rattle.lane_table.specs.Fuse.{Fell};
+ghost use Rattle.lane_table.specs.Reads.{found_by, read_logged, Loaded, LoadedFirst, BlockEnds, ReadEnds, LogEnds, Answers, AreReadWords};
 ghost use Rattle.lane_table.specs.Told.{blocks};
 
 use crate::arena::Arena;
+use crate::fetching::fetch;
 use crate::fuse::Fuse;
 use crate::log::{LaneLog, LoggedAct, LoggedCall};
 use crate::pieces::looked_in;
@@ -91,6 +93,37 @@ fn read_entry(call: Call, kind: CellKind) -> LoggedCall
     }
 }
 
+/// Loads words of the block, of which `at` is the first word, by eights if the fuse has no limit.
+/// Returns how many were loaded: all but the last ones, fewer than eight, or none. The inner loop
+/// becomes eight steps in a row, without a test between them.
+#[inline]
+fn load_eights(table: &Words, seat: &mut LaneSeat, fuse: Fuse, at: usize, into: &mut [u64]) -> usize
+    requires seat { IsSeated (Reading 0) table.now.table_id seat.old.table_id seat.old.me }
+    requires none { seat.old.me.0.lane.got ≡ [] }
+    requires into { length into.old ≡ table.now.key.shape.width }
+    requires block { looked seat.old.me.0.lane < blocks table.now.key.shape }
+    requires at { (at ≡ word_of table.now.key.shape (SeenData (looked seat.old.me.0.lane) 0)) × (at + length into.old ≤ table.now.table_id.words) × (table.now.table_id.words < 2 ^ 60) }
+    ensures table { seat.new.table_id ≡ seat.old.table_id }
+    ensures loaded { LoadedFirst seat.old.me seat.new.me into.old into.new result }
+    ensures fell { Fell result fuse fuse }
+{
+    if fuse.set {
+        return 0;
+    }
+    let mut own = fuse;
+    let eights = into.len() / 8;
+    for eight in 0..eights {
+        for i in 0..8 {
+            let n = 8 * eight + i;
+            let Some(word) = data_load(table, seat, &mut own, at + n, n) else {
+                return n;
+            };
+            into[n] = word;
+        }
+    }
+    8 * eights
+}
+
 /// Loads the words of the block, of which `at` is the first word. Returns how many were loaded:
 /// all, or as many as the fuse had steps.
 fn load_words(
@@ -108,9 +141,13 @@ fn load_words(
     ensures table { seat.new.table_id ≡ seat.old.table_id }
     ensures loaded { Loaded seat.old.me seat.new.me fuse.old fuse.new into.old into.new result }
 {
+    // All lines of cache come at once. The steps alone ask for a few at a time: each loads the
+    // table's address too, and the processor has room for only so many loads.
+    fetch(table, at, into.len());
     // A fuse of its own stays in registers between the loads.
     let mut own = *fuse;
-    for k in 0..into.len() {
+    let first = load_eights(table, seat, own, at, into);
+    for k in first..into.len() {
         let Some(word) = data_load(table, seat, &mut own, at + k, k) else {
             *fuse = own;
             return k;
