@@ -11,3 +11,4 @@ mod Fronts
 pub mod Kept
 mod Areas
 pub mod Copied
+mod Patched

@@ -7,3 +7,4 @@ pub mod Save
 pub mod Changed
 pub mod Outline
 pub mod Copying
+pub mod Patches
