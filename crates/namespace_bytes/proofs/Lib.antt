@@ -7,3 +7,5 @@ pub mod Sizes
 pub mod Turns
 pub mod Flagged
 pub mod Pasted
+pub mod Patched
+pub mod WholePatch

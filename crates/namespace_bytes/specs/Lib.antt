@@ -1,3 +1,4 @@
 pub mod Putting
 pub mod Contents
 pub mod Bad
+pub mod Patching

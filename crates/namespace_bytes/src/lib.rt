@@ -33,12 +33,14 @@
 
 mod arenas;
 mod bad;
+mod patch;
 mod plain;
 mod putting;
 mod reading;
 
 pub use arenas::{put_raw, put_sectors};
 pub use bad::first_bad;
+pub use patch::RawPatch;
 pub use plain::{PlainRow, PlainWords, cut_rows, plain_rows};
 pub use putting::put_words;
 pub use reading::{ArenaAt, read_arenas, size_of_all};

@@ -1,0 +1,19 @@
+use Rattle.std.proofs.Common.{List, ℕ, sym, subst}
+use Rattle.power_cut.specs.Namespace.{ReachEnds}
+use Rattle.power_cut.proofs.Spread.{laid_of}
+use Rattle.sector_namespaces.specs.View.{rows_of}
+use Rattle.namespace_bytes.specs.Patching.{IsRawBytes, RawBytes}
+use Rattle.namespace_bytes.proofs.WholePatch.{are_patched}
+use Rattle.namespace_bytes.proofs.patch.RawPatch.new.Goals as goal
+
+pub invariant_of-result : goal.invariant_of-result
+invariant_of-result c = record {
+  laid = λ modules. laid_of c.args.set c.args.offset c.args.raw c.span-span.result c.unit-unit.result modules c.requires.from c.requires.to c.requires.inside
+      c.unit-unit.ensures.unit c.unit-unit.ensures.whole c.unit-unit.ensures.parts c.span-span.ensures.span c.span-span.ensures.fits c.span-span.ensures.each c.span-span.ensures.apart
+      c.span-span.ensures.places c.span-span.ensures.words;
+  long = c.requires.long;
+}
+
+pub returns-clause-patched : goal.returns-clause-patched
+returns-clause-patched c contents whole reach =
+    are_patched (record { set = c.args.set; offset = c.args.offset; raw = c.args.raw; bytes = c.args.bytes.items }) (invariant_of-result c) contents whole reach
