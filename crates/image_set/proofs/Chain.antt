@@ -1,6 +1,5 @@
 -- Loading a set, from one result to the next.
-use Rattle.std.proofs.Common.{◌≡◌, ◌≢◌, ℕ, List, [], ◌∷◌, length, map, get_or, Option, Some, None, Result, Ok, Err, refl, sym, ap, ◌∙◌}
-use Rattle.std.proofs.Math.ListN.{get_or-map}
+use Rattle.std.proofs.Common.{◌≡◌, ◌≢◌, ℕ, List, [], ◌∷◌, length, map, Option, Some, None, Result, Ok, Err, refl, sym, ap, ◌∙◌}
 use Rattle.std.specs.Option.{option_map}
 use Rattle.std.specs.Result.{result_map_both}
 use Rattle.std.specs.List.{range_with_len}
@@ -15,10 +14,9 @@ use Rattle.image_set.specs.declared.fault.LoadFault.{LoadFault}
 use Rattle.image_set.specs.declared.fault.LoadFault.TheVariants as fault
 use Rattle.image_set.specs.declared.fault.Stop.{Stop}
 use Rattle.image_set.specs.declared.fault.Stop.TheVariants as stop
-use Rattle.image_set.specs.declared.loading.Loaded.{Loaded}
 use Rattle.image_set.specs.declared.sizes.Sizes.{Sizes}
 use Rattle.image_set.specs.Outline.{contents_in, image_set_with}
-use Rattle.image_set.specs.Load.{table_fault, modules_fault, mappings_fault, with_table, unless_fault, loading, image_set_of, image_set_in, bytes_kept, fault_of, area_of, AnswersRead, ImageSet}
+use Rattle.image_set.specs.Load.{table_fault, modules_fault, mappings_fault, with_table, unless_fault, loading, image_set_of, image_set_in, bytes_kept, fault_of, AnswersRead, ImageSet}
 use Rattle.image_set.proofs.Asked.{stopped, passed}
 
 -- ---- the result of load

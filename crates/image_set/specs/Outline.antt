@@ -17,8 +17,10 @@ use Rattle.image_set.specs.declared.changing.OutlineLeft.{OutlineLeft}
 use Rattle.image_set.specs.declared.changing.OutlineRest.{OutlineRest}
 use Rattle.image_set.specs.Load.{AnswersRead, ImageSet, bytes_kept, loading}
 use Rattle.image_set.specs.Changed.{objects_of, with_area}
+use Rattle.image_set.specs.Patches.{AreBytes, patched_contents, patched_row}
 use Rattle.image_set.specs.Save.{front_of, with_module}
-use Rattle.image_set.specs.Sound.{IsArea}
+use Rattle.image_set.specs.Sizes.{IsContentsSize}
+use Rattle.image_set.specs.Sound.{AreMapped, IsArea}
 
 -- ---- an outline
 
@@ -56,6 +58,13 @@ pub record IsOutlined (outline : Outline) : Type 0 where
   pub few : length outline.sizes ≤ 64
   -- label areas are within their limits
   pub areas : All IsArea outline.labels
+
+-- What holds of the sizes of an outline's contents, which can be read later: there is one for each module, and the contents hold
+-- the mappings.
+pub record IsLoadable (outline : Outline) : Type 0 where
+  pub count : length outline.sizes ≡ length outline.nfit.modules
+  pub sized : All IsContentsSize outline.sizes
+  pub mapped : All (AreMapped outline.sizes) outline.nfit.regions
 
 -- ---- an outline after a crash
 
@@ -109,31 +118,43 @@ pub record Copies {T E : Type 0} (made made' kept kept' : Option Images) (result
   pub told : Becomes made made' (λ set now. IsUnfinished set now × OnOk result (IsSameSet now (change set)))
   pub holds : OnOk result (Keeps kept kept' (λ set now. IsSameSet now (change set)))
 
--- `count` bytes of an object, from `at` on, were copied from the source
-pub record CopiesRow {T E : Type 0} (held : Option Images) (o : Object) (at count : ℕ) (made made' kept kept' : Option Images) (result : Result T E) : Type 0 where
+-- `count` bytes of a module's contents, from `at` on, were copied from the source, each changed by f
+pub record CopiesRow {T E : Type 0} (f : ℕ → ℕ → ℕ → ℕ) (held : Option Images) (m at count : ℕ) (made made' kept kept' : Option Images) (result : Result T E) : Type 0 where
   pub row : List ℕ
   pub long : OnOk result (length row ≡ count)
-  pub read : OnOk result (ForSome held (λ source. row ≡ take count (drop at (bytes_in source o))))
-  pub copies : Copies made made' kept kept' result (λ set. with_more set o row)
+  pub read : OnOk result (ForSome held (λ source. row ≡ patched_row f m at (take count (drop at (bytes_in source (object.Contents m))))))
+  pub fit : OnOk result (AreBytes row)
+  pub copies : Copies made made' kept kept' result (λ set. with_more set (object.Contents m) row)
 
--- the objects of a module were copied: its label area, its contents, and its list of bad ranges
-pub record CopiesModule {T E : Type 0} (held : Option Images) (m : ℕ) (area : Option (List ℕ)) (count : ℕ) (bad : Option (List ℕ)) (made made' kept kept' : Option Images) (result : Result T E) : Type 0 where
+-- the objects of a module were copied: its label area, its contents, changed by f, and its list of bad ranges
+pub record CopiesModule {T E : Type 0} (f : ℕ → ℕ → ℕ → ℕ) (held : Option Images) (m : ℕ) (area : Option (List ℕ)) (count : ℕ) (bad : Option (List ℕ)) (made made' kept kept' : Option Images) (result : Result T E) : Type 0 where
   pub row : List ℕ
   pub long : OnOk result (length row ≡ count)
-  pub read : OnOk result (ForSome held (λ source. row ≡ bytes_in source (object.Contents m)))
+  pub read : OnOk result (ForSome held (λ source. row ≡ patched_row f m 0 (bytes_in source (object.Contents m))))
+  pub fit : OnOk result (AreBytes row)
   pub copies : Copies made made' kept kept' result (with_module m area row bad)
 
--- The effect of copying the objects of m modules to an empty sink.
-pub record CopiesFront {T E : Type 0} (held : Option Images) (left : OutlineLeft) (m : ℕ) (made made' kept kept' : Option Images) (result : Result T E) : Type 0 where
+-- The effect of copying the objects of m modules to an empty sink, their contents changed by f.
+pub record CopiesFront {T E : Type 0} (f : ℕ → ℕ → ℕ → ℕ) (held : Option Images) (left : OutlineLeft) (m : ℕ) (made made' kept kept' : Option Images) (result : Result T E) : Type 0 where
   pub contents : List (List ℕ)
   pub count : OnOk result (length contents ≡ m)
   pub sized : OnOk result (map (λ row. length row) contents ≡ take m left.sizes)
-  pub read : OnOk result (ForSome held (λ source. contents ≡ contents_in source m))
+  pub read : OnOk result (ForSome held (λ source. contents ≡ patched_contents f (contents_in source m)))
+  pub fit : OnOk result (All AreBytes contents)
   pub told : Becomes made made' (λ set now. IsUnfinished set now × OnOk result (IsSameSet now (front_of (objects_with left contents) m)))
   pub holds : OnOk result (Keeps kept kept' (λ set now. IsEmptySet set → IsSameSet now (front_of (objects_with left contents) m)))
 
 -- The effect of copying a set to an empty sink: if nothing failed, it has all objects, with contents of the given sizes, which
--- are the source's, and the mark; otherwise the set isn't finished.
+-- are the source's, changed by f, and the mark; otherwise the set isn't finished.
+pub record PatchesSet {T E : Type 0} (f : ℕ → ℕ → ℕ → ℕ) (held : Option Images) (left : OutlineLeft) (made made' kept kept' : Option Images) (result : Result T E) : Type 0 where
+  pub contents : List (List ℕ)
+  pub sized : OnOk result (map (λ row. length row) contents ≡ left.sizes)
+  pub read : OnOk result (ForSome held (λ source. contents ≡ patched_contents f (contents_in source (length left.sizes))))
+  pub fit : OnOk result (All AreBytes contents)
+  pub told : Becomes made made' (λ set now. MatchResult result (λ _. IsSameSet now (objects_with left contents)) (λ _. IsUnfinished set now))
+  pub holds : OnOk result (Keeps kept kept' (λ set now. IsEmptySet set → IsSameSet now (objects_with left contents)))
+
+-- The same, with contents that are the source's as they are.
 pub record CopiesSet {T E : Type 0} (held : Option Images) (left : OutlineLeft) (made made' kept kept' : Option Images) (result : Result T E) : Type 0 where
   pub contents : List (List ℕ)
   pub sized : OnOk result (map (λ row. length row) contents ≡ left.sizes)

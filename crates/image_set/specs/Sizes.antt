@@ -25,6 +25,11 @@ sizes_of set m = record {
 abbrev pub AreSizesOf : Images → List Sizes → Type 0
 AreSizesOf set sizes = sizes ≡ map (sizes_of set) (range_with_len 0 (length sizes))
 
+-- the size of a module's contents is a positive multiple of 4,096 bytes
+pub record IsContentsSize (bytes : ℕ) : Type 0 where
+  pub some : 0 < bytes
+  pub multiple : bytes % 4096 ≡ 0
+
 -- the sizes of a module's objects are within their limits
 pub record IsSized (s : Sizes) : Type 0 where
   pub labels : (bytes : ℕ) → s.labels ≡ Some bytes → IsAreaSize bytes

@@ -36,11 +36,15 @@
 //!
 //! If the source fails during the copy, the set isn't finished, as if the sink had failed.
 //!
+//! A command may also change contents while they are copied ([`OutlineLeft::save_patched`]). A
+//! [`Patch`] says the new value of each byte by its place and its old value, and it changes each
+//! piece before it is written. A piece that it replaces as a whole isn't read.
+//!
 //! The definitions are in `specs/`: `Limits.antt` the limits; `Load.antt` the contents of an image
 //! set, or its first fault (`loading`); `Sound.antt` what holds of a loaded set even if the source
 //! reveals nothing (`IsSound`); `Sizes.antt` the sizes of the objects; `Save.antt` the objects that
 //! are saved; `Changed.antt` a set with another label area; `Outline.antt` an outline, and copying
-//! it. All limits and the order are this project's rules.
+//! it; `Patches.antt` contents that are changed byte by byte. All limits and the order are this project's rules.
 #![tactic(auto)]
 
 mod area;
@@ -61,6 +65,6 @@ mod writing;
 pub use changing::{OutlineLeft, OutlineRest, SetLeft};
 pub use fault::{CopyFault, LoadFault, SaveFault};
 pub use loading::{Loaded, load};
-pub use outline::{Outline, load_outline};
+pub use outline::{Outline, load_contents, load_outline};
 pub use patch::{NoPatch, Patch};
 pub use saving::save;

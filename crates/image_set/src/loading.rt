@@ -15,7 +15,7 @@ ghost use Rattle.image_set.specs.Sound.{AreMapped, IsSound};
 use crate::fault::{LoadFault, Stop};
 use crate::mapped::mappings_fault;
 use crate::pieces::{piece_room, read_bytes};
-use crate::reading::{read_areas, read_bad, read_contents};
+use crate::reading::{contents_sizes, read_areas, read_bad, read_contents};
 use crate::sizes::{Sizes, modules_sizes, table_size};
 use cut_words::CutWords;
 use nfit_reader::{Nfit, NfitFault, read_nfit};
@@ -97,9 +97,10 @@ fn read_set<S: ImageSource>(
     ensures source { LeavesSource (S.held images.old) (S.held images.new)
         (S.faults images.old) (S.faults images.new) result Stop.ReadFault }
 {
+    let of_contents = contents_sizes(alloc, sizes)?;
     let mut room = piece_room(alloc)?;
     let labels = read_areas(alloc, images, sizes, &mut room)?;
-    let contents = read_contents(alloc, images, sizes, &mut room)?;
+    let contents = read_contents(alloc, images, of_contents.as_slice(), &mut room)?;
     let bad = read_bad(alloc, images, sizes)?;
     Ok(Loaded {
         nfit,

@@ -1,22 +1,24 @@
 //! An image set loaded without its contents, which stay in the source until they are copied.
-ghost use Rattle.std.specs.Prelude.{◌≡◌, ◌≢◌, ◌≤◌, length, IfOk, Err};
+ghost use Rattle.std.specs.Prelude.{◌≡◌, ◌≢◌, ◌⊎◌, ◌≤◌, length, map, IfOk, Err};
 ghost use Rattle.std.specs.Option.{ForSome};
+ghost use Rattle.std.specs.List.{All};
 ghost use Rattle.nvd_media.specs.Causes.{LeavesSource, Rose};
 ghost use Rattle.image_set.specs.Known.{IsChecked};
-ghost use Rattle.image_set.specs.Load.{image_set_of};
-ghost use Rattle.image_set.specs.Outline.{HasContents, IsOutlined, Outlines, contents_in, image_set_with};
-ghost use Rattle.image_set.specs.Sizes.{contents_of};
+ghost use Rattle.image_set.specs.Load.{bytes_kept, image_set_of};
+ghost use Rattle.image_set.specs.Outline.{HasContents, IsLoadable, IsOutlined, Outlines, contents_in, image_set_with};
+ghost use Rattle.image_set.specs.Sizes.{IsContentsSize, contents_of};
+ghost use Rattle.image_set.specs.Sound.{AreMapped, IsContents, size_of};
 
 use crate::fault::{LoadFault, Stop};
 use crate::loading::{checked_sizes, table_of};
 use crate::pieces::{piece_room, read_bytes};
-use crate::reading::{read_areas, read_bad};
+use crate::reading::{contents_sizes, read_areas, read_bad, read_contents};
 use crate::sizes::{Sizes, table_size};
 use cut_words::CutWords;
 use nfit_reader::{Nfit, NfitFault};
 use nvd_media::{ImageSource, Object};
 use nvd_words::Items;
-use std::alloc::{AllocError, Global};
+use std::alloc::Global;
 
 /// An image set in memory without its contents, but with their sizes. Lists are indexed by the
 /// number of the module in the firmware's table.
@@ -34,17 +36,6 @@ pub struct Outline {
     pub bad: Items<Option<Items<u8>>>,
 }
 
-/// Returns the size of each module's contents, in bytes.
-fn contents_sizes(alloc: Global, sizes: &[Sizes]) -> Result<Items<u64>, AllocError>
-    ensures { IfOk result (λ bytes. bytes ≡ contents_of sizes.now) }
-{
-    let mut bytes = Items::new(alloc);
-    for of_module in sizes {
-        bytes.push(of_module.contents)?;
-    }
-    Ok(bytes)
-}
-
 /// Reads the bytes of all modules of a table, except their contents.
 fn read_outline<S: ImageSource>(
     alloc: Global,
@@ -54,10 +45,12 @@ fn read_outline<S: ImageSource>(
     sizes: &[Sizes],
 ) -> Result<Outline, Stop>
     requires checked { IsChecked (S.held images.old) nfit nfit_bytes.items sizes.now }
+    requires mapped { All (AreMapped (contents_of sizes.now)) nfit.regions }
     ensures told { ForSome (S.held images.old)
         (λ set. IfOk result (λ outline. image_set_with outline (contents_in set (length outline.sizes)) ≡ image_set_of set nfit)) }
     ensures sizes { ForSome (S.held images.old) (λ set. IfOk result (λ outline. HasContents outline.sizes set)) }
     ensures sound { IfOk result IsOutlined }
+    ensures loadable { IfOk result IsLoadable }
     ensures source { LeavesSource (S.held images.old) (S.held images.new)
         (S.faults images.old) (S.faults images.new) result Stop.ReadFault }
 {
@@ -83,11 +76,13 @@ fn read_outline<S: ImageSource>(
 /// - `failed`: `ReadFault` means that the source's count of failures rose in this call.
 /// - `OutOfMemory` may replace any other result. No other fault contains it (`apart`).
 /// - `sound`: the outline is within its limits and consistent, whatever the source reveals.
+/// - `loadable`: [`load_contents`] can read the contents later.
 /// - `same`, `later`: the source holds what it held, and its count of failures never falls.
 pub fn load_outline<S: ImageSource>(alloc: Global, images: &mut S) -> Result<Outline, LoadFault>
     ensures told { ForSome (S.held images.old) (Outlines result) }
     ensures sizes { ForSome (S.held images.old) (λ set. IfOk result (λ outline. HasContents outline.sizes set)) }
     ensures sound { IfOk result IsOutlined }
+    ensures loadable { IfOk result IsLoadable }
     ensures apart { result ≢ Err (LoadFault.Nfit NfitFault.OutOfMemory) }
     ensures failed { result ≡ Err LoadFault.ReadFault
         → Rose (S.faults images.old) (S.faults images.new) }
@@ -99,4 +94,36 @@ pub fn load_outline<S: ImageSource>(alloc: Global, images: &mut S) -> Result<Out
     let nfit = table_of(alloc, &nfit_bytes)?;
     let sizes = checked_sizes(alloc, images, &nfit)?;
     Ok(read_outline(alloc, images, nfit, nfit_bytes, sizes.as_slice())?)
+}
+
+/// Reads the contents of all modules into memory, of which these are the sizes in bytes, by module
+/// number. They are those of an outline that was loaded.
+///
+/// - `told`: if the source reveals what it holds, they are its contents, as [`crate::load`] returns
+///   them.
+/// - `failed`: `ReadFault` means that the source's count of failures rose in this call.
+/// - `faults`: otherwise only memory can run out.
+/// - `sound`, `sizes`: they are within their limits, and have the given sizes.
+/// - `same`, `later`: the source holds what it held, and its count of failures never falls.
+pub fn load_contents<S: ImageSource>(
+    alloc: Global,
+    images: &mut S,
+    sizes: &[u64],
+) -> Result<Items<CutWords>, LoadFault>
+    requires few { length sizes.now ≤ 64 }
+    requires sized { All IsContentsSize sizes.now }
+    requires there { ForSome (S.held images.old) (HasContents sizes.now) }
+    ensures told { ForSome (S.held images.old) (λ set. IfOk result
+        (λ contents. map bytes_kept contents ≡ contents_in set (length sizes.now))) }
+    ensures sound { IfOk result (All IsContents) }
+    ensures sizes { IfOk result (λ contents. map size_of contents ≡ sizes.now) }
+    ensures faults { (fault : LoadFault) → result ≡ Err fault
+        → (fault ≡ LoadFault.ReadFault) ⊎ (fault ≡ LoadFault.OutOfMemory) }
+    ensures failed { result ≡ Err LoadFault.ReadFault
+        → Rose (S.faults images.old) (S.faults images.new) }
+    ensures later { S.faults images.old ≤ S.faults images.new }
+    ensures same { S.held images.new ≡ S.held images.old }
+{
+    let mut room = piece_room(alloc)?;
+    Ok(read_contents(alloc, images, sizes, &mut room)?)
 }

@@ -6,8 +6,9 @@ ghost use Rattle.nvd_media.specs.Causes.{LeavesSource};
 ghost use Rattle.nvd_media.specs.Images.{bytes_of};
 ghost use Rattle.image_set.specs.Known.{AreKnown};
 ghost use Rattle.image_set.specs.Load.{bytes_kept};
+ghost use Rattle.image_set.specs.Outline.{HasContents, contents_in};
 ghost use Rattle.image_set.specs.Sound.{size_of, AreWords, IsArea, IsContents, IsBadRanges, IsSettled};
-ghost use Rattle.image_set.specs.Sizes.{contents_of};
+ghost use Rattle.image_set.specs.Sizes.{IsContentsSize, contents_of};
 ghost use Rattle.label_index.specs.Area.{IsAreaSize};
 
 use crate::fault::Stop;
@@ -16,7 +17,7 @@ use crate::sizes::Sizes;
 use cut_words::CutWords;
 use nvd_media::{ImageSource, Object};
 use nvd_words::Items;
-use std::alloc::Global;
+use std::alloc::{AllocError, Global};
 
 /// States the bound of the words' type as a clause. It does nothing at run time.
 fn know_words(words: &[u64])
@@ -131,27 +132,39 @@ pub(crate) fn read_areas<S: ImageSource>(
     Ok(areas)
 }
 
-/// Reads the contents of all modules.
+/// Returns the size of each module's contents, in bytes.
+pub(crate) fn contents_sizes(alloc: Global, sizes: &[Sizes]) -> Result<Items<u64>, AllocError>
+    ensures { IfOk result (λ bytes. bytes ≡ contents_of sizes.now) }
+{
+    let mut bytes = Items::new(alloc);
+    for of_module in sizes {
+        bytes.push(of_module.contents)?;
+    }
+    Ok(bytes)
+}
+
+/// Reads the contents of all modules, of which these are the sizes in bytes.
 pub(crate) fn read_contents<S: ImageSource>(
     alloc: Global,
     images: &mut S,
-    sizes: &[Sizes],
+    sizes: &[u64],
     room: &mut Vec<u8>,
 ) -> Result<Items<CutWords>, Stop>
     requires room { vec_len room.old ≡ 262144 }
-    requires known { AreKnown (S.held images.old) sizes.now }
+    requires few { length sizes.now ≤ 64 }
+    requires sized { All IsContentsSize sizes.now }
+    requires there { ForSome (S.held images.old) (HasContents sizes.now) }
     ensures told { ForSome (S.held images.old) (λ set. IfOk result
-        (λ contents. map bytes_kept contents
-        ≡ map (λ m. bytes_of set (Object.Contents m)) (range_with_len 0 (length sizes.now)))) }
+        (λ contents. map bytes_kept contents ≡ contents_in set (length sizes.now))) }
     ensures sound { IfOk result (All IsContents) }
-    ensures sizes { IfOk result (λ contents. map size_of contents ≡ contents_of sizes.now) }
+    ensures sizes { IfOk result (λ contents. map size_of contents ≡ sizes.now) }
     ensures room { vec_len room.new ≡ 262144 }
     ensures source { LeavesSource (S.held images.old) (S.held images.new)
         (S.faults images.old) (S.faults images.new) result Stop.ReadFault }
 {
     let mut contents = Items::new(alloc);
     for module in 0..sizes.len() as u32 {
-        let bytes = sizes[module as usize].contents;
+        let bytes = sizes[module as usize];
         let words = read_object(alloc, images, Object::Contents(module), bytes, room)?;
         contents.push(words)?;
     }

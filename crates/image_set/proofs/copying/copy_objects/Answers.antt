@@ -21,7 +21,7 @@ loop-module-init g c = record {
   same = refl;
   later_read = omega arith;
   later_written = c.in_ok-write.ensures.cause.later;
-  copied = front_table (g.S.ImageSource.held c.args.images.now) c.args.left.now (g.K.ImageSink.made c.args.out.now) (g.K.ImageSink.made c.write.new.self)
+  copied = front_table (g.P.Patch.patched c.args.patch.now) (g.S.ImageSource.held c.args.images.now) c.args.left.now (g.K.ImageSink.made c.args.out.now) (g.K.ImageSink.made c.write.new.self)
       (g.K.ImageSink.kept c.args.out.now) (g.K.ImageSink.kept c.write.new.self) (tt {0}) c.requires.empty
       (subst (λ bytes. Becomes (g.K.ImageSink.made c.args.out.now) (g.K.ImageSink.made c.write.new.self) (λ set now. IsUnfinished set now × IsSameSet now (with_more set object.Nfit bytes)))
       c.as_slice.ensures c.in_ok-write.ensures.told)
@@ -37,7 +37,7 @@ copy_module-requires-clause-there g c = λ set told.
 
 pub copy_module-requires-clause-absent : goal.copy_module-requires-clause-absent
 copy_module-requires-clause-absent g c =
-    front_lacks (g.S.ImageSource.held c.args.images.now) c.args.left.now c.loop-module.module (g.K.ImageSink.made c.args.out.now) (g.K.ImageSink.made c.loop-module.out)
+    front_lacks (g.P.Patch.patched c.args.patch.now) (g.S.ImageSource.held c.args.images.now) c.args.left.now c.loop-module.module (g.K.ImageSink.made c.args.out.now) (g.K.ImageSink.made c.loop-module.out)
     (g.K.ImageSink.kept c.args.out.now) (g.K.ImageSink.kept c.loop-module.out) (tt {0}) c.loop-module.invariant.copied
 
 pub returns-in_err-copy_module-clause-copied : goal.returns-in_err-copy_module-clause-copied
@@ -47,7 +47,7 @@ returns-in_err-copy_module-clause-copied g c =
     let left = c.args.left.now in
     let p = err_from_is_err_and c.from_residual-in_err-copy_module.result c.from_residual-in_err-copy_module.ensures.1 in
     rw p.1
-    (front_stopped (g.S.ImageSource.held c.args.images.now) left (length left.sizes) (made c.args.out.now) (made c.copy_module.new.out) (kept c.args.out.now) (kept c.copy_module.new.out) p.0
+    (front_stopped (g.P.Patch.patched c.args.patch.now) (g.S.ImageSource.held c.args.images.now) left (length left.sizes) (made c.args.out.now) (made c.copy_module.new.out) (kept c.args.out.now) (kept c.copy_module.new.out) p.0
     (stopped_then (made c.args.out.now) (made c.loop-module.out) (made c.copy_module.new.out)
     (λ was now. IsUnfinished was now × IsSameSet now (front_of (objects_with left c.loop-module.invariant.copied.contents) c.loop-module.module)) (λ was now. IsUnfinished was now × Unit {0})
     (λ was now r. r.0) (λ was now s. s.0) c.loop-module.invariant.copied.told c.in_err-copy_module.ensures.copied.copies.told))
@@ -74,9 +74,9 @@ loop-module-preserved g c =
       same = c.in_ok-copy_module.ensures.outside.same ∙ c.loop-module.invariant.same;
       later_read = let a = c.in_ok-copy_module.ensures.outside.later_read in let b = c.loop-module.invariant.later_read in omega arith;
       later_written = let a = c.in_ok-copy_module.ensures.outside.later_written in let b = c.loop-module.invariant.later_written in omega arith;
-      copied = front_more {F = CopyStop} (held c.args.images.now) left m (option_map bytes_of area) count ranges
+      copied = front_more {F = CopyStop} (g.P.Patch.patched c.args.patch.now) (held c.args.images.now) left m (option_map bytes_of area) count ranges
           (made c.args.out.now) (made c.loop-module.out) (made out) (kept c.args.out.now) (kept c.loop-module.out) (kept out) (tt {0}) (Ok (tt {0})) inside
           (ap (option_map bytes_of) area_is) (ap (λ xs. get_or xs m 0) c.as_slice-sizes.ensures) ranges_is c.loop-module.invariant.copied
-          (subst (λ h. CopiesModule {E = CopyStop} h m (option_map bytes_of area) count ranges (made c.loop-module.out) (made out) (kept c.loop-module.out) (kept out) (Ok (tt {0}))) c.loop-module.invariant.same
+          (subst (λ h. CopiesModule {E = CopyStop} (g.P.Patch.patched c.args.patch.now) h m (option_map bytes_of area) count ranges (made c.loop-module.out) (made out) (kept c.loop-module.out) (kept out) (Ok (tt {0}))) c.loop-module.invariant.same
           c.in_ok-copy_module.ensures.copied);
     }

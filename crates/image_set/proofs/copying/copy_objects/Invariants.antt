@@ -11,6 +11,6 @@ invariant-loop-module g l = record {
   same : g.S.ImageSource.held l.images ≡ g.S.ImageSource.held l.fn.images;
   later_read : g.S.ImageSource.faults l.fn.images ≤ g.S.ImageSource.faults l.images;
   later_written : g.K.ImageSink.faults l.fn.out ≤ g.K.ImageSink.faults l.out;
-  copied : CopiesFront {E = CopyStop} (g.S.ImageSource.held l.fn.images) l.fn.left l.module (g.K.ImageSink.made l.fn.out) (g.K.ImageSink.made l.out)
+  copied : CopiesFront {E = CopyStop} (g.P.Patch.patched l.fn.patch) (g.S.ImageSource.held l.fn.images) l.fn.left l.module (g.K.ImageSink.made l.fn.out) (g.K.ImageSink.made l.out)
       (g.K.ImageSink.kept l.fn.out) (g.K.ImageSink.kept l.out) (Ok (tt {0}));
 }

@@ -39,22 +39,20 @@ returns-in_err-sizes-clause-told g c = λ set told.
     (table_is c.deref.result.now c.in_ok-nfit.nfit c.table_of.result (nfit_reading c.deref.result.now) c.in_ok-nfit.was refl c.table_of.ensures.reading)
     (c.checked_sizes.ensures.told set (c.read_bytes.ensures.source.same ∙ c.table_size.ensures.source.same ∙ told)) ready
 
-pub read_outline-requires : goal.read_outline-requires
-read_outline-requires g c = record {
-  checked = record {
-    table = ap nfit_reading (sym c.deref.ensures.value)
-        ∙ table_is c.deref.result.now c.in_ok-nfit.nfit c.table_of.result (nfit_reading c.deref.result.now) c.in_ok-nfit.was refl c.table_of.ensures.reading;
-    counted = c.in_ok-nfit.ensures.counted;
-    few = c.in_ok-nfit.ensures.few;
-    modules = c.in_ok-nfit.ensures.modules;
-    count = ap length c.as_slice.ensures ∙ c.in_ok-sizes.ensures.count;
-    sized = subst AreSized (sym c.as_slice.ensures) c.in_ok-sizes.ensures.sized;
-    there = λ set told.
-        subst (AreSizesOf set) (sym c.as_slice.ensures)
-        (sizes_told set c.in_ok-sizes.sizes (length c.in_ok-nfit.nfit.modules)
-        (passed c.in_ok-sizes.sizes _ _ c.checked_sizes.result c.in_ok-sizes.was (c.checked_sizes.ensures.told set (sym c.checked_sizes.ensures.source.same ∙ told))).1 c.in_ok-sizes.ensures.count);
-    read = λ set told. c.in_ok-nfit_bytes.ensures.told set (sym c.read_bytes.ensures.source.same ∙ (sym c.checked_sizes.ensures.source.same ∙ told));
-  };
+pub read_outline-requires-clause-checked : goal.read_outline-requires-clause-checked
+read_outline-requires-clause-checked g c = record {
+  table = ap nfit_reading (sym c.deref.ensures.value)
+      ∙ table_is c.deref.result.now c.in_ok-nfit.nfit c.table_of.result (nfit_reading c.deref.result.now) c.in_ok-nfit.was refl c.table_of.ensures.reading;
+  counted = c.in_ok-nfit.ensures.counted;
+  few = c.in_ok-nfit.ensures.few;
+  modules = c.in_ok-nfit.ensures.modules;
+  count = ap length c.as_slice.ensures ∙ c.in_ok-sizes.ensures.count;
+  sized = subst AreSized (sym c.as_slice.ensures) c.in_ok-sizes.ensures.sized;
+  there = λ set told.
+      subst (AreSizesOf set) (sym c.as_slice.ensures)
+      (sizes_told set c.in_ok-sizes.sizes (length c.in_ok-nfit.nfit.modules)
+      (passed c.in_ok-sizes.sizes _ _ c.checked_sizes.result c.in_ok-sizes.was (c.checked_sizes.ensures.told set (sym c.checked_sizes.ensures.source.same ∙ told))).1 c.in_ok-sizes.ensures.count);
+  read = λ set told. c.in_ok-nfit_bytes.ensures.told set (sym c.read_bytes.ensures.source.same ∙ (sym c.checked_sizes.ensures.source.same ∙ told));
 }
 
 pub returns-clause-told : goal.returns-clause-told

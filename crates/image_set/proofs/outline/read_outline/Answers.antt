@@ -1,15 +1,12 @@
-use Rattle.std.proofs.Common.{◌≡◌, ℕ, length, map, refl, sym, ap, ◌∙◌, arith}
-use Rattle.std.specs.List.{range_with_len}
+use Rattle.std.proofs.Common.{◌≡◌, ℕ, List, length, refl, sym, ap, subst, ◌∙◌, arith}
+use Rattle.std.specs.List.{All}
 use Rattle.std.proofs.lemmas.List.{length-map}
-use Rattle.std.proofs.lemmas.Simd.{map-map}
-use Rattle.nvd_media.specs.declared.object.Object.TheVariants as object
-use Rattle.nvd_media.specs.Images.{bytes_of}
 use Rattle.nfit_reader.specs.Table.{nfit_reading}
 use Rattle.image_set.specs.declared.sizes.Sizes.{Sizes}
-use Rattle.image_set.specs.Sizes.{contents_of}
+use Rattle.image_set.specs.Sizes.{IsContentsSize}
+use Rattle.image_set.specs.Sound.{AreMapped}
 use Rattle.image_set.proofs.Chain.{outline_is}
-use Rattle.image_set.proofs.Counting.{contents_by}
-use Rattle.image_set.proofs.Filled.{known_still}
+use Rattle.image_set.proofs.Filled.{contents_sized, contents_there, known_still}
 use Rattle.image_set.proofs.outline.read_outline.Goals as goal
 
 pub read_areas-requires-clause-known : goal.read_areas-requires-clause-known
@@ -29,12 +26,14 @@ returns-clause-told g c = λ set told.
     (c.in_ok-bad.ensures.told set (c.read_areas.ensures.source.same ∙ told))
 
 pub returns-clause-sizes : goal.returns-clause-sizes
-returns-clause-sizes g c = λ set told.
-    let sizes = c.args.sizes.now in
-    let long : length c.in_ok-of_contents.of_contents ≡ length sizes = ap length c.in_ok-of_contents.ensures ∙ length-map sizes (λ (s : Sizes). s.contents) in
-    c.in_ok-of_contents.ensures ∙ ap contents_of (c.requires.checked.there set told) ∙ contents_by set (range_with_len 0 (length sizes))
-    ∙ sym (map-map (λ row. length row) (λ (k : ℕ). bytes_of set (object.Contents k)) (range_with_len 0 (length sizes)))
-    ∙ ap (λ n. map (λ row. length row) (map (λ (k : ℕ). bytes_of set (object.Contents k)) (range_with_len 0 n))) (sym long)
+returns-clause-sizes g c = λ set told. contents_there set c.args.sizes.now c.in_ok-of_contents.of_contents c.in_ok-of_contents.ensures (c.requires.checked.there set told)
+
+pub returns-clause-loadable : goal.returns-clause-loadable
+returns-clause-loadable g c = record {
+  count = ap length c.in_ok-of_contents.ensures ∙ length-map c.args.sizes.now (λ (s : Sizes). s.contents) ∙ c.requires.checked.count;
+  sized = subst (All IsContentsSize) (sym c.in_ok-of_contents.ensures) (contents_sized c.args.sizes.now c.requires.checked.sized.each);
+  mapped = subst (λ (sizes : List ℕ). All (AreMapped sizes) c.args.nfit.regions) (sym c.in_ok-of_contents.ensures) c.requires.mapped;
+}
 
 pub returns-clause-sound : goal.returns-clause-sound
 returns-clause-sound g c =

@@ -1,5 +1,5 @@
 use Rattle.std.proofs.Common.{[], refl, sym, subst, ◌∙◌}
-use Rattle.power_cut.specs.Left.{InTurn, IsLeftOf, IsLeftOfAll, LeavesAll, LeavesOption}
+use Rattle.power_cut.specs.Left.{InTurn, IsLeftOf, LeavesAll, LeavesOption}
 use Rattle.image_set.proofs.Areas.{none_asked}
 use Rattle.image_set.proofs.Kept.{each_length}
 use Rattle.image_set.proofs.changing.OutlineRest.leave_areas.Goals as goal

@@ -1,7 +1,6 @@
 use Rattle.std.proofs.Common.{◌≡◌, ℕ, List, get_or, None, Vec, Global, IfOk, arith, sym, ap, ◌∙◌}
-use Rattle.std.specs.Prelude.{unwrap_or, Result, Ok, Err, Option}
+use Rattle.std.specs.Prelude.{unwrap_or, Result, Ok, Err}
 use Rattle.std.specs.Option.{option_map}
-use Rattle.cut_words.specs.Words.{Words}
 use Rattle.image_set.specs.Load.{area_of, bytes_kept}
 use Rattle.image_set.specs.Outline.{image_set_with}
 use Rattle.image_set.proofs.Areas.{taken_is}

@@ -1,4 +1,4 @@
-use Rattle.std.proofs.Common.{subst, [], Some}
+use Rattle.std.proofs.Common.{subst, Some}
 use Rattle.std.proofs.Math.ListN.{set}
 use Rattle.power_cut.specs.Left.{LeavesAll, IsLeftOfAll}
 use Rattle.image_set.proofs.Areas.{area_left, copyable}

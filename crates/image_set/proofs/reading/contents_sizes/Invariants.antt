@@ -1,6 +1,6 @@
 use Rattle.std.proofs.Common.{◌≡◌, take}
 use Rattle.image_set.specs.Sizes.{contents_of}
-use Rattle.image_set.proofs.outline.contents_sizes.Given as goal
+use Rattle.image_set.proofs.reading.contents_sizes.Given as goal
 
 abbrev pub invariant-loop-of_module : goal.invariant-loop-of_module
 invariant-loop-of_module l = record { sizes : l.bytes ≡ contents_of (take l.of_module-index l.sizes) }
