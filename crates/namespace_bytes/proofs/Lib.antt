@@ -9,3 +9,4 @@ pub mod Flagged
 pub mod Pasted
 pub mod Patched
 pub mod WholePatch
+mod Rows

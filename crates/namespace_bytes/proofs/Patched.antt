@@ -1,7 +1,6 @@
 -- The contents of modules with the bytes of a raw namespace put into them.
-use Rattle.std.proofs.Common.{◌≡◌, ◌⊎◌, ℕ, zero, suc, ◌+◌, ◌-◌, ◌*◌, ◌/◌, ◌%◌, ◌<◌, ◌≤◌, Bool, true, false, cond, List, [], ◌∷◌, ◌++◌, length, length-append, append-nil, append_assoc, map, take, drop, get_or, replicate, Option, Some, None, refl, sym, ap, ◌∙◌, subst, arith, inl, inr}
-use Rattle.std.specs.Prelude.{Contains, ◌==◌, ◌&&◌, if◌then◌else◌, nat_le, nat_lt, find, position, slice_get, slice_index_or}
-use Rattle.std.specs.List.{All, list_any, range_with_len}
+use Rattle.std.proofs.Common.{◌≡◌, ◌⊎◌, ℕ, zero, suc, ◌+◌, ◌-◌, ◌*◌, ◌/◌, ◌%◌, ◌<◌, ◌≤◌, Bool, true, false, cond, List, [], ◌∷◌, ◌++◌, length, length-append, append-nil, append_assoc, take, drop, get_or, Option, Some, None, refl, sym, ap, ◌∙◌, subst, arith, inl, inr}
+use Rattle.std.specs.Prelude.{Contains, ◌==◌, ◌&&◌, if◌then◌else◌, nat_le, nat_lt, find, position, slice_get}
 use Rattle.std.specs.Option.{option_map}
 use Rattle.std.proofs.Math.Seq.{take-add}
 use Rattle.std.proofs.lemmas.Bool.{cases_Bool, cases_lt, eqb-true}
@@ -10,15 +9,15 @@ use Rattle.std.proofs.lemmas.List.{drop-drop, drop_all, ext_get_or, get_or-drop,
 use borrow.Rule.Slice.PartMut.{put_mid}
 use lib.Seq.{drop-append_seam, take-append_seam}
 use Rattle.std.proofs.lemmas.List.{take-append-drop}
-use Rattle.std.proofs.lemmas.List.Folds.{find_at, list_any_at}
+use Rattle.std.proofs.lemmas.List.Folds.{find_at}
 use Rattle.std.proofs.lemmas.Option.{slice_get_cases, slice_get_past}
 use Rattle.std.specs.List.{position_or_len}
-use Rattle.std.proofs.lemmas.Nat.{div-add-mod', mul-le}
+use Rattle.std.proofs.lemmas.Nat.{div-add-mod'}
 use Rattle.std.proofs.Math.Nat.{mul-mod_left}
 use Rattle.nfit_reader.specs.declared.table.Mapping.{Mapping}
-use Rattle.interleave.specs.Places.{LiesAt, LiesBy, region_byte, unit_of}
-use Rattle.interleave.specs.Sound.{HasAddress, span_of}
-use Rattle.power_cut.specs.Namespace.{Namespace, IsLaid, byte_at, count_of, is_inside, over}
+use Rattle.interleave.specs.Places.{LiesAt, region_byte, unit_of}
+use Rattle.interleave.specs.Sound.{HasAddress}
+use Rattle.power_cut.specs.Namespace.{IsLaid, over}
 use Rattle.power_cut.proofs.Spread.{at_range, length_range}
 use Rattle.image_set.specs.Patches.{patched_row}
 use Rattle.namespace_bytes.specs.Patching.{IsRawBytes, RawBytes, byte_from, is_within, mapping_of, patched_by, raw_patched, start_in}
@@ -211,7 +210,7 @@ row_kept f m at row n le same =
     sym (ap (λ (r : List ℕ). r ++ drop n row) front ∙ take-append-drop n row)
 
 module _ (p : RawBytes) (is : IsRawBytes p) (which start at byte run size : ℕ) (row : List ℕ) (there : start_in p which ≡ Some start) (from : start ≤ at)
-  (lies : (j : ℕ) → j < run → LiesAt p.set (byte + j) which (at + j)) (some : 0 < size) (short : size ≤ run) (to : at + size ≤ start + p.raw) where
+    (lies : (j : ℕ) → j < run → LiesAt p.set (byte + j) which (at + j)) (some : 0 < size) (short : size ≤ run) (to : at + size ≤ start + p.raw) where
   abbrev first : ℕ
   first = length p.set * p.offset
 

@@ -1,12 +1,12 @@
 -- All contents with the bytes of a raw namespace put into them: the namespace has them, and nothing beside it has changed.
-use Rattle.std.proofs.Common.{◌≡◌, ◌⊎◌, ℕ, zero, suc, ◌+◌, ◌-◌, ◌*◌, ◌/◌, ◌%◌, ◌<◌, ◌≤◌, Bool, true, false, cond, List, [], ◌∷◌, length, map, take, drop, get_or, replicate, Option, Some, None, refl, sym, ap, ◌∙◌, subst, arith, inl, inr}
+use Rattle.std.proofs.Common.{◌≡◌, ◌⊎◌, ℕ, ◌+◌, ◌-◌, ◌*◌, ◌/◌, ◌%◌, ◌<◌, ◌≤◌, Bool, true, false, List, [], ◌∷◌, length, map, take, drop, get_or, replicate, Option, Some, None, refl, sym, ap, ◌∙◌, subst, arith, inl, inr}
 use Rattle.std.specs.Prelude.{Contains, ◌==◌, ◌&&◌, if◌then◌else◌, nat_le, nat_lt, slice_index_or}
-use Rattle.std.specs.List.{All, list_any, range_with_len}
+use Rattle.std.specs.List.{range_with_len}
 use Rattle.std.specs.Int.{w64, from_le_bytes}
 use Rattle.std.proofs.lemmas.Bool.{cases_Bool, cases_lt}
 use Rattle.std.proofs.lemmas.Bool.Decides.{nat_tests}
 use Rattle.std.proofs.lemmas.List.{ext_get_or, get_or-drop, get_or-map, get_or-take, length-drop, length-map, length-take-le}
-use Rattle.std.proofs.lemmas.List.Elements.{All-cons, All-get_or, All-nil}
+use Rattle.std.proofs.lemmas.List.Elements.{All-cons, All-nil}
 use Rattle.std.proofs.lemmas.List.Folds.{list_any_at}
 use Rattle.nfit_reader.specs.declared.table.Mapping.{Mapping}
 use Rattle.nvd_words.specs.Bytes.{number_at}
@@ -15,15 +15,15 @@ use Rattle.interleave.specs.Sound.{span_of}
 use Rattle.cut_words.specs.Words.{Words, settled}
 use Rattle.cut_words.specs.WordBytes.{words_in}
 use Rattle.arena_open.proofs.Bytes.{length_words, word_index}
-use Rattle.power_cut.specs.Namespace.{Namespace, HasBytes, IsLaid, ReachEnds, beside_of, byte_at, count_of, is_inside, kept_at, over, row_beside, row_of, words_of}
+use Rattle.power_cut.specs.Namespace.{Namespace, ReachEnds, beside_of, byte_at, count_of, is_inside, over, row_beside, row_of, words_of}
 use Rattle.power_cut.proofs.Spread.{at_range, blank, count_is, kept_is, length_range, range_same}
 use Rattle.sector_namespaces.specs.View.{rows_of}
 use Rattle.sector_namespaces.specs.Creation.{AreSettled}
 use Rattle.sector_namespaces.proofs.Views.{view_settled}
 use Rattle.image_set.specs.Patches.{patched_contents, patched_row}
-use Rattle.namespace_bytes.specs.Patching.{ArePatched, AreWhole, IsRawBytes, RawBytes, mapping_of, raw_patched, start_in}
+use Rattle.namespace_bytes.specs.Patching.{ArePatched, AreWhole, IsRawBytes, RawBytes, raw_patched, start_in}
 use Rattle.namespace_bytes.proofs.Puts.{in_region, whole_byte}
-use Rattle.namespace_bytes.proofs.Patched.{at_row, byte_kept, byte_none, byte_put, byte_range, found_is, has_address, length_row, start_is}
+use Rattle.namespace_bytes.proofs.Patched.{at_row, byte_kept, byte_none, byte_put, byte_range, found_is, length_row, start_is}
 
 -- ---- rows of words
 

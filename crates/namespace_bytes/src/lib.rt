@@ -20,6 +20,15 @@
 //! log             may have a pending move              as it was; no move is pending
 //! ```
 //!
+//! **Raw namespaces that are copied.** `RawPatch` has the bytes of a raw namespace and puts them into the contents of its modules
+//! while these are copied from one set to another (`image_set::Patch`). So neither the contents nor the words are in memory.
+//!
+//! ```text
+//! bytes           | line 0 | line 1 | line 2 | line 3 |
+//! module 0   .. b |   0    |   2    | b ..                  b: bytes beside the namespace stay
+//! module 1   .. b |   1    |   3    | b ..
+//! ```
+//!
 //! Since no power is cut, no word is stored and flushed either: `PlainWords` takes the words of all modules and puts words at
 //! their places, in one step each, with no second value beside them. Afterwards they are words that can be stored again.
 //!
@@ -27,6 +36,7 @@
 //! |---|---|
 //! | the words of a namespace of sectors afterwards | `HasContents` of `specs/Contents.antt` |
 //! | the steps | `put_links` of `specs/Putting.antt` |
+//! | a byte of a module's contents, patched | `raw_patched` of `specs/Patching.antt` |
 //!
 //! All are this project's rules over UEFI 2.10, section 6.2 (BTT data structures).
 #![tactic(auto)]

@@ -87,7 +87,11 @@ impl RawPatch {
             return piece.len();
         }
         let byte = self.set.offset_of(module, at);
-        let size = self.set.run_length(byte).min(left as u64).min(piece.len() as u64) as usize;
+        let size = self
+            .set
+            .run_length(byte)
+            .min(left as u64)
+            .min(piece.len() as u64) as usize;
         let from = (byte - u64::from(self.set.ways()) * self.offset) as usize;
         piece[..size].copy_from_slice(&self.bytes[from..from + size]);
         size

@@ -1,8 +1,4 @@
-use Rattle.std.proofs.Common.{List, ℕ, sym, subst}
-use Rattle.power_cut.specs.Namespace.{ReachEnds}
 use Rattle.power_cut.proofs.Spread.{laid_of}
-use Rattle.sector_namespaces.specs.View.{rows_of}
-use Rattle.namespace_bytes.specs.Patching.{IsRawBytes, RawBytes}
 use Rattle.namespace_bytes.proofs.WholePatch.{are_patched}
 use Rattle.namespace_bytes.proofs.patch.RawPatch.new.Goals as goal
 

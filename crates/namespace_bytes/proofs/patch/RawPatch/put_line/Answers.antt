@@ -1,7 +1,5 @@
-use Rattle.std.proofs.Common.{◌≡◌, ℕ, ◌+◌, ◌-◌, ◌*◌, ◌^◌, ◌<◌, ◌≤◌, ◌++◌, List, Some, min, length, take, drop, inl, inr, sym, ap, ◌∙◌, subst, arith}
-use Rattle.std.proofs.lemmas.Nat.{mul-le}
-use Rattle.interleave.specs.Sound.{HasAddress, span_of}
-use Rattle.namespace_bytes.specs.Patching.{IsRawBytes, RawBytes, raw_patched, start_in}
+use Rattle.std.proofs.Common.{◌≡◌, ℕ, ◌+◌, ◌-◌, ◌*◌, ◌≤◌, ◌++◌, List, Some, length, take, drop, inl, inr, sym, ap, ◌∙◌, subst, arith}
+use Rattle.namespace_bytes.specs.Patching.{RawBytes, raw_patched, start_in}
 use Rattle.image_set.specs.Patches.{patched_row}
 use Rattle.namespace_bytes.proofs.Patched.{byte_kept, has_address, line_from, line_inside, line_put, row_kept}
 use Rattle.namespace_bytes.proofs.patch.RawPatch.put_line.Goals as goal
