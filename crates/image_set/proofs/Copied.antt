@@ -11,6 +11,8 @@ use Rattle.std.proofs.lemmas.List.FromFn.{get_or-map-range_with_len}
 use Rattle.std.proofs.lemmas.Option.{slice_get_past, slice_get-get_or}
 use Rattle.std.proofs.Math.Seq.{take-add}
 use Rattle.std.proofs.lemmas.Simd.{map-map}
+use Rattle.nvd_words.specs.Bytes.{AreBytes}
+use Rattle.nvd_words.proofs.ByteLists.{both_bytes}
 use Rattle.nvd_media.specs.declared.object.Object.{Object}
 use Rattle.nvd_media.specs.declared.object.Object.TheVariants as object
 use Rattle.nvd_media.specs.Images.{Images, IsEmptySet, IsSameSet, Becomes, Keeps, IsUnfinished, is_object, bytes_of as bytes_in, with_more}
@@ -18,12 +20,12 @@ use Rattle.nvd_media.proofs.Told.{becomes_here, becomes_then, becomes_told}
 use Rattle.cut_words.specs.WordBytes.{bytes_of}
 use Rattle.image_set.specs.declared.changing.OutlineLeft.{OutlineLeft}
 use Rattle.image_set.specs.Outline.{Copies, CopiesRow, CopiesModule, CopiesFront, CopiesSet, HasContents, IsCopyable, PatchesSet, contents_in, objects_with}
-use Rattle.image_set.specs.Patches.{AreBytes, patched_row}
+use Rattle.image_set.specs.Patches.{patched_row}
 use Rattle.image_set.specs.Save.{Adds, HasNone, front_of, with_module, with_some}
 use Rattle.image_set.proofs.Adding.{IsAlike, on_ok, keeps_then, becomes_mono, bytes_added, more_alike, more_twice, some_alike, some_other}
 use Rattle.image_set.proofs.Filled.{list_on}
 use Rattle.image_set.proofs.Fronts.{front_none, front_step, if_same, module_alike, none_past}
-use Rattle.image_set.proofs.Patched.{bytes_append, contents_by, row_append, row_long, same_contents}
+use Rattle.image_set.proofs.Patched.{contents_by, row_append, row_long, same_contents}
 use Rattle.image_set.proofs.Counting.{all_one}
 
 -- ---- the effect on a sink
@@ -93,7 +95,7 @@ row_more f held m at count s s' s'' k k' k'' x second one two = record {
       let next : at ≡ 0 + length front = omega (arith, long) in
       ap (λ xs. xs ++ two.row) (one.read source told) ∙ ap (λ xs. patched_row f m 0 front ++ xs) (read source told)
       ∙ ap (λ n. patched_row f m 0 front ++ patched_row f m n past) next ∙ row_append f m 0 front past ∙ ap (λ xs. patched_row f m 0 xs) (sym (take-add at count bytes))) two.read;
-  fit = on_ok second (λ fit. bytes_append one.row two.row one.fit fit) two.fit;
+  fit = on_ok second (λ fit. both_bytes one.row two.row one.fit fit) two.fit;
   copies = copies_as s s'' k k'' second (λ set. with_more (with_more set (object.Contents m) one.row) (object.Contents m) two.row) (λ set. with_more set (object.Contents m) (one.row ++ two.row))
       (λ set. more_twice (object.Contents m) one.row two.row set)
       (copies_then s s' s'' k k' k'' x second (λ set. with_more set (object.Contents m) one.row) (λ set. with_more set (object.Contents m) two.row) (more_alike (object.Contents m) two.row) one.copies two.copies);

@@ -1,5 +1,5 @@
 -- Contents whose bytes are changed, each by itself.
-use Rattle.std.proofs.Common.{◌≡◌, ℕ, ◌+◌, ◌-◌, ◌^◌, ◌<◌, ◌≤◌, List, [], ◌++◌, length, map, get_or, refl, sym, ap, subst, ◌∙◌, arith, inl, inr}
+use Rattle.std.proofs.Common.{◌≡◌, ℕ, ◌+◌, ◌-◌, ◌<◌, ◌≤◌, List, [], ◌++◌, length, map, get_or, refl, sym, ap, ◌∙◌, arith, inl, inr}
 use Rattle.std.specs.Prelude.{nat_lt}
 use Rattle.std.specs.List.{range_with_len}
 use Rattle.std.proofs.lemmas.Bool.{cases_Bool}
@@ -8,7 +8,7 @@ use Rattle.std.proofs.lemmas.Grind.{same_number_lists}
 use Rattle.std.proofs.lemmas.List.{ext_get_or, get_or_append_left, get_or-append_right, length-append}
 use Rattle.std.proofs.lemmas.List.FromFn.{get_or-map-range_with_len, length-map-range_with_len}
 use Rattle.power_cut.proofs.Spread.{range_same}
-use Rattle.image_set.specs.Patches.{AreBytes, IsCovered, patched_contents, patched_row}
+use Rattle.image_set.specs.Patches.{IsCovered, patched_contents, patched_row}
 
 -- ---- a piece
 
@@ -61,21 +61,6 @@ row_append f m at xs ys = same_number_lists both (patched_row f m at (xs ++ ys))
               ∙ ap (λ place. f m place (get_or ys (k - length xs) 0)) (omega (arith, past))
               ∙ ap (λ old. f m (at + k) old) (sym (get_or-append_right xs ys (length xs) k 0 refl past)) ∙ sym (byte_at f m at (xs ++ ys) k inside)
         ]
-
--- ---- bytes
-
-pub bytes_append : (xs ys : List ℕ) → AreBytes xs → AreBytes ys → AreBytes (xs ++ ys)
-bytes_append xs ys one two = record { each = each }
-  where
-    each : (i : ℕ) → get_or (xs ++ ys) i 0 < 2 ^ 8
-    each i = elim (cases_Bool (nat_lt i (length xs))) [
-      | inl below ↦
-          let here : i < length xs = grind (arith, nat_tests, below) in
-          subst (λ x. x < 2 ^ 8) (sym (get_or_append_left xs ys 0 i here)) (one.each i)
-      | inr above ↦
-          let past : length xs ≤ i = grind (arith, nat_tests, above) in
-          subst (λ x. x < 2 ^ 8) (sym (get_or-append_right xs ys (length xs) i 0 refl past)) (two.each (i - length xs))
-    ]
 
 -- ---- all contents
 

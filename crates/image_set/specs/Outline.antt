@@ -3,6 +3,7 @@ use Rattle.std.specs.Prelude.{◌≡◌, ℕ, ◌^◌, ◌<◌, ◌≤◌, Bool,
 use Rattle.std.specs.Option.{ForSome, option_map}
 use Rattle.std.specs.Result.{result_map_both}
 use Rattle.std.specs.List.{All, range_with_len}
+use Rattle.nvd_words.specs.Bytes.{AreBytes}
 use Rattle.nvd_media.specs.declared.object.Object.{Object}
 use Rattle.nvd_media.specs.declared.object.Object.TheVariants as object
 use Rattle.nvd_media.specs.Images.{Images, IsEmptySet, IsSameSet, Becomes, Keeps, IsUnfinished, bytes_of as bytes_in, with_more}
@@ -17,7 +18,7 @@ use Rattle.image_set.specs.declared.changing.OutlineLeft.{OutlineLeft}
 use Rattle.image_set.specs.declared.changing.OutlineRest.{OutlineRest}
 use Rattle.image_set.specs.Load.{AnswersRead, ImageSet, bytes_kept, loading}
 use Rattle.image_set.specs.Changed.{objects_of, with_area}
-use Rattle.image_set.specs.Patches.{AreBytes, patched_contents, patched_row}
+use Rattle.image_set.specs.Patches.{patched_contents, patched_row}
 use Rattle.image_set.specs.Save.{front_of, with_module}
 use Rattle.image_set.specs.Sizes.{IsContentsSize}
 use Rattle.image_set.specs.Sound.{AreMapped, IsArea}

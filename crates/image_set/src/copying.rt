@@ -2,11 +2,12 @@
 ghost use Rattle.std.specs.Prelude.{◌≡◌, ◌≢◌, ◌+◌, ◌-◌, ◌^◌, ◌<◌, ◌≤◌, min, take, drop, length, vec_len, Some, None, IfOk, OnOk, Err};
 ghost use Rattle.std.specs.Option.{ForSome, option_map};
 ghost use Rattle.std.specs.Vec.{vec_capacity};
+ghost use Rattle.nvd_words.specs.Bytes.{AreBytes};
 ghost use Rattle.nvd_media.specs.Causes.{LeavesOutside, LeavesSource};
 ghost use Rattle.nvd_media.specs.Images.{IsEmptySet, bytes_of as bytes_in};
 ghost use Rattle.cut_words.specs.WordBytes.{bytes_of};
 ghost use Rattle.image_set.specs.Outline.{CopiesFront, CopiesModule, CopiesRow, CopiesSet, HasContents, IsCopyable, IsPart, PatchesSet};
-ghost use Rattle.image_set.specs.Patches.{AreBytes, patched_row};
+ghost use Rattle.image_set.specs.Patches.{patched_row};
 ghost use Rattle.image_set.specs.Save.{HasNone};
 
 use crate::changing::OutlineLeft;
