@@ -7,6 +7,7 @@ use Rattle.std.proofs.lemmas.List.Elements.{All-head, All-tail}
 use Rattle.nvd_words.specs.Checks.{value_unless}
 use Rattle.cut_words.specs.Words.{Words, settled}
 use Rattle.cut_words.specs.WordBytes.{bytes_of, words_in}
+use Rattle.nfit_reader.specs.declared.table.Mapping.{Mapping}
 use Rattle.nfit_reader.specs.declared.table.Nfit.{Nfit}
 use Rattle.interleave.proofs.Checked.{no_first, no_fault}
 use Rattle.label_set.specs.declared.placed.Placed.{Placed}
@@ -68,26 +69,38 @@ fault_is nfit areas fault e = fault_by (opened_on (sets_of nfit) areas) (registr
 
 -- ---- the outcome of a command
 
-module _ (loaded : Loaded) (uuid : List ℕ) (areas : List Area) (shown : map shown_in areas ≡ map shown_by (map (option_map bytes_kept) loaded.labels)) where
+-- What a command owes of a namespace, by the interleave sets and the namespace's entry, it owes of the loaded set.
+module _ (loaded : Loaded) (uuid : List ℕ) (areas : List Area) (shown : map shown_in areas ≡ map shown_by (map (option_map bytes_kept) loaded.labels))
+    (due : List (List Mapping) → Option NamespaceEntry → Outcome) where
   labels_are : placed_of (map shown_by (map (option_map bytes_kept) loaded.labels)) ≡ labels_of areas
   labels_are = ap placed_of (sym shown)
 
-  pub on_open : AreHeld areas → (registry : Registered) → Ok registry ≡ registry_opening loaded.nfit areas → (f : List ArenaState → Outcome)
+  abbrev pub due_of : List Placed → Outcome
+  due_of labels = unless_fault (registry_fault loaded.nfit labels) (due (sets_of loaded.nfit) (entry_at (sets_of loaded.nfit) labels uuid))
+
+  pub due_open : AreHeld areas → (registry : Registered) → Ok registry ≡ registry_opening loaded.nfit areas
+      → due registry.sets (lookup uuid (namespaces_in (state_of registry)).entries) ≡ due_of (placed_of (map shown_by (map (option_map bytes_kept) loaded.labels)))
+  due_open held registry e =
+      let o : IsOpened loaded.nfit areas registry = opened_is loaded.nfit areas registry e in
+      ap (λ (r : Registered). due r.sets (lookup uuid (namespaces_in (state_of r)).entries)) o.is
+      ∙ ap (due (sets_of loaded.nfit)) (sym (shown_at (sets_of loaded.nfit) areas (labels_of areas) uuid held (λ u. refl)))
+      ∙ ap (λ (fault : Option OpenFault). unless_fault fault (due (sets_of loaded.nfit) (entry_at (sets_of loaded.nfit) (labels_of areas) uuid))) (sym o.none)
+      ∙ ap due_of (sym labels_are)
+
+  pub due_fault : (fault : OpenFault) → Err fault ≡ registry_opening loaded.nfit areas → due_of (placed_of (map shown_by (map (option_map bytes_kept) loaded.labels))) ≡ open_outcome fault
+  due_fault fault e =
+      ap due_of labels_are
+      ∙ ap (λ (o : Option OpenFault). unless_fault o (due (sets_of loaded.nfit) (entry_at (sets_of loaded.nfit) (labels_of areas) uuid))) (fault_is loaded.nfit areas fault e)
+
+module _ (loaded : Loaded) (uuid : List ℕ) (areas : List Area) (shown : map shown_in areas ≡ map shown_by (map (option_map bytes_kept) loaded.labels)) (f : List ArenaState → Outcome) where
+  abbrev arenas_due : List (List Mapping) → Option NamespaceEntry → Outcome
+  arenas_due sets entry = on_found uuid f sets (map bytes_kept loaded.contents) (found_of sets entry)
+
+  pub on_open : AreHeld areas → (registry : Registered) → Ok registry ≡ registry_opening loaded.nfit areas
       → on_found uuid f registry.sets (map bytes_kept loaded.contents) (found_of registry.sets (lookup uuid (namespaces_in (state_of registry)).entries)) ≡ on_sectors f (image_set_in loaded) uuid
   unfolding on_sectors image_set_in
-  on_open held registry e f =
-      let o : IsOpened loaded.nfit areas registry = opened_is loaded.nfit areas registry e in
-      ap (λ (r : Registered). on_found uuid f r.sets (map bytes_kept loaded.contents) (found_of r.sets (lookup uuid (namespaces_in (state_of r)).entries))) o.is
-      ∙ ap (λ (entry : Option NamespaceEntry). on_found uuid f (sets_of loaded.nfit) (map bytes_kept loaded.contents) (found_of (sets_of loaded.nfit) entry)) (sym (shown_at (sets_of loaded.nfit) areas (labels_of areas) uuid held (λ u. refl)))
-      ∙ ap (λ (fault : Option OpenFault). unless_fault fault (on_found uuid f (sets_of loaded.nfit) (map bytes_kept loaded.contents)
-      (found_of (sets_of loaded.nfit) (entry_at (sets_of loaded.nfit) (labels_of areas) uuid)))) (sym o.none)
-      ∙ ap (λ (labels : List Placed). unless_fault (registry_fault loaded.nfit labels) (on_found uuid f (sets_of loaded.nfit) (map bytes_kept loaded.contents)
-      (found_of (sets_of loaded.nfit) (entry_at (sets_of loaded.nfit) labels uuid)))) (sym labels_are)
+  on_open held registry e = due_open loaded uuid areas shown arenas_due held registry e
 
-  pub on_fault : (fault : OpenFault) → Err fault ≡ registry_opening loaded.nfit areas → (f : List ArenaState → Outcome) → on_sectors f (image_set_in loaded) uuid ≡ open_outcome fault
+  pub on_fault : (fault : OpenFault) → Err fault ≡ registry_opening loaded.nfit areas → on_sectors f (image_set_in loaded) uuid ≡ open_outcome fault
   unfolding on_sectors image_set_in
-  on_fault fault e f =
-      ap (λ (labels : List Placed). unless_fault (registry_fault loaded.nfit labels) (on_found uuid f (sets_of loaded.nfit) (map bytes_kept loaded.contents)
-      (found_of (sets_of loaded.nfit) (entry_at (sets_of loaded.nfit) labels uuid)))) labels_are
-      ∙ ap (λ (o : Option OpenFault). unless_fault o (on_found uuid f (sets_of loaded.nfit) (map bytes_kept loaded.contents)
-      (found_of (sets_of loaded.nfit) (entry_at (sets_of loaded.nfit) (labels_of areas) uuid)))) (fault_is loaded.nfit areas fault e)
+  on_fault fault e = due_fault loaded uuid areas shown arenas_due fault e

@@ -1,4 +1,3 @@
-pub mod Utf8
 pub mod More
 pub mod Faults
 pub mod Regions

@@ -80,6 +80,10 @@ refusal_text (op.ReadOnlyLabel number) = codes "ReadOnlyLabel " ++ decimal numbe
 refusal_text op.PowerCut = no_text
 refusal_text op.OutOfMemory = no_text
 
+-- a namespace has so many sectors, which are too few
+abbrev pub range_text : ℕ → List ℕ
+range_text count = codes "Range " ++ decimal count
+
 -- refused REFUSAL
 abbrev pub refused_outcome : List ℕ → Outcome
 refused_outcome refusal = record { ending = ending.Refused; text = joined (codes "refused " ∷ refusal ∷ lf ∷ []); saved = None }

@@ -1,16 +1,12 @@
 -- The commands `info` and `read`: the arenas of a sector namespace, and one of its sectors. UEFI 2.10, chapter 6.
-use Rattle.std.specs.Prelude.{ℕ, ◌+◌, ◌==◌, nat_lt, Bool, if◌then◌else◌, List, [], ◌∷◌, ◌++◌, slice_index_or, Option, Some, None, Result, Ok, Err, codes}
-use Rattle.std.specs.List.{list_all}
+use Rattle.std.specs.Prelude.{ℕ, ◌+◌, nat_lt, if◌then◌else◌, List, [], ◌∷◌, ◌++◌, slice_index_or, Option, Some, None, Result, Ok, Err, codes}
 use Rattle.std.specs.Fmt.{decimal}
-use Rattle.hex.specs.Hex.{encode_lower}
 use Rattle.nvd_words.specs.Checks.{first_fault}
-use Rattle.cut_words.specs.WordBytes.{bytes_of}
 use Rattle.nfit_reader.specs.declared.table.Mapping.{Mapping}
 use Rattle.nfit_reader.specs.declared.table.Nfit.{Nfit}
 use Rattle.label_set.specs.declared.placed.Placed.{Placed}
 use Rattle.arena_layout.specs.declared.layout.Layout.{Layout}
 use Rattle.arena_open.specs.declared.state.ArenaState.{ArenaState}
-use Rattle.arena_open.specs.declared.cell.Cell.{Cell}
 use Rattle.arena_open.specs.declared.cell.Cell.TheVariants as cell
 use Rattle.arena_open.specs.Moves.{moves_made}
 use Rattle.arena_open.specs.declared.chain_refused.ChainRefused.{ChainRefused}
@@ -22,10 +18,11 @@ use Rattle.namespace_areas.specs.Finding.{found_of, set_at}
 use Rattle.namespace_ops.specs.declared.registry.OpenFault.{OpenFault}
 use Rattle.namespace_ops.specs.Opening.{set_fault_from, sets_of, overlap_fault}
 use Rattle.image_set.specs.Load.{ImageSet}
+use Rattle.session_script.specs.Texts.{cell_text}
 use Rattle.sector_namespaces.specs.View.{rows_of, view_words, opened_view}
 use Rattle.shell_reports.specs.Outcome.{Outcome, printed, joined, lf}
 use Rattle.shell_reports.specs.List.{labels_in_set, open_outcome}
-use Rattle.shell_reports.specs.Faults.{arena_outcome, refusal_text, refused_outcome}
+use Rattle.shell_reports.specs.Faults.{arena_outcome, range_text, refusal_text, refused_outcome}
 
 -- ---- opening a namespace
 
@@ -75,23 +72,11 @@ info_outcome uuid loaded = on_sectors (λ states. printed (arena_lines 0 states)
 
 -- ---- read
 
-abbrev pub is_fill : ℕ → List ℕ → Bool
-is_fill byte bytes = list_all (λ b. b == byte) bytes
-
--- a value: its one repeated byte, or all of its bytes
-abbrev pub value_text : List ℕ → List ℕ
-value_text [] = codes "hex:"
-value_text (byte ∷ bytes) = if is_fill byte bytes then codes "fill:" ++ encode_lower (byte ∷ []) else codes "hex:" ++ encode_lower (byte ∷ bytes)
-
-abbrev pub cell_text : Cell → List ℕ
-cell_text (cell.Bytes words) = joined (codes "ok " ∷ value_text (bytes_of words) ∷ lf ∷ [])
-cell_text cell.Bad = codes "bad" ++ lf
-
 -- the cell of a sector, if the namespace has it
 abbrev pub sector_outcome : ℕ → List ArenaState → Outcome
 sector_outcome sector states =
     if nat_lt sector (sectors_of states) then printed (cell_text (slice_index_or (contents_of states) sector cell.Bad))
-    else refused_outcome (codes "Range " ++ decimal (sectors_of states))
+    else refused_outcome (range_text (sectors_of states))
 
 abbrev pub read_outcome : List ℕ → ℕ → ImageSet → Outcome
 read_outcome uuid sector loaded = on_sectors (sector_outcome sector) loaded uuid

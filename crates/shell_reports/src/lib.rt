@@ -69,7 +69,7 @@ pub use nfit::{nfit_answer, set_fault_text};
 pub use outcome::{Report, done_answer, image_answer, printed_answer, usage_answer};
 pub use power::{Power, cut_line, fuse_of, steps_of};
 pub use read::read_answer;
-pub use refusals::{op_refused_answer, refusal_text, refused_answer};
+pub use refusals::{op_refused_answer, range_answer, refusal_text, refused_answer};
 pub use sector_faults::arena_answer;
 pub use status::{Ending, RunStop, Status};
 pub use texts::{label_fault_text, mode_text, name_text};

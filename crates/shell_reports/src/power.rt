@@ -8,7 +8,8 @@ use std::alloc::{AllocError, Global};
 /// When power is cut, and what survives.
 #[derive(Clone, Copy, Debug, PartialEq, Eq)]
 pub struct Power {
-    /// How many steps are made before power is cut, the number of `--cut`; `None` if it isn't cut.
+    /// How many steps are made before power is cut, the number of `--cut`; `None` if it isn't cut. A
+    /// step stores one 8-byte word, or flushes one.
     pub steps: Option<u64>,
     /// The seed of the chooser that decides for each pending word whether it survives: the number
     /// of `--evict`, or 0.
@@ -25,7 +26,9 @@ pub fn fuse_of(power: Power) -> Fuse
     }
 }
 
-/// Returns the number of `--cut`, which is given.
+/// Returns how many steps are made before power is cut: stores and flushes of one 8-byte word each.
+///
+/// The number must be given, so that power is cut.
 pub fn steps_of(power: Power) -> u64
     requires { power.steps ≢ None }
     ensures { power.steps ≡ Some result }

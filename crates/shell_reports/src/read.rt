@@ -1,82 +1,22 @@
 //! The command `read`: one sector of a namespace.
-ghost use Rattle.std.specs.Prelude.{◌≡◌, ◌<◌, ◌++◌, ◌∷◌, [], IfOk, codes, slice_index_or, string_bytes};
-ghost use Rattle.hex.specs.Hex.{encode_lower};
-ghost use Rattle.cut_words.specs.WordBytes.{bytes_of};
+ghost use Rattle.std.specs.Prelude.{◌≡◌, ◌<◌, IfOk, slice_index_or, string_bytes};
 ghost use Rattle.arena_open.specs.declared.cell.Cell.TheVariants as cell;
 ghost use Rattle.arena_open.specs.ChainCells.{contents_of, sectors_of};
 ghost use Rattle.image_set.specs.Load.{image_set_in};
 ghost use Rattle.image_set.specs.Sound.{IsSound};
-ghost use Rattle.shell_reports.specs.Outcome.{joined, lf};
+ghost use Rattle.session_script.specs.Texts.{cell_text};
 ghost use Rattle.shell_reports.specs.Saved.{outcome_of};
-ghost use Rattle.shell_reports.specs.Sectors.{cell_text, is_fill, read_outcome, sector_outcome, value_text};
+ghost use Rattle.shell_reports.specs.Sectors.{read_outcome, sector_outcome};
 
 use crate::opening::{Ask, set_answer};
-use crate::refusals::refused_answer;
+use crate::refusals::range_answer;
 use crate::{Report, printed_answer};
 use arena_open::{CellKind, ReadChain};
 use cut_words::WordSpace;
 use image_set::Loaded;
+use session_script::words_text;
 use std::alloc::{AllocError, Global};
 use uuid::Uuid;
-
-/// Returns the bytes of words, the low byte of each first.
-fn bytes_of(alloc: Global, words: &[u64]) -> Result<Vec<u8>, AllocError>
-    ensures { IfOk result (λ bytes. bytes.items ≡ bytes_of words.now) }
-{
-    let mut bytes = Vec::new(alloc);
-    for word in words {
-        bytes.extend_from_slice(&word.to_le_bytes())?;
-    }
-    Ok(bytes)
-}
-
-/// Returns whether all of these bytes are this one.
-fn is_fill(byte: u8, bytes: &[u8]) -> bool
-    ensures { result ≡ is_fill byte bytes.now }
-{
-    bytes.iter().all(|other| *other == byte)
-}
-
-/// Returns the text of a value that consists of one repeated byte.
-fn fill_text(alloc: Global, byte: u8) -> Result<String, AllocError>
-    ensures { IfOk result (λ text. string_bytes text ≡ codes "fill:" ++ encode_lower (byte ∷ [])) }
-{
-    let digits = hex::encode(alloc, &[byte])?;
-    format!(in alloc; "fill:{}", digits)
-}
-
-/// Returns the text of a value as its bytes.
-fn hex_text(alloc: Global, value: &[u8]) -> Result<String, AllocError>
-    ensures { IfOk result (λ text. string_bytes text ≡ codes "hex:" ++ encode_lower value.now) }
-{
-    let digits = hex::encode(alloc, value)?;
-    format!(in alloc; "hex:{}", digits)
-}
-
-/// Returns the text of a value: its one repeated byte, or all of its bytes.
-fn value_text(alloc: Global, value: &[u8]) -> Result<String, AllocError>
-    ensures { IfOk result (λ text. string_bytes text ≡ value_text value.now) }
-{
-    match value {
-        [] => String::from_str(alloc, "hex:"),
-        [first, rest @ ..] => {
-            if is_fill(*first, rest) {
-                fill_text(alloc, *first)
-            } else {
-                hex_text(alloc, value)
-            }
-        }
-    }
-}
-
-/// The line of a sector's words.
-fn words_line(alloc: Global, words: &[u64]) -> Result<String, AllocError>
-    ensures { IfOk result (λ text. string_bytes text ≡ joined (codes "ok " ∷ value_text (bytes_of words.now) ∷ lf ∷ [])) }
-{
-    let bytes = bytes_of(alloc, words)?;
-    let value = value_text(alloc, &bytes)?;
-    format!(in alloc; "ok {}\n", value)
-}
 
 /// Returns the line of an existing sector.
 fn cell_line<W: WordSpace>(
@@ -90,7 +30,7 @@ fn cell_line<W: WordSpace>(
     let bytes = chain.sector_size(sector).unwrap_or(0);
     let mut words = vec![in alloc; 0; bytes as usize / 8]?;
     match chain.read(sector, &mut words) {
-        CellKind::Bytes => words_line(alloc, &words),
+        CellKind::Bytes => words_text(alloc, &words),
         CellKind::Bad => String::from_str(alloc, "bad\n"),
     }
 }
@@ -107,7 +47,7 @@ pub(crate) fn sector_answer<W: WordSpace>(
     if sector < sectors {
         return Ok(printed_answer(cell_line(alloc, chain, sector)?.into_bytes()));
     }
-    refused_answer(alloc, &format!(in alloc; "Range {}", sectors)?)
+    range_answer(alloc, sectors)
 }
 
 /// Answers `read` on an image set: the value of a sector of a namespace, or that it is bad; or the

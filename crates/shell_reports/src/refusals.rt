@@ -1,6 +1,6 @@
 //! The texts of commands that are refused.
 ghost use Rattle.std.specs.Prelude.{◌≡◌, ◌≢◌, IfOk, string_bytes};
-ghost use Rattle.shell_reports.specs.Faults.{refusal_text, refused_outcome};
+ghost use Rattle.shell_reports.specs.Faults.{range_text, refusal_text, refused_outcome};
 ghost use Rattle.shell_reports.specs.Saved.{outcome_of};
 
 use crate::{Ending, Report};
@@ -40,6 +40,14 @@ pub fn refused_answer(alloc: Global, refusal: &str) -> Result<Report, AllocError
         ending: Ending::Refused,
         text: text.into_bytes(),
     })
+}
+
+/// The answer of a command on a namespace that has fewer sectors than it names or needs: `Range` with the number of the
+/// namespace's sectors. The call fails only if memory runs out.
+pub fn range_answer(alloc: Global, sectors: u64) -> Result<Report, AllocError>
+    ensures { IfOk result (λ answer. outcome_of answer ≡ refused_outcome (range_text sectors)) }
+{
+    refused_answer(alloc, &format!(in alloc; "Range {}", sectors)?)
 }
 
 /// The answer of a command that is refused on namespaces. Power wasn't cut. Out of memory isn't a finding.

@@ -38,12 +38,12 @@ named_answer-requires-clause-usable c =
 pub returns-in-Ok : goal.returns-in-Ok
 returns-in-Ok c =
     subst (λ (o : Outcome). IfOk c.named_answer.result (λ answer. outcome_of answer ≡ o))
-    (on_open c.args.loaded c.args.uuid.now c.in_ok-areas.areas (ap (map shown_in) c.in_ok-areas.ensures ∙ shown_all c.args.loaded.labels) (held_opened c.args.loaded.labels c.in_ok-areas.areas c.in_ok-areas.ensures c.requires.areas) c.in-Ok.registry (c.in-Ok.ensures (λ e. cc)) (asked c.args.ask)) c.named_answer.ensures
+    (on_open c.args.loaded c.args.uuid.now c.in_ok-areas.areas (ap (map shown_in) c.in_ok-areas.ensures ∙ shown_all c.args.loaded.labels) (asked c.args.ask) (held_opened c.args.loaded.labels c.in_ok-areas.areas c.in_ok-areas.ensures c.requires.areas) c.in-Ok.registry (c.in-Ok.ensures (λ e. cc))) c.named_answer.ensures
 
 pub returns : goal.returns
 returns c =
     if_both (λ answer. outcome_of answer ≡ open_outcome c.in-Err.fault) (λ _. c.in-Err.fault ≢ open_fault.OutOfMemory) (λ answer. outcome_of answer ≡ on_sectors (asked c.args.ask) (image_set_in c.args.loaded) c.args.uuid.now)
     c.open_fault_answer.result
-    (λ answer text finding. text ∙ sym (on_fault c.args.loaded c.args.uuid.now c.in_ok-areas.areas (ap (map shown_in) c.in_ok-areas.ensures ∙ shown_all c.args.loaded.labels) c.in-Err.fault
-    (c.in-Err.ensures (λ e. finding (let same : c.in-Err.fault ≡ _ = cc in same))) (asked c.args.ask)))
+    (λ answer text finding. text ∙ sym (on_fault c.args.loaded c.args.uuid.now c.in_ok-areas.areas (ap (map shown_in) c.in_ok-areas.ensures ∙ shown_all c.args.loaded.labels) (asked c.args.ask) c.in-Err.fault
+    (c.in-Err.ensures (λ e. finding (let same : c.in-Err.fault ≡ _ = cc in same)))))
     c.open_fault_answer.ensures.text c.open_fault_answer.ensures.finding

@@ -1,4 +1,4 @@
-use Rattle.shell_reports.proofs.Utf8.{text_true, text_false}
+use Rattle.session_script.proofs.Utf8.{text_true, text_false}
 use Rattle.shell_reports.proofs.texts.is_text.Goals as goal
 
 pub returns-in-Ok : goal.returns-in-Ok
