@@ -7,9 +7,10 @@ ghost use Rattle.image_set.specs.Changed.{IsSavable, objects_in};
 ghost use Rattle.image_set.specs.Outline.{HasContents, IsCopyable};
 ghost use Rattle.shell_reports.specs.Saved.{Saves, outcome_of};
 ghost use Rattle.shell_changes.specs.Answers.{outcome_with};
-ghost use Rattle.shell_changes.specs.Saved.{AreObjects, CanBeSaved, HasItsContents, Stores, is_copied};
+ghost use Rattle.shell_changes.specs.Saved.{AreObjects, AreWholeSizes, CanBeSaved, HasItsContents, Stores, is_copied};
 
 use image_set::{CopyFault, OutlineLeft, SaveFault, SetLeft};
+use namespace_bytes::RawPatch;
 use nvd_media::{ImageSink, ImageSource};
 use shell_reports::Report;
 use std::alloc::Global;
@@ -22,6 +23,8 @@ pub enum Left {
     Whole(SetLeft),
     /// Its contents are copied from the source as it is saved.
     Copied(OutlineLeft),
+    /// So are these, and the bytes of a raw namespace are put in.
+    Patched(OutlineLeft, RawPatch),
 }
 
 /// Saves a set that is in memory.
@@ -61,6 +64,27 @@ fn save_copied<S: ImageSource, K: ImageSink>(
     set.save(alloc, images, out)
 }
 
+/// Saves a set with the contents that the source has, into which it puts the bytes of a raw namespace.
+fn save_patched<S: ImageSource, K: ImageSink>(
+    alloc: Global,
+    set: &OutlineLeft,
+    patch: &RawPatch,
+    images: &mut S,
+    out: &mut K,
+) -> Result<(), CopyFault>
+    requires empty { ForSome (K.made out.old) IsEmptySet }
+    requires copyable { IsCopyable set.now }
+    requires whole { AreWholeSizes set.now.sizes }
+    requires there { ForSome (S.held images.old) (HasContents set.now.sizes) }
+    ensures saved { OnOk result ((objects : Images) × AreObjects (S.held images.old) (Left.Patched set.now patch.now) objects × Saves (Some objects) (K.made out.old) (K.made out.new) × Stores (Some objects) (K.kept out.old) (K.kept out.new)) }
+    ensures unread { result ≡ Err CopyFault.ReadFault → Becomes (K.made out.old) (K.made out.new) IsUnfinished }
+    ensures unwritten { result ≡ Err CopyFault.WriteFault → Becomes (K.made out.old) (K.made out.new) IsUnfinished }
+    ensures memory { result ≡ Err CopyFault.OutOfMemory → K.made out.new ≡ K.made out.old }
+    ensures outside { LeavesOutside (S.held images.old) (S.held images.new) (S.faults images.old) (S.faults images.new) (K.faults out.old) (K.faults out.new) result CopyFault.ReadFault CopyFault.WriteFault }
+{
+    set.save_patched(alloc, images, out, patch)
+}
+
 /// An image set that is to be saved.
 #[derive(Drop)]
 pub struct SavedSet {
@@ -89,7 +113,7 @@ impl SavedSet {
     }
 
     /// Saves it. Nothing was written to `out` before, if it tells. Contents that aren't in memory are those of the source,
-    /// and have the sizes that are stated.
+    /// with the bytes of a raw namespace if such are put in, and have the sizes that are stated.
     ///
     /// - `saved`: after `Ok` the sink has exactly the set's objects and the mark, as far as the source tells its contents. So has
     ///   one that tells that everything was stored.
@@ -112,6 +136,7 @@ impl SavedSet {
         match &self.left {
             Left::Whole(set) => save_whole(alloc, set, out),
             Left::Copied(set) => save_copied(alloc, set, images, out),
+            Left::Patched(set, patch) => save_patched(alloc, set, patch, images, out),
         }
     }
 }

@@ -8,7 +8,8 @@
 //!
 //! [`change_answer`] is the one way of `create`, `delete` and `rename`. Only `create --mode sector` formats an arena,
 //! so it alone needs contents in memory ([`SetRead`]). The others work on an outline of the set, and contents are
-//! copied from the source as the set is saved ([`SavedSet`]). [`init_answer`] changes one label area.
+//! copied from the source as the set is saved ([`SavedSet`]). A set can also be left with the bytes of a raw
+//! namespace in the contents that are copied ([`Left::Patched`]). [`init_answer`] changes one label area.
 //!
 //! One fuse counts all steps: recovery's, then the format's, then those of the labels. A refused command saves nothing,
 //! not even what recovery did. `cut_answer` and `done_answer` make the [`Answer`] of what remains (`Remains`). After a
