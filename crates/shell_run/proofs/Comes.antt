@@ -17,9 +17,9 @@ use Rattle.shell_reports.specs.Saved.{Saves, outcome_of}
 use Rattle.shell_reports.proofs.More.{if_more}
 use Rattle.shell_changes.specs.declared.answer.Answer.{Answer}
 use Rattle.shell_changes.specs.declared.answer.Left.{Left}
-use Rattle.shell_changes.specs.declared.answer.Left.TheVariants.{Whole, Copied}
+use Rattle.shell_changes.specs.declared.answer.Left.TheVariants.{Whole, Copied, Patched}
 use Rattle.shell_changes.specs.Answers.{ComesFrom, HasSizes, outcome_with, whole_outcome}
-use Rattle.shell_changes.specs.Saved.{AreObjects, AreSaved, HasContentsOf, HasItsContents, HasSize, Stores, copies_contents, objects_saved}
+use Rattle.shell_changes.specs.Saved.{AreObjects, AreSaved, HasContentsOf, HasItsContents, HasSize, Stores, contents_with, copies_contents, objects_saved}
 use Rattle.shell_changes.proofs.Remains.{copies_none}
 use Rattle.session_script.specs.declared.schedule.Replay.{Replay}
 use Rattle.session_script.specs.declared.script.Script.{Script}
@@ -52,6 +52,8 @@ saved_by held source sizes None set told sized are = are
 saved_by held source sizes (Some (Whole left)) set told sized (objects, is, saves) = saves ∙ ap (λ (o : Images). Some o) is
 saved_by held source sizes (Some (Copied left)) set told sized (objects, is, saves) =
     saves ∙ ap (λ (o : Images). Some o) (is source told) ∙ ap (λ (s : List ℕ). Some (objects_with left (contents_in source (length s)))) sized
+saved_by held source sizes (Some (Patched left patch)) set told sized (objects, is, saves) =
+    saves ∙ ap (λ (o : Images). Some o) (is source told) ∙ ap (λ (s : List ℕ). Some (objects_with left (contents_with patch (contents_in source (length s))))) sized
 
 pub from_with : (held : Option Images) (source : Images) (sizes : List ℕ) (answer : Answer) (outcome : Outcome) → held ≡ Some source → HasSizes sizes answer → ComesFrom held answer outcome
     → outcome ≡ outcome_with answer (contents_in source (length sizes))
@@ -63,6 +65,7 @@ whole_by : (held : Option Images) (contents : List (List ℕ)) (saved : Option L
 whole_by held contents None set whole are = are
 whole_by held contents (Some (Whole left)) set whole (objects, is, saves) = saves ∙ ap (λ (o : Images). Some o) is
 whole_by held contents (Some (Copied left)) set whole are = absurd (let e = whole in cc)
+whole_by held contents (Some (Patched left patch)) set whole are = absurd (let e = whole in cc)
 
 pub from_whole : (held : Option Images) (contents : List (List ℕ)) (answer : Answer) (outcome : Outcome) → copies_contents answer.saved ≡ false → ComesFrom held answer outcome → outcome ≡ outcome_with answer contents
 from_whole held contents answer outcome whole comes = outcome_is answer outcome contents comes.ends comes.says (whole_by held contents answer.saved outcome.saved whole comes.saves)
@@ -125,6 +128,7 @@ there_by : (saved : Option Left) (source : Images) → copies_contents saved ≡
 there_by None source whole = tt
 there_by (Some (Whole left)) source whole = tt
 there_by (Some (Copied left)) source whole = absurd (let e = whole in cc)
+there_by (Some (Patched left patch)) source whole = absurd (let e = whole in cc)
 
 -- there are none, so they are there
 pub whole_there : (held : Option Images) (saved : Option Left) → copies_contents saved ≡ false → HasContentsOf held saved
@@ -134,6 +138,7 @@ contents_by : (saved : Option Left) (sizes : List ℕ) (source : Images) → IfS
 contents_by None sizes source sized has = tt
 contents_by (Some (Whole left)) sizes source sized has = tt
 contents_by (Some (Copied left)) sizes source sized has = subst (λ (s : List ℕ). HasContents s source) (sym sized) has
+contents_by (Some (Patched left patch)) sizes source sized has = subst (λ (s : List ℕ). HasContents s source) (sym sized) has
 
 -- or they have the sizes that are stated
 pub outline_there : (held : Option Images) (loaded : Result Outline LoadFault) (outline : Outline) (answer : Answer) → loaded ≡ Ok outline → ForSome held (λ set. IfOk loaded (λ o. HasContents o.sizes set))
@@ -337,6 +342,18 @@ saved_due (Some source) (Some (Copied left)) some =
         (λ source' is.
             let same : source ≡ source' = (let e = is in cc) in
             ap (λ (s : Images). objects_with left (contents_in s (length left.sizes))) same),
+        refl,
+      ),
+    )
+saved_due None (Some (Patched left patch)) some = (objects_with left [], (objects_with left [], (λ source is. absurd (let e = is in cc)), refl))
+saved_due (Some source) (Some (Patched left patch)) some =
+    let set : Images = objects_with left (contents_with patch (contents_in source (length left.sizes))) in (
+      set,
+      (
+        set,
+        (λ source' is.
+            let same : source ≡ source' = (let e = is in cc) in
+            ap (λ (s : Images). objects_with left (contents_with patch (contents_in s (length left.sizes)))) same),
         refl,
       ),
     )
