@@ -1,5 +1,6 @@
 -- The label areas of a loaded set: what they show, and what is saved of them.
 use Rattle.std.proofs.Common.{◌≡◌, ℕ, zero, suc, ◌*◌, true, List, [], ◌∷◌, length, map, get_or, Option, Some, None, Result, Ok, Err, refl, sym, ap, ◌∙◌, subst}
+use Rattle.std.proofs.Math.ListN.{get_or-map}
 use Rattle.std.specs.Prelude.{slice_get, slice_index_or}
 use Rattle.std.specs.Option.{option_map}
 use Rattle.std.specs.List.{All}
@@ -44,7 +45,6 @@ use Rattle.shell_changes.specs.Areas.{area_by, area_in, areas_in, rows_in, with_
 use Rattle.shell_changes.specs.Reading.{set_parted}
 use Rattle.shell_changes.specs.Rest.{IsBeside, is_whole, objects_by, objects_left, objects_with, with_rows, words_beside}
 use Rattle.shell_changes.specs.Work.{with_contents}
-use Rattle.shell_changes.proofs.Saved.{get_map}
 
 -- ---- what areas show, by their bytes
 
@@ -241,7 +241,7 @@ same_outline : (outline : Outline) (contents : List (List ℕ)) (rows : List (Op
 unfolding objects_of image_set_with
 same_outline outline contents rows object.Mark = refl
 same_outline outline contents rows object.Nfit = refl
-same_outline outline contents rows (object.Labels m) = sym (get_map (option_map bytes_of) rows m None)
+same_outline outline contents rows (object.Labels m) = sym (get_or-map (option_map bytes_of) rows m None)
 same_outline outline contents rows (object.Contents m) = refl
 same_outline outline contents rows (object.BadRanges m) = refl
 

@@ -1,10 +1,11 @@
 -- Label changes with other steps between them: areas become what the label steps alone make of them.
-use Rattle.std.proofs.Common.{◌≡◌, ℕ, ◌+◌, ◌-◌, ◌<◌, ◌≤◌, Bool, true, false, List, [], ◌∷◌, ◌++◌, length, take, map, Option, Some, None, refl, sym, ap, ◌∙◌, subst, arith, inl, inr}
+use Rattle.std.proofs.Common.{◌≡◌, ℕ, ◌+◌, ◌-◌, ◌<◌, ◌≤◌, Bool, true, false, List, [], ◌∷◌, ◌++◌, length, take, map, Option, Some, None, refl, sym, ap, ◌∙◌, subst, arith, inl, inr, append-nil}
 use Rattle.std.specs.Prelude.{nat_le, ◌==◌}
 use Rattle.std.proofs.lemmas.Bool.{le-leb, lt-leb, leb-true}
 use Rattle.std.proofs.lemmas.Bool.Decides.{nat_tests}
 use Rattle.std.proofs.lemmas.List.{take-append-le, take_all}
 use Rattle.cut_words.specs.Fuses.{burnt, lasts}
+use Rattle.arena_open.proofs.ChainAnswering.{burnt_both}
 use Rattle.label_codec.specs.declared.label.Label.{Label}
 use Rattle.label_area.specs.Change.{count_of_steps}
 use Rattle.namespace_areas.specs.declared.area.Area.{Area}
@@ -16,10 +17,6 @@ use Rattle.namespace_areas.proofs.Seen.{left_shown}
 use Rattle.namespace_areas.proofs.Steps.{steps_both_in}
 use Rattle.namespace_areas.proofs.Went.{after_both, went_both}
 use Rattle.shell_changes.specs.Work.{label_part}
-
-pub append_nil : {A : Type 0} (xs : List A) → xs ++ [] ≡ xs
-append_nil [] = refl
-append_nil (x ∷ xs) = ap (λ ys. x ∷ ys) (append_nil xs)
 
 -- ---- fuses
 
@@ -38,10 +35,6 @@ short_first (Some n) a b short = by a b n short
     by : (a b n : ℕ) → nat_le a n ≡ false → nat_le (a + b) n ≡ false
     by a b n short = grind (arith, nat_tests)
 
-burnt_both : (fuse : Option ℕ) (a b : ℕ) → burnt (burnt fuse a) b ≡ burnt fuse (a + b)
-burnt_both None a b = refl
-burnt_both (Some n) a b = ap (λ (k : ℕ). Some k) (omega arith)
-
 -- three counts, of which it lasts for the first alone
 pub lasts_two : (fuse : Option ℕ) (a b c : ℕ) → lasts fuse a ≡ true → lasts (burnt fuse a) b ≡ false → lasts fuse (a + (b + c)) ≡ false
 lasts_two fuse a b c one short = lasts_both fuse a (b + c) one ∙ short_first (burnt fuse a) b c short
@@ -55,7 +48,7 @@ lasts_three fuse a b c one two = lasts_both fuse (a + b) c (lasts_both fuse a b 
 -- after all steps all are made
 pub after_enough : (xs : List Change) (os : List (Option SeenArea)) (n : ℕ) (stays : Bool) → steps_of_all os xs ≤ n → after_steps os xs n stays ≡ all_changed os xs
 unfolding after_steps
-after_enough xs os n stays le = ap (λ (cs : List Change). after_steps os cs n stays) (sym (append_nil xs)) ∙ after_both xs [] os n stays le
+after_enough xs os n stays le = ap (λ (cs : List Change). after_steps os cs n stays) (sym (append-nil xs)) ∙ after_both xs [] os n stays le
 
 -- a change takes two steps at least
 steps_some : (size : ℕ) (label : Option Label) → 2 ≤ count_of_steps size label

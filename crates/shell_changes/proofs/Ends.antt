@@ -1,5 +1,6 @@
 -- What a command on namespaces comes to, by what became of areas and contents.
-use Rattle.std.proofs.Common.{◌≡◌, ℕ, ◌+◌, ◌-◌, ◌<◌, Bool, true, false, List, [], ◌++◌, map, Option, Some, None, refl, sym, ap, ◌∙◌, subst, arith}
+use Rattle.std.proofs.Common.{◌≡◌, ℕ, ◌+◌, ◌-◌, ◌<◌, Bool, true, false, List, [], ◌++◌, map, Option, Some, None, refl, sym, ap, ◌∙◌, subst, arith, append-nil}
+use Rattle.std.proofs.Math.Nat.{add-zero}
 use Rattle.std.specs.Prelude.{MatchBool, nat_le}
 use Rattle.std.proofs.lemmas.Bool.{false≢true, leb-false}
 use Rattle.nvd_media.specs.Images.{Images}
@@ -30,7 +31,7 @@ use Rattle.shell_changes.specs.Namespaces.{Ends, Goes, IsPowerCut, IsDone}
 use Rattle.shell_changes.specs.Work.{Arena, Work, begun, count_of, label_changes, label_part, label_steps, steps_of_work}
 use Rattle.shell_changes.specs.Areas.{HasRows, rows_in}
 use Rattle.shell_changes.proofs.Areas.{IsSavedAs, has_rows, rows_opened}
-use Rattle.shell_changes.proofs.Behind.{append_nil, around, label_long, label_short, lasts_three, lasts_two, left_between, short_first, went_around, words_between}
+use Rattle.shell_changes.proofs.Behind.{around, label_long, label_short, lasts_three, lasts_two, left_between, short_first, went_around, words_between}
 use Rattle.shell_changes.proofs.Formats.{SavedAs, saved_none, saved_whole}
 
 -- the steps of power that doesn't last
@@ -41,9 +42,6 @@ short_of (Some steps) count short = (steps, refl)
 -- a set is the one that it is
 saving_itself : (e : Ending) (text : List ℕ) (set : Images) (outcome : Outcome) (s : IsSaving e text set outcome) → IsSaving e text s.saved outcome
 saving_itself e text set outcome s = record { ends = s.ends; says = s.says; saved = s.saved; saves = s.saves; same = λ o. refl }
-
-add_none : (n : ℕ) → n + 0 ≡ n
-add_none n = omega arith
 
 short_left : (first format n : ℕ) → n - first < format → first + (n - first - format) ≡ first
 short_left first format n lt = omega (arith, lt)
@@ -209,5 +207,5 @@ module _ (leaves : ℕ → List (Option Words) → List (Option (List ℕ)) → 
   pub refused_after : (first : List Change) (mid : List Area) (left : Option ℕ) (f : OpRefused) → Went opened mid power.steps left first true → outcome ≡ refused_outcome (refusal_text f)
       → Goes leaves set seen (record { recovery = first; arena = None; own = [] }) (Some f) power outcome
   refused_after first mid left f one is_refused =
-      let none : steps_of_all seen (first ++ []) + 0 ≡ steps_of_all seen first = add_none (steps_of_all seen (first ++ [])) ∙ ap (λ (cs : List Change). steps_of_all seen cs) (append_nil first) in
+      let none : steps_of_all seen (first ++ []) + 0 ≡ steps_of_all seen first = add-zero (steps_of_all seen (first ++ [])) ∙ ap (λ (cs : List Change). steps_of_all seen cs) (append-nil first) in
       goes_whole (record { recovery = first; arena = None; own = [] }) (Some f) (ap (lasts power.steps) none ∙ sym one.made) is_refused

@@ -1,5 +1,5 @@
 -- Contents in which an arena is formatted, and the set that is saved with them.
-use Rattle.std.proofs.Common.{◌≡◌, ℕ, Bool, true, false, List, [], ◌++◌, length, map, Option, Some, None, refl, sym, ap, ◌∙◌, subst}
+use Rattle.std.proofs.Common.{◌≡◌, ℕ, Bool, true, false, List, [], ◌++◌, length, map, Option, Some, None, refl, sym, ap, ◌∙◌, subst, append-nil}
 use Rattle.std.specs.Option.{option_map}
 use Rattle.std.proofs.lemmas.Bool.{leb-true}
 use Rattle.std.proofs.lemmas.List.{take_all}
@@ -27,7 +27,6 @@ use Rattle.shell_changes.specs.Going.{FormatsIn}
 use Rattle.namespace_ops.specs.Counted.{makes_sectors}
 use Rattle.shell_changes.specs.Work.{Arena, AreFormatted, Formats, arena_by, arena_of, count_of, with_contents}
 use Rattle.shell_changes.proofs.Areas.{HasWhole, IsSavedAs}
-use Rattle.shell_changes.proofs.Behind.{append_nil}
 use Rattle.shell_changes.proofs.Contents.{left_beside, left_sizes, left_words}
 
 -- ---- the words of a format
@@ -100,7 +99,7 @@ module _ (leaves : ℕ → List (Option Words) → List (Option (List ℕ)) → 
     formats = (refl, refl, refl);
     labels = is.labels;
     same = is.same rows made_left (subst (λ (ws : List Words). Each IsLeft ws made_left) same each);
-    asks = λ seed areas first all. subst (λ (rs : List (Option (List ℕ))). leaves seed (areas ++ []) rs) (sym (append_nil rows)) (subst (λ (ws : List (Option Words)). leaves seed ws rows) (sym (append_nil areas)) first);
+    asks = λ seed areas first all. subst (λ (rs : List (Option (List ℕ))). leaves seed (areas ++ []) rs) (sym (append-nil rows)) (subst (λ (ws : List (Option Words)). leaves seed ws rows) (sym (append-nil areas)) first);
   }
 
   saved_by : (ns : Namespaces) (spec : CreateSpec) (fuse : Option ℕ) (b : Bool) → (b ≡ true → HasWhole set contents objects) → FormatsIn (arena_by ns spec b) contents made fuse

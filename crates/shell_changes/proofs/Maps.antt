@@ -1,5 +1,6 @@
 -- What the commands on namespaces make of the namespaces of an image set.
-use Rattle.std.proofs.Common.{◌≡◌, ◌⊎◌, ℕ, zero, suc, ◌+◌, ◌-◌, ◌<◌, ◌≤◌, Bool, true, false, List, [], ◌∷◌, ◌++◌, map, take, Option, Some, None, Result, Ok, Err, refl, sym, ap, ◌∙◌, subst, inl, inr, arith}
+use Rattle.std.proofs.Common.{◌≡◌, ◌⊎◌, ℕ, zero, suc, ◌+◌, ◌-◌, ◌<◌, ◌≤◌, Bool, true, false, List, [], ◌∷◌, ◌++◌, map, take, Option, Some, None, Result, Ok, Err, refl, sym, ap, ◌∙◌, subst, inl, inr, arith, append-nil}
+use Rattle.std.proofs.Math.Nat.{add-zero}
 use Rattle.std.specs.Prelude.{MatchBool, nat_le, slice_get}
 use Rattle.std.specs.Option.{option_map}
 use Rattle.std.specs.Result.{result_ok}
@@ -70,7 +71,7 @@ use Rattle.shell_changes.proofs.Apart.{labels_apart}
 use Rattle.shell_changes.proofs.Own.{found_before, own_left, to_either}
 use Rattle.shell_changes.proofs.RecoveryApart.{stopped_apart}
 use Rattle.shell_changes.proofs.Areas.{rows_shown}
-use Rattle.shell_changes.proofs.Behind.{after_none, append_nil, format_left, label_long, label_short, none_left, rest_left, some_format, under_first, under_sum}
+use Rattle.shell_changes.proofs.Behind.{after_none, format_left, label_long, label_short, none_left, rest_left, some_format, under_first, under_sum}
 use Rattle.shell_changes.proofs.Runs.{no_arena}
 use Rattle.namespace_ops.proofs.Regions.{no_first, parts_of, sets_are}
 
@@ -218,7 +219,7 @@ keeps sets areas (Unclaim uuid) changes regions read none = absurd changes
 pub after_whole : (xs : List Change) (areas : List (Option Area)) → after_steps areas xs (steps_of_all areas xs) true ≡ all_changed areas xs
 unfolding after_steps
 after_whole xs areas =
-    ap (λ (cs : List Change). after_steps areas cs (steps_of_all areas xs) true) (sym (append_nil xs)) ∙ after_both xs [] areas (steps_of_all areas xs) true (omega arith)
+    ap (λ (cs : List Change). after_steps areas cs (steps_of_all areas xs) true) (sym (append-nil xs)) ∙ after_both xs [] areas (steps_of_all areas xs) true (omega arith)
 
 pub regions_of : (loaded : ImageSet) (sets : List (List Mapping)) → HasTable loaded → sets_in loaded ≡ Ok sets → AreRegions sets
 regions_of loaded sets table are =
@@ -293,9 +294,6 @@ saves_shown sets loaded now formats rows ns e text set outcome same kept has s i
 }
 
 -- ---- a command
-
-add_none : (n : ℕ) → n + 0 ≡ n
-add_none n = omega arith
 
 le_self : (n : ℕ) → n ≤ n
 le_self n = omega arith
@@ -414,7 +412,7 @@ module _ (leaves : ℕ → List (Option Words) → List (Option (List ℕ)) → 
   cut_by : (n : ℕ) → power.steps ≡ Some n → (r : Option OpRefused) → refusal_in sets seen c ≡ r → lasts power.steps (steps_of_work seen (work_by sets seen c r)) ≡ false
       → IsPowerCut leaves loaded seen (work_by sets seen c r) power outcome → IsCutIn sets loaded c n outcome
   cut_by n is (Some f) some short cut =
-      let none : steps_of_all seen (recovery ++ []) + 0 ≡ early = add_none (steps_of_all seen (recovery ++ [])) ∙ ap (λ (cs : List Change). steps_of_all seen cs) (append_nil recovery) in
+      let none : steps_of_all seen (recovery ++ []) + 0 ≡ early = add-zero (steps_of_all seen (recovery ++ [])) ∙ ap (λ (cs : List Change). steps_of_all seen cs) (append-nil recovery) in
       let lt : n < early = leb-false early n (ap (λ (k : ℕ). nat_le k n) (sym none) ∙ ap (λ (p : Option ℕ). lasts p (steps_of_all seen (recovery ++ []) + 0)) (sym is) ∙ short) in
       inl (lt, in_recovery None [] cut n is lt)
   cut_by n is None none short cut =

@@ -1,9 +1,10 @@
 -- After a crash within recovery entries are apart, since recovery puts no label whose extent no label of its UUID had before.
-use Rattle.std.proofs.Common.{◌≡◌, ◌⊎◌, inl, inr, ℕ, zero, suc, ◌+◌, ◌≤◌, Bool, true, false, cond, List, [], ◌∷◌, ◌++◌, length, map, take, filter, Option, Some, None, refl, sym, ap, ◌∙◌, subst, arith}
+use Rattle.std.proofs.Common.{◌≡◌, ◌⊎◌, inl, inr, ℕ, zero, suc, ◌+◌, Bool, true, false, cond, List, [], ◌∷◌, ◌++◌, length, map, take, filter, Option, Some, None, refl, sym, ap, ◌∙◌, subst, arith}
 use Rattle.std.proofs.Math.ListN.{set}
 use Rattle.std.specs.Prelude.{slice_get}
 use Rattle.std.specs.List.{AllByRecursion, enumerate_from, filter_map, flat_map, position}
 use Rattle.std.proofs.lemmas.Bool.{cases_eq, cases_lt}
+use Rattle.std.proofs.lemmas.List.{set_past}
 use Rattle.std.proofs.lemmas.Option.{none-some, same_Some}
 use Rattle.label_codec.specs.declared.label.Label.{Label}
 use Rattle.label_codec.specs.Flags.{updated}
@@ -143,11 +144,6 @@ replaced_has P slots out (Some l) each news = by (position is_free slots)
     by None = each
     by (Some f) = freed_has P (set slots f (Some (Some (record l { slot = f })))) out (set_has P slots f _ each
         (λ k e. subst P (same_Some _ k (same_Some _ (Some k) e)) (news l f refl)))
-
-set_past : (xs : List (Option Area)) (i : ℕ) (a : Option Area) → length xs ≤ i → set xs i a ≡ xs
-set_past [] i a past = refl
-set_past (x ∷ xs) zero a past = absurd (omega arith)
-set_past (x ∷ xs) (suc i) a past = ap (λ (ys : List (Option Area)). x ∷ ys) (set_past xs i a (omega arith))
 
 other_slot : (olds : List (Option Area)) (m k : ℕ) (l : Label) → IsKnown olds m l → IsKnown olds m (record l { slot = k })
 other_slot olds m k l known = record { old = known.old; has = known.has; uuid = known.uuid; start = known.start; bytes = known.bytes }

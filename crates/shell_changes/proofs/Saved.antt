@@ -1,5 +1,6 @@
 -- The set that is saved with what is left of label areas and contents.
-use Rattle.std.proofs.Common.{◌≡◌, ℕ, zero, suc, ◌<◌, ◌^◌, List, [], ◌∷◌, length, map, get_or, Option, None, refl, sym, ap, ◌∙◌, subst}
+use Rattle.std.proofs.Common.{◌≡◌, ◌<◌, ◌^◌, List, length, map, Option, None, refl, sym, ap, ◌∙◌, subst}
+use Rattle.std.proofs.Math.ListN.{get_or-map}
 use Rattle.std.specs.Prelude.{slice_get}
 use Rattle.std.specs.Option.{option_map}
 use Rattle.std.proofs.lemmas.Simd.{map-map}
@@ -17,11 +18,6 @@ use Rattle.image_set.proofs.Kept.{each_length}
 use Rattle.shell_changes.specs.declared.saving.Rest.{Rest}
 use Rattle.shell_changes.specs.Rest.{objects_with, with_rows}
 
-pub get_map : {A B : Type 0} (f : A → B) (xs : List A) (k : ℕ) (d : A) → get_or (map f xs) k (f d) ≡ f (get_or xs k d)
-get_map f [] k d = refl
-get_map f (x ∷ xs) zero d = refl
-get_map f (x ∷ xs) (suc k) d = get_map f xs k d
-
 module _ (rest : Rest) (labels : List (Option Words)) (images : Left) (left : IsLeftOfAll labels rest.contents images) where
   pub can_be_saved : length rest.bad ≡ length rest.contents → length rest.contents < 2 ^ 32 → length labels ≡ length rest.contents
       → IsSavable (record { nfit = rest.nfit_bytes; images = images; bad = rest.bad })
@@ -37,6 +33,6 @@ module _ (rest : Rest) (labels : List (Option Words)) (images : Left) (left : Is
   unfolding set_of objects_with
   same_objects object.Mark = refl
   same_objects object.Nfit = refl
-  same_objects (object.Labels k) = sym (get_map (option_map bytes_of) images.labels k None)
+  same_objects (object.Labels k) = sym (get_or-map (option_map bytes_of) images.labels k None)
   same_objects (object.Contents k) = sym (slice_get-map bytes_of images.contents k) ∙ ap (λ xs. slice_get xs k) (sym (map-map bytes_kept settled images.contents))
   same_objects (object.BadRanges k) = refl
