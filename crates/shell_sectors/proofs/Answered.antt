@@ -23,7 +23,7 @@ use Rattle.shell_reports.specs.declared.outcome.Report.{Report}
 use Rattle.shell_reports.specs.declared.status.Ending.{Ending}
 use Rattle.shell_reports.specs.declared.status.Ending.TheVariants as ending
 use Rattle.shell_reports.specs.Cut.{done_text}
-use Rattle.shell_reports.specs.Faults.{refused_outcome}
+use Rattle.shell_reports.specs.Faults.{range_text, refused_outcome}
 use Rattle.shell_reports.specs.Outcome.{Outcome}
 use Rattle.shell_sectors.specs.declared.finding.FoundSet.{FoundSet}
 use Rattle.shell_sectors.specs.declared.saving.Changed.{Changed}
@@ -33,7 +33,7 @@ use Rattle.shell_sectors.specs.Changed.{IsChanged, IsReady, moved_to}
 use Rattle.shell_sectors.specs.Found.{HasModules, IsFoundIn, IsHeldIn, OnArenas, SavesNamespace, place_of}
 use Rattle.shell_sectors.specs.Saving.{AnswersWith, FitsWith, SavesWith}
 use Rattle.shell_sectors.specs.Value.{bytes_for}
-use Rattle.shell_sectors.specs.Write.{HasSector, WriteComes, Writes, WritesArenas, length_refusal, length_text, loaded_words, range_text, write_refusal}
+use Rattle.shell_sectors.specs.Write.{HasSector, WriteComes, Writes, WritesArenas, length_refusal, length_text, loaded_words, write_refusal}
 use Rattle.shell_sectors.proofs.Coming.{found_comes, on_words}
 use Rattle.shell_sectors.proofs.Held.{count_kept, saves_namespace}
 

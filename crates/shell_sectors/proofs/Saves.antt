@@ -1,5 +1,6 @@
 -- The set that is saved with the words of the contents.
 use Rattle.std.proofs.Common.{◌≡◌, ℕ, ◌^◌, ◌<◌, List, [], ◌∷◌, length, map, get_or, Option, Some, None, refl, sym, ap, ◌∙◌, subst}
+use Rattle.std.proofs.Math.ListN.{get_or-map}
 use Rattle.std.specs.Option.{option_map}
 use Rattle.std.proofs.lemmas.List.Elements.{All-head, All-tail}
 use Rattle.std.proofs.lemmas.Option.{slice_get-map}
@@ -17,13 +18,15 @@ use Rattle.namespace_areas.specs.Opening.{AreWhole, IsWhole}
 use Rattle.namespace_areas.specs.Seen.{words_of as area_words}
 use Rattle.namespace_areas.proofs.Seen.{left_kept}
 use Rattle.shell_reports.specs.declared.outcome.Report.{Report}
+use Rattle.shell_reports.specs.Outcome.{Outcome}
+use Rattle.shell_reports.specs.Saved.{IsSaving}
 use Rattle.shell_changes.specs.declared.answer.Left.{Left as SavedLeft}
 use Rattle.shell_changes.specs.declared.answer.Left.TheVariants.{Whole}
+use Rattle.shell_changes.specs.Areas.{with_labels}
 use Rattle.shell_changes.specs.Saved.{objects_saved}
-use Rattle.shell_changes.proofs.Saved.{get_map}
 use Rattle.shell_sectors.specs.declared.finding.Unchanged.{Unchanged}
-use Rattle.shell_sectors.specs.Found.{HasModules, IsUnchanged, with_contents}
-use Rattle.shell_sectors.specs.Saving.{SavesWith}
+use Rattle.shell_sectors.specs.Found.{HasModules, with_contents}
+use Rattle.shell_sectors.specs.Saving.{SavesLeft, SavesWith}
 
 area_left : (area : Option Words) (left : Option (List ℕ)) → IsWhole area → IsLeftOf area left → option_map bytes_of left ≡ option_map bytes_kept area
 area_left None left whole is = ap (option_map bytes_of) is
@@ -52,26 +55,39 @@ module _ (rest : Unchanged) (contents : List Words) (images : Left) (left : IsLe
         few = subst (λ (n : ℕ). n < 2 ^ 32) (sym rows) has.few;
       }
 
-  pub same_set : (loaded : ImageSet) → IsUnchanged loaded rest → IsSameSet (set_of rest.nfit_bytes images rest.bad) (objects_of (with_contents loaded images.contents))
+  same_set : (loaded : ImageSet) → loaded.nfit_bytes ≡ rest.nfit_bytes → loaded.bad ≡ rest.bad
+      → IsSameSet (set_of rest.nfit_bytes images rest.bad) (objects_of (with_labels (with_contents loaded images.contents) (map (option_map bytes_of) images.labels)))
   unfolding set_of objects_of
-  same_set loaded is object.Mark = refl
-  same_set loaded is object.Nfit = ap (λ (bytes : List ℕ). Some bytes) (sym is.nfit)
-  same_set loaded is (object.Labels k) =
-      sym (get_map (option_map bytes_of) images.labels k None)
-      ∙ ap (λ (areas : List (Option (List ℕ))). get_or areas k None) (areas_left (map area_words rest.registry.areas) images.labels is.whole left.labels ∙ sym is.labels)
-  same_set loaded is (object.Contents k) = sym (slice_get-map bytes_of images.contents k)
-  same_set loaded is (object.BadRanges k) = ap (λ (bad : List (Option (List ℕ))). get_or bad k None) (sym is.bad)
+  same_set loaded nfit bad object.Mark = refl
+  same_set loaded nfit bad object.Nfit = ap (λ (bytes : List ℕ). Some bytes) (sym nfit)
+  same_set loaded nfit bad (object.Labels k) = sym (get_or-map (option_map bytes_of) images.labels k None)
+  same_set loaded nfit bad (object.Contents k) = sym (slice_get-map bytes_of images.contents k)
+  same_set loaded nfit bad (object.BadRanges k) = ap (λ (ranges : List (Option (List ℕ))). get_or ranges k None) (sym bad)
 
-  pub saves_with : (report : Report) (saved : SavedLeft) → saved ≡ Whole (record { nfit = rest.nfit_bytes; images = images; bad = rest.bad })
-      → SavesWith report rest contents (record { ending = report.ending; text = report.text.items; saved = Some (objects_saved [] saved) })
-  saves_with report saved is = (
-    images.contents,
-    left.contents,
-    λ loaded same. record {
+  pub saves_left : (leaves : List (Option Words) → List (Option (List ℕ)) → Type 0) → leaves (map area_words rest.registry.areas) images.labels → (report : Report) (saved : SavedLeft) → saved ≡ Whole (record { nfit = rest.nfit_bytes; images = images; bad = rest.bad })
+      → SavesLeft leaves report rest contents (record { ending = report.ending; text = report.text.items; saved = Some (objects_saved [] saved) })
+  saves_left leaves chosen report saved is = record {
+    labels = images.labels;
+    areas = left.labels;
+    chosen = chosen;
+    rows = images.contents;
+    words = left.contents;
+    saves = λ loaded nfit bad. record {
       ends = refl;
       says = refl;
       saved = set_of rest.nfit_bytes images rest.bad;
       saves = ap (λ (l : SavedLeft). Some (objects_saved [] l)) is;
-      same = same_set loaded same;
-    },
-  )
+      same = same_set loaded nfit bad;
+    };
+  }
+
+-- no word of the label areas is pending, so they are saved as loaded
+pub saves_with : (leaves : List (Option Words) → List (Option (List ℕ)) → Type 0) (report : Report) (rest : Unchanged) (contents : List Words) (outcome : Outcome) → AreWhole (map area_words rest.registry.areas)
+    → SavesLeft leaves report rest contents outcome → SavesWith report rest contents outcome
+saves_with leaves report rest contents outcome whole s = (
+  s.rows,
+  s.words,
+  λ loaded is.
+      let same : map (option_map bytes_of) s.labels ≡ loaded.labels = areas_left (map area_words rest.registry.areas) s.labels whole s.areas ∙ sym is.labels in
+      subst (λ (labels : List (Option (List ℕ))). IsSaving report.ending report.text.items (objects_of (with_labels (with_contents loaded s.rows) labels)) outcome) same (s.saves loaded is.nfit is.bad),
+)

@@ -19,7 +19,7 @@ use Rattle.served_namespaces.specs.Places.{KeepsBehind}
 use Rattle.session_script.specs.declared.payload.Payload.{Payload}
 use Rattle.shell_reports.specs.declared.status.Ending.TheVariants as ending
 use Rattle.shell_reports.specs.Cut.{done_text}
-use Rattle.shell_reports.specs.Faults.{refused_outcome}
+use Rattle.shell_reports.specs.Faults.{range_text, refused_outcome}
 use Rattle.shell_reports.specs.Outcome.{Outcome}
 use Rattle.shell_sectors.specs.Found.{OnSet, SavesNamespace, place_of}
 use Rattle.shell_sectors.specs.Value.{bytes_for}
@@ -29,10 +29,6 @@ use Rattle.shell_sectors.specs.Value.{bytes_for}
 -- the value and the sector have these lengths, which differ
 abbrev pub length_text : ℕ → ℕ → List ℕ
 length_text said had = codes "Length " ++ (decimal said ++ (codes " " ++ decimal had))
-
--- all arenas together have so many sectors
-abbrev pub range_text : ℕ → List ℕ
-range_text count = codes "Range " ++ decimal count
 
 -- the value doesn't have the sector's length
 abbrev pub length_refusal : ℕ → ℕ → Option (List ℕ)

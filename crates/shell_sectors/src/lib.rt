@@ -30,5 +30,5 @@ mod write;
 
 pub use changing::put_arena;
 pub use finding::{FoundSet, LabelsRead, OpenSet, SetFound, Unchanged, find_in_set, read_labels};
-pub use saving::{Changed, changed_answer, saved_answer};
+pub use saving::{Changed, changed_answer, left_answer, saved_answer};
 pub use write::write_answer;

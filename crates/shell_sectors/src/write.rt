@@ -17,7 +17,7 @@ ghost use Rattle.shell_sectors.specs.Answering.{WritesInto, WritesOn};
 ghost use Rattle.shell_sectors.specs.Changed.{IsChanged, IsReady};
 ghost use Rattle.shell_sectors.specs.Found.{IsFoundIn};
 ghost use Rattle.shell_sectors.specs.Value.{bytes_for};
-ghost use Rattle.shell_sectors.specs.Write.{WriteComes, length_text, range_text};
+ghost use Rattle.shell_sectors.specs.Write.{WriteComes, length_text};
 
 use crate::changing::change_sector;
 use crate::finding::{FoundSet, SetFound, find_in_set};
@@ -34,7 +34,7 @@ use sector_namespaces::OpenArenas;
 use served_namespaces::open_kept;
 use session_script::Payload;
 use shell_changes::{Answer, without_set};
-use shell_reports::{Report, arena_answer, refused_answer};
+use shell_reports::{Report, arena_answer, range_answer, refused_answer};
 use std::alloc::{AllocError, Global};
 use uuid::Uuid;
 
@@ -51,13 +51,6 @@ fn length_answer(alloc: Global, said: usize, had: u32) -> Result<Report, AllocEr
     ensures { IfOk result (λ report. outcome_of report ≡ refused_outcome (length_text said had)) }
 {
     refused_answer(alloc, &format!(in alloc; "Length {} {}", said, had)?)
-}
-
-/// The answer if there is no such sector.
-fn range_answer(alloc: Global, sectors: u64) -> Result<Report, AllocError>
-    ensures { IfOk result (λ report. outcome_of report ≡ refused_outcome (range_text sectors)) }
-{
-    refused_answer(alloc, &format!(in alloc; "Range {}", sectors)?)
 }
 
 /// Writes a value that has the length of the sector, `had` bytes.

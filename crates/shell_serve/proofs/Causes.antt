@@ -18,10 +18,9 @@ use Rattle.served_namespaces.specs.Opening.{Broken}
 use Rattle.session_script.specs.declared.script.Script.{Script}
 use Rattle.shell_changes.specs.Areas.{areas_in}
 use Rattle.shell_changes.specs.Namespaces.{sets_in}
-use Rattle.shell_reports.specs.Faults.{refused_outcome}
+use Rattle.shell_reports.specs.Faults.{range_text, refused_outcome}
 use Rattle.shell_reports.specs.Outcome.{Outcome}
 use Rattle.shell_reports.proofs.More.{ending_of}
-use Rattle.shell_sectors.specs.Write.{range_text}
 use Rattle.shell_serve.specs.declared.load.Load.{Load}
 use Rattle.shell_serve.specs.Causes.{are_few, arenas_on, bars_found, bars_sets, breaks_found, breaks_on, breaks_sets, found_on}
 use Rattle.shell_serve.specs.Laws.{LoadEndsDue, ServeEndsDue, ending_by}

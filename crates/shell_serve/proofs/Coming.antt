@@ -34,14 +34,14 @@ use Rattle.session_account.proofs.Recovering.{journals_recover}
 use Rattle.shell_changes.specs.Namespaces.{sets_in}
 use Rattle.shell_reports.specs.declared.outcome.Report.{Report}
 use Rattle.shell_reports.specs.declared.status.Ending.TheVariants as ending
-use Rattle.shell_reports.specs.Faults.{refused_outcome}
+use Rattle.shell_reports.specs.Faults.{range_text, refused_outcome}
 use Rattle.shell_reports.specs.List.{open_outcome}
 use Rattle.shell_reports.specs.Outcome.{Outcome}
 use Rattle.shell_sectors.specs.declared.finding.Unchanged.{Unchanged}
-use Rattle.shell_sectors.specs.Write.{range_text}
+use Rattle.shell_sectors.specs.Saving.{SavesLeft}
 use Rattle.shell_serve.specs.declared.load.Load.{Load}
 use Rattle.shell_serve.specs.declared.serving.Served.{Served}
-use Rattle.shell_serve.specs.Answering.{IsServed, SavesLeft}
+use Rattle.shell_serve.specs.Answering.{IsServed}
 use Rattle.shell_serve.specs.Chosen.{ArenasChosen}
 use Rattle.shell_serve.specs.Load.{LoadComes, LoadsOn, LoadsOnSets, LoadsRecovered, LoadsOnArenas, LoadsOnFound}
 use Rattle.shell_serve.specs.Recovered.{IsRecoveredIn, recovered_words}

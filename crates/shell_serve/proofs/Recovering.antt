@@ -1,6 +1,5 @@
 -- From a loaded set to one whose labels are recovered.
 use Rattle.std.proofs.Common.{◌≡◌, ℕ, List, [], length, map, Option, Ok, Err, refl, sym, ap, ◌∙◌, subst, arith}
-use Rattle.std.specs.Option.{option_map}
 use Rattle.std.proofs.lemmas.List.{length-map}
 use Rattle.nfit_reader.specs.declared.table.Mapping.{Mapping}
 use Rattle.image_set.specs.declared.loading.Loaded.{Loaded}
@@ -26,7 +25,7 @@ use Rattle.shell_changes.specs.Areas.{areas_in, rows_in}
 use Rattle.shell_changes.specs.Maps.{HasTable}
 use Rattle.shell_changes.specs.Namespaces.{sets_in}
 use Rattle.shell_changes.specs.Reading.{IsFresh}
-use Rattle.shell_changes.proofs.Areas.{rows_are, rows_opened}
+use Rattle.shell_changes.proofs.Areas.{labels_in, rows_are, rows_opened}
 use Rattle.shell_reports.proofs.Opened.{are_whole}
 use Rattle.shell_changes.proofs.Goes.{labels_are, sets_err, sets_ok}
 use Rattle.shell_changes.proofs.Maps.{areas_read, keep_apart, recovered_read, regions_of}
@@ -34,11 +33,6 @@ use Rattle.shell_sectors.proofs.Loaded.{open_on}
 use Rattle.shell_sectors.specs.declared.finding.OpenSet.{OpenSet}
 use Rattle.shell_sectors.specs.Labels.{IsOpenSet}
 use Rattle.shell_serve.specs.Recovered.{IsRecovered, IsRecovery, recovered_words, with_registry}
-
--- labels are the kept words' bytes
-loaded_labels : (loaded : Loaded) → (image_set_in loaded).labels ≡ map (option_map bytes_kept) loaded.labels
-unfolding image_set_in
-loaded_labels loaded = refl
 
 loaded_nfit : (loaded : Loaded) → (image_set_in loaded).nfit ≡ loaded.nfit
 unfolding image_set_in
@@ -66,7 +60,7 @@ fresh_first sets areas = record { running = refl; claims = refl; journal = refl;
 -- the fault of a set that has one
 pub fault_found : (loaded : Loaded) → IsSound loaded → (areas : List Area) → areas ≡ map opened_as loaded.labels → (fault : OpenFault) → Err fault ≡ registry_opening loaded.nfit areas → sets_in (image_set_in loaded) ≡ Err fault
 fault_found loaded sound areas are fault is =
-    sets_err (image_set_in loaded) loaded.labels loaded.nfit (loaded_labels loaded) (loaded_nfit loaded) fault (are_whole loaded.labels sound.areas)
+    sets_err (image_set_in loaded) loaded.labels loaded.nfit (labels_in loaded) (loaded_nfit loaded) fault (are_whole loaded.labels sound.areas)
     (is ∙ ap (registry_opening loaded.nfit) are)
 
 module _ (loaded : Loaded) (sound : IsSound loaded) (areas : List Area) (are : areas ≡ map opened_as loaded.labels) (old : Registered) (is : Ok old ≡ registry_opening loaded.nfit areas) where
@@ -86,13 +80,13 @@ module _ (loaded : Loaded) (sound : IsSound loaded) (areas : List Area) (are : a
   old_areas = sym (was_opened loaded.nfit areas old is).areas_are ∙ are
 
   old_sets : sets_in (image_set_in loaded) ≡ Ok old.sets
-  old_sets = sets_ok (image_set_in loaded) loaded.labels loaded.nfit (loaded_labels loaded) (loaded_nfit loaded) old (are_whole loaded.labels sound.areas) is_here
+  old_sets = sets_ok (image_set_in loaded) loaded.labels loaded.nfit (labels_in loaded) (loaded_nfit loaded) old (are_whole loaded.labels sound.areas) is_here
 
   old_seen : areas_seen old.areas ≡ areas_in (image_set_in loaded).labels
-  old_seen = ap areas_seen old_areas ∙ labels_are (image_set_in loaded) loaded.labels loaded.nfit (loaded_labels loaded) (loaded_nfit loaded)
+  old_seen = ap areas_seen old_areas ∙ labels_are (image_set_in loaded) loaded.labels loaded.nfit (labels_in loaded) (loaded_nfit loaded)
 
   old_words : label_rows old.areas ≡ rows_in (image_set_in loaded)
-  old_words = ap label_rows old_areas ∙ rows_opened loaded.labels ∙ sym (rows_are (image_set_in loaded) loaded.labels (loaded_labels loaded) sound.areas)
+  old_words = ap label_rows old_areas ∙ rows_opened loaded.labels ∙ sym (rows_are (image_set_in loaded) loaded.labels (labels_in loaded) sound.areas)
 
   regions : AreRegions old.sets
   regions = regions_of (image_set_in loaded) old.sets (has_table loaded sound) old_sets
@@ -137,7 +131,7 @@ module _ (loaded : Loaded) (sound : IsSound loaded) (areas : List Area) (are : a
             opening = r.opening;
             labels = record {
               words = loaded.labels;
-              are = loaded_labels loaded;
+              are = labels_in loaded;
               whole = are_whole loaded.labels sound.areas;
               beside = r.went.beside ∙ ap (map unready) old_areas;
               sizes = r.went.sizes ∙ ap (map size_of) old_areas;

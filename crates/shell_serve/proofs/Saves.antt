@@ -1,66 +1,26 @@
 -- The set that is saved after sessions.
-use Rattle.std.proofs.Common.{◌≡◌, ℕ, List, [], ◌∷◌, length, map, get_or, Option, Some, None, refl, sym, ap, ◌∙◌}
+use Rattle.std.proofs.Common.{◌≡◌, ℕ, List, [], ◌∷◌, length, map, get_or, Option, None, refl, sym, ap, ◌∙◌}
 use Rattle.std.specs.Option.{option_map}
 use Rattle.std.proofs.lemmas.List.Elements.{All-head, All-tail}
-use Rattle.std.proofs.lemmas.Option.{slice_get-map}
 use Rattle.cut_words.specs.Words.{Words, IsLeft, settled}
 use Rattle.cut_words.specs.WordBytes.{bytes_of}
 use Rattle.nvd_media.specs.declared.object.Object.TheVariants as object
-use Rattle.nvd_media.specs.Images.{IsSameSet}
-use Rattle.power_cut.specs.declared.leaving.Images.{Images as Left}
-use Rattle.power_cut.specs.Left.{Each, IsLeftOfAll}
+use Rattle.power_cut.specs.Left.{Each}
 use Rattle.image_set.specs.Changed.{objects_of}
 use Rattle.image_set.specs.Load.{ImageSet}
-use Rattle.image_set.specs.Save.{set_of}
 use Rattle.namespace_areas.specs.declared.area.Area.{Area}
-use Rattle.namespace_areas.specs.Seen.{AreLeft as AreasLeft, areas_shown, words_of as area_words}
+use Rattle.namespace_areas.specs.Seen.{AreLeft as AreasLeft, areas_shown}
 use Rattle.namespace_areas.proofs.Seen.{left_kept}
 use Rattle.sector_namespaces.specs.Creation.{AreSettled}
-use Rattle.shell_changes.specs.declared.answer.Left.{Left as SavedLeft}
-use Rattle.shell_changes.specs.declared.answer.Left.TheVariants.{Whole}
 use Rattle.shell_changes.specs.Areas.{area_in, with_labels}
-use Rattle.shell_changes.specs.Saved.{objects_saved}
 use Rattle.shell_changes.proofs.Areas.{rows_shown, sized_all, unread_all}
-use Rattle.shell_reports.specs.declared.outcome.Report.{Report}
 use Rattle.shell_reports.specs.declared.status.Ending.{Ending}
 use Rattle.shell_reports.specs.declared.status.Ending.TheVariants as ending
 use Rattle.shell_reports.specs.Outcome.{Outcome}
 use Rattle.shell_reports.specs.Saved.{IsSaving}
-use Rattle.shell_sectors.specs.declared.finding.Unchanged.{Unchanged}
 use Rattle.shell_sectors.specs.Found.{with_contents}
-use Rattle.shell_changes.proofs.Saved.{get_map}
-use Rattle.shell_serve.specs.Answering.{SavesLeft}
 use Rattle.shell_serve.specs.Recovered.{KeepsLabels}
 use Rattle.shell_serve.specs.Serving.{SavesParts}
-
--- ---- what is saved
-
-module _ (rest : Unchanged) (contents : List Words) (images : Left) (left : IsLeftOfAll (map area_words rest.registry.areas) contents images) where
-  same_set : (loaded : ImageSet) → loaded.nfit_bytes ≡ rest.nfit_bytes → loaded.bad ≡ rest.bad
-      → IsSameSet (set_of rest.nfit_bytes images rest.bad) (objects_of (with_labels (with_contents loaded images.contents) (map (option_map bytes_of) images.labels)))
-  unfolding set_of objects_of
-  same_set loaded nfit bad object.Mark = refl
-  same_set loaded nfit bad object.Nfit = ap (λ (bytes : List ℕ). Some bytes) (sym nfit)
-  same_set loaded nfit bad (object.Labels k) = sym (get_map (option_map bytes_of) images.labels k None)
-  same_set loaded nfit bad (object.Contents k) = sym (slice_get-map bytes_of images.contents k)
-  same_set loaded nfit bad (object.BadRanges k) = ap (λ (ranges : List (Option (List ℕ))). get_or ranges k None) (sym bad)
-
-  pub saves_left : (leaves : List (Option Words) → List (Option (List ℕ)) → Type 0) → leaves (map area_words rest.registry.areas) images.labels → (report : Report) (saved : SavedLeft) → saved ≡ Whole (record { nfit = rest.nfit_bytes; images = images; bad = rest.bad })
-      → SavesLeft leaves report rest contents (record { ending = report.ending; text = report.text.items; saved = Some (objects_saved [] saved) })
-  saves_left leaves chosen report saved is = record {
-    labels = images.labels;
-    areas = left.labels;
-    chosen = chosen;
-    rows = images.contents;
-    words = left.contents;
-    saves = λ loaded nfit bad. record {
-      ends = refl;
-      says = refl;
-      saved = set_of rest.nfit_bytes images rest.bad;
-      saves = ap (λ (l : SavedLeft). Some (objects_saved [] l)) is;
-      same = same_set loaded nfit bad;
-    };
-  }
 
 -- ---- contents of which no word is pending are saved as they are kept
 

@@ -1,6 +1,7 @@
 -- The texts of replies, line by line, and the calls of a script, session by session.
-use Rattle.std.proofs.Common.{◌≡◌, ℕ, zero, suc, ◌+◌, ◌<◌, ◌≤◌, List, [], ◌∷◌, ◌++◌, length, drop, get_or, refl, sym, ap, ◌∙◌, append_assoc, append-nil, arith}
+use Rattle.std.proofs.Common.{◌≡◌, ℕ, zero, suc, ◌+◌, ◌<◌, ◌≤◌, List, [], ◌∷◌, ◌++◌, length, drop, get_or, sym, ap, ◌∙◌, append_assoc, append-nil, arith}
 use Rattle.std.specs.Prelude.{Vec, cond, count_by}
+use Rattle.std.proofs.lemmas.List.{drop_all}
 use Rattle.std.proofs.lemmas.List.Sums.{sum_by-cons}
 use Rattle.session_account.specs.declared.reply.Reply.{Reply}
 use Rattle.session_script.specs.declared.script.Line.{Line}
@@ -60,17 +61,11 @@ both_few (line ∷ lines) =
 
 -- ---- the end
 
-drop_end : {A : Type 0} (xs : List A) (k : ℕ) → length xs ≤ k → drop k xs ≡ []
-drop_end [] zero le = refl
-drop_end [] (suc k) le = refl
-drop_end (x ∷ xs) zero le = absurd (omega (arith, le))
-drop_end (x ∷ xs) (suc k) le = drop_end xs k (omega (arith, le))
-
 -- all replies are said
 pub all_replies : (replies : List Reply) (k : ℕ) (text all : List ℕ) → length replies ≤ k → text ++ replies_text (drop k replies) ≡ all → text ≡ all
 unfolding replies_text
-all_replies replies k text all le is = sym (append-nil text) ∙ ap (λ (rs : List Reply). text ++ replies_text rs) (sym (drop_end replies k le)) ∙ is
+all_replies replies k text all le is = sym (append-nil text) ∙ ap (λ (rs : List Reply). text ++ replies_text rs) (sym (drop_all k replies le)) ∙ is
 
 pub all_sessions : {Z : Type 0} (replies : List (Vec Reply Z)) (k : ℕ) (text all : List ℕ) → length replies ≤ k → text ++ sessions_text k (replies_of (drop k replies)) ≡ all → text ≡ all
 unfolding sessions_text
-all_sessions {Z} replies k text all le is = sym (append-nil text) ∙ ap (λ (rs : List (Vec Reply Z)). text ++ sessions_text k (replies_of rs)) (sym (drop_end replies k le)) ∙ is
+all_sessions {Z} replies k text all le is = sym (append-nil text) ∙ ap (λ (rs : List (Vec Reply Z)). text ++ sessions_text k (replies_of rs)) (sym (drop_all k replies le)) ∙ is

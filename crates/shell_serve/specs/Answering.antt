@@ -1,19 +1,15 @@
 -- From sessions that have run to the set that is saved.
 use Rattle.std.specs.Prelude.{◌≡◌, ℕ, ◌<◌, List, length, map, slice_index_or, Option, Ok, Err}
-use Rattle.std.specs.Option.{option_map}
-use Rattle.cut_words.specs.Words.{Words, IsLeft}
-use Rattle.cut_words.specs.WordBytes.{bytes_of}
+use Rattle.cut_words.specs.Words.{Words}
 use Rattle.nfit_reader.specs.declared.table.Mapping.{Mapping}
 use Rattle.arena_open.specs.declared.state.ArenaState.{ArenaState}
 use Rattle.lane_core.specs.declared.machine.Core.{Core}
 use Rattle.lane_core.specs.Held.{held_by}
 use Rattle.lane_core.specs.Reopening.{IsCoreOf}
-use Rattle.power_cut.specs.Left.{Each}
 use Rattle.namespace_areas.specs.Seen.{AreLeft as AreasLeft, areas_shown, words_of}
 use Rattle.namespace_areas.specs.Steps.{Rows}
 use Rattle.namespace_map.specs.Areas.{Area as SeenArea}
 use Rattle.namespace_ops.specs.Entries.{JournalEntry}
-use Rattle.image_set.specs.Changed.{objects_of}
 use Rattle.image_set.specs.Load.{ImageSet}
 use Rattle.sector_namespaces.specs.Creation.{AreSettled}
 use Rattle.sector_namespaces.specs.View.{rows_of}
@@ -31,13 +27,10 @@ use Rattle.session_account.specs.Words.{AreasHold}
 use Rattle.session_script.specs.declared.script.Script.{Script}
 use Rattle.session_service.specs.declared.namespaces.ServedNamespace.{ServedNamespace}
 use Rattle.session_service.specs.Ran.{replies_of}
-use Rattle.shell_changes.specs.Areas.{with_labels}
-use Rattle.shell_reports.specs.declared.outcome.Report.{Report}
 use Rattle.shell_reports.specs.Faults.{arena_outcome}
-use Rattle.shell_reports.specs.Outcome.{Outcome}
-use Rattle.shell_reports.specs.Saved.{IsSaving, outcome_of}
+use Rattle.shell_reports.specs.Saved.{outcome_of}
 use Rattle.shell_sectors.specs.declared.finding.Unchanged.{Unchanged}
-use Rattle.shell_sectors.specs.Found.{HasModules, with_contents}
+use Rattle.shell_sectors.specs.Found.{HasModules}
 use Rattle.shell_serve.specs.declared.opening.OpenOutcome.{OpenOutcome}
 use Rattle.shell_serve.specs.declared.opening.OpenOutcome.TheVariants as opened
 use Rattle.shell_serve.specs.declared.serving.Served.{Served}
@@ -98,15 +91,3 @@ pub record IsServed (leaves : List (Option Words) → List (Option (List ℕ)) �
   pub nfit : loaded.nfit_bytes ≡ served.rest.nfit_bytes
   pub bad : loaded.bad ≡ served.rest.bad
   pub modules : HasModules served.rest (length served.modules.items)
-
--- ---- what is saved
-
--- The set is saved with the label areas and the contents after the cut. `leaves` says what it may leave of the label areas' words.
-pub record SavesLeft (leaves : List (Option Words) → List (Option (List ℕ)) → Type 0) (report : Report) (rest : Unchanged) (contents : List Words) (outcome : Outcome) : Type 0 where
-  pub labels : List (Option (List ℕ))
-  pub areas : AreasLeft rest.registry.areas labels
-  pub chosen : leaves (map words_of rest.registry.areas) labels
-  pub rows : List (List ℕ)
-  pub words : Each IsLeft contents rows
-  pub saves : (loaded : ImageSet) → loaded.nfit_bytes ≡ rest.nfit_bytes → loaded.bad ≡ rest.bad
-      → IsSaving report.ending report.text.items (objects_of (with_labels (with_contents loaded rows) (map (option_map bytes_of) labels))) outcome

@@ -79,7 +79,3 @@ LeavesCores picks own parts before after = InTurn (LeavesCore picks) own.items p
 -- rows of words by a chooser that is begun from a seed, and its state behind them
 abbrev pub LeavesTo : {C : Type 0} → (C → ℕ → C → Type 0) → (C → ℕ → Bool → C → Type 0) → C → ℕ → C → List (Option Words) → List (Option (List ℕ)) → Type 0
 LeavesTo {C} begins picks choose seed after words left = (begun : C) × begins choose seed begun × InTurn (LeavesOption picks) words left begun after
-
--- rows of words by a chooser that goes on
-abbrev pub LeavesOn : {C : Type 0} → (C → ℕ → Bool → C → Type 0) → C → List (Option Words) → List (Option (List ℕ)) → Type 0
-LeavesOn {C} picks before words left = (after : C) × InTurn (LeavesOption picks) words left before after

@@ -21,10 +21,9 @@ use Rattle.session_script.specs.declared.script.Script.{Script}
 use Rattle.session_script.specs.Load.{load_script}
 use Rattle.shell_changes.specs.Areas.{areas_in}
 use Rattle.shell_changes.specs.Namespaces.{sets_in}
-use Rattle.shell_reports.specs.Faults.{arena_outcome, refusal_text, refused_outcome}
+use Rattle.shell_reports.specs.Faults.{arena_outcome, range_text, refusal_text, refused_outcome}
 use Rattle.shell_reports.specs.List.{open_outcome}
 use Rattle.shell_reports.specs.Outcome.{Outcome}
-use Rattle.shell_sectors.specs.Write.{range_text}
 use Rattle.shell_serve.specs.declared.load.Load.{Load}
 use Rattle.shell_serve.specs.Recovered.{recovered_words}
 use Rattle.shell_serve.specs.Serving.{Serves}

@@ -33,7 +33,6 @@ mod law;
 mod load;
 mod opening;
 mod recovered;
-mod saving;
 mod scripts;
 mod serve;
 mod serving;

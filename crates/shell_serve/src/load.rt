@@ -13,9 +13,6 @@ ghost use Rattle.session_script.specs.Names.{ScriptHasText};
 ghost use Rattle.shell_changes.specs.Answers.{whole_outcome};
 ghost use Rattle.shell_changes.specs.Remains.{LeavesBy};
 ghost use Rattle.shell_changes.specs.Saved.{copies_contents};
-ghost use Rattle.shell_reports.specs.Faults.{refused_outcome};
-ghost use Rattle.shell_reports.specs.Saved.{outcome_of};
-ghost use Rattle.shell_sectors.specs.Write.{range_text};
 ghost use Rattle.shell_serve.specs.Answering.{IsOpen};
 ghost use Rattle.shell_serve.specs.Load.{LoadComes, LoadsRecovered, LoadsOnArenas, LoadsOnFound, one_opened};
 ghost use Rattle.shell_serve.specs.Recovered.{IsRecovered};
@@ -24,7 +21,6 @@ ghost use Rattle.shell_serve.specs.Texts.{summary};
 
 use crate::opening::{OpenOutcome, open_namespaces};
 use crate::recovered::recover_set;
-use crate::saving::saved_answer;
 use crate::serving::{Running, Served, serve_opened};
 use crate::texts::{serve_text, summary};
 use arena_open::ArenaState;
@@ -35,8 +31,8 @@ use sector_service::Waiting;
 use served_namespaces::{FoundNamespace, OpenedSet};
 use session_script::{Script, make_load};
 use shell_changes::{Answer, without_set};
-use shell_reports::{Report, op_refused_answer, printed_answer, refused_answer};
-use shell_sectors::{LabelsRead, OpenSet, Unchanged};
+use shell_reports::{op_refused_answer, printed_answer, range_answer};
+use shell_sectors::{LabelsRead, OpenSet, Unchanged, left_answer};
 use std::alloc::{AllocError, Global};
 use std::sync::Wait;
 use std::thread::Threads;
@@ -71,13 +67,6 @@ fn sectors_of(opened: &OpenedSet) -> u64
     sectors_in(opened.namespaces.as_slice()[0].states.as_slice())
 }
 
-/// The answer if a namespace has fewer sectors than there are sessions.
-fn few_answer(alloc: Global, sectors: u64) -> Result<Report, AllocError>
-    ensures { IfOk result (λ report. outcome_of report ≡ refused_outcome (range_text sectors)) }
-{
-    refused_answer(alloc, &format!(in alloc; "Range {}", sectors)?)
-}
-
 /// Runs the sessions of a script on namespaces that are open, and answers with a summary and the set that is left.
 fn script_answer<R: Threads + Wait + Sync, C: Chooser, G: Gate>(
     waiting: &Waiting<R, G>,
@@ -103,7 +92,7 @@ fn script_answer<R: Threads + Wait + Sync, C: Chooser, G: Gate>(
     } = served;
     let lines = serve_text(alloc, &replies)?;
     let text = summary(alloc, script, lines)?;
-    saved_answer(alloc, printed_answer(text), rest, modules, choose)
+    left_answer(alloc, printed_answer(text), rest, modules, choose)
 }
 
 /// Answers on a namespace that is open.
@@ -126,7 +115,7 @@ fn opened_answer<R: Threads + Wait + Sync, C: Chooser, G: Gate>(
 {
     let sectors = sectors_of(&opened);
     if sectors < u64::from(load.sessions) {
-        let report = few_answer(alloc, sectors)?;
+        let report = range_answer(alloc, sectors)?;
         return Ok(without_set(report));
     }
     let script = make_load(

@@ -16,7 +16,6 @@ ghost use Rattle.namespace_areas.specs.Steps.{rows_of};
 
 use crate::opening::{OpenOutcome, open_namespaces};
 use crate::recovered::recover_set;
-use crate::saving::saved_answer;
 use crate::scripts::open_lines;
 use crate::serving::{Running, Served, serve_opened};
 use crate::texts::serve_text;
@@ -27,7 +26,7 @@ use served_namespaces::{OpenedSet, find_each, first_ones};
 use session_script::Script;
 use shell_changes::{Answer, without_set};
 use shell_reports::printed_answer;
-use shell_sectors::{LabelsRead, OpenSet, Unchanged};
+use shell_sectors::{LabelsRead, OpenSet, Unchanged, left_answer};
 use std::alloc::{AllocError, Global};
 use std::sync::Wait;
 use std::thread::Threads;
@@ -56,7 +55,7 @@ fn opened_answer<R: Threads + Wait + Sync, C: Chooser, G: Gate>(
         modules,
     } = served;
     let text = serve_text(alloc, &replies)?;
-    saved_answer(alloc, printed_answer(text), rest, modules, choose)
+    left_answer(alloc, printed_answer(text), rest, modules, choose)
 }
 
 /// Answers on a set whose labels are recovered.

@@ -1,9 +1,8 @@
 use Rattle.std.proofs.Common.{◌∙◌, ap, ℕ}
 use Rattle.arena_open.specs.ChainCells.{sectors_of}
-use Rattle.shell_reports.specs.Faults.{refused_outcome}
+use Rattle.shell_reports.specs.Faults.{range_text, refused_outcome}
 use Rattle.shell_reports.proofs.More.{if_more}
 use Rattle.shell_sectors.specs.Answering.{WritesInto}
-use Rattle.shell_sectors.specs.Write.{range_text}
 use Rattle.shell_sectors.proofs.Answered.{past}
 use Rattle.shell_sectors.proofs.write.write_opened.Goals as goal
 

@@ -11,9 +11,8 @@ use Rattle.session_script.specs.declared.script.Script.{Script}
 use Rattle.session_script.specs.Load.{load_script}
 use Rattle.shell_changes.specs.declared.answer.Answer.{Answer}
 use Rattle.shell_changes.specs.Answers.{whole_outcome}
-use Rattle.shell_reports.specs.Faults.{refused_outcome}
+use Rattle.shell_reports.specs.Faults.{range_text, refused_outcome}
 use Rattle.shell_reports.proofs.More.{if_more}
-use Rattle.shell_sectors.specs.Write.{range_text}
 use Rattle.shell_changes.specs.Remains.{LeavesBy}
 use Rattle.shell_serve.specs.Answering.{IsOpen}
 use Rattle.shell_serve.specs.Load.{LoadsOnArenas, one_opened, script_for}

@@ -2,10 +2,9 @@ use Rattle.std.proofs.Common.{◌∙◌, List, Option, ap, map, subst}
 use Rattle.cut_words.specs.Words.{Words}
 use Rattle.namespace_areas.specs.Seen.{words_of}
 use Rattle.power_cut.specs.Left.{InTurn, LeavesOption}
-use Rattle.shell_serve.specs.Chosen.{LeavesOn}
-use Rattle.shell_sectors.proofs.Saves.{can_be_saved, left_as}
-use Rattle.shell_serve.proofs.Saves.{saves_left}
-use Rattle.shell_serve.proofs.saving.saved_answer.Goals as goal
+use Rattle.shell_sectors.specs.Saving.{LeavesOn}
+use Rattle.shell_sectors.proofs.Saves.{can_be_saved, left_as, saves_left}
+use Rattle.shell_sectors.proofs.saving.left_answer.Goals as goal
 
 pub new-requires-2 : goal.new-requires-2
 new-requires-2 g c =
