@@ -13,7 +13,7 @@ use Rattle.arena_open.specs.Writes.{IsSettled, written_over}
 use Rattle.arena_open.specs.Reading.{opening}
 use Rattle.arena_open.specs.Moves.{IsOpenState, move_writes, open_answer, opened_steps, recovered, steps_if, state_of, with_all_made}
 use Rattle.arena_open.specs.Moves as arena
-use Rattle.arena_open.specs.Chain.{Link, Links, chain_of, chain_steps, state_at, link_made, chain_answer, RecoversChain, RecoversFirst, OpensAgain, link_steps, states_from, chain_within, found_again}
+use Rattle.arena_open.specs.Chain.{Link, Links, chain_of, chain_steps, state_at, link_made, chain_answer, RecoversChain, RecoversFirst, ChainOpensAgain, link_steps, states_from, chain_within, found_again}
 use Rattle.cut_words.proofs.Making.{makes_none, makes_both, makes_cut, makes_length}
 use Rattle.arena_open.specs.declared.refused.OpenRefused.TheVariants as open_refused
 use Rattle.arena_open.proofs.Written.{made_settled}
@@ -244,7 +244,7 @@ module _ (old : Words) (fuse : Option ℕ) (first : ℕ) (parent : List ℕ) (no
       pub last_made : RecoversChain old new fuse left' parent first
       last_made = all_made_by old new fuse left' parent first (s.links ++ record { at = at; opened = a.opened } ∷ []) None true chain_is (steps_one new left' a.opened made)
 
-      pub last_again : OpensAgain old.kept new.kept parent first
+      pub last_again : ChainOpensAgain old.kept new.kept parent first
       last_again =
           chain_last new.kept parent first (map link_made s.links) at again_before (omega (arith, s.inside, s.count, same_count)) (with_all_made a.opened) again_here none'
           ∙ (λ i. record { links = sym (map-append link_made s.links (record { at = at; opened = a.opened } ∷ [])) i; refused = None })

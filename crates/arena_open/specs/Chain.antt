@@ -123,8 +123,8 @@ abbrev pub link_made : Link → Link
 link_made link = record { at = link.at; opened = with_all_made link.opened }
 
 -- the same arenas open, with no move pending
-abbrev pub OpensAgain : List ℕ → List ℕ → List ℕ → ℕ → Type 0
-OpensAgain words now parent first =
+abbrev pub ChainOpensAgain : List ℕ → List ℕ → List ℕ → ℕ → Type 0
+ChainOpensAgain words now parent first =
     chain_of now parent first ≡ record { links = map link_made (chain_of words parent first).links; refused = None }
 
 -- the state of an arena whose pending moves were made, as it is found if it is opened again

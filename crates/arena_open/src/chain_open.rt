@@ -1,6 +1,6 @@
 ghost use Rattle.std.specs.Prelude.{◌≡◌, ◌≢◌, ℕ, ◌+◌, ◌*◌, None, Ok, map, IfOk, OnOk};
 ghost use Rattle.arena_open.specs.Writes.{IsSettled};
-ghost use Rattle.arena_open.specs.Chain.{CanOpenChain, HasMemory, OpensAgain, RecoversChain, RecoversFirst, chain_answer, found_again, wants_memory};
+ghost use Rattle.arena_open.specs.Chain.{CanOpenChain, HasMemory, ChainOpensAgain, RecoversChain, RecoversFirst, chain_answer, found_again, wants_memory};
 
 use crate::chain::Chain;
 use crate::chain_refused::ChainRefused;
@@ -37,7 +37,7 @@ pub fn open_chain<W: WordSpace>(
     ensures memory { (k : ℕ) → result ≡ Err (wants_memory k) → RecoversFirst k (W.words space.old) (W.words space.new) fuse.old fuse.new parent.now first }
     ensures beside { W.beside space.new ≡ W.beside space.old }
     ensures settles { OnOk result (IsSettled (W.words space.new)) }
-    ensures again { OnOk result (OpensAgain (W.words space.old).kept (W.words space.new).kept parent.now first) }
+    ensures again { OnOk result (ChainOpensAgain (W.words space.old).kept (W.words space.new).kept parent.now first) }
     ensures found { IfOk result (λ states. chain_answer None (W.words space.new).kept parent.now first ≡ Ok (map found_again states)) }
 {
     let mut arenas = Vec::new(alloc);

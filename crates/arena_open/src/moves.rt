@@ -74,8 +74,12 @@ fn check_map(
     }
 }
 
-/// Decodes an arena from its map as read and its lanes' halves.
-pub(crate) fn with_moves(
+/// Decodes an arena from its parts, for callers that don't have all of its words in memory: its info
+/// block, the current halves of its lanes, in order, and its map as read, an entry for each sector.
+///
+/// It finds the pending moves by the map as read, and applies them. It refuses with `Block` if then
+/// the map and the free blocks don't name each block once; `OutOfMemory` may replace any result.
+pub fn decode_arena(
     alloc: Global,
     info: Info,
     groups: Items<Group>,

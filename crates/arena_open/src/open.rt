@@ -7,7 +7,7 @@ ghost use Rattle.arena_open.specs.Writes.{IsSettled, LiesInSpace, write_steps, w
 ghost use Rattle.arena_open.specs.Reading.{opening};
 ghost use Rattle.arena_open.specs.Moves.{lane_of, move_writes, open_answer, opened_steps, shifted, state_if, IsOpenState, IsUntouched, OpensAgain, Recovers};
 
-use crate::moves::with_moves;
+use crate::moves::decode_arena;
 use crate::opened::{LaneState, Opened};
 use crate::read::{read_first, read_lanes, read_map, read_words};
 use crate::refused::OpenRefused;
@@ -45,7 +45,7 @@ pub fn read_arena<W: WordSpace>(
     let Ok(entries) = read_map(alloc, space, at, &info.layout) else {
         return Err(OpenRefused::OutOfMemory);
     };
-    with_moves(alloc, info, groups, entries)
+    decode_arena(alloc, info, groups, entries)
 }
 
 /// Completes moves, one after another: in the space and in a copy of the arena's words, each map

@@ -115,6 +115,13 @@ impl Regions {
         self.sets.as_slice()
     }
 
+    /// Gives the interleave sets away, by region number.
+    pub fn into_sets(self) -> Items<InterleaveSet>
+        ensures { result ≡ self }
+    {
+        self.sets
+    }
+
     /// Returns the first region in whose mapping a label lies whole, with its set.
     ///
     /// It looks at the regions that have a mapping of the label's module. It takes no memory.

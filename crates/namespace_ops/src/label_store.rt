@@ -152,4 +152,12 @@ impl LabelStore {
     {
         self.areas
     }
+
+    /// The interleave sets, by region number, and the label areas, by the modules' numbers.
+    pub(crate) fn into_parts(self) -> (Items<InterleaveSet>, Vec<Area>)
+        ensures sets { result.0 ≡ self.sets }
+        ensures areas { result.1.items ≡ self.areas }
+    {
+        (self.sets.into_sets(), self.areas)
+    }
 }

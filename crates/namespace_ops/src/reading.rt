@@ -107,4 +107,12 @@ impl Registry {
     {
         self.namespaces.store.into_areas()
     }
+
+    /// The interleave sets, by region number, and the label areas, by the modules' numbers.
+    pub fn into_parts(self) -> (Items<InterleaveSet>, Vec<Area>)
+        ensures sets { result.0 ≡ self.sets }
+        ensures areas { result.1.items ≡ self.areas }
+    {
+        self.namespaces.store.into_parts()
+    }
 }

@@ -1,5 +1,5 @@
 mod InTurn
-mod Places
+pub mod Places
 pub mod Spread
 pub mod Beside
 mod Stays

@@ -17,7 +17,7 @@ use Rattle.power_cut.specs.Namespace.{Namespace, AreApart, IsLaid, byte_at, byte
 contains_more : {X : Type 0} (xs : List X) (x y : X) → Contains xs x → Contains (y ∷ xs) x
 contains_more xs x y among = (suc among.0, omega (arith, among.1), among.2)
 
-find_true : {X : Type 0} (p : X → Bool) (xs : List X) (x : X) → find p xs ≡ Some x → (p x ≡ true) × Contains xs x
+pub find_true : {X : Type 0} (p : X → Bool) (xs : List X) (x : X) → find p xs ≡ Some x → (p x ≡ true) × Contains xs x
 find_true p [] x is = absurd cc
 find_true p (y ∷ xs) x is = elim (cases_Bool (p y)) [
   | inl passes ↦
@@ -28,7 +28,7 @@ find_true p (y ∷ xs) x is = elim (cases_Bool (p y)) [
       (rest.0, contains_more xs x y rest.1)
 ]
 
-find_has : {X : Type 0} (p : X → Bool) (xs : List X) (x : X) (k : ℕ) → k < length xs → get_or xs k x ≡ x → p x ≡ true → (y : X) × (find p xs ≡ Some y)
+pub find_has : {X : Type 0} (p : X → Bool) (xs : List X) (x : X) (k : ℕ) → k < length xs → get_or xs k x ≡ x → p x ≡ true → (y : X) × (find p xs ≡ Some y)
 find_has p [] x k lt is passes = absurd (omega arith)
 find_has p (y ∷ xs) x zero lt is passes = (y, rw (subst (λ z. p z ≡ true) (sym is) passes) refl)
 find_has p (y ∷ xs) x (suc k) lt is passes = elim (cases_Bool (p y)) [

@@ -15,20 +15,20 @@ returns-in_err-groups g c =
     lanes_refused (drop c.args.at (g.W.WordSpace.words c.args.space.now).kept) c.args.parent.now c.in-Ok.info c.from_residual.result c.read_lanes.result c.in_err-groups.field-0.0
     (sym c.in-Ok.ensures.info) (p.1 ∙ ap (λ f. Err f) p.2) c.read_lanes.ensures c.in_err-groups.was
 
-pub with_moves-requires-clause-few : goal.with_moves-requires-clause-few
-with_moves-requires-clause-few g c =
+pub decode_arena-requires-clause-few : goal.decode_arena-requires-clause-few
+decode_arena-requires-clause-few g c =
     let l = c.in-Ok.info.layout in
     let n = ap length c.in-Ok-read_map.ensures ∙ length_map c.in-Ok.info.layout (drop c.args.at (g.W.WordSpace.words c.args.space.now).kept) in
     omega (arith, n, c.in-Ok.ensures.sound.sound.layout.internal_is, c.in-Ok.ensures.sound.sound.layout.internal_few)
 
-pub with_moves-requires-clause-in_range : goal.with_moves-requires-clause-in_range
-with_moves-requires-clause-in_range g c =
+pub decode_arena-requires-clause-in_range : goal.decode_arena-requires-clause-in_range
+decode_arena-requires-clause-in_range g c =
     let n = ap length c.in-Ok-read_map.ensures ∙ length_map c.in-Ok.info.layout (drop c.args.at (g.W.WordSpace.words c.args.space.now).kept) in
     subst (λ (k : ℕ). AreInRange k c.in_ok-groups.groups) (sym n)
     (lanes_in_range c.in-Ok.info.layout (drop c.args.at (g.W.WordSpace.words c.args.space.now).kept) c.in_ok-groups.groups c.in-Ok.ensures.sound.sound.layout (sym (c.in_ok-groups.ensures (λ e. cc))))
 
 pub returns : goal.returns
 returns g c =
-    λ not_memory. c.with_moves.ensures not_memory
+    λ not_memory. c.decode_arena.ensures not_memory
     ∙ ap (λ (es : List ℕ). on_map c.in-Ok.info c.in_ok-groups.groups es) c.in-Ok-read_map.ensures
     ∙ sym (opening_map (drop c.args.at (g.W.WordSpace.words c.args.space.now).kept) c.args.parent.now c.in-Ok.info c.in_ok-groups.groups (sym c.in-Ok.ensures.info) (sym (c.in_ok-groups.ensures (λ e. cc))))

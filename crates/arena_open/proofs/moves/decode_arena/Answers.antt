@@ -3,7 +3,7 @@ use Rattle.flog.specs.declared.half.Half.{Half}
 use Rattle.arena_open.specs.Halves.{AreMoves}
 use Rattle.arena_open.specs.Reading.{moves_of}
 use Rattle.arena_open.proofs.Pending.{moves_fit}
-use Rattle.arena_open.proofs.moves.with_moves.Goals as goal
+use Rattle.arena_open.proofs.moves.decode_arena.Goals as goal
 
 pub make_moves-requires : goal.make_moves-requires
 make_moves-requires c =
