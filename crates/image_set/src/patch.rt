@@ -9,12 +9,13 @@ pub trait Patch {
     ghost patched: { Self → ℕ → ℕ → ℕ → ℕ };
 
     /// Returns whether the new values of these bytes don't depend on the old ones. Such a piece
-    /// isn't read.
+    /// isn't read. It ends below address 2^64.
     fn covers(&self, module: u32, at: u64, bytes: u64) -> bool
         requires { at + bytes < 2 ^ 64 }
         ensures { IsTrue result → IsCovered (patched self.now) «module» at bytes };
 
-    /// Changes a piece of a module's contents, of which `at` is the address of the first byte.
+    /// Changes a piece of a module's contents, of which `at` is the address of the first byte. It ends
+    /// below address 2^64.
     fn patch(&self, module: u32, at: u64, piece: &mut [u8])
         requires { at + length piece.old < 2 ^ 64 }
         ensures { piece.new ≡ patched_row (patched self.now) «module» at piece.old };
