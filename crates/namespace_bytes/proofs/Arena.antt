@@ -118,7 +118,7 @@ module _ (at : ℕ) (o : Opened) (bytes words parent : List ℕ) (opens : openin
   named_apart : Apart (blocks_of o.entries (free_of o.groups))
   named_apart = apart_once o.info.layout.internal (blocks_of o.entries (free_of o.groups)) sound_is.once.below (λ b lt. omega (arith, sound_is.once.once b lt))
 
-  apart : (a b : ℕ) → a < o.info.layout.external → b < o.info.layout.external → a ≢ b → block_at o.entries a ≢ block_at o.entries b
+  pub apart : (a b : ℕ) → a < o.info.layout.external → b < o.info.layout.external → a ≢ b → block_at o.entries a ≢ block_at o.entries b
   apart a b lt lt' ne e = elim (cases_lt a b) [
     | inl low ↦ differ (blocks_of o.entries (free_of o.groups)) a b named_apart low (omega (arith, lt', named_long)) (named_is a lt ∙ e ∙ sym (named_is b lt'))
     | inr high ↦ differ (blocks_of o.entries (free_of o.groups)) b a named_apart (omega (arith, high, ne)) (omega (arith, lt, named_long)) (named_is b lt' ∙ sym e ∙ sym (named_is a lt))

@@ -9,4 +9,13 @@ pub mod Flagged
 pub mod Pasted
 pub mod Patched
 pub mod WholePatch
+pub mod ByteWords
+pub mod Owners
+pub mod MapWords
+pub mod SectorWords
+pub mod SectorChain
+pub mod SectorPuts
+pub mod SectorRuns
+pub mod SectorTables
 mod Rows
+mod SectorRows

@@ -114,7 +114,7 @@ module _ (at : ℕ) (l : Layout) (ok : IsLayout l) (own block : ℕ) (value word
   pub value_now : (k : ℕ) → k < l.sector / 8 → get_or now (p + k) 0 ≡ get_or value k 0
   value_now k in' = past_map (p + k) (λ e. omega (arith, e, room, fits, in')) ∙ put_inside words p value k in_words (omega (arith, in', fits))
 
-  word_now : get_or now q 0 ≡ with_entry (get_or words q 0) own (normal_of block)
+  pub word_now : get_or now q 0 ≡ with_entry (get_or words q 0) own (normal_of block)
   word_now =
       ap (λ (i : ℕ). get_or now i 0) (let e : q ≡ q + 0 = omega arith in e)
       ∙ put_inside mid q (with_entry (get_or mid q 0) own (normal_of block) ∷ []) 0 q_words (omega arith)

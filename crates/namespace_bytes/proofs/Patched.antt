@@ -1,5 +1,5 @@
--- The contents of modules with the bytes of a raw namespace put into them.
-use Rattle.std.proofs.Common.{◌≡◌, ◌⊎◌, ℕ, zero, suc, ◌+◌, ◌-◌, ◌*◌, ◌/◌, ◌%◌, ◌<◌, ◌≤◌, Bool, true, false, cond, List, [], ◌∷◌, ◌++◌, length, length-append, append-nil, append_assoc, take, drop, get_or, Option, Some, None, refl, sym, ap, ◌∙◌, subst, arith, inl, inr}
+-- The contents of modules with the new bytes of a namespace put into them.
+use Rattle.std.proofs.Common.{◌≡◌, ◌⊎◌, ℕ, ◌+◌, ◌-◌, ◌*◌, ◌/◌, ◌%◌, ◌^◌, ◌<◌, ◌≤◌, Bool, true, false, cond, List, [], ◌++◌, length, length-append, append-nil, append_assoc, take, drop, get_or, Option, Some, None, refl, sym, ap, ◌∙◌, subst, arith, inl, inr}
 use Rattle.std.specs.Prelude.{Contains, ◌==◌, ◌&&◌, if◌then◌else◌, nat_le, nat_lt, find, position, slice_get}
 use Rattle.std.specs.Option.{option_map}
 use Rattle.std.proofs.Math.Seq.{take-add}
@@ -13,14 +13,16 @@ use Rattle.std.proofs.lemmas.List.Folds.{find_at}
 use Rattle.std.proofs.lemmas.Option.{slice_get_cases, slice_get_past}
 use Rattle.std.specs.List.{position_or_len}
 use Rattle.std.proofs.lemmas.Nat.{div-add-mod'}
-use Rattle.std.proofs.Math.Nat.{mul-mod_left}
+use Rattle.std.proofs.Math.Nat.{mul-le-mul_left, mul-mod_left}
 use Rattle.nfit_reader.specs.declared.table.Mapping.{Mapping}
 use Rattle.interleave.specs.Places.{LiesAt, region_byte, unit_of}
-use Rattle.interleave.specs.Sound.{HasAddress}
+use Rattle.interleave.specs.Sound.{HasAddress, span_of}
 use Rattle.power_cut.specs.Namespace.{IsLaid, over}
 use Rattle.power_cut.proofs.Spread.{at_range, length_range}
 use Rattle.image_set.specs.Patches.{patched_row}
-use Rattle.namespace_bytes.specs.Patching.{IsRawBytes, RawBytes, byte_from, is_within, mapping_of, patched_by, raw_patched, start_in}
+use Rattle.power_cut.proofs.Places.{find_has, find_true}
+use Rattle.namespace_bytes.specs.Changed.{IsFree, changed_from}
+use Rattle.namespace_bytes.specs.Patching.{AreBytesAt, BytePatch, IsBytePatch, byte_number, byte_patched, is_within, mapping_of, new_of, patched_by, start_in}
 
 -- ---- rows
 
@@ -56,30 +58,6 @@ row_more f m at row done more =
 is_same : (a b : ℕ) → a ≡ b → (a == b) ≡ true
 is_same a b e = grind (arith, nat_tests)
 
-one_more : (xs : List Mapping) (x y : Mapping) → Contains xs x → Contains (y ∷ xs) x
-one_more xs x y among = (suc among.0, omega (arith, among.1), among.2)
-
-find_true : (p : Mapping → Bool) (xs : List Mapping) (x : Mapping) → find p xs ≡ Some x → (p x ≡ true) × Contains xs x
-find_true p [] x is = absurd cc
-find_true p (y ∷ xs) x is = elim (cases_Bool (p y)) [
-  | inl passes ↦
-      let same : y ≡ x = (let e = rw passes at is in cc) in
-      (subst (λ z. p z ≡ true) same passes, (0, omega arith, same))
-  | inr fails ↦
-      let rest = find_true p xs x (rw fails at is) in
-      (rest.0, one_more xs x y rest.1)
-]
-
-find_has : (p : Mapping → Bool) (xs : List Mapping) (x : Mapping) (k : ℕ) → k < length xs → get_or xs k x ≡ x → p x ≡ true → (y : Mapping) × (find p xs ≡ Some y)
-find_has p [] x k lt is passes = absurd (omega arith)
-find_has p (y ∷ xs) x zero lt is passes = (y, rw (subst (λ z. p z ≡ true) (sym is) passes) refl)
-find_has p (y ∷ xs) x (suc k) lt is passes = elim (cases_Bool (p y)) [
-  | inl here ↦ (y, rw here refl)
-  | inr other ↦
-      let rest = find_has p xs x k (omega arith) is passes in
-      (rest.0, rw other rest.1)
-]
-
 tests : (c d e : ℕ) → c ≤ d → d < e → (nat_le c d && nat_lt d e) ≡ true
 tests c d e le lt = grind (arith, nat_tests)
 
@@ -94,7 +72,7 @@ some_is : {A : Type 0} (x y : A) → Some x ≡ Some y → x ≡ y
 some_is x y e = cc
 
 -- the end of the namespace in a mapping is a multiple of the unit
-both_units : (p : RawBytes) → IsRawBytes p → (p.offset + p.raw) % unit_of p.set ≡ 0
+both_units : (p : BytePatch) → IsBytePatch p → (p.offset + p.raw) % unit_of p.set ≡ 0
 both_units p is =
     let laid = is.laid [] in
     let u : ℕ = unit_of p.set in
@@ -103,8 +81,15 @@ both_units p is =
     let sum : p.offset + p.raw ≡ (p.offset / u + p.raw / u) * u = omega (arith, offset_is, raw_is) in
     ap (λ (n : ℕ). n % u) sum ∙ mul-mod_left (p.offset / u + p.raw / u) u
 
+-- its size
+pub size_fits : (p : BytePatch) → IsBytePatch p → length p.set * p.raw < 2 ^ 64
+size_fits p is =
+    let laid = is.laid [] in
+    let le : length p.set * p.raw ≤ length p.set * span_of p.set = mul-le-mul_left (length p.set) (let short : p.raw ≤ span_of p.set = omega (arith, laid.inside) in short) in
+    omega (arith, le, laid.fits)
+
 -- where its extent in a module begins
-pub start_is : (p : RawBytes) (which start : ℕ) → start_in p which ≡ Some start → (m : Mapping) × (mapping_of p.set which ≡ Some m) × (start ≡ m.start + p.offset)
+pub start_is : (p : BytePatch) (which start : ℕ) → start_in p which ≡ Some start → (m : Mapping) × (mapping_of p.set which ≡ Some m) × (start ≡ m.start + p.offset)
 start_is p which start there = by (mapping_of p.set which) refl there
   where
     by : (o : Option Mapping) → mapping_of p.set which ≡ o → option_map (λ (m : Mapping). m.start + p.offset) o ≡ Some start
@@ -113,16 +98,16 @@ start_is p which start there = by (mapping_of p.set which) refl there
     by (Some m) found e = (m, found, sym (some_is (m.start + p.offset) start e))
 
 -- a module without an extent, or a byte outside of it
-pub byte_none : (p : RawBytes) (which address old : ℕ) → start_in p which ≡ None → raw_patched p which address old ≡ old
-unfolding raw_patched
+pub byte_none : (p : BytePatch) (which address old : ℕ) → start_in p which ≡ None → byte_patched p which address old ≡ old
+unfolding byte_patched
 byte_none p which address old there = by (mapping_of p.set which) there
   where
     by : (o : Option Mapping) → option_map (λ (m : Mapping). m.start + p.offset) o ≡ None → patched_by p address old o ≡ old
     by None e = refl
     by (Some m) e = absurd cc
 
-pub byte_kept : (p : RawBytes) (which start address old : ℕ) → start_in p which ≡ Some start → (address < start) ⊎ (start + p.raw ≤ address) → raw_patched p which address old ≡ old
-unfolding raw_patched
+pub byte_kept : (p : BytePatch) (which start address old : ℕ) → start_in p which ≡ Some start → (address < start) ⊎ (start + p.raw ≤ address) → byte_patched p which address old ≡ old
+unfolding byte_patched
 byte_kept p which start address old there outside =
     let own = start_is p which start there in
     let m = own.0 in
@@ -130,20 +115,9 @@ byte_kept p which start address old there outside =
       | inl before ↦ fails (m.start + p.offset) address (m.start + p.offset + p.raw) (inl (omega (arith, before, own.2)))
       | inr after ↦ fails (m.start + p.offset) address (m.start + p.offset + p.raw) (inr (omega (arith, after, own.2)))
     ] in
-    ap (patched_by p address old) own.1 ∙ ap (λ (b : Bool). if b then byte_from p m address else old) without
+    ap (patched_by p address old) own.1 ∙ ap (λ (b : Bool). if b then new_of p.bytes (byte_number p m address) old else old) without
 
--- inside of it the old value doesn't matter
-pub byte_free : (p : RawBytes) (which start address old old' : ℕ) → start_in p which ≡ Some start → start ≤ address → address < start + p.raw
-    → raw_patched p which address old ≡ raw_patched p which address old'
-unfolding raw_patched
-byte_free p which start address old old' there from to =
-    let own = start_is p which start there in
-    let m = own.0 in
-    let within : is_within p m address ≡ true = tests (m.start + p.offset) address (m.start + p.offset + p.raw) (omega (arith, from, own.2)) (omega (arith, to, own.2)) in
-    ap (patched_by p address old) own.1 ∙ ap (λ (b : Bool). if b then byte_from p m address else old) within
-    ∙ sym (ap (patched_by p address old') own.1 ∙ ap (λ (b : Bool). if b then byte_from p m address else old') within)
-
-module _ (p : RawBytes) (is : IsRawBytes p) where
+module _ (p : BytePatch) (is : IsBytePatch p) where
   abbrev laid : IsLaid (over p.set p.offset p.raw [])
   laid = is.laid []
 
@@ -162,8 +136,8 @@ module _ (p : RawBytes) (is : IsRawBytes p) where
 
   -- a byte of the namespace, at its place
   pub byte_put : (y which address old : ℕ) → LiesAt p.set y which address → length p.set * p.offset ≤ y → y < length p.set * (p.offset + p.raw)
-      → raw_patched p which address old ≡ get_or p.bytes (y - length p.set * p.offset) 0
-  unfolding raw_patched
+      → byte_patched p which address old ≡ new_of p.bytes (y - length p.set * p.offset) old
+  unfolding byte_patched
   byte_put y which address old lies from to =
       let m = lies.0 in
       let by = lies.2 in
@@ -181,9 +155,9 @@ module _ (p : RawBytes) (is : IsRawBytes p) where
       let within : is_within p m address ≡ true = tests (m.start + p.offset) address (m.start + p.offset + p.raw) low high in
       let own : address - m.start ≡ x = omega (arith, by.byte.1) in
       ap (patched_by p address old) (mapping_is m which lies.1 by.of)
-      ∙ ap (λ (b : Bool). if b then byte_from p m address else old) within
-      ∙ ap (λ (a : ℕ). get_or p.bytes (region_byte (length p.set) m a - length p.set * p.offset) 0) own
-      ∙ ap (λ (b : ℕ). get_or p.bytes (b - length p.set * p.offset) 0) by.byte.2
+      ∙ ap (λ (b : Bool). if b then new_of p.bytes (byte_number p m address) old else old) within
+      ∙ ap (λ (a : ℕ). new_of p.bytes (region_byte (length p.set) m a - length p.set * p.offset) old) own
+      ∙ ap (λ (b : ℕ). new_of p.bytes (b - length p.set * p.offset) old) by.byte.2
 
   -- the namespace's byte at an address of its extent
   pub byte_range : (which start address y : ℕ) → start_in p which ≡ Some start → start ≤ address → address < start + p.raw → LiesAt p.set y which address
@@ -209,7 +183,7 @@ row_kept f m at row n le same =
     get_or-take n (patched_row f m at row) j 0 less ∙ at_row f m at row j (omega (arith, less, le)) ∙ same j less ∙ sym (get_or-take n row j 0 less)) in
     sym (ap (λ (r : List ℕ). r ++ drop n row) front ∙ take-append-drop n row)
 
-module _ (p : RawBytes) (is : IsRawBytes p) (which start at byte run size : ℕ) (row : List ℕ) (there : start_in p which ≡ Some start) (from : start ≤ at)
+module _ (p : BytePatch) (is : IsBytePatch p) (which start at byte run size : ℕ) (there : start_in p which ≡ Some start) (from : start ≤ at)
     (lies : (j : ℕ) → j < run → LiesAt p.set (byte + j) which (at + j)) (some : 0 < size) (short : size ≤ run) (to : at + size ≤ start + p.raw) where
   abbrev first : ℕ
   first = length p.set * p.offset
@@ -221,27 +195,41 @@ module _ (p : RawBytes) (is : IsRawBytes p) (which start at byte run size : ℕ)
   pub line_from : length p.set * p.offset ≤ byte
   line_from = omega (arith, (in_range 0 some).0)
 
-  pub line_inside : byte - length p.set * p.offset + size ≤ length p.bytes
+  pub line_inside : byte - length p.set * p.offset + size ≤ length p.set * p.raw
   line_inside =
       let last = in_range (size - 1) (omega (arith, some)) in
       let sum : length p.set * (p.offset + p.raw) ≡ length p.set * p.offset + length p.set * p.raw = omega arith in
-      omega (arith, last.1, sum, is.long, some, line_from)
+      omega (arith, last.1, sum, some, line_from)
 
-  pub line_put : size ≤ length row → take size (drop (byte - length p.set * p.offset) p.bytes) ≡ take size (patched_row (raw_patched p) which at row)
-  line_put le =
-      let own = drop (byte - length p.set * p.offset) p.bytes in
-      let long : length (take size (drop (byte - length p.set * p.offset) p.bytes)) ≡ size = length-take-le size own (omega (arith, length-drop (byte - length p.set * p.offset) p.bytes, line_inside)) in
-      let long' : length (take size (patched_row (raw_patched p) which at row)) ≡ size =
-      length-take-le size (patched_row (raw_patched p) which at row) (omega (arith, le, length_row (raw_patched p) which at row)) in
-      ext_get_or 0 (take size (drop (byte - length p.set * p.offset) p.bytes)) (take size (patched_row (raw_patched p) which at row)) (long ∙ sym long') (λ j lt.
+  pub line_at : AreBytesAt p which at (byte - length p.set * p.offset) size
+  line_at j lt = subst (λ (y : ℕ). LiesAt p.set y which (at + j)) (omega (arith, line_from)) (lies j (omega (arith, lt, short)))
+
+module _ (p : BytePatch) (is : IsBytePatch p) (which at from size : ℕ) (inside : from + size ≤ length p.set * p.raw) (lies : AreBytesAt p which at from size) where
+  pub byte_new : (j old : ℕ) → j < size → byte_patched p which (at + j) old ≡ new_of p.bytes (from + j) old
+  byte_new j old lt =
+      let sum : length p.set * (p.offset + p.raw) ≡ length p.set * p.offset + length p.set * p.raw = omega arith in
+      byte_put p is (length p.set * p.offset + (from + j)) which (at + j) old (lies j lt) (omega arith) (omega (arith, sum, inside, lt))
+      ∙ ap (λ (k : ℕ). new_of p.bytes k old) (omega arith)
+
+  pub line_put : (row : List ℕ) → size ≤ length row → changed_from (new_of p.bytes) from (take size row) ≡ take size (patched_row (byte_patched p) which at row)
+  line_put row le =
+      let short : length (take size row) ≡ size = length-take-le size row le in
+      let long : length (changed_from (new_of p.bytes) from (take size row)) ≡ size = length_row (λ m. new_of p.bytes) which from (take size row) ∙ short in
+      let long' : length (take size (patched_row (byte_patched p) which at row)) ≡ size =
+      length-take-le size (patched_row (byte_patched p) which at row) (omega (arith, le, length_row (byte_patched p) which at row)) in
+      ext_get_or 0 (changed_from (new_of p.bytes) from (take size row)) (take size (patched_row (byte_patched p) which at row)) (long ∙ sym long') (λ j lt.
       let less : j < size = omega (arith, lt, long) in
-      get_or-take size own j 0 less ∙ get_or-drop (byte - length p.set * p.offset) p.bytes j 0
-      ∙ ap (λ (k : ℕ). get_or p.bytes k 0) (omega (arith, line_from))
-      ∙ sym (byte_put p is (byte + j) which (at + j) (get_or row j 0) (lies j (omega (arith, less, short))) (in_range j less).0 (in_range j less).1)
-      ∙ sym (get_or-take size (patched_row (raw_patched p) which at row) j 0 less ∙ at_row (raw_patched p) which at row j (omega (arith, less, le))))
+      at_row (λ m. new_of p.bytes) which from (take size row) j (omega (arith, less, short))
+      ∙ ap (new_of p.bytes (from + j)) (get_or-take size row j 0 less)
+      ∙ sym (byte_new j (get_or row j 0) less)
+      ∙ sym (get_or-take size (patched_row (byte_patched p) which at row) j 0 less ∙ at_row (byte_patched p) which at row j (omega (arith, less, le))))
+
+  -- if the new values don't depend on the old ones, neither do those of the bytes at their places
+  pub line_free : IsFree (new_of p.bytes) from size → (k old old' : ℕ) → k < size → byte_patched p which (at + k) old ≡ byte_patched p which (at + k) old'
+  line_free free k old old' lt = byte_new k old lt ∙ free k old old' lt ∙ sym (byte_new k old' lt)
 
 -- the address lies in the mapping
-pub has_address : (p : RawBytes) → IsRawBytes p → (which start address : ℕ) → start_in p which ≡ Some start → start ≤ address → address < start + p.raw → HasAddress p.set which address
+pub has_address : (p : BytePatch) → IsBytePatch p → (which start address : ℕ) → start_in p which ≡ Some start → start ≤ address → address < start + p.raw → HasAddress p.set which address
 has_address p is which start address there from to =
     let own = start_is p which start there in
     let m = own.0 in
@@ -286,13 +274,13 @@ no_position t xs is = elim (cases_Bool (nat_lt (position_or_len t xs) (length xs
     no_none : (k : ℕ) → Some k ≡ None → ⊥
     no_none k e = cc
 
-pub start_at : (p : RawBytes) (which k start : ℕ) → position (λ (m : Mapping). m.«module» == which) p.set ≡ Some k → ((blank : Mapping) → start ≡ (get_or p.set k blank).start)
+pub start_at : (p : BytePatch) (which k start : ℕ) → position (λ (m : Mapping). m.«module» == which) p.set ≡ Some k → ((blank : Mapping) → start ≡ (get_or p.set k blank).start)
     → Some (start + p.offset) ≡ start_in p which
 start_at p which k start at is =
     let own = at_position (λ (m : Mapping). m.«module» == which) p.set k at in
     ap (λ (s : ℕ). Some (s + p.offset)) (is own.0 ∙ ap (λ (m : Mapping). m.start) own.2) ∙ sym (ap (option_map (λ (m : Mapping). m.start + p.offset)) own.1)
 
-pub start_none : (p : RawBytes) (which : ℕ) → position (λ (m : Mapping). m.«module» == which) p.set ≡ None → None ≡ start_in p which
+pub start_none : (p : BytePatch) (which : ℕ) → position (λ (m : Mapping). m.«module» == which) p.set ≡ None → None ≡ start_in p which
 start_none p which at = sym (ap (option_map (λ (m : Mapping). m.start + p.offset)) (no_position (λ (m : Mapping). m.«module» == which) p.set at))
 
 -- ---- the whole piece
@@ -326,7 +314,7 @@ all_put f m at done row piece le is all =
     is ∙ ap (λ (xs : List ℕ). take done (patched_row f m at row) ++ xs) (drop_all done row all) ∙ append-nil (take done (patched_row f m at row))
     ∙ take_all done (patched_row f m at row) (omega (arith, all, length_row f m at row))
 
-pub all_kept : (p : RawBytes) (which at : ℕ) (row : List ℕ) → start_in p which ≡ None → row ≡ patched_row (raw_patched p) which at row
+pub all_kept : (p : BytePatch) (which at : ℕ) (row : List ℕ) → start_in p which ≡ None → row ≡ patched_row (byte_patched p) which at row
 all_kept p which at row there =
-    ext_get_or 0 row (patched_row (raw_patched p) which at row) (sym (length_row (raw_patched p) which at row)) (λ j lt.
-    sym (at_row (raw_patched p) which at row j lt ∙ byte_none p which (at + j) (get_or row j 0) there))
+    ext_get_or 0 row (patched_row (byte_patched p) which at row) (sym (length_row (byte_patched p) which at row)) (λ j lt.
+    sym (at_row (byte_patched p) which at row j lt ∙ byte_none p which (at + j) (get_or row j 0) there))

@@ -1,8 +1,9 @@
 -- Worked examples, computed on the definitions.
-use Rattle.std.proofs.Common.{◌≡◌, ℕ, List, [], ◌∷◌, Some, refl}
+use Rattle.std.proofs.Common.{◌≡◌, ℕ, [], ◌∷◌, Some, refl}
 use Rattle.nfit_reader.specs.declared.table.Mapping.{Mapping}
 use Rattle.image_set.specs.Patches.{patched_contents}
-use Rattle.namespace_bytes.specs.Patching.{RawBytes, raw_patched}
+use Rattle.namespace_bytes.specs.declared.new_bytes.NewBytes.TheVariants.{Raw}
+use Rattle.namespace_bytes.specs.Patching.{BytePatch, byte_patched}
 
 -- a mapping of two lines of 8 bytes, with a line of another module after each
 abbrev striped : ℕ → ℕ → ℕ → Mapping
@@ -17,24 +18,24 @@ striped number offset start = record {
 }
 
 -- the namespace of the second line of module 1, which has the first line of a stripe, and of module 0
-abbrev second : RawBytes
+abbrev second : BytePatch
 second = record {
   set = striped 1 0 0 ∷ striped 0 8 8 ∷ [];
   offset = 8;
   raw = 8;
-  bytes = 50 ∷ 51 ∷ 52 ∷ 53 ∷ 54 ∷ 55 ∷ 56 ∷ 57 ∷ 58 ∷ 59 ∷ 60 ∷ 61 ∷ 62 ∷ 63 ∷ 64 ∷ 65 ∷ [];
+  bytes = Raw (50 ∷ 51 ∷ 52 ∷ 53 ∷ 54 ∷ 55 ∷ 56 ∷ 57 ∷ 58 ∷ 59 ∷ 60 ∷ 61 ∷ 62 ∷ 63 ∷ 64 ∷ 65 ∷ []);
 }
 
-lines_of_second : (raw_patched second 1 8 9 ≡ 50) × (raw_patched second 1 15 9 ≡ 57) × (raw_patched second 0 16 9 ≡ 58) × (raw_patched second 0 23 9 ≡ 65)
-unfolding raw_patched
+lines_of_second : (byte_patched second 1 8 9 ≡ 50) × (byte_patched second 1 15 9 ≡ 57) × (byte_patched second 0 16 9 ≡ 58) × (byte_patched second 0 23 9 ≡ 65)
+unfolding byte_patched
 lines_of_second = (refl, refl, refl, refl)
 
-beside_second : (raw_patched second 1 7 9 ≡ 9) × (raw_patched second 1 16 9 ≡ 9) × (raw_patched second 0 15 9 ≡ 9) × (raw_patched second 0 24 9 ≡ 9) × (raw_patched second 2 8 9 ≡ 9)
-unfolding raw_patched
+beside_second : (byte_patched second 1 7 9 ≡ 9) × (byte_patched second 1 16 9 ≡ 9) × (byte_patched second 0 15 9 ≡ 9) × (byte_patched second 0 24 9 ≡ 9) × (byte_patched second 2 8 9 ≡ 9)
+unfolding byte_patched
 beside_second = (refl, refl, refl, refl, refl)
 
 -- module 0 has 20 bytes here, module 1 has 10
-contents : patched_contents (raw_patched second) ((0 ∷ 1 ∷ 2 ∷ 3 ∷ 4 ∷ 5 ∷ 6 ∷ 7 ∷ 8 ∷ 9 ∷ 10 ∷ 11 ∷ 12 ∷ 13 ∷ 14 ∷ 15 ∷ 16 ∷ 17 ∷ 18 ∷ 19 ∷ []) ∷ (20 ∷ 21 ∷ 22 ∷ 23 ∷ 24 ∷ 25 ∷ 26 ∷ 27 ∷ 28 ∷ 29 ∷ []) ∷ [])
+contents : patched_contents (byte_patched second) ((0 ∷ 1 ∷ 2 ∷ 3 ∷ 4 ∷ 5 ∷ 6 ∷ 7 ∷ 8 ∷ 9 ∷ 10 ∷ 11 ∷ 12 ∷ 13 ∷ 14 ∷ 15 ∷ 16 ∷ 17 ∷ 18 ∷ 19 ∷ []) ∷ (20 ∷ 21 ∷ 22 ∷ 23 ∷ 24 ∷ 25 ∷ 26 ∷ 27 ∷ 28 ∷ 29 ∷ []) ∷ [])
     ≡ (0 ∷ 1 ∷ 2 ∷ 3 ∷ 4 ∷ 5 ∷ 6 ∷ 7 ∷ 8 ∷ 9 ∷ 10 ∷ 11 ∷ 12 ∷ 13 ∷ 14 ∷ 15 ∷ 58 ∷ 59 ∷ 60 ∷ 61 ∷ []) ∷ (20 ∷ 21 ∷ 22 ∷ 23 ∷ 24 ∷ 25 ∷ 26 ∷ 27 ∷ 50 ∷ 51 ∷ []) ∷ []
-unfolding raw_patched
+unfolding byte_patched
 contents = refl

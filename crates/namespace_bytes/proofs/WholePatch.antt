@@ -1,4 +1,4 @@
--- All contents with the bytes of a raw namespace put into them: the namespace has them, and nothing beside it has changed.
+-- All contents with the new bytes of a namespace put into them: the namespace has them, and nothing beside it has changed.
 use Rattle.std.proofs.Common.{◌≡◌, ◌⊎◌, ℕ, ◌+◌, ◌-◌, ◌*◌, ◌/◌, ◌%◌, ◌<◌, ◌≤◌, Bool, true, false, List, [], ◌∷◌, length, map, take, drop, get_or, replicate, Option, Some, None, refl, sym, ap, ◌∙◌, subst, arith, inl, inr}
 use Rattle.std.specs.Prelude.{Contains, ◌==◌, ◌&&◌, if◌then◌else◌, nat_le, nat_lt, slice_index_or}
 use Rattle.std.specs.List.{range_with_len}
@@ -15,19 +15,21 @@ use Rattle.interleave.specs.Sound.{span_of}
 use Rattle.cut_words.specs.Words.{Words, settled}
 use Rattle.cut_words.specs.WordBytes.{words_in}
 use Rattle.arena_open.proofs.Bytes.{length_words, word_index}
-use Rattle.power_cut.specs.Namespace.{Namespace, ReachEnds, beside_of, byte_at, count_of, is_inside, over, row_beside, row_of, words_of}
+use Rattle.power_cut.specs.Namespace.{Namespace, ReachEnds, beside_of, byte_at, count_of, is_inside, over, place_of, row_beside, row_of, words_of}
 use Rattle.power_cut.proofs.Spread.{at_range, blank, count_is, kept_is, length_range, range_same}
 use Rattle.sector_namespaces.specs.View.{rows_of}
 use Rattle.sector_namespaces.specs.Creation.{AreSettled}
 use Rattle.sector_namespaces.proofs.Views.{view_settled}
 use Rattle.image_set.specs.Patches.{patched_contents, patched_row}
-use Rattle.namespace_bytes.specs.Patching.{ArePatched, AreWhole, IsRawBytes, RawBytes, raw_patched, start_in}
+use Rattle.namespace_bytes.specs.Changed.{changed_from}
+use Rattle.namespace_bytes.specs.Patching.{ArePatched, AreWhole, BytePatch, IsBytePatch, byte_in, byte_patched, bytes_by_place, new_of, start_in}
+use Rattle.power_cut.proofs.Places.{place_is}
 use Rattle.namespace_bytes.proofs.Puts.{in_region, whole_byte}
 use Rattle.namespace_bytes.proofs.Patched.{at_row, byte_kept, byte_none, byte_put, byte_range, found_is, length_row, start_is}
 
 -- ---- rows of words
 
-row_is : (contents : List (List ℕ)) (which : ℕ) → which < length contents → row_of (rows_of contents) which ≡ settled (words_in (get_or contents which []))
+pub row_is : (contents : List (List ℕ)) (which : ℕ) → which < length contents → row_of (rows_of contents) which ≡ settled (words_in (get_or contents which []))
 row_is contents which lt = get_or-map (λ (bytes : List ℕ). settled (words_in bytes)) contents which [] blank lt
 
 all_settled : (contents : List (List ℕ)) → AreSettled (rows_of contents)
@@ -38,7 +40,7 @@ at_first : (f : ℕ → ℕ → ℕ → ℕ) (m : ℕ) (row : List ℕ) (k : ℕ
 at_first f m row k lt = at_row f m 0 row k lt ∙ ap (λ (a : ℕ). f m a (get_or row k 0)) (omega arith)
 
 -- eight bytes that are the same make the same word
-same_number : (bytes bytes' : List ℕ) (at at' : ℕ) → at + 8 ≤ length bytes → at' + 8 ≤ length bytes' → ((j : ℕ) → j < 8 → get_or bytes (at + j) 0 ≡ get_or bytes' (at' + j) 0)
+pub same_number : (bytes bytes' : List ℕ) (at at' : ℕ) → at + 8 ≤ length bytes → at' + 8 ≤ length bytes' → ((j : ℕ) → j < 8 → get_or bytes (at + j) 0 ≡ get_or bytes' (at' + j) 0)
     → number_at w64 bytes at ≡ number_at w64 bytes' at'
 unfolding number_at
 same_number bytes bytes' at at' fits fits' same =
@@ -48,28 +50,28 @@ same_number bytes bytes' at at' fits fits' same =
     let less : j < 8 = omega (arith, lt, long) in
     get_or-take 8 (drop at bytes) j 0 less ∙ get_or-drop at bytes j 0 ∙ same j less ∙ sym (get_or-take 8 (drop at' bytes') j 0 less ∙ get_or-drop at' bytes' j 0)))
 
-module _ (p : RawBytes) (is : IsRawBytes p) (contents : List (List ℕ)) (whole : AreWhole contents) (reach : ReachEnds p.set (rows_of contents)) where
+module _ (p : BytePatch) (is : IsBytePatch p) (contents : List (List ℕ)) (whole : AreWhole contents) (reach : ReachEnds p.set (rows_of contents)) where
   abbrev news : List (List ℕ)
-  news = patched_contents (raw_patched p) contents
+  news = patched_contents (byte_patched p) contents
 
   abbrev was : Namespace
   was = over p.set p.offset p.raw (rows_of contents)
 
   abbrev now : Namespace
-  now = over p.set p.offset p.raw (rows_of (patched_contents (raw_patched p) contents))
+  now = over p.set p.offset p.raw (rows_of (patched_contents (byte_patched p) contents))
 
   count : length news ≡ length contents
-  count = length_range (λ m. patched_row (raw_patched p) m 0 (get_or contents m [])) (length contents)
+  count = length_range (λ m. patched_row (byte_patched p) m 0 (get_or contents m [])) (length contents)
 
   -- a module's new bytes
   abbrev old : ℕ → List ℕ
   old which = get_or contents which []
 
   abbrev new : ℕ → List ℕ
-  new which = patched_row (raw_patched p) which 0 (get_or contents which [])
+  new which = patched_row (byte_patched p) which 0 (get_or contents which [])
 
   new_is : (which : ℕ) → which < length contents → get_or news which [] ≡ new which
-  new_is which lt = at_range (λ m. patched_row (raw_patched p) m 0 (get_or contents m [])) (length contents) which [] lt
+  new_is which lt = at_range (λ m. patched_row (byte_patched p) m 0 (get_or contents m [])) (length contents) which [] lt
 
   row_now : (which : ℕ) → which < length contents → row_of (rows_of news) which ≡ settled (words_in (new which))
   row_now which lt = row_is news which (omega (arith, lt, count)) ∙ ap (λ (row : List ℕ). settled (words_in row)) (new_is which lt)
@@ -86,42 +88,99 @@ module _ (p : RawBytes) (is : IsRawBytes p) (contents : List (List ℕ)) (whole 
 
   -- ---- the namespace
 
-  -- byte j of its word i
-  word_byte : (i j which address : ℕ) → i < count_of now → j < 8 → LiesAt p.set (byte_at now i + j) which (address + j) → (before : ℕ)
-      → raw_patched p which (address + j) before ≡ get_or p.bytes (8 * i + j) 0
-  word_byte i j which address lt less lies before =
+  abbrev bytes : List ℕ
+  bytes = bytes_by_place p.set p.offset p.raw contents
+
+  bytes_long : length bytes ≡ length p.set * p.raw
+  bytes_long = length_range (λ i. byte_in contents (place_of p.set (length p.set * p.offset + i))) (length p.set * p.raw)
+
+  abbrev put : List ℕ
+  put = changed_from (new_of p.bytes) 0 (bytes_by_place p.set p.offset p.raw contents)
+
+  put_long : length put ≡ length p.set * p.raw
+  put_long = length_row (λ m. new_of p.bytes) 0 0 bytes ∙ bytes_long
+
+  -- byte k of the namespace, at its place
+  byte_is : (k which address : ℕ) → k < length p.set * p.raw → LiesAt p.set (length p.set * p.offset + k) which address → get_or bytes k 0 ≡ get_or (old which) address 0
+  byte_is k which address lt lies =
+      at_range (λ i. byte_in contents (place_of p.set (length p.set * p.offset + i))) (length p.set * p.raw) k 0 lt
+      ∙ ap (byte_in contents) (place_is was (length p.set * p.offset + k) which address (is.laid (rows_of contents)) lies)
+
+  -- its new value
+  byte_now : (k which address : ℕ) → k < length p.set * p.raw → LiesAt p.set (length p.set * p.offset + k) which address
+      → byte_patched p which address (get_or (old which) address 0) ≡ get_or put k 0
+  byte_now k which address lt lies =
       let sum : length p.set * (p.offset + p.raw) ≡ length p.set * p.offset + length p.set * p.raw = omega arith in
-      byte_put p is (byte_at now i + j) which (address + j) before lies (omega arith) (omega (arith, sum, lt, less))
-      ∙ ap (λ (k : ℕ). get_or p.bytes k 0) (omega arith)
+      byte_put p is (length p.set * p.offset + k) which address (get_or (old which) address 0) lies (omega arith) (omega (arith, sum, lt))
+      ∙ ap (λ (i : ℕ). new_of p.bytes i (get_or (old which) address 0)) (omega arith)
+      ∙ ap (new_of p.bytes (0 + k)) (sym (byte_is k which address lt lies))
+      ∙ sym (at_row (λ m. new_of p.bytes) 0 0 bytes k (omega (arith, lt, bytes_long)))
 
-  kept_word : (i : ℕ) → i < count_of now → get_or (words_of now).kept i 0 ≡ get_or (words_in p.bytes) i 0
-  kept_word i lt =
-      let laid = is.laid (rows_of news) in
-      let place = laid.places.has (byte_at now i) (in_region now i laid lt) in
-      let which : ℕ = place.which in
-      let address : ℕ = place.address in
-      let word = laid.words (byte_at now i) place.which place.address (whole_byte now i laid) place.lies in
+  -- ---- its words
+
+  -- the place of a word
+  record Place (i : ℕ) : Type 0 where
+    which : ℕ
+    address : ℕ
+    lies : LiesAt p.set (byte_at was i) which address
+    known : which < length contents
+    aligned : address % 8 ≡ 0
+    room : address + 8 ≤ length (old which)
+    each : (j : ℕ) → j < 8 → LiesAt p.set (length p.set * p.offset + (8 * i + j)) which (address + j)
+
+  place_at : (i : ℕ) → i < count_of was → Place i
+  place_at i lt =
+      let laid = is.laid (rows_of contents) in
+      let place = laid.places.has (byte_at was i) (in_region was i laid lt) in
+      let word = laid.words (byte_at was i) place.which place.address (whole_byte was i laid) place.lies in
       let has = there place.which place.address place.lies.0 place.lies.1 place.lies.2.of place.lies.2.inside in
-      let room : address + 8 ≤ length (old place.which) = omega (arith, has.1, word.aligned) in
-      let room' : address + 8 ≤ length (new place.which) = omega (arith, room, length_row (raw_patched p) place.which 0 (old place.which)) in
-      let eighth : 8 * (address / 8) ≡ address = omega (arith, word.aligned) in
-      let inside : address / 8 < length (words_in (new place.which)) = omega (arith, length_words (new place.which), room') in
-      let ends : 8 * i + 8 ≤ length p.bytes = omega (arith, lt, is.long) in
-      let mine : i < length (words_in p.bytes) = omega (arith, ends, length_words p.bytes) in
-      kept_is now i place.which place.address laid lt place.lies
-      ∙ ap (λ (w : Words). get_or w.kept (address / 8) 0) (row_now place.which has.0)
-      ∙ word_index (new place.which) (address / 8) inside
-      ∙ ap (number_at w64 (new place.which)) eighth
-      ∙ same_number (new place.which) p.bytes address (8 * i) room' ends (λ j less.
-      at_first (raw_patched p) place.which (old place.which) (address + j) (omega (arith, less, room))
-      ∙ word_byte i j place.which place.address lt less (word.bytes j less) (get_or (old place.which) (address + j) 0))
-      ∙ sym (word_index p.bytes i mine)
+      record {
+        which = place.which;
+        address = place.address;
+        lies = place.lies;
+        known = has.0;
+        aligned = word.aligned;
+        room = omega (arith, has.1, word.aligned);
+        each = λ j less. subst (λ (y : ℕ). LiesAt p.set y place.which (place.address + j)) (omega arith) (word.bytes j less);
+      }
 
-  pub words_put : words_of now ≡ settled (words_in p.bytes)
+  word_was : (i : ℕ) → i < count_of was → get_or (words_of was).kept i 0 ≡ get_or (words_in bytes) i 0
+  word_was i lt =
+      let at = place_at i lt in
+      let ends : 8 * i + 8 ≤ length bytes = omega (arith, lt, bytes_long) in
+      kept_is was i at.which at.address (is.laid (rows_of contents)) lt at.lies
+      ∙ ap (λ (w : Words). get_or w.kept (at.address / 8) 0) (row_is contents at.which at.known)
+      ∙ word_index (old at.which) (at.address / 8) (omega (arith, length_words (old at.which), at.room))
+      ∙ ap (number_at w64 (old at.which)) (let eighth : 8 * (at.address / 8) ≡ at.address = omega (arith, at.aligned) in eighth)
+      ∙ same_number (old at.which) bytes at.address (8 * i) at.room ends (λ j less.
+      sym (byte_is (8 * i + j) at.which (at.address + j) (omega (arith, ends, less, bytes_long)) (at.each j less)))
+      ∙ sym (word_index bytes i (omega (arith, ends, length_words bytes)))
+
+  word_now : (i : ℕ) → i < count_of now → get_or (words_of now).kept i 0 ≡ get_or (words_in put) i 0
+  word_now i lt =
+      let at = place_at i lt in
+      let ends : 8 * i + 8 ≤ length put = omega (arith, lt, put_long) in
+      let room : at.address + 8 ≤ length (new at.which) = omega (arith, at.room, length_row (byte_patched p) at.which 0 (old at.which)) in
+      kept_is now i at.which at.address (is.laid (rows_of news)) lt at.lies
+      ∙ ap (λ (w : Words). get_or w.kept (at.address / 8) 0) (row_now at.which at.known)
+      ∙ word_index (new at.which) (at.address / 8) (omega (arith, length_words (new at.which), room))
+      ∙ ap (number_at w64 (new at.which)) (let eighth : 8 * (at.address / 8) ≡ at.address = omega (arith, at.aligned) in eighth)
+      ∙ same_number (new at.which) put at.address (8 * i) room ends (λ j less.
+      at_first (byte_patched p) at.which (old at.which) (at.address + j) (omega (arith, less, at.room))
+      ∙ byte_now (8 * i + j) at.which (at.address + j) (omega (arith, ends, less, put_long)) (at.each j less))
+      ∙ sym (word_index put i (omega (arith, ends, length_words put)))
+
+  pub words_was : words_of was ≡ settled (words_in bytes)
+  words_was =
+      let long : length (words_of was).kept ≡ length (words_in bytes) = count_is was ∙ omega (arith, bytes_long, length_words bytes) in
+      view_settled was (all_settled contents)
+      ∙ ap settled (ext_get_or 0 (words_of was).kept (words_in bytes) long (λ i lt. word_was i (omega (arith, lt, count_is was))))
+
+  pub words_put : words_of now ≡ settled (words_in put)
   words_put =
-      let long : length (words_of now).kept ≡ length (words_in p.bytes) = count_is now ∙ omega (arith, is.long, length_words p.bytes) in
+      let long : length (words_of now).kept ≡ length (words_in put) = count_is now ∙ omega (arith, put_long, length_words put) in
       view_settled now (all_settled news)
-      ∙ ap settled (ext_get_or 0 (words_of now).kept (words_in p.bytes) long (λ i lt. kept_word i (omega (arith, lt, count_is now))))
+      ∙ ap settled (ext_get_or 0 (words_of now).kept (words_in put) long (λ i lt. word_now i (omega (arith, lt, count_is now))))
 
   -- ---- beside it
 
@@ -179,10 +238,10 @@ module _ (p : RawBytes) (is : IsRawBytes p) (contents : List (List ℕ)) (whole 
       let word = laid.words (byte.0 - byte.0 % 8) place.which place.address (omega arith) place.lies in
       with_byte own.0 which k j start byte.0 place.which place.address good.1 good.0 own.2 less at from to lies word.aligned place.lies (word.bytes (byte.0 % 8) (omega arith))
 
-  same_byte : (which k j before : ℕ) → j < 8 → is_inside was which (8 * k) ≡ false → raw_patched p which (8 * k + j) before ≡ before
+  same_byte : (which k j before : ℕ) → j < 8 → is_inside was which (8 * k) ≡ false → byte_patched p which (8 * k + j) before ≡ before
   same_byte which k j before less outside = by (start_in p which) refl
     where
-      by : (o : Option ℕ) → start_in p which ≡ o → raw_patched p which (8 * k + j) before ≡ before
+      by : (o : Option ℕ) → start_in p which ≡ o → byte_patched p which (8 * k + j) before ≡ before
       by None at = byte_none p which (8 * k + j) before at
       by (Some start) at = elim (cases_Bool (nat_le start (8 * k + j) && nat_lt (8 * k + j) (start + p.raw))) [
         | inl within ↦
@@ -206,11 +265,11 @@ module _ (p : RawBytes) (is : IsRawBytes p) (contents : List (List ℕ)) (whole 
   same_word : (which k : ℕ) → which < length contents → k < length (words_in (old which)) → is_inside was which (8 * k) ≡ false
       → get_or (words_in (new which)) k 0 ≡ get_or (words_in (old which)) k 0
   same_word which k known lt outside =
-      let long : length (new which) ≡ length (old which) = length_row (raw_patched p) which 0 (old which) in
+      let long : length (new which) ≡ length (old which) = length_row (byte_patched p) which 0 (old which) in
       let room : 8 * k + 8 ≤ length (old which) = omega (arith, lt, length_words (old which)) in
       word_index (new which) k (omega (arith, lt, length_words (old which), length_words (new which), long))
       ∙ same_number (new which) (old which) (8 * k) (8 * k) (omega (arith, room, long)) room (λ j less.
-      at_first (raw_patched p) which (old which) (8 * k + j) (omega (arith, less, room)) ∙ same_byte which k j (get_or (old which) (8 * k + j) 0) less outside)
+      at_first (byte_patched p) which (old which) (8 * k + j) (omega (arith, less, room)) ∙ same_byte which k j (get_or (old which) (8 * k + j) 0) less outside)
       ∙ sym (word_index (old which) k lt)
 
   -- a row of words, but for the namespace's
@@ -223,7 +282,7 @@ module _ (p : RawBytes) (is : IsRawBytes p) (contents : List (List ℕ)) (whole 
   same_row : (which : ℕ) → which < length contents → row_beside now which ≡ row_beside was which
   same_row which known =
       let long : length (words_in (new which)) ≡ length (words_in (old which)) =
-      length_words (new which) ∙ ap (λ (n : ℕ). n / 8) (length_row (raw_patched p) which 0 (old which)) ∙ sym (length_words (old which)) in
+      length_words (new which) ∙ ap (λ (n : ℕ). n / 8) (length_row (byte_patched p) which 0 (old which)) ∙ sym (length_words (old which)) in
       let kept = kept_same which known long in
       ap (λ (w : Words). beside_in w which) (row_now which known)
       ∙ ap (λ (ks : List ℕ). record {
@@ -259,4 +318,14 @@ module _ (p : RawBytes) (is : IsRawBytes p) (contents : List (List ℕ)) (whole 
       same_row which (omega (arith, lt, length-map contents (λ (bytes : List ℕ). settled (words_in bytes)))))
 
   pub are_patched : ArePatched p contents
-  are_patched = record { words = words_put; beside = beside_same }
+  are_patched = record { was = words_was; words = words_put; beside = beside_same }
+
+-- a raw namespace has the bytes that it gets
+pub raw_words : (set : List Mapping) (offset raw : ℕ) (bytes : List ℕ) (contents : List (List ℕ)) → length bytes ≡ length set * raw
+    → changed_from (λ i old. get_or bytes i 0) 0 (bytes_by_place set offset raw contents) ≡ bytes
+raw_words set offset raw bytes contents long =
+    let row = bytes_by_place set offset raw contents in
+    let row_long : length (bytes_by_place set offset raw contents) ≡ length set * raw = length_range (λ i. byte_in contents (place_of set (length set * offset + i))) (length set * raw) in
+    let new_long : length (changed_from (λ i old. get_or bytes i 0) 0 (bytes_by_place set offset raw contents)) ≡ length set * raw = length_row (λ m i old. get_or bytes i 0) 0 0 row ∙ row_long in
+    ext_get_or 0 (changed_from (λ i old. get_or bytes i 0) 0 (bytes_by_place set offset raw contents)) bytes (new_long ∙ sym long) (λ j lt.
+    at_row (λ m i old. get_or bytes i 0) 0 0 row j (omega (arith, lt, new_long, row_long)) ∙ ap (λ (i : ℕ). get_or bytes i 0) (let e : 0 + j ≡ j = omega arith in e))

@@ -1,4 +1,7 @@
 pub mod Putting
 pub mod Contents
 pub mod Bad
+pub mod Changed
+pub mod SectorPut
 pub mod Patching
+pub mod SectorBytes

@@ -20,13 +20,21 @@
 //! log             may have a pending move              as it was; no move is pending
 //! ```
 //!
-//! **Raw namespaces that are copied.** `RawPatch` has the bytes of a raw namespace and puts them into the contents of its modules
+//! **Namespaces that are copied.** `NamespacePatch` has the new bytes of a namespace and puts them into the contents of its modules
 //! while these are copied from one set to another (`image_set::Patch`). So neither the contents nor the words are in memory.
 //!
 //! ```text
 //! bytes           | line 0 | line 1 | line 2 | line 3 |
 //! module 0   .. b |   0    |   2    | b ..                  b: bytes beside the namespace stay
 //! module 1   .. b |   1    |   3    | b ..
+//! ```
+//!
+//! `NewBytes` says what each byte becomes. A raw namespace gets bytes, one after another. For one of sectors `SectorBytes` looks
+//! up the sector of each block, so that each piece is done by itself, in any order.
+//!
+//! ```text
+//! arena           | info | block 0 | block 1 | .. | map            | log | info |
+//! becomes         |      | sector's bytes         | normal entries |     |      |
 //! ```
 //!
 //! Since no power is cut, no word is stored and flushed either: `PlainWords` takes the words of all modules and puts words at
@@ -36,21 +44,27 @@
 //! |---|---|
 //! | the words of a namespace of sectors afterwards | `HasContents` of `specs/Contents.antt` |
 //! | the steps | `put_links` of `specs/Putting.antt` |
-//! | a byte of a module's contents, patched | `raw_patched` of `specs/Patching.antt` |
+//! | a byte of a module's contents, patched | `byte_patched` of `specs/Patching.antt` |
+//! | a byte of a namespace of sectors, patched | `sector_byte` of `specs/SectorBytes.antt` |
 //!
 //! All are this project's rules over UEFI 2.10, section 6.2 (BTT data structures).
 #![tactic(auto)]
 
 mod arenas;
 mod bad;
+mod block_owners;
+mod new_bytes;
 mod patch;
 mod plain;
 mod putting;
 mod reading;
+mod sector_bytes;
 
 pub use arenas::{put_raw, put_sectors};
 pub use bad::first_bad;
-pub use patch::RawPatch;
+pub use new_bytes::NewBytes;
+pub use patch::NamespacePatch;
 pub use plain::{PlainRow, PlainWords, cut_rows, plain_rows};
 pub use putting::put_words;
 pub use reading::{ArenaAt, read_arenas, size_of_all};
+pub use sector_bytes::SectorBytes;

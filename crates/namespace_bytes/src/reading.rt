@@ -6,6 +6,7 @@ ghost use Rattle.arena_open.specs.Writes.{IsSettled};
 ghost use Rattle.sector_namespaces.specs.Changing.{IsFinding};
 ghost use Rattle.sector_namespaces.specs.View.{opened_view};
 ghost use Rattle.namespace_bytes.specs.Putting.{AreAll, Linked, link_bytes};
+ghost use Rattle.namespace_bytes.specs.SectorPut.{AreSized};
 
 use arena_layout::InfoFault;
 use arena_open::{ChainRefused, OpenRefused, Opened, read_arena};
@@ -32,6 +33,15 @@ impl Model for ArenaAt {
     ghost view = { λ arena. record { at = arena.at; opened = arena.opened } };
 }
 
+impl ArenaAt {
+    /// Makes an arena whose first word in the namespace is `at` of what was read of it.
+    pub fn new(at: u64, opened: Opened) -> ArenaAt
+        ensures { result ≡ record { at = at; opened = opened } }
+    {
+        ArenaAt { at, opened }
+    }
+}
+
 /// Returns how many bytes the sectors of an arena have together.
 pub(crate) fn size_of(arena: &ArenaAt) -> u64
     ensures { result ≡ link_bytes arena.now }
@@ -40,9 +50,9 @@ pub(crate) fn size_of(arena: &ArenaAt) -> u64
     u64::from(layout.external) * u64::from(layout.sector)
 }
 
-/// Returns how many bytes the sectors of all these arenas have together, which are all of a namespace.
+/// Returns how many bytes the sectors of all these arenas have together, as they were read.
 pub fn size_of_all(arenas: &[ArenaAt]) -> u64
-    requires { (words : List ℕ) × ((uuid : List ℕ) × AreAll words uuid arenas.now × (length words ≤ 2 ^ 52)) }
+    requires { AreSized arenas.now }
     ensures size { result ≡ sum_by link_bytes arenas.now }
     ensures sized { (words : List ℕ) → result ≡ sum (sizes_of (map (state_at words) arenas.now)) }
 {

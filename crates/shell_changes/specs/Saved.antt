@@ -1,5 +1,5 @@
--- The image set that an answer saves: it is in memory, or its contents are copied from the source, as they are or with a raw
--- namespace's bytes put in.
+-- The image set that an answer saves: it is in memory, or its contents are copied from the source, as they are or with the new
+-- bytes of a namespace.
 use Rattle.std.specs.Prelude.{◌≡◌, ℕ, ◌%◌, ⊤, Bool, true, false, List, length, map, Option, Some, None, IfSome}
 use Rattle.std.specs.Option.{ForSome}
 use Rattle.std.specs.List.{All}
@@ -8,7 +8,7 @@ use Rattle.nvd_media.specs.Images.{Images, IsEmptySet, IsSameSet, Keeps}
 use Rattle.image_set.specs.Changed.{IsSavable, objects_in}
 use Rattle.image_set.specs.Outline.{HasContents, IsCopyable, contents_in, objects_with}
 use Rattle.image_set.specs.Patches.{patched_contents}
-use Rattle.namespace_bytes.specs.Patching.{RawBytes, raw_patched}
+use Rattle.namespace_bytes.specs.Patching.{BytePatch, byte_patched}
 use Rattle.shell_changes.specs.declared.answer.Left.{Left}
 use Rattle.shell_changes.specs.declared.answer.Left.TheVariants.{Whole, Copied, Patched}
 
@@ -16,9 +16,9 @@ use Rattle.shell_changes.specs.declared.answer.Left.TheVariants.{Whole, Copied, 
 abbrev pub AreWholeSizes : List ℕ → Type 0
 AreWholeSizes sizes = All (λ bytes. bytes % 8 ≡ 0) sizes
 
--- contents with the bytes of a raw namespace put in, as whole words
-abbrev pub contents_with : RawBytes → List (List ℕ) → List (List ℕ)
-contents_with patch contents = map (λ bytes. bytes_of (words_in bytes)) (patched_contents (raw_patched patch) contents)
+-- contents with the new bytes of a namespace, as whole words
+abbrev pub contents_with : BytePatch → List (List ℕ) → List (List ℕ)
+contents_with patch contents = map (λ bytes. bytes_of (words_in bytes)) (patched_contents (byte_patched patch) contents)
 
 -- it can be saved
 abbrev pub CanBeSaved : Left → Type 0

@@ -1,3 +1,9 @@
+pub mod Lengths
 pub mod Loaded
-pub mod Answered
+pub mod Outlined
+pub mod SavedImport
+pub mod RawImport
+pub mod HeldArenas
+pub mod HeldBytes
+pub mod SectorsImport
 pub mod Causes

@@ -1,4 +1,4 @@
 pub mod Import
-pub mod Placed
-pub mod Answering
 pub mod Causes
+pub mod Beginning
+pub mod Unloaded

@@ -171,15 +171,20 @@ module _ (comes : ImageSet → Outcome → Type 0) (held : Option Images) where
   abbrev pub IsTold : Answer → Type 0
   IsTold answer = (outcome : Outcome) → ComesFrom held answer outcome → OnImages comes held outcome
 
-  pub outlined_told : (loaded : Result Outline LoadFault) (outline : Outline) (answer : Answer) → loaded ≡ Ok outline → ForSome held (Outlines loaded) → HasSizes outline.sizes answer
-      → ((contents : List (List ℕ)) → comes (image_set_with outline contents) (outcome_with answer contents)) → IsTold answer
-  outlined_told loaded outline answer is told sized due = λ outcome from set at.
+  -- an answer on an outline, from what it comes to with the source's contents
+  pub outlined_with : (loaded : Result Outline LoadFault) (outline : Outline) (answer : Answer) → loaded ≡ Ok outline → ForSome held (Outlines loaded) → HasSizes outline.sizes answer
+      → ForSome held (λ set. comes (image_set_with outline (contents_in set (length outline.sizes))) (outcome_with answer (contents_in set (length outline.sizes)))) → IsTold answer
+  outlined_with loaded outline answer is told sized due = λ outcome from set at.
       let contents = contents_in set (length outline.sizes) in
       let told' : ForSome held (Outlines (Ok outline)) = subst (λ (l : Result Outline LoadFault). ForSome held (Outlines l)) is told in
       let loads : Ok (image_set_with outline contents) ≡ loading set = told' set at (λ e. (let h = e in cc)) (λ e. (let h = e in cc)) in
       let same : outcome ≡ outcome_with answer contents = from_with held set outline.sizes answer outcome at sized from in
       subst (λ (o : Outcome). OnLoaded comes (loading set) o) (sym same)
-      (subst (λ (l : Result ImageSet LoadFault). OnLoaded comes l (outcome_with answer contents)) loads (due contents))
+      (subst (λ (l : Result ImageSet LoadFault). OnLoaded comes l (outcome_with answer contents)) loads (due set at))
+
+  pub outlined_told : (loaded : Result Outline LoadFault) (outline : Outline) (answer : Answer) → loaded ≡ Ok outline → ForSome held (Outlines loaded) → HasSizes outline.sizes answer
+      → ((contents : List (List ℕ)) → comes (image_set_with outline contents) (outcome_with answer contents)) → IsTold answer
+  outlined_told loaded outline answer is told sized due = outlined_with loaded outline answer is told sized (λ set at. due (contents_in set (length outline.sizes)))
 
   pub unoutlined_told : (loaded : Result Outline LoadFault) (fault : LoadFault) (answer : Answer) → loaded ≡ Err fault → ForSome held (Outlines loaded) → answer.saved ≡ None
       → ((contents : List (List ℕ)) → outcome_with answer contents ≡ load_outcome fault) → fault ≢ ReadFault → fault ≢ OutOfMemory → IsTold answer

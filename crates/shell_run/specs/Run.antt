@@ -68,7 +68,7 @@ abbrev pub OnScript : {A : Type 0} → (A → Outcome → Type 0) → Result A S
 OnScript comes (Ok script) outcome = comes script outcome
 OnScript comes (Err why) outcome = outcome ≡ script_outcome why
 
--- what a command may come to, for images and a script: a command with a script reads it to its end first, and then loads the whole set
+-- what a command may come to, for images and a script: a command with a script reads it to its end first, and then loads the set
 abbrev pub Comes : (ℕ → List (Option Words) → List (Option (List ℕ)) → Type 0) → CommandLine → Option Images → List ℕ → Outcome → Type 0
 Comes leaves (Replay uuid seed) held script outcome =
     OnScript (λ schedule. OnImages (ReplayComes leaves uuid (record { lines = schedule.lines; seed = seed })) held) (script_in replay_reading script) outcome
@@ -128,7 +128,7 @@ copies (Read uuid sector) = false
 copies (Write uuid sector value) = false
 copies (Replay uuid seed) = false
 copies (Export uuid zeros) = false
-copies (Import uuid) = false
+copies (Import uuid) = true
 copies (Serve running) = false
 copies (Load l workers) = false
 
@@ -144,7 +144,7 @@ needs_contents (Read uuid sector) = true
 needs_contents (Write uuid sector value) = true
 needs_contents (Replay uuid seed) = true
 needs_contents (Export uuid zeros) = true
-needs_contents (Import uuid) = true
+needs_contents (Import uuid) = false
 needs_contents (Serve running) = true
 needs_contents (Load l workers) = true
 

@@ -144,7 +144,7 @@ fn needs_contents(command: &CommandLine) -> bool
         CommandLine::Write(_, _, _) => true,
         CommandLine::Replay(_, _) => true,
         CommandLine::Export(_, _) => true,
-        CommandLine::Import(_) => true,
+        CommandLine::Import(_) => false,
         CommandLine::Serve(_) => true,
         CommandLine::Load(_, _) => true,
     }
@@ -181,6 +181,7 @@ fn outlined_answer<C: Chooser>(
     requires sound { IsOutlined outline }
     requires name { HasGoodValues command }
     requires outlined { needs_contents command ≡ false }
+    requires plain { IsPlain command }
     ensures comes { IfOk result (λ answer. (contents : List (List ℕ)) → LoadedComes (LeavesBy C.begins C.picks choose.old) command (image_set_with outline contents) (outcome_with answer contents)) }
     ensures sizes { IfOk result (HasSizes outline.sizes) }
     ensures copying { IfOk result (λ answer. IsTrue (copies_contents answer.saved) → IsTrue (copies command)) }
@@ -285,6 +286,7 @@ fn perform_outlined<S: ImageSource, C: Chooser>(
 ) -> Result<Answer, RunStop>
     requires name { HasGoodValues command }
     requires outlined { needs_contents command ≡ false }
+    requires plain { IsPlain command }
     ensures told { IfOk result (λ answer. (outcome : Outcome) → ComesFrom (S.held images.old) answer outcome → OnImages (LoadedComes (LeavesBy C.begins C.picks choose.old) command) (S.held images.old) outcome) }
     ensures copying { IfOk result (λ answer. IsTrue (copies_contents answer.saved) → IsTrue (copies command)) }
     ensures there { IfOk result (λ answer. HasContentsOf (S.held images.old) answer.saved) }
@@ -379,21 +381,21 @@ fn perform_replay<S: ImageSource, T: TextSource, C: Chooser>(
     }
 }
 
-/// What `import` comes to once its bytes are read: the whole set is loaded.
-fn import_loaded<S: ImageSource>(
+/// What `import` comes to once its bytes are read: the set is loaded but for its contents.
+fn import_outlined<S: ImageSource>(
     alloc: Global,
     uuid: &Uuid,
-    bytes: &[u8],
+    bytes: Vec<u8>,
     images: &mut S,
 ) -> Result<Answer, RunStop>
-    ensures told { IfOk result (λ answer. (outcome : Outcome) → ComesFrom (S.held images.old) answer outcome → OnImages (ImportComes uuid.now bytes.now) (S.held images.old) outcome) }
-    ensures whole { IfOk result (λ answer. copies_contents answer.saved ≡ false) }
+    ensures told { IfOk result (λ answer. (outcome : Outcome) → ComesFrom (S.held images.old) answer outcome → OnImages (ImportComes uuid.now bytes.items) (S.held images.old) outcome) }
+    ensures there { IfOk result (λ answer. HasContentsOf (S.held images.old) answer.saved) }
     ensures same { S.held images.new ≡ S.held images.old }
     ensures failed { result ≡ Err RunStop.ReadFault → Rose (S.faults images.old) (S.faults images.new) }
     ensures later { S.faults images.old ≤ S.faults images.new }
 {
-    match load(alloc, images) {
-        Ok(loaded) => found_memory(import_answer(alloc, uuid, loaded, bytes)),
+    match load_outline(alloc, images) {
+        Ok(outline) => import_answer(alloc, uuid, outline, bytes, images),
         Err(why) => unloaded(alloc, why),
     }
 }
@@ -407,13 +409,14 @@ fn perform_import<S: ImageSource, T: TextSource, C: Chooser>(
     choose: &mut C,
 ) -> Result<Answer, RunStop>
     ensures told { IfOk result (λ answer. (outcome : Outcome) → ComesFrom (S.held images.old) answer outcome → ComesTold (LeavesBy C.begins C.picks choose.old) (CommandLine.Import uuid) (S.held images.old) (T.left script.old) outcome) }
-    ensures whole { IfOk result (λ answer. copies_contents answer.saved ≡ false) }
+    ensures copying { IfOk result (λ answer. IsTrue (copies_contents answer.saved) → IsTrue (copies (CommandLine.Import uuid))) }
+    ensures there { IfOk result (λ answer. HasContentsOf (S.held images.old) answer.saved) }
     ensures same { S.held images.new ≡ S.held images.old }
     ensures failed { result ≡ Err RunStop.ReadFault → Rose (S.faults images.old) (S.faults images.new) ⊎ Rose (T.faults script.old) (T.faults script.new) }
     ensures later { S.faults images.old ≤ S.faults images.new }
 {
     match read_bytes(alloc, script) {
-        Ok(bytes) => import_loaded(alloc, &uuid, &bytes, images),
+        Ok(bytes) => import_outlined(alloc, &uuid, bytes, images),
         Err(ScriptStop::Refused(why)) => misread(alloc, why),
         Err(ScriptStop::Stop(stop)) => Err(stop),
     }
@@ -477,7 +480,8 @@ fn perform_scripted<R: Threads + Wait + Sync, S: ImageSource, T: TextSource, C: 
     requires scripted { reads_script command ≡ true }
     requires good { HasGoodValues command }
     ensures told { IfOk result (λ answer. (outcome : Outcome) → ComesFrom (S.held images.old) answer outcome → ComesTold (LeavesBy C.begins C.picks choose.old) command (S.held images.old) (T.left script.old) outcome) }
-    ensures whole { IfOk result (λ answer. copies_contents answer.saved ≡ false) }
+    ensures copying { IfOk result (λ answer. IsTrue (copies_contents answer.saved) → IsTrue (copies command)) }
+    ensures there { IfOk result (λ answer. HasContentsOf (S.held images.old) answer.saved) }
     ensures same { S.held images.new ≡ S.held images.old }
     ensures failed { result ≡ Err RunStop.ReadFault → Rose (S.faults images.old) (S.faults images.new) ⊎ Rose (T.faults script.old) (T.faults script.new) }
     ensures later { S.faults images.old ≤ S.faults images.new }

@@ -3,20 +3,18 @@ use Rattle.std.specs.Prelude.{sum_by}
 use Rattle.std.proofs.lemmas.List.{take_all}
 use Rattle.std.proofs.lemmas.List.Sums.{sum_by_more_le}
 use Rattle.namespace_bytes.specs.Putting.{link_bytes}
-use Rattle.namespace_bytes.proofs.Sizes.{bytes_inside, sum_sizes}
+use Rattle.namespace_bytes.proofs.Sizes.{sum_sizes}
 use Rattle.namespace_bytes.proofs.reading.size_of_all.Goals as goal
 
 pub overflow_add-size : goal.overflow_add-size
 overflow_add-size c =
-    let r = c.requires in
     omega (
       arith,
       c.loop-arena.invariant,
       c.size_of-size.ensures,
       ap link_bytes c.arena-item.is,
       sum_by_more_le link_bytes c.args.arenas.now c.loop-arena.arena-index c.arena-item.result c.loop-arena-test.true,
-      bytes_inside c.args.arenas.now r.0 r.1.0 0 (omega arith) r.1.1.linked,
-      r.1.2,
+      c.requires.small,
     )
 
 pub returns-clause-sized : goal.returns-clause-sized

@@ -8,7 +8,7 @@ use Rattle.shell_changes.specs.Saved.{copies_contents}
 use Rattle.shell_changes.proofs.Remains.{copies_none, no_sizes}
 use Rattle.shell_run.specs.declared.words.CommandLine.TheVariants.{Labels, Nfit, Init, Change}
 use Rattle.shell_run.specs.declared.words.CommandLine.TheVariants as command
-use Rattle.shell_run.specs.Run.{copies, needs_contents}
+use Rattle.shell_run.specs.Run.{copies, needs_contents, reads_script}
 use Rattle.shell_run.specs.Words.{HasGoodValues}
 use Rattle.shell_run.proofs.Comes.{copies_by_it, none_copied, outlined_by}
 use Rattle.shell_run.proofs.top.outlined_answer.Goals as goal
@@ -84,4 +84,9 @@ unreachable-requires-in-Export g c =
 pub unreachable-requires-in-Replay : goal.unreachable-requires-in-Replay
 unreachable-requires-in-Replay g c =
     let both = sym c.requires.outlined ∙ ap needs_contents c.in-Replay.is in
+    (let e = both in cc)
+
+pub unreachable-requires-in-Import : goal.unreachable-requires-in-Import
+unreachable-requires-in-Import g c =
+    let both = sym c.requires.plain.0 ∙ ap reads_script c.in-Import.is in
     (let e = both in cc)

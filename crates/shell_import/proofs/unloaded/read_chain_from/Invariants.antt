@@ -1,0 +1,26 @@
+use Rattle.std.proofs.Common.{◌≡◌, ◌+◌, ◌-◌, ◌*◌, ◌%◌, ◌≤◌, ℕ, List, length}
+use Rattle.std.specs.Prelude.{sum_by}
+use Rattle.std.specs.List.{All}
+use Rattle.arena_open.proofs.ChainInPlace.{ReadSoFar}
+use Rattle.namespace_bytes.specs.SectorBytes.{HaveMapsOfBytes}
+use Rattle.namespace_bytes.specs.SectorPut.{HasBlocks}
+use Rattle.shell_import.specs.Unloaded.{Reveals, bytes_by, extent_bytes, words_by}
+use Rattle.namespace_bytes.specs.Putting.{link_bytes}
+use Rattle.shell_import.proofs.unloaded.read_chain_from.Given as goal
+
+abbrev pub invariant-arenas : goal.invariant-arenas
+invariant-arenas g l = record {
+  whole : l.at % 512 ≡ 0;
+  inside : 8 * l.at + 4096 ≤ extent_bytes l.extent;
+  ahead : 2097152 * length l.arenas.items + l.first ≤ l.at;
+  each : All HasBlocks l.arenas.items;
+  sum : sum_by link_bytes l.arenas.items ≤ 8 * l.at;
+  same : g.S.ImageSource.held l.images ≡ g.S.ImageSource.held l.fn.images;
+  later : g.S.ImageSource.faults l.fn.images ≤ g.S.ImageSource.faults l.images;
+  -- if the source reveals its contents, these are the namespace's first arenas
+  so_far : (contents : List (List ℕ)) → Reveals (g.S.ImageSource.held l.fn.images) l.extent.set contents → ReadSoFar (words_by l.extent contents) l.first l.parent l.at l.arenas.items;
+  maps : (contents : List (List ℕ)) → Reveals (g.S.ImageSource.held l.fn.images) l.extent.set contents → HaveMapsOfBytes (bytes_by l.extent contents) l.arenas.items;
+}
+
+abbrev pub decreases-arenas : goal.decreases-arenas
+decreases-arenas g l = extent_bytes l.extent - 8 * l.at

@@ -1,0 +1,140 @@
+-- How `import` begins, on a set that was loaded without its contents: this project's rules.
+use Rattle.std.specs.Prelude.{◌≡◌, ℕ, ◌*◌, ◌%◌, ◌<◌, true, false, List, length, map, MatchOption, Option, None, Some, Ok}
+use Rattle.std.specs.Option.{ForSome, option_map}
+use Rattle.cut_words.specs.Words.{Words}
+use Rattle.image_set.specs.declared.changing.OutlineLeft.{OutlineLeft}
+use Rattle.image_set.specs.declared.changing.OutlineRest.{OutlineRest}
+use Rattle.image_set.specs.declared.outline.Outline.{Outline}
+use Rattle.image_set.specs.Outline.{IsOutlineRest, contents_in, image_set_with}
+use Rattle.nvd_media.specs.Images.{Images}
+use Rattle.arena_open.specs.Chain.{Link}
+use Rattle.namespace_bytes.specs.Putting.{AreAll}
+use Rattle.namespace_bytes.specs.SectorBytes.{HaveMapsOfBytes}
+use Rattle.nfit_reader.specs.declared.table.Mapping.{Mapping}
+use Rattle.interleave.specs.Places.{unit_of}
+use Rattle.namespace_areas.specs.declared.found.Found.{Found}
+use Rattle.namespace_areas.specs.Finding.{LiesInSet, set_at}
+use Rattle.namespace_areas.specs.Opening.{AreWhole}
+use Rattle.namespace_areas.specs.Seen.{AreHeld, words_of}
+use Rattle.namespace_bytes.specs.declared.new_bytes.NewBytes.{NewBytes}
+use Rattle.namespace_bytes.specs.declared.new_bytes.NewBytes.TheVariants.{Raw}
+use Rattle.namespace_bytes.specs.Patching.{ArePatched, BytePatch, bytes_by_place}
+use Rattle.namespace_bytes.specs.Patching.{AreWhole as AreWholeRows}
+use Rattle.namespace_map.specs.Commands.{is_sector}
+use Rattle.namespace_map.specs.Namespaces.{entry_at, lookup}
+use Rattle.namespace_ops.specs.Counted.{namespaces_in}
+use Rattle.namespace_ops.specs.Opening.{sets_of}
+use Rattle.namespace_ops.specs.Registered.{Registered, state_of}
+use Rattle.power_cut.specs.Namespace.{ReachEnds, over}
+use Rattle.power_cut.specs.Namespace.{words_of as namespace_words}
+use Rattle.sector_namespaces.specs.View.{rows_of}
+use Rattle.shell_changes.specs.declared.answer.Answer.{Answer}
+use Rattle.shell_changes.specs.declared.answer.Left.TheVariants.{Patched}
+use Rattle.shell_changes.specs.Answers.{HasSizes, outcome_with}
+use Rattle.shell_changes.specs.Saved.{AreWholeSizes}
+use Rattle.shell_export.specs.Export.{place_of}
+use Rattle.shell_reports.specs.declared.status.Ending.TheVariants as ending
+use Rattle.shell_reports.specs.Causes.{fault_in}
+use Rattle.shell_reports.specs.Cut.{done_text}
+use Rattle.shell_reports.specs.Faults.{refused_outcome}
+use Rattle.shell_reports.specs.List.{labels_in_set}
+use Rattle.shell_sectors.specs.Write.{length_refusal}
+use Rattle.shell_import.specs.declared.beginning.Begun.{Begun}
+use Rattle.shell_import.specs.declared.beginning.Begun.TheVariants as begun
+use Rattle.shell_import.specs.declared.sectors.SectorImport.{SectorImport}
+use Rattle.shell_import.specs.Import.{ImportComes}
+
+-- ---- contents that aren't in memory
+
+-- contents have these sizes
+abbrev pub HaveSizes : List ℕ → List (List ℕ) → Type 0
+HaveSizes sizes contents = map (λ row. length row) contents ≡ sizes
+
+-- an outline besides its decoded table and its label areas
+abbrev pub rest_of : Outline → OutlineRest
+rest_of outline = record { nfit_bytes = outline.nfit_bytes; sizes = outline.sizes; bad = outline.bad }
+
+-- All parts of an outline whose labels are read. None of it depends on the contents.
+pub record IsOpenOutline (outline : Outline) (registry : Registered) (rest : OutlineRest) : Type 0 where
+  pub none : (contents : List (List ℕ)) → fault_in (image_set_with outline contents) ≡ None
+  pub running : registry.stopped ≡ false
+  pub held : AreHeld registry.areas
+  pub sets : registry.sets ≡ sets_of outline.nfit
+  pub entry : (uuid : List ℕ) (contents : List (List ℕ)) → lookup uuid (namespaces_in (state_of registry)).entries ≡ entry_at (sets_of outline.nfit) (labels_in_set (image_set_with outline contents)) uuid
+  -- no word of a label area is pending
+  pub labels : map words_of registry.areas ≡ outline.labels
+  pub settled : AreWhole outline.labels
+  pub rest_is : rest ≡ rest_of outline
+  pub is_rest : IsOutlineRest rest
+  pub count : length registry.areas ≡ length rest.sizes
+  pub sizes : AreWholeSizes rest.sizes
+  -- the unit of each set is whole pages
+  pub pages : (region : ℕ) → region < length registry.sets → unit_of (set_at registry.sets region) % 4096 ≡ 0
+  -- contents of these sizes hold the mappings of all sets
+  pub reach : (contents : List (List ℕ)) → HaveSizes outline.sizes contents → (region : ℕ) → region < length registry.sets → ReachEnds (set_at registry.sets region) (rows_of contents)
+
+-- A complete namespace that was found by these labels.
+pub record IsPlacedOn (outline : Outline) (uuid : List ℕ) (found : Found) (registry : Registered) (rest : OutlineRest) : Type 0 where
+  pub parts : IsOpenOutline outline registry rest
+  pub place : place_of registry.sets (lookup uuid (namespaces_in (state_of registry)).entries) ≡ Ok found
+  pub lies : LiesInSet registry.sets found
+
+-- ---- bytes for a namespace
+
+-- a namespace that was found gets these
+abbrev pub patch_of : List (List Mapping) → Found → NewBytes → BytePatch
+patch_of sets found bytes = record { set = set_at sets found.region; offset = found.offset; raw = found.raw; bytes = bytes }
+
+-- An answer is `ok`, and saves a set of which these are the words of the label areas, and whose contents are copied and patched.
+pub record SavesPatched (patch : BytePatch) (rest : OutlineRest) (labels : List (Option Words)) (answer : Answer) : Type 0 where
+  pub ends : answer.report.ending ≡ ending.Done
+  pub says : answer.report.text.items ≡ done_text
+  pub left : OutlineLeft
+  pub saves : answer.saved ≡ Some (Patched left patch)
+  pub nfit : left.nfit ≡ rest.nfit_bytes
+  pub kept : left.labels ≡ map (option_map (λ w. w.kept)) labels
+  pub sizes : left.sizes ≡ rest.sizes
+  pub bad : left.bad ≡ rest.bad
+
+-- the patch puts the bytes there and nowhere else
+abbrev pub Patches : List (List Mapping) → Found → BytePatch → Type 0
+Patches sets found patch = (contents : List (List ℕ)) → AreWholeRows contents → ReachEnds (set_at sets found.region) (rows_of contents) → ArePatched patch contents
+
+-- bytes are put into a raw namespace; or they are refused, since it has another number of them
+abbrev pub PutsRaw : Registered → Found → OutlineRest → List ℕ → Answer → Type 0
+PutsRaw registry found rest bytes answer =
+    MatchOption (length_refusal (length bytes) (length (set_at registry.sets found.region) * found.raw))
+    (SavesPatched (patch_of registry.sets found (Raw bytes)) rest (map words_of registry.areas) answer × Patches registry.sets found (patch_of registry.sets found (Raw bytes)))
+    (λ refusal. (answer.saved ≡ None) × ((contents : List (List ℕ)) → outcome_with answer contents ≡ refused_outcome refusal))
+
+-- ---- the command
+
+-- an answer is what `import` comes to, whatever contents of these sizes the set has
+pub record Imports (uuid bytes : List ℕ) (outline : Outline) (answer : Answer) : Type 0 where
+  pub comes : (contents : List (List ℕ)) → HaveSizes outline.sizes contents → ImportComes uuid bytes (image_set_with outline contents) (outcome_with answer contents)
+  pub sizes : HasSizes outline.sizes answer
+
+-- A namespace of sectors was found on an outline, and bytes are given for it.
+pub record IsSectorImport (uuid bytes : List ℕ) (outline : Outline) (s : SectorImport) : Type 0 where
+  pub registry : Registered
+  pub placed : IsPlacedOn outline uuid s.found registry s.rest
+  pub sector : is_sector s.found.mode ≡ true
+  pub set : s.set ≡ set_at registry.sets s.found.region
+  pub areas : s.areas.items ≡ registry.areas
+  pub given : s.bytes.items ≡ bytes
+
+-- An answer is what `import` comes to, if the namespace has these arenas.
+pub record Fills (uuid bytes : List ℕ) (outline : Outline) (s : SectorImport) (links : List Link) (answer : Answer) : Type 0 where
+  pub comes : (contents : List (List ℕ)) → HaveSizes outline.sizes contents → AreAll (namespace_words (over s.set s.found.offset s.found.raw (rows_of contents))).kept uuid links
+      → HaveMapsOfBytes (bytes_by_place s.set s.found.offset s.found.raw contents) links → ImportComes uuid bytes (image_set_with outline contents) (outcome_with answer contents)
+  pub sizes : HasSizes outline.sizes answer
+
+-- it is answered; or the arenas are needed
+abbrev pub Begins : List ℕ → List ℕ → Outline → Begun → Type 0
+Begins uuid bytes outline (begun.Done answer) = Imports uuid bytes outline answer
+Begins uuid bytes outline (begun.Sectors s) = IsSectorImport uuid bytes outline s
+
+-- An answer is what `import` comes to with the contents that the source has, as far as it reveals them.
+pub record ImportsFrom (held : Option Images) (uuid bytes : List ℕ) (outline : Outline) (answer : Answer) : Type 0 where
+  pub comes : ForSome held (λ source. ImportComes uuid bytes (image_set_with outline (contents_in source (length outline.sizes))) (outcome_with answer (contents_in source (length outline.sizes))))
+  pub sizes : HasSizes outline.sizes answer

@@ -1,0 +1,180 @@
+//! How `import` begins: on a set without its contents, which a raw namespace doesn't need.
+ghost use Rattle.std.specs.Prelude.{◌≡◌, ◌%◌, ◌<◌, ℕ, List, IfOk, length, map};
+ghost use Rattle.image_set.specs.declared.outline.Outline.{Outline as OutlineRead};
+ghost use Rattle.image_set.specs.Outline.{IsLoadable, IsOutlineRest, IsOutlined};
+ghost use Rattle.interleave.specs.Places.{unit_of};
+ghost use Rattle.namespace_areas.specs.Finding.{LiesInSet, set_at};
+ghost use Rattle.namespace_areas.specs.Opening.{AreWhole};
+ghost use Rattle.namespace_areas.specs.Seen.{words_of};
+ghost use Rattle.shell_changes.specs.Saved.{AreWholeSizes};
+ghost use Rattle.shell_import.specs.Beginning.{Begins, IsOpenOutline, IsPlacedOn, PutsRaw, SavesPatched};
+
+use crate::import::length_answer;
+use crate::sectors::SectorImport;
+use image_set::{Outline, OutlineRest};
+use interleave::InterleaveSet;
+use namespace_areas::{Area, Found, into_words, open_areas};
+use namespace_bytes::{NamespacePatch, NewBytes};
+use namespace_ops::Registry;
+use nvd_media::ListChooser;
+use nvd_words::Items;
+use shell_changes::{Answer, Left, SavedSet, without_set};
+use shell_export::{find_place, is_sector};
+use shell_reports::{done_answer, op_refused_answer, open_fault_answer};
+use std::alloc::{AllocError, Global};
+use uuid::Uuid;
+
+/// How `import` begins on a set that was loaded without its contents.
+#[derive(Drop)]
+pub(crate) enum Begun {
+    /// It is refused; or a raw namespace gets the bytes while the contents of the set are copied.
+    Done(Answer),
+    /// The namespace is one of sectors, whose arenas are needed.
+    Sectors(SectorImport),
+}
+
+/// Takes one interleave set out of all, which are dropped.
+fn set_of(sets: Items<InterleaveSet>, region: u32) -> InterleaveSet
+    requires { region < length sets }
+    ensures { result ≡ set_at sets region }
+{
+    let mut sets = sets.into_vec();
+    sets.swap_remove(region as usize)
+}
+
+/// Answers with `ok` and with a set whose label areas are these and whose contents are copied and patched.
+pub(crate) fn patched_answer(
+    alloc: Global,
+    patch: NamespacePatch,
+    rest: OutlineRest,
+    areas: Vec<Area>,
+) -> Result<Answer, AllocError>
+    requires rest { IsOutlineRest rest }
+    requires count { length areas.items ≡ length rest.sizes }
+    requires sizes { AreWholeSizes rest.sizes }
+    requires settled { AreWhole (map words_of areas.items) }
+    ensures { IfOk result (SavesPatched patch rest (map words_of areas.items)) }
+{
+    let labels = into_words(alloc, areas)?;
+    let mut chooser = ListChooser::new(Vec::new(alloc));
+    let left = rest.leave_areas(alloc, labels, &mut chooser)?;
+    let report = done_answer(alloc)?;
+    Ok(Answer {
+        report,
+        saved: Some(SavedSet::new(Left::Patched(left, patch))),
+    })
+}
+
+/// Puts bytes into a raw namespace, if it has as many.
+fn raw_answer(
+    alloc: Global,
+    found: &Found,
+    registry: Registry,
+    rest: OutlineRest,
+    bytes: Vec<u8>,
+) -> Result<Answer, AllocError>
+    requires lies { LiesInSet registry.sets found.now }
+    requires rest { IsOutlineRest rest }
+    requires count { length registry.areas ≡ length rest.sizes }
+    requires sizes { AreWholeSizes rest.sizes }
+    requires settled { AreWhole (map words_of registry.areas) }
+    ensures puts { IfOk result (PutsRaw registry found.now rest bytes.items) }
+    ensures eights { unit_of (set_at registry.sets found.now.region) % 8 ≡ 0 }
+{
+    let (sets, areas) = registry.into_parts();
+    let set = set_of(sets, found.region);
+    let _unit = set.unit();
+    let _span = set.span();
+    let had = u64::from(set.ways()) * found.raw;
+    if bytes.len() as u64 != had {
+        return Ok(without_set(length_answer(alloc, bytes.len(), had)?));
+    }
+    let bytes = NewBytes::Raw(Items::from_vec(bytes));
+    let patch = NamespacePatch::new(set, found.offset, found.raw, bytes);
+    patched_answer(alloc, patch, rest, areas)
+}
+
+/// Begins on a namespace that was found.
+fn begin_found(
+    alloc: Global,
+    found: Found,
+    registry: Registry,
+    rest: OutlineRest,
+    bytes: Vec<u8>,
+) -> Result<Begun, AllocError>
+    requires { (outline : OutlineRead) × (uuid : List ℕ) × IsPlacedOn outline uuid found registry rest }
+    ensures { IfOk result (λ begun. (outline : OutlineRead) (uuid : List ℕ) → IsPlacedOn outline uuid found registry rest → Begins uuid bytes.items outline begun) }
+{
+    if is_sector(&found.mode) {
+        let (sets, areas) = registry.into_parts();
+        let set = set_of(sets, found.region);
+        return Ok(Begun::Sectors(SectorImport {
+            set,
+            found,
+            areas,
+            rest,
+            bytes,
+        }));
+    }
+    Ok(Begun::Done(raw_answer(alloc, &found, registry, rest, bytes)?))
+}
+
+/// Begins on a set whose labels are read: the namespace is found by them.
+fn begin_named(
+    alloc: Global,
+    uuid: &Uuid,
+    registry: Registry,
+    rest: OutlineRest,
+    bytes: Vec<u8>,
+) -> Result<Begun, AllocError>
+    requires { (outline : OutlineRead) × IsOpenOutline outline registry rest }
+    ensures { IfOk result (λ begun. (outline : OutlineRead) → IsOpenOutline outline registry rest → Begins uuid.now bytes.items outline begun) }
+{
+    match find_place(alloc, &registry, uuid)? {
+        Ok(found) => begin_found(alloc, found, registry, rest, bytes),
+        Err(refused) => {
+            let report = op_refused_answer(alloc, refused)?;
+            Ok(Begun::Done(without_set(report)))
+        }
+    }
+}
+
+/// Begins `import` on a set that was loaded without its contents, which can be read later.
+///
+/// - `Done`: the answer is what `import` comes to, whatever contents of these sizes the set has. It is a refusal; or `ok` and
+///   a set of which a raw namespace gets the bytes, by place, while the contents are copied. Everything outside the
+///   namespace's extents is saved as it is. Nothing but the bytes is in memory.
+/// - `Sectors`: the namespace is found, and is one of sectors. `import_answer` goes on with the contents.
+///
+/// The refusals are those of `import_answer`, in the same order. The call fails only if memory runs out.
+pub(crate) fn begin_import(
+    alloc: Global,
+    uuid: &Uuid,
+    outline: Outline,
+    bytes: Vec<u8>,
+) -> Result<Begun, AllocError>
+    requires sound { IsOutlined outline }
+    requires loadable { IsLoadable outline }
+    ensures { IfOk result (Begins uuid.now bytes.items outline) }
+{
+    let Outline {
+        nfit,
+        nfit_bytes,
+        labels,
+        sizes,
+        bad,
+    } = outline;
+    let rest = OutlineRest {
+        nfit_bytes,
+        sizes,
+        bad,
+    };
+    let areas = open_areas(alloc, labels)?;
+    match Registry::open_all(alloc, nfit, areas) {
+        Ok(registry) => begin_named(alloc, uuid, registry, rest, bytes),
+        Err(fault) => {
+            let report = open_fault_answer(alloc, fault)?;
+            Ok(Begun::Done(without_set(report)))
+        }
+    }
+}
