@@ -3,7 +3,7 @@ ghost use Rattle.std.specs.Option.{ForSome};
 ghost use Rattle.nvd_media.specs.Causes.{Rose};
 
 use crate::traits::TextSource;
-use std::alloc::Global;
+use std::alloc::{AllocError, Global};
 
 /// Why `read_all` failed.
 #[derive(Clone, Copy, Debug, PartialEq, Eq)]
@@ -19,8 +19,15 @@ pub enum TextFault {
     OutOfMemory,
 }
 
-/// How many bytes one read asks for.
-const CHUNK: usize = 4096;
+/// How many bytes one read asks for: 64 KiB, as many as a pipe of Linux holds.
+const CHUNK: usize = 64 << 10;
+
+/// Allocates the buffer for one read.
+fn chunk_room(alloc: Global) -> Result<Vec<u8>, AllocError>
+    ensures { IfOk result (λ room. vec_len room ≡ 65536) }
+{
+    vec![in alloc; 0; CHUNK]
+}
 
 /// Reads a text to its end and returns its bytes, at most `limit` of them. `limit` must be below
 /// 2^40.
@@ -41,7 +48,9 @@ pub fn read_all<T: TextSource>(
     ensures later { T.faults source.old ≤ T.faults source.new }
 {
     let mut all = Vec::new(alloc);
-    let mut buffer = [0; CHUNK];
+    let Ok(mut buffer) = chunk_room(alloc) else {
+        return Err(TextFault::OutOfMemory);
+    };
     while all.len() <= limit {
         let Ok(count) = source.read(&mut buffer) else {
             return Err(TextFault::ReadFault);
