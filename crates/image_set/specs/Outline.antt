@@ -1,5 +1,5 @@
 -- An image set whose contents stay in the source, and how it is saved by copying them: this project's rules.
-use Rattle.std.specs.Prelude.{◌≡◌, ℕ, ◌^◌, ◌<◌, ◌≤◌, Bool, List, [], length, map, take, drop, slice_get, slice_index_or, Option, Some, None, Result, Ok, OnOk, MatchResult}
+use Rattle.std.specs.Prelude.{◌≡◌, ℕ, ◌^◌, ◌<◌, ◌≤◌, Bool, List, [], length, map, sum, take, drop, slice_get, slice_index_or, Option, Some, None, Result, Ok, OnOk, MatchResult}
 use Rattle.std.specs.Option.{ForSome, option_map}
 use Rattle.std.specs.Result.{result_map_both}
 use Rattle.std.specs.List.{All, range_with_len}
@@ -60,11 +60,12 @@ pub record IsOutlined (outline : Outline) : Type 0 where
   -- label areas are within their limits
   pub areas : All IsArea outline.labels
 
--- What holds of the sizes of an outline's contents, which can be read later: there is one for each module, and the contents hold
--- the mappings.
+-- What holds of the sizes of an outline's contents, which can be read later: there is one for each module, each is within its
+-- limits and so is their sum, and the contents hold the mappings.
 pub record IsLoadable (outline : Outline) : Type 0 where
   pub count : length outline.sizes ≡ length outline.nfit.modules
   pub sized : All IsContentsSize outline.sizes
+  pub total : sum outline.sizes ≤ 536870912
   pub mapped : All (AreMapped outline.sizes) outline.nfit.regions
 
 -- ---- an outline after a crash

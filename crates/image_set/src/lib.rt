@@ -65,6 +65,6 @@ mod writing;
 pub use changing::{OutlineLeft, OutlineRest, SetLeft};
 pub use fault::{CopyFault, LoadFault, SaveFault};
 pub use loading::{Loaded, load};
-pub use outline::{Outline, load_contents, load_outline};
+pub use outline::{Outline, load_outline};
 pub use patch::{NoPatch, Patch};
 pub use saving::save;

@@ -1,18 +1,18 @@
 //! An image set loaded without its contents, which stay in the source until they are copied.
-ghost use Rattle.std.specs.Prelude.{◌≡◌, ◌≢◌, ◌⊎◌, ◌≤◌, length, map, IfOk, Err};
+ghost use Rattle.std.specs.Prelude.{◌≡◌, ◌≢◌, ◌≤◌, length, IfOk, Err};
 ghost use Rattle.std.specs.Option.{ForSome};
 ghost use Rattle.std.specs.List.{All};
 ghost use Rattle.nvd_media.specs.Causes.{LeavesSource, Rose};
 ghost use Rattle.image_set.specs.Known.{IsChecked};
-ghost use Rattle.image_set.specs.Load.{bytes_kept, image_set_of};
+ghost use Rattle.image_set.specs.Load.{image_set_of};
 ghost use Rattle.image_set.specs.Outline.{HasContents, IsLoadable, IsOutlined, Outlines, contents_in, image_set_with};
-ghost use Rattle.image_set.specs.Sizes.{IsContentsSize, contents_of};
-ghost use Rattle.image_set.specs.Sound.{AreMapped, IsContents, size_of};
+ghost use Rattle.image_set.specs.Sizes.{contents_of};
+ghost use Rattle.image_set.specs.Sound.{AreMapped};
 
 use crate::fault::{LoadFault, Stop};
 use crate::loading::{checked_sizes, table_of};
 use crate::pieces::{piece_room, read_bytes};
-use crate::reading::{contents_sizes, read_areas, read_bad, read_contents};
+use crate::reading::{contents_sizes, read_areas, read_bad};
 use crate::sizes::{Sizes, table_size};
 use cut_words::CutWords;
 use nfit_reader::{Nfit, NfitFault};
@@ -76,7 +76,7 @@ fn read_outline<S: ImageSource>(
 /// - `failed`: `ReadFault` means that the source's count of failures rose in this call.
 /// - `OutOfMemory` may replace any other result. No other fault contains it (`apart`).
 /// - `sound`: the outline is within its limits and consistent, whatever the source reveals.
-/// - `loadable`: [`load_contents`] can read the contents later.
+/// - `loadable`: the sizes are within their limits, and the contents hold the mappings.
 /// - `same`, `later`: the source holds what it held, and its count of failures never falls.
 pub fn load_outline<S: ImageSource>(alloc: Global, images: &mut S) -> Result<Outline, LoadFault>
     ensures told { ForSome (S.held images.old) (Outlines result) }
@@ -94,36 +94,4 @@ pub fn load_outline<S: ImageSource>(alloc: Global, images: &mut S) -> Result<Out
     let nfit = table_of(alloc, &nfit_bytes)?;
     let sizes = checked_sizes(alloc, images, &nfit)?;
     Ok(read_outline(alloc, images, nfit, nfit_bytes, sizes.as_slice())?)
-}
-
-/// Reads the contents of all modules into memory, of which these are the sizes in bytes, by module
-/// number. They are those of an outline that was loaded.
-///
-/// - `told`: if the source reveals what it holds, they are its contents, as [`crate::load`] returns
-///   them.
-/// - `failed`: `ReadFault` means that the source's count of failures rose in this call.
-/// - `faults`: otherwise only memory can run out.
-/// - `sound`, `sizes`: they are within their limits, and have the given sizes.
-/// - `same`, `later`: the source holds what it held, and its count of failures never falls.
-pub fn load_contents<S: ImageSource>(
-    alloc: Global,
-    images: &mut S,
-    sizes: &[u64],
-) -> Result<Items<CutWords>, LoadFault>
-    requires few { length sizes.now ≤ 64 }
-    requires sized { All IsContentsSize sizes.now }
-    requires there { ForSome (S.held images.old) (HasContents sizes.now) }
-    ensures told { ForSome (S.held images.old) (λ set. IfOk result
-        (λ contents. map bytes_kept contents ≡ contents_in set (length sizes.now))) }
-    ensures sound { IfOk result (All IsContents) }
-    ensures sizes { IfOk result (λ contents. map size_of contents ≡ sizes.now) }
-    ensures faults { (fault : LoadFault) → result ≡ Err fault
-        → (fault ≡ LoadFault.ReadFault) ⊎ (fault ≡ LoadFault.OutOfMemory) }
-    ensures failed { result ≡ Err LoadFault.ReadFault
-        → Rose (S.faults images.old) (S.faults images.new) }
-    ensures later { S.faults images.old ≤ S.faults images.new }
-    ensures same { S.held images.new ≡ S.held images.old }
-{
-    let mut room = piece_room(alloc)?;
-    Ok(read_contents(alloc, images, sizes, &mut room)?)
 }

@@ -1,4 +1,4 @@
-use Rattle.std.proofs.Common.{◌≡◌, ℕ, List, length, refl, sym, ap, subst, ◌∙◌, arith}
+use Rattle.std.proofs.Common.{◌≡◌, ◌≤◌, ℕ, sum, List, length, refl, sym, ap, subst, ◌∙◌, arith}
 use Rattle.std.specs.List.{All}
 use Rattle.std.proofs.lemmas.List.{length-map}
 use Rattle.nfit_reader.specs.Table.{nfit_reading}
@@ -32,6 +32,7 @@ pub returns-clause-loadable : goal.returns-clause-loadable
 returns-clause-loadable g c = record {
   count = ap length c.in_ok-of_contents.ensures ∙ length-map c.args.sizes.now (λ (s : Sizes). s.contents) ∙ c.requires.checked.count;
   sized = subst (All IsContentsSize) (sym c.in_ok-of_contents.ensures) (contents_sized c.args.sizes.now c.requires.checked.sized.each);
+  total = subst (λ (sizes : List ℕ). sum sizes ≤ 536870912) (sym c.in_ok-of_contents.ensures) c.requires.checked.sized.total;
   mapped = subst (λ (sizes : List ℕ). All (AreMapped sizes) c.args.nfit.regions) (sym c.in_ok-of_contents.ensures) c.requires.mapped;
 }
 
