@@ -1,12 +1,9 @@
-pub mod Puts
 pub mod One
 pub mod All
 pub mod Arena
 pub mod Chain
 pub mod Sizes
-pub mod Turns
 pub mod Flagged
-pub mod Pasted
 pub mod Patched
 pub mod WholePatch
 pub mod ByteWords
@@ -16,6 +13,5 @@ pub mod SectorWords
 pub mod SectorChain
 pub mod SectorPuts
 pub mod SectorRuns
-pub mod SectorTables
 mod Rows
 mod SectorRows

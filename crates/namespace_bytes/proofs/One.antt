@@ -1,9 +1,8 @@
 -- One sector's bytes are put into an arena in a namespace's words.
 use Rattle.std.proofs.Common.{◌≡◌, ◌≢◌, ◌⊎◌, ℕ, ◌+◌, ◌*◌, ◌/◌, ◌^◌, ◌<◌, ◌≤◌, List, [], ◌∷◌, ◌++◌, length, get_or, take, drop, sym, ap, ◌∙◌, inl, inr, arith}
-use Rattle.std.proofs.Math.ListN.{set}
 use Rattle.std.proofs.Math.Nat.{mul-le-mul_left}
 use Rattle.std.proofs.lemmas.Bool.{cases_eq, cases_order}
-use Rattle.std.proofs.lemmas.List.{ext_get_or, get_or-append_right, get_or-set_other, get_or-set_same, get_or_append_left, length-set, length-take-le}
+use Rattle.std.proofs.lemmas.List.{get_or-append_right, get_or_append_left, length-take-le}
 use Rattle.cut_words.specs.WordBytes.{put_at}
 use Rattle.cut_words.proofs.Put.{length_put, put_outside}
 use Rattle.arena_layout.specs.declared.layout.Layout.{Layout}
@@ -20,24 +19,6 @@ put_inside words at others i fits lt =
     get_or-append_right (take at words) (others ++ drop (at + length others) words) at (at + i) 0 (length-take-le at words (omega arith)) (omega arith)
     ∙ ap (λ (k : ℕ). get_or (others ++ drop (at + length others) words) k 0) (omega arith)
     ∙ get_or_append_left others (drop (at + length others) words) 0 i lt
-
--- one word
-pub put_one : (words : List ℕ) (k word : ℕ) → k < length words → put_at words k (word ∷ []) ≡ set words k word
-put_one words k word lt =
-    let count : length (put_at words k (word ∷ [])) ≡ length words = length_put words k (word ∷ []) (omega (arith, lt)) in
-    ext_get_or 0 (put_at words k (word ∷ [])) (set words k word) (count ∙ sym (length-set words k word)) (λ i lt'. elim (cases_eq i k) [
-      | inl same ↦
-          ap (λ (j : ℕ). get_or (put_at words k (word ∷ [])) j 0) (let e : i ≡ k + 0 = omega (arith, same) in e)
-          ∙ put_inside words k (word ∷ []) 0 (omega (arith, lt)) (omega arith)
-          ∙ sym (ap (λ (j : ℕ). get_or (set words k word) j 0) same ∙ get_or-set_same words k word 0 lt)
-      | inr ne ↦
-          put_outside words k (word ∷ []) i (omega (arith, lt)) (elim (cases_order i k) [
-            | inl e ↦ absurd (ne e)
-            | inr (inl low) ↦ inl low
-            | inr (inr high) ↦ inr (omega (arith, high))
-          ])
-          ∙ sym (get_or-set_other words k i word 0 ne)
-    ])
 
 -- ---- the places
 

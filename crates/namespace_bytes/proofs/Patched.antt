@@ -65,9 +65,6 @@ fails : (c d e : ℕ) → (d < c) ⊎ (e ≤ d) → (nat_le c d && nat_lt d e) �
 fails c d e (inl before) = grind (arith, nat_tests)
 fails c d e (inr after) = grind (arith, nat_tests)
 
-tests_of : (c d e : ℕ) → (nat_le c d && nat_lt d e) ≡ true → (c ≤ d) × (d < e)
-tests_of c d e is = (grind (arith, nat_tests), grind (arith, nat_tests))
-
 some_is : {A : Type 0} (x y : A) → Some x ≡ Some y → x ≡ y
 some_is x y e = cc
 

@@ -5,11 +5,11 @@ use Rattle.std.specs.Int.{w32, to_le_bytes}
 use Rattle.std.proofs.Math.ListN.{set}
 use Rattle.std.proofs.Math.Nat.{mul-le-mul_left}
 use Rattle.std.proofs.Math.Seq.{drop-cons}
-use Rattle.std.proofs.lemmas.Bool.{cases_Bool, cases_eq, cases_lt, eqb-true}
+use Rattle.std.proofs.lemmas.Bool.{cases_eq, cases_lt}
 use Rattle.std.proofs.lemmas.Bool.Decides.{nat_tests}
 use Rattle.std.proofs.lemmas.List.{drop_all, ext_get_or, get_or-drop, get_or-replicate, get_or-set_other, get_or-set_same, get_or-take, length-drop, length-take-le}
 use Rattle.std.proofs.lemmas.Nat.{div-add-mod', div-mul-add}
-use Rattle.map_table.specs.Entry.{entry_of, normal_of}
+use Rattle.map_table.specs.Entry.{normal_of}
 use Rattle.arena_layout.specs.declared.layout.Layout.{Layout}
 use Rattle.arena_layout.specs.Layout.{IsLayout, is_sector}
 use Rattle.arena_open.specs.declared.opened.Opened.{Opened}
@@ -19,6 +19,7 @@ use Rattle.namespace_bytes.specs.SectorBytes.{block_byte, data_byte, map_byte, o
 use Rattle.namespace_bytes.specs.Changed.{changed_from, changed_front}
 use Rattle.namespace_bytes.specs.SectorPut.{IsOwned, owner_number}
 use Rattle.namespace_bytes.proofs.All.{piece_fits}
+use Rattle.namespace_bytes.proofs.Owners.{owner_is}
 use Rattle.namespace_bytes.proofs.Patched.{at_row, length_row, row_kept}
 
 -- ---- the first bytes of a piece
@@ -71,28 +72,6 @@ less a b lt = grind (arith, nat_tests)
 
 pub not_less : (a b : ℕ) → b ≤ a → nat_lt a b ≡ false
 not_less a b le = grind (arith, nat_tests)
-
-out : (a b : ℕ) → Some a ≡ Some b → a ≡ b
-out a b e = cc
-
-owner_within : (own : ℕ) (entries : List ℕ) (block n : ℕ) → owner_from own entries block ≡ Some n
-    → (k : ℕ) × (n ≡ own + k) × (k < length entries) × ((entry_of (get_or entries k 0) n).block ≡ block)
-owner_within own [] block n is = absurd cc
-owner_within own (entry ∷ entries) block n is = elim (cases_Bool ((entry_of entry own).block == block)) [
-  | inl here ↦
-      let same : own ≡ n = out own n (sym (if_true ((entry_of entry own).block == block) (Some own) (owner_from (own + 1) entries block) here) ∙ is) in
-      (0, omega (arith, same), omega arith, subst (λ (s : ℕ). (entry_of entry s).block ≡ block) same (eqb-true (entry_of entry own).block block here))
-  | inr other ↦
-      let rest = owner_within (own + 1) entries block n (sym (if_false ((entry_of entry own).block == block) (Some own) (owner_from (own + 1) entries block) other) ∙ is) in
-      (suc rest.0, omega (arith, rest.1), omega (arith, rest.2), rest.3)
-]
-
--- a block's sector is one of the arena's, and has this block
-pub owner_is : (o : Opened) (block own : ℕ) → owner_of o block ≡ Some own → (own < length o.entries) × (block_at o.entries own ≡ block)
-owner_is o block own is =
-    let within = owner_within 0 o.entries block own is in
-    let same : own ≡ within.0 = omega (arith, within.1) in
-    (omega (arith, same, within.2), ap (λ (k : ℕ). (entry_of (get_or o.entries k 0) own).block) same ∙ within.3)
 
 module _ (a : ArenaOwners) (is : IsOwned a) where
   pub owner_below : (block own : ℕ) → owner_of a.opened block ≡ Some own → (own < a.opened.info.layout.external) × (block < a.opened.info.layout.internal)

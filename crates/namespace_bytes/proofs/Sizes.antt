@@ -1,13 +1,10 @@
--- How many bytes the arenas of a namespace have, and where its words lie.
-use Rattle.std.proofs.Common.{◌≡◌, ◌≢◌, ℕ, zero, suc, ◌+◌, ◌*◌, ◌/◌, ◌%◌, ◌≤◌, List, [], ◌∷◌, ◌++◌, length, map, drop, replicate, None, Result, Ok, Err, refl, sym, ap, ◌∙◌, subst, inl, inr, arith, append-nil}
-use Rattle.std.specs.Prelude.{IfOk, IsTrue, sum, sum_by}
+-- How many bytes the sectors of arenas have, and the arenas that were read.
+use Rattle.std.proofs.Common.{◌≡◌, ◌≢◌, ℕ, zero, suc, ◌+◌, ◌*◌, ◌/◌, ◌≤◌, List, [], ◌∷◌, ◌++◌, length, map, drop, replicate, None, Result, Ok, Err, refl, sym, ap, ◌∙◌, subst, inl, inr, arith}
+use Rattle.std.specs.Prelude.{IfOk, sum, sum_by}
 use Rattle.std.proofs.Math.Nat.{mul-le-mul}
-use Rattle.std.proofs.lemmas.List.{drop_all}
 use Rattle.std.proofs.lemmas.List.Sums.{sum_by-cons}
-use Rattle.cut_words.specs.Words.{Words}
-use Rattle.cut_words.specs.WordBytes.{put_at}
 use Rattle.arena_layout.specs.declared.layout.Layout.{Layout}
-use Rattle.arena_layout.specs.Layout.{IsLayout, is_sector}
+use Rattle.arena_layout.specs.Layout.{IsLayout}
 use Rattle.arena_open.specs.declared.opened.Opened.{Opened}
 use Rattle.arena_open.specs.declared.chain_refused.ChainRefused.{ChainRefused}
 use Rattle.arena_open.specs.Chain.{Link, chain_answer, state_at}
@@ -15,39 +12,17 @@ use Rattle.arena_open.specs.ChainCells.{sizes_of}
 use Rattle.arena_open.specs.Reading.{opening}
 use Rattle.arena_open.proofs.Apart.{ordered}
 use Rattle.arena_open.proofs.Joined.{Joined}
-use Rattle.arena_open.proofs.Opening.{Sound, sound}
-use Rattle.arena_open.proofs.Own.{Lies, lies}
-use Rattle.power_cut.specs.Namespace.{Namespace, over}
-use Rattle.power_cut.specs.Placed.{IsBesideSame}
 use Rattle.sector_namespaces.proofs.Views.{some_words}
 use Rattle.namespace_bytes.specs.Putting.{AreAll, Linked, link_bytes}
 
-pub eights : (bytes : ℕ) → IsTrue (is_sector bytes) → bytes % 8 ≡ 0
-unfolding is_sector
-eights bytes is = grind arith
-
--- ---- within the words
+-- ---- one arena
 
 pub bytes_fit : (l : Layout) → IsLayout l → l.external * l.sector ≤ 8 * (l.size / 8)
 bytes_fit l ok =
     let product : l.external * l.sector ≤ l.internal * l.inner = mul-le-mul (let a : l.external ≤ l.internal = omega (arith, ok.internal_is) in a) ok.inner_enough in
     omega (arith, product, ok.after_data, ok.map_whole, ordered l ok)
 
-pub bytes_inside : (links : List Link) (words parent : List ℕ) (at : ℕ) → at ≤ length words → Linked words parent at links → 8 * at + sum_by link_bytes links ≤ 8 * length words
-bytes_inside [] words parent at le l = omega (arith, le)
-bytes_inside (link ∷ links) words parent at le l =
-    let s : Sound (drop at words) parent link.opened = sound (drop at words) parent link.opened l.2 in
-    let p : Lies (length words) at link.opened = lies words parent at link.opened l.1 l.2 in
-    let own : link_bytes link ≤ 8 * (link.opened.info.layout.size / 8) = bytes_fit link.opened.info.layout s.arena.sound.layout in
-    elim l.3 [
-      | inl last ↦ omega (arith, own, p.inside, sum_by-cons link_bytes link links, ap (sum_by link_bytes) last.1)
-      | inr more ↦
-          let rest : 8 * (at + link.opened.info.next / 8) + sum_by link_bytes links ≤ 8 * length words =
-          bytes_inside links words parent (at + link.opened.info.next / 8) (omega (arith, p.next_is more.0, p.next_inside more.0)) more.1 in
-          omega (arith, own, rest, p.next_is more.0, sum_by-cons link_bytes link links)
-    ]
-
--- ---- those of all sectors
+-- ---- all arenas
 
 sum_more : (n size : ℕ) (sizes : List ℕ) → sum (replicate n size ++ sizes) ≡ n * size + sum sizes
 sum_more zero size sizes = omega arith
@@ -80,11 +55,3 @@ all_of view words uuid first (Ok links) is some read linked = record {
   linked = subst (λ (p : ℕ). Linked words uuid p (view links)) is linked;
 }
 all_of view words uuid first (Err e) is some read linked = tt
-
--- ---- a namespace's words
-
-pub whole_put : (words others : List ℕ) → length others ≡ length words → put_at words 0 others ≡ others
-whole_put words others same = ap (λ (rest : List ℕ). others ++ rest) (drop_all (0 + length others) words (omega (arith, same))) ∙ append-nil others
-
-pub moved_is : (n now : Namespace) (modules : List Words) → IsBesideSame n now → modules ≡ now.modules → over n.set n.offset n.raw modules ≡ now
-moved_is n now modules same at = λ i. record { set = sym same.set i; offset = sym same.offset i; raw = sym same.raw i; modules = at i }

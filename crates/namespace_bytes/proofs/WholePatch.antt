@@ -8,9 +8,10 @@ use Rattle.std.proofs.lemmas.Bool.Decides.{nat_tests}
 use Rattle.std.proofs.lemmas.List.{ext_get_or, get_or-drop, get_or-map, get_or-take, length-drop, length-map, length-take-le}
 use Rattle.std.proofs.lemmas.List.Elements.{All-cons, All-nil}
 use Rattle.std.proofs.lemmas.List.Folds.{list_any_at}
+use Rattle.std.proofs.lemmas.Nat.{div-add-mod'}
 use Rattle.nfit_reader.specs.declared.table.Mapping.{Mapping}
 use Rattle.nvd_words.specs.Bytes.{number_at}
-use Rattle.interleave.specs.Places.{LiesAt}
+use Rattle.interleave.specs.Places.{LiesAt, unit_of}
 use Rattle.interleave.specs.Sound.{span_of}
 use Rattle.cut_words.specs.Words.{Words, settled}
 use Rattle.cut_words.specs.WordBytes.{words_in}
@@ -23,9 +24,16 @@ use Rattle.sector_namespaces.proofs.Views.{view_settled}
 use Rattle.image_set.specs.Patches.{patched_contents, patched_row}
 use Rattle.namespace_bytes.specs.Changed.{changed_from}
 use Rattle.namespace_bytes.specs.Patching.{ArePatched, AreWhole, BytePatch, IsBytePatch, byte_in, byte_patched, bytes_by_place, new_of, start_in}
-use Rattle.power_cut.proofs.Places.{place_is}
-use Rattle.namespace_bytes.proofs.Puts.{in_region, whole_byte}
+use Rattle.power_cut.proofs.Places.{byte_is as word_byte, place_is}
 use Rattle.namespace_bytes.proofs.Patched.{at_row, byte_kept, byte_none, byte_put, byte_range, found_is, length_row, start_is}
+
+-- a multiple of a multiple of a multiple of eight
+times_eights : (m a u : ℕ) → a % u ≡ 0 → u % 8 ≡ 0 → m * a % 8 ≡ 0
+times_eights m a u whole eights =
+    let parts : a ≡ a / u * u = omega (arith, div-add-mod' a u, whole) in
+    let u_is : u ≡ u / 8 * 8 = omega (arith, eights) in
+    let product : m * a ≡ m * (a / u) * (u / 8) * 8 = ap (λ (b : ℕ). m * b) parts ∙ ap (λ (v : ℕ). m * (a / u * v)) u_is ∙ omega arith in
+    omega (arith, product)
 
 -- ---- rows of words
 
@@ -131,8 +139,8 @@ module _ (p : BytePatch) (is : IsBytePatch p) (contents : List (List ℕ)) (whol
   place_at : (i : ℕ) → i < count_of was → Place i
   place_at i lt =
       let laid = is.laid (rows_of contents) in
-      let place = laid.places.has (byte_at was i) (in_region was i laid lt) in
-      let word = laid.words (byte_at was i) place.which place.address (whole_byte was i laid) place.lies in
+      let place = laid.places.has (byte_at was i) (word_byte was i laid lt).in_region in
+      let word = laid.words (byte_at was i) place.which place.address (word_byte was i laid lt).whole place.lies in
       let has = there place.which place.address place.lies.0 place.lies.1 place.lies.2.of place.lies.2.inside in
       record {
         which = place.which;
@@ -221,7 +229,7 @@ module _ (p : BytePatch) (is : IsBytePatch p) (contents : List (List ℕ)) (whol
       let is_word : begins ≡ 8 * k = omega (arith, eights, one.1, less) in
       let word : LiesAt p.set (y - y % 8) which (8 * k) =
       subst (λ (v : ℕ). LiesAt p.set (y - y % 8) which v) is_word (subst (λ (w : ℕ). LiesAt p.set (y - y % 8) w begins) one.0 first) in
-      let whole_first : (length p.set * p.offset + 8 * 0) % 8 ≡ 0 = whole_byte was 0 (is.laid (rows_of contents)) in
+      let whole_first : length p.set * p.offset % 8 ≡ 0 = times_eights (length p.set) p.offset (unit_of p.set) (is.laid []).from (is.laid []).eights in
       let low = low_in m which (y - y % 8) (8 * k) among named word (omega (arith, range.0, whole_first)) in
       has_mapping m which (8 * k) among named low (omega (arith, to, start_of))
 

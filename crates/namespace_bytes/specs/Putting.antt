@@ -1,16 +1,13 @@
--- The words of a namespace after bytes were put into its sectors, step by step: this project's rule over UEFI 2.10, section 6.2 (BTT data
--- structures). What they come to is said in Contents.antt.
-use Rattle.std.specs.Prelude.{◌≡◌, ◌≢◌, ◌⊎◌, ℕ, ◌+◌, ◌*◌, ◌/◌, ◌^◌, ◌<◌, ◌≤◌, List, [], ◌∷◌, length, take, drop, slice_index, map, Ok}
+-- The words of a namespace after bytes were put into its sectors, one sector after another: this project's rule over UEFI 2.10, section 6.2
+-- (BTT data structures). Contents.antt says what they come to, and SectorBytes.antt puts the same bytes each by itself.
+use Rattle.std.specs.Prelude.{◌≡◌, ◌≢◌, ◌⊎◌, ℕ, ◌+◌, ◌*◌, ◌/◌, ◌≤◌, List, [], ◌∷◌, length, take, drop, slice_index, map, Ok}
 use Rattle.std.specs.List.{range_with_len}
-use Rattle.cut_words.specs.Words.{Words}
 use Rattle.cut_words.specs.WordBytes.{put_at, words_in}
 use Rattle.arena_layout.specs.declared.layout.Layout.{Layout}
-use Rattle.arena_layout.specs.Layout.{IsLayout}
 use Rattle.map_table.specs.Entry.{entry_of, normal_of, with_entry}
 use Rattle.arena_open.specs.declared.opened.Opened.{Opened}
 use Rattle.arena_open.specs.Chain.{Link, state_at}
 use Rattle.arena_open.specs.Reading.{opening}
-use Rattle.arena_open.specs.Writes.{IsSettled}
 use Rattle.sector_namespaces.specs.View.{opened_view}
 
 -- ---- one sector
@@ -67,18 +64,3 @@ Linked words parent at (link ∷ links) =
 pub record AreAll (words uuid : List ℕ) (links : List Link) : Type 0 where
   pub read : opened_view words uuid ≡ Ok (map (state_at words) links)
   pub linked : Linked words uuid 0 links
-
--- ---- conditions
-
--- the words of an arena of this layout lie in these words, of which none is pending
-pub record CanPut (words : Words) (at : ℕ) (l : Layout) : Type 0 where
-  pub layout : IsLayout l
-  pub inside : at + l.size / 8 ≤ length words.kept
-  pub small : length words.kept < 2 ^ 60
-  pub settled : IsSettled words
-
--- so many bytes are those of a sector, which has this block
-pub record IsPiece (l : Layout) (own block count : ℕ) : Type 0 where
-  pub sector : own < l.external
-  pub named : block < l.internal
-  pub fits : count ≡ l.sector

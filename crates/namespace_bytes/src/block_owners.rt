@@ -1,4 +1,7 @@
 //! The sector of each block of an arena, and the bytes of its sectors put into pieces of the arena's bytes.
+//!
+//! A piece may begin and end anywhere. Each function changes bytes up to the end of one block, one map entry or one area, and
+//! returns how many bytes are done.
 ghost use Rattle.std.specs.Prelude.{◌≡◌, ◌≢◌, ℕ, ◌+◌, ◌-◌, ◌*◌, ◌/◌, ◌^◌, ◌<◌, ◌≤◌, IfOk, IsTrue, List, Some, None, length, replicate, slice_index};
 ghost use Rattle.arena_layout.specs.Layout.{IsLayout};
 ghost use Rattle.map_table.specs.Entry.{normal_of};
@@ -14,7 +17,7 @@ use map_table::{entry, normal};
 use nvd_words::Items;
 use std::alloc::{AllocError, Global};
 
-/// Stands for no sector. An arena has fewer than 2^30.
+/// Stands for no sector. An arena has fewer than 2^30 sectors.
 const NONE: u32 = u32::MAX;
 
 /// The size of a map entry, in bytes.
@@ -30,14 +33,15 @@ pub(crate) struct ArenaOwners {
     pub(crate) owners: Items<u32>,
 }
 
-/// Makes the table of an arena without a sector.
+/// Makes a table in which no block has a sector.
 fn no_owners(alloc: Global, blocks: u32) -> Result<Vec<u32>, AllocError>
     ensures { IfOk result (λ owners. owners.items ≡ replicate blocks (2 ^ 32 - 1)) }
 {
     vec![in alloc; NONE; blocks as usize]
 }
 
-/// Writes the number of each sector at the place of its block, from the last sector to the first.
+/// Writes the number of each sector at the place of its block, from the last sector to the first: so the first sector that has
+/// a block counts.
 fn put_owners(opened: &Opened, owners: &mut [u32])
     requires blocks { (at : ℕ) × HasBlocks (record { at = at; opened = opened.now }) }
     requires none { owners.old ≡ replicate opened.now.info.layout.internal (2 ^ 32 - 1) }
@@ -52,7 +56,7 @@ fn put_owners(opened: &Opened, owners: &mut [u32])
     }
 }
 
-/// Makes the table of the sector of each block.
+/// Makes the table of the sector of each block. It fails only if memory runs out.
 fn owners_of(alloc: Global, opened: &Opened) -> Result<Items<u32>, AllocError>
     requires blocks { (at : ℕ) × HasBlocks (record { at = at; opened = opened.now }) }
     ensures long { IfOk result (λ owners. length owners ≡ opened.now.info.layout.internal) }
@@ -252,7 +256,8 @@ impl ArenaOwners {
         true
     }
 
-    /// Returns whether all of these bytes of the arena are sectors' bytes. Where sectors don't fill their blocks it says no.
+    /// Returns whether all of these bytes of the arena are sectors' bytes, so that their old values don't matter. Where sectors
+    /// don't fill their blocks it says no.
     pub(crate) fn covers(&self, at: u64, count: u64) -> bool
         requires owned { IsOwned self.now }
         requires fits { at + count < 2 ^ 64 }

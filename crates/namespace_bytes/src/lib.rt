@@ -1,15 +1,27 @@
-//! Plain bytes become the contents of a whole namespace, where it lies in the contents of the modules.
+//! The new bytes of a whole namespace, raw or of sectors, put into the contents of its modules while these are copied.
 //!
 //! ```text
-//! bytes ──┬──► raw: its words, de-interleaved (`put_raw`)
-//!         └──► sectors: `read_arenas` ──► the block and the map entry of each sector (`put_sectors`)
+//! bytes ──┬── raw ────────────────────────► NewBytes ──► NamespacePatch ──► each piece of a module's contents
+//!         └── sectors ──► SectorBytes ──────────┘
+//! arenas ─────────────────────┘
 //! ```
 //!
 //! Crate `shell_export` says what the bytes of a namespace are: those of a raw one by place, those of one of sectors sector by
-//! sector, in order.
+//! sector, in order. `read_arenas` reads the arenas of a namespace of sectors. `first_bad` finds its first bad sector by the map
+//! entries alone.
 //!
-//! **Sectors.** A write goes through the log of its arena, so that a power loss leaves the old sector or the new one. Here a
-//! whole namespace of a loaded set is changed, and the set is saved after it; no power is cut in between. So no log is needed:
+//! **Pieces.** Contents are copied from one set to another in pieces (`image_set::Patch`), and `NamespacePatch` changes each piece.
+//! So neither the contents nor the namespace's words are in memory. `NewBytes` says what a byte becomes, from its number in the
+//! namespace and its old value. So each piece is done by itself, in any order.
+//!
+//! ```text
+//! bytes           | line 0 | line 1 | line 2 | line 3 |
+//! module 0   .. b |   0    |   2    | b ..                  b: bytes beside the namespace stay
+//! module 1   .. b |   1    |   3    | b ..
+//! ```
+//!
+//! **Sectors.** A write goes through the log of its arena, so that a power loss leaves the old sector or the new one. Here all
+//! sectors of a namespace change while the set is copied, and the copy is no set before all of it is there. So no log is needed:
 //! the bytes of each sector go into the block that the map names, and the sector's map entry becomes a normal one of this
 //! block. It is the block of the map with all pending moves made. Hence the new map has these moves, and none is pending.
 //!
@@ -20,51 +32,35 @@
 //! log             may have a pending move              as it was; no move is pending
 //! ```
 //!
-//! **Namespaces that are copied.** `NamespacePatch` has the new bytes of a namespace and puts them into the contents of its modules
-//! while these are copied from one set to another (`image_set::Patch`). So neither the contents nor the words are in memory.
-//!
-//! ```text
-//! bytes           | line 0 | line 1 | line 2 | line 3 |
-//! module 0   .. b |   0    |   2    | b ..                  b: bytes beside the namespace stay
-//! module 1   .. b |   1    |   3    | b ..
-//! ```
-//!
-//! `NewBytes` says what each byte becomes. A raw namespace gets bytes, one after another. For one of sectors `SectorBytes` looks
-//! up the sector of each block, so that each piece is done by itself, in any order.
+//! The map names blocks by sector, and contents are copied in the order of their blocks. So `SectorBytes` has a table of the
+//! sector of each block.
 //!
 //! ```text
 //! arena           | info | block 0 | block 1 | .. | map            | log | info |
 //! becomes         |      | sector's bytes         | normal entries |     |      |
 //! ```
 //!
-//! Since no power is cut, no word is stored and flushed either: `PlainWords` takes the words of all modules and puts words at
-//! their places, in one step each, with no second value beside them. Afterwards they are words that can be stored again.
-//!
 //! | what | definition |
 //! |---|---|
-//! | the words of a namespace of sectors afterwards | `HasContents` of `specs/Contents.antt` |
-//! | the steps | `put_links` of `specs/Putting.antt` |
 //! | a byte of a module's contents, patched | `byte_patched` of `specs/Patching.antt` |
 //! | a byte of a namespace of sectors, patched | `sector_byte` of `specs/SectorBytes.antt` |
+//! | the words of its sectors, put one sector after another | `put_links` of `specs/Putting.antt` |
+//! | what its words are afterwards | `HasContents` of `specs/Contents.antt` |
+//! | its first bad sector | `first_bad` of `specs/Bad.antt` |
 //!
+//! `sector_words` and `sector_contents` of `proofs/SectorChain.antt` prove that the second, third and fourth agree.
 //! All are this project's rules over UEFI 2.10, section 6.2 (BTT data structures).
 #![tactic(auto)]
 
-mod arenas;
 mod bad;
 mod block_owners;
 mod new_bytes;
 mod patch;
-mod plain;
-mod putting;
 mod reading;
 mod sector_bytes;
 
-pub use arenas::{put_raw, put_sectors};
 pub use bad::first_bad;
 pub use new_bytes::NewBytes;
 pub use patch::NamespacePatch;
-pub use plain::{PlainRow, PlainWords, cut_rows, plain_rows};
-pub use putting::put_words;
 pub use reading::{ArenaAt, read_arenas, size_of_all};
 pub use sector_bytes::SectorBytes;

@@ -11,7 +11,7 @@ use nvd_words::Items;
 pub enum NewBytes {
     /// These, one after another, whatever was there.
     Raw(Items<u8>),
-    /// Its sectors get bytes. What is no sector's stays, but for the map.
+    /// The sectors get these. What is no sector's stays, but each sector's map entry becomes the normal one of its block.
     Sectors(SectorBytes),
 }
 

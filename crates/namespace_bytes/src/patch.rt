@@ -38,7 +38,8 @@ impl Model for NamespacePatch {
 impl NamespacePatch {
     /// Takes the new bytes of the namespace that has `raw` bytes from the relative address `offset` on in each mapping of the set.
     ///
-    /// Both must be multiples of the set's unit, the namespace must end inside the mappings, and have as many bytes.
+    /// `offset` and `raw` must be multiples of the set's unit, and the namespace must end inside the mappings. If it is raw, the
+    /// bytes must be as many as it has.
     ///
     /// `patched`: in contents that reach the end of each mapping, the namespace then has its new bytes, and nothing beside it has
     /// changed.

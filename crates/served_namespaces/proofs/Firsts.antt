@@ -1,11 +1,10 @@
 -- Each UUID once.
 use Rattle.std.proofs.Common.{◌≡◌, ◌≢◌, ℕ, zero, suc, Bool, true, false, List, [], ◌∷◌, ◌++◌, Option, Some, None, refl, sym, ap, ◌∙◌, subst, inl, inr, append-nil}
 use Rattle.std.specs.Prelude.{not, ◌&&◌, ◌||◌, filter, slice_get}
-use Rattle.std.specs.List.{All, AllByRecursion, cons_option, list_any}
+use Rattle.std.specs.List.{AllByRecursion, cons_option, list_any}
 use Rattle.std.specs.Str.{bytes_eq}
 use Rattle.std.proofs.lemmas.Bool.{cases_Bool, false≢true}
 use Rattle.std.proofs.lemmas.List.{append_assoc}
-use Rattle.std.proofs.lemmas.List.Elements.{All-append, All-cons, All-nil}
 use Rattle.std.proofs.lemmas.Option.{none-some, same_Some}
 use Rattle.std.proofs.lemmas.Slice.Eq.{bytes_eq-Decides}
 use Rattle.served_namespaces.specs.Opening.{firsts}
@@ -17,10 +16,6 @@ use Rattle.served_namespaces.specs.Steps.{added, is_among}
 pub join_option : {X : Type 0} (xs ys : List X) (o : Option X) → (xs ++ cons_option o []) ++ ys ≡ xs ++ cons_option o ys
 join_option xs ys None = ap (λ zs. zs ++ ys) (append-nil xs)
 join_option xs ys (Some x) = append_assoc xs (x ∷ []) ys
-
-pub all_option : {X : Type 0} (P : X → Type 0) (xs : List X) (o : Option X) → All P xs → ((x : X) → o ≡ Some x → P x) → All P (xs ++ cons_option o [])
-all_option P xs None all one = All-append P xs [] all (All-nil P)
-all_option P xs (Some x) all one = All-append P xs (x ∷ []) all (All-cons P x [] (one x refl) (All-nil P))
 
 -- ---- UUIDs
 

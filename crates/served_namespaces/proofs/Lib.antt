@@ -6,5 +6,7 @@ pub mod Claimable
 pub mod Disjoint
 pub mod Steps
 pub mod PutBack
+pub mod WordPuts
+pub mod WordRuns
 pub mod Firsts
 mod Rows

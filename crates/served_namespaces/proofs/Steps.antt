@@ -13,8 +13,7 @@ use Rattle.power_cut.specs.Namespace.{beside_of, row_of}
 use Rattle.power_cut.proofs.Spread.{eighth}
 use Rattle.namespace_areas.specs.declared.found.Found.{Found}
 use Rattle.namespace_areas.specs.Finding.{LiesInSet}
-use Rattle.sector_namespaces.specs.Creation.{AreSettled}
-use Rattle.sector_namespaces.specs.View.{AreUsable, opened_view}
+use Rattle.sector_namespaces.specs.View.{opened_view}
 use Rattle.served_namespaces.specs.declared.places.FoundNamespace.{FoundNamespace}
 use Rattle.served_namespaces.specs.declared.places.OpenedNamespace.{OpenedNamespace}
 use Rattle.served_namespaces.specs.Opening.{Broken, and_opened, on_states, opened_each}
@@ -183,19 +182,6 @@ ok_both P Q R (Err e) both p q = tt
 
 nothing_in : {X : Type 0} (x : X) → Contains {X = X} [] x → ⊥
 nothing_in x (k, below, is) = omega (arith, below)
-
-nothing_got : {X : Type 0} (i : ℕ) (x : X) → slice_get {X = X} [] i ≡ Some x → ⊥
-nothing_got i x is = none-some x is
-
-pub none_open : (sets : List (List Mapping)) (loaded : List Words) (opened : List OpenedNamespace) → opened ≡ [] → AreSettled loaded → AreUsable sets loaded → AreServing sets loaded opened loaded
-none_open sets loaded opened none settled usable = subst (λ (os : List OpenedNamespace). AreServing sets loaded os loaded) (sym none) (record {
-  held = λ o among. absurd (nothing_in o among);
-  disjoint = λ i j a b ne is_a is_b. absurd (nothing_got i a is_a);
-  settled = settled;
-  usable = usable;
-  beside = record { sizes = refl; same = λ which k free. refl };
-  others = λ found lies apart. refl;
-})
 
 from_take : {X : Type 0} (xs : List X) (i : ℕ) (x : X) → Contains (take i xs) x → (j : ℕ) × (j < i) × (slice_get xs j ≡ Some x)
 from_take [] zero x c = absurd (nothing_in x c)

@@ -16,6 +16,9 @@
 //! module 1  | a a a a | b b b b | . . . |      a's moves change words a alone, so b opens as it was loaded
 //! ```
 //!
+//! The words of each arena are put back as a crash left them, so none is pending. They are put as plain words
+//! (`PlainWords`), each in one step, in runs up to the end of an interleave line.
+//!
 //! | promise | call | definition |
 //! |---|---|---|
 //! | each UUID once | [`first_ones`] | `firsts` of `specs/Opening.antt` |
@@ -29,6 +32,7 @@ mod finding;
 mod law;
 mod opening;
 mod places;
+mod plain_words;
 mod putting;
 mod sets;
 

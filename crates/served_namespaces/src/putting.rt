@@ -1,5 +1,6 @@
 //! The arenas of namespaces are put back into the words of the modules.
 ghost use Rattle.std.specs.Prelude.{◌≡◌, ◌^◌, ◌+◌, ◌<◌, ◌≤◌, IfOk, List, length, map};
+ghost use Rattle.cut_words.specs.WordBytes.{put_at};
 ghost use Rattle.cut_words.specs.Words.{Words, settled};
 ghost use Rattle.arena_open.specs.Writes.{IsSettled};
 ghost use Rattle.power_cut.specs.Namespace.{beside_of, over, words_of};
@@ -12,13 +13,30 @@ ghost use Rattle.served_namespaces.specs.Steps.{IsReady};
 ghost use Rattle.served_namespaces.specs.Serving.{AreLeft};
 
 use crate::places::FoundNamespace;
+use crate::plain_words::{PlainRow, PlainWords, cut_rows, plain_rows};
 use crate::sets::{know_sets, set_at};
 use cut_words::CutWords;
 use interleave::InterleaveSet;
-use namespace_bytes::{PlainRow, PlainWords, cut_rows, plain_rows, put_words};
 use nvd_words::Items;
 use power_cut::beside_tells_the_place;
 use std::alloc::{AllocError, Global};
+
+/// Puts words into those of a namespace from word `first` on, where they must fit. The namespace has fewer than 2^60 words, of
+/// which none is pending.
+///
+/// No word beside the namespace changes.
+fn put_words(space: &mut PlainWords<'_>, first: u64, words: &[u64])
+    requires inside { first + length words.now ≤ length (words_of space.old).kept }
+    requires small { length (words_of space.old).kept < 2 ^ 60 }
+    requires settled { IsSettled (words_of space.old) }
+    ensures put { words_of space.new ≡ settled (put_at (words_of space.old).kept first words.now) }
+    ensures beside { beside_and_place space.new ≡ beside_and_place space.old }
+{
+    let mut done = 0;
+    while done < words.len() {
+        done += space.put_words_run(first + done as u64, &words[done..]);
+    }
+}
 
 /// Puts parts one behind another, from the first word of the namespace on.
 fn put_parts(space: &mut PlainWords<'_>, parts: &[Items<u64>])

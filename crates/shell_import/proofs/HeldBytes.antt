@@ -15,12 +15,11 @@ use Rattle.cut_words.specs.WordBytes.{words_in}
 use Rattle.arena_open.proofs.Bytes.{length_words, word_index}
 use Rattle.image_set.specs.Outline.{contents_in}
 use Rattle.power_cut.specs.Namespace.{Namespace, IsLaid, ReachEnds, byte_at, count_of, over, place_of, row_of, words_of}
-use Rattle.power_cut.proofs.Places.{place_is}
+use Rattle.power_cut.proofs.Places.{byte_is as word_byte, place_is}
 use Rattle.power_cut.proofs.Spread.{at_range, count_is, kept_is, length_range}
 use Rattle.sector_namespaces.specs.View.{rows_of}
 use Rattle.namespace_bytes.specs.Patching.{byte_in}
 use Rattle.shell_import.specs.Unloaded.{AreBytesOf, Extent, HasEnds, Reveals, bytes_by, extent_bytes, words_by}
-use Rattle.namespace_bytes.proofs.Puts.{in_region, whole_byte}
 use Rattle.shell_import.proofs.HeldArenas.{part_words}
 use Rattle.namespace_bytes.proofs.WholePatch.{row_is, same_number}
 
@@ -117,8 +116,8 @@ module _ (e : Extent) (contents : List (List ℕ)) (laid : (modules : List Words
   kept_word i lt =
       let own = laid (rows_of contents) in
       let bytes : List ℕ = bytes_by e contents in
-      let place = own.places.has (byte_at n i) (in_region n i own lt) in
-      let word = own.words (byte_at n i) place.which place.address (whole_byte n i own) place.lies in
+      let place = own.places.has (byte_at n i) (word_byte n i own lt).in_region in
+      let word = own.words (byte_at n i) place.which place.address (word_byte n i own lt).whole place.lies in
       let has = in_contents e.set contents reach (byte_at n i) place.which place.address place.lies in
       let row : List ℕ = get_or contents place.which [] in
       let room : place.address + 8 ≤ length row = omega (arith, has.1, word.aligned) in
