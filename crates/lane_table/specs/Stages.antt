@@ -1,5 +1,5 @@
 -- What staging a write does to its seat and to its fuse.
-use Rattle.std.specs.Prelude.{◌≡◌, ℕ, ◌+◌, ◌-◌, ◌<◌, ◌≤◌, List, [], length, take, suc}
+use Rattle.std.specs.Prelude.{◌≡◌, ℕ, ◌+◌, ◌-◌, ◌*◌, ◌<◌, ◌≤◌, nat_lt, if◌then◌else◌, min, List, [], length, take, suc}
 use Rattle.atomic_table.specs.Table.{Me}
 use Rattle.lane_core.specs.declared.lane.Lane.{Lane}
 use Rattle.lane_core.specs.declared.phase.Phase.TheVariants.{Idle, Staging, Staged}
@@ -24,6 +24,14 @@ after_stores words k p = record p { phase = Staging k; words = take k words }
 abbrev pub after_keeps : Shape → ℕ → Lane → Lane
 after_keeps x k p = record p { phase = keep_phase x k }
 
+-- how many lanes have numbers below l, without lane `number`
+abbrev pub others_below : ℕ → ℕ → ℕ
+others_below number l = if nat_lt number l then l - 1 else l
+
+-- how many scans are made before those of this row of 32 lanes
+abbrev pub scans_before : ℕ → Shape → ℕ → ℕ
+scans_before number x row = others_below number (min x.lanes (32 * row))
+
 -- the steps of staging
 abbrev pub stage_steps : Shape → ℕ
 stage_steps x = x.lanes - 1 + (x.width + x.width)
@@ -35,6 +43,15 @@ module _ {S : Type 0} (me me' : Me S View) (a b : Fuse) where
   Scanned Clear = IsAfter (me.0.shape.lanes - 1) me (after_scans me.0.shape (me.0.shape.lanes - 1) me.0.lane) me' × Fell (me.0.shape.lanes - 1) a b
   Scanned (Reader r n) = (j : ℕ) × (n ≡ j + 1) × (n < me.0.shape.lanes) × (r ≡ other_lane me.0.number j) × IsAfter n me (record (me.0.lane) { phase = Idle; words = [] }) me' × (me'.0.count.last ≡ suc me.0.lane.block) × Fell n a b
   Scanned (Cut n) = (n < me.0.shape.lanes - 1) × IsAfter n me (after_scans me.0.shape n me.0.lane) me' × Burnt n a b
+
+  -- the same of the scans of one row, which are those from the first one to before the last one
+  abbrev pub ScannedPart : ℕ → ℕ → Looked → Type 0
+  ScannedPart first last Clear = IsAfter (last - first) me (after_scans me.0.shape last me.0.lane) me' × Fell (last - first) a b
+  ScannedPart first last (Reader r n) = (j : ℕ) × (n ≡ j + 1) × (first ≤ j) × (j < last) × (r ≡ other_lane me.0.number j) × IsAfter (n - first) me (record (me.0.lane) { phase = Idle; words = [] }) me' × (me'.0.count.last ≡ suc me.0.lane.block) × Fell (n - first) a b
+  ScannedPart first last (Cut n) = (first ≤ n) × (n < last) × IsAfter (n - first) me (after_scans me.0.shape n me.0.lane) me' × Burnt (n - first) a b
+
+  abbrev pub ScannedRow : ℕ → Looked → Type 0
+  ScannedRow row = ScannedPart (scans_before me.0.number me.0.shape row) (scans_before me.0.number me.0.shape (row + 1))
 
   -- how many of these words were stored: all, or as many as the fuse had steps
   abbrev pub Stored : List ℕ → ℕ → Type 0

@@ -22,8 +22,8 @@
 //! The reader table has a group of 256 words for each 256 lanes: 32 lines of cache of 8 words. Lane
 //! r of a group has word `8 * (r % 32) + r / 32` (`reader_place` of lane_core's specs/Places.antt).
 //! Lanes with neighbouring numbers run at once, so each stores in a line of its own, and still a
-//! writer's scan of 255 words loads 32 lines. The word before the table is one of the backup info
-//! block, which no lane stores.
+//! writer's scan of 255 words loads 32 lines. It goes through them once for each 32 lanes. The word
+//! before the table is one of the backup info block, which no lane stores.
 //!
 //! # The rule
 //!

@@ -4,7 +4,7 @@ ghost use Rattle.lane_core.specs.declared.phase.Phase.TheVariants.{Idle, Scannin
 ghost use Rattle.lane_core.specs.Places.{word_of, row_size, IsShape, SeenData, KeptData};
 ghost use Rattle.lane_table.specs.Conditions.{IsMine, IsSeated};
 ghost use Rattle.lane_table.specs.Fuse.{Fell, Burnt};
-ghost use Rattle.lane_table.specs.Stages.{Scanned, Stored, Kept, StageEnds};
+ghost use Rattle.lane_table.specs.Stages.{others_below, scans_before, Scanned, ScannedRow, Stored, Kept, StageEnds};
 ghost use Rattle.lane_table.specs.Told.{scan_phase, blocks};
 
 use crate::fetching::fetch;
@@ -26,6 +26,70 @@ pub enum Looked {
     Cut(u32),
 }
 
+/// How many lanes have numbers below this one, without the lane `number`.
+#[inline]
+fn others_below(number: u32, lane: u32) -> u32
+    ensures { result ≡ others_below number lane }
+{
+    if number < lane { lane - 1 } else { lane }
+}
+
+/// Looks at the reader words of the lanes of a row, but not at its own. A row is 32 lanes from
+/// `32 * row` on, or as many as there are: each has its reader word in a line of cache of its own.
+///
+/// In a whole row of others, if the fuse has no limit, the loop becomes 32 loads in a row, each an
+/// instruction of its own that finds one line in every row. While one load went from line to line,
+/// a scan was slow beside lanes that commit: their locks stand in the lines behind these.
+#[inline]
+fn scan_row(
+    table: &Words,
+    seat: &mut LaneSeat,
+    fuse: &mut Fuse,
+    shape: &Shape,
+    mine: Mine,
+    row: u32,
+) -> Looked
+    requires shape { (table.now.key.shape ≡ shape.now) × (seat.old.me.0.shape ≡ shape.now) }
+    requires table { IsShape shape.now × (table.now.table_id.words ≡ row_size shape.now) }
+    requires seat { IsSeated (scan_phase shape.now (scans_before mine.number shape.now row)) table.now.table_id seat.old.table_id seat.old.me }
+    requires none { seat.old.me.0.lane.words ≡ [] }
+    requires mine { IsMine mine seat.old.me.0 × (mine.number < shape.now.lanes) }
+    requires row { 32 * row ≤ shape.now.lanes }
+    ensures table { seat.new.table_id ≡ seat.old.table_id }
+    ensures scanned { ScannedRow seat.old.me seat.new.me fuse.old fuse.new row result }
+{
+    let first = 32 * row;
+    let is_whole = shape.lanes - first >= 32;
+    if is_whole && !fuse.set && mine.number / 32 != row {
+        let at = reader_word(shape, first);
+        let before = others_below(mine.number, first);
+        let mut own = *fuse;
+        for i in 0..32 {
+            let Some(found) = rtt_scan(table, seat, &mut own, at + 8 * i as usize, before + i)
+            else {
+                return Looked::Cut(before + i);
+            };
+            if found == u64::from(mine.block) + 1 {
+                return Looked::Reader(first + i, before + i + 1);
+            }
+        }
+        return Looked::Clear;
+    }
+    let end = if is_whole { first + 32 } else { shape.lanes };
+    for other in first..end {
+        if other != mine.number {
+            let j = others_below(mine.number, other);
+            let Some(found) = rtt_scan(table, seat, fuse, reader_word(shape, other), j) else {
+                return Looked::Cut(j);
+            };
+            if found == u64::from(mine.block) + 1 {
+                return Looked::Reader(other, j + 1);
+            }
+        }
+    }
+    Looked::Clear
+}
+
 /// Looks at the reader words of all other lanes, by rising numbers, until one has the free block.
 pub fn scan(
     table: &Words,
@@ -42,15 +106,10 @@ pub fn scan(
     ensures table { seat.new.table_id ≡ seat.old.table_id }
     ensures scanned { Scanned seat.old.me seat.new.me fuse.old fuse.new result }
 {
-    // A shape of its own stays in registers between the loads.
-    let own = *shape;
-    for j in 0..shape.lanes - 1 {
-        let other = if j < mine.number { j } else { j + 1 };
-        let Some(found) = rtt_scan(table, seat, fuse, reader_word(&own, other), j) else {
-            return Looked::Cut(j);
-        };
-        if found == u64::from(mine.block) + 1 {
-            return Looked::Reader(other, j + 1);
+    for row in 0..shape.lanes / 32 + 1 {
+        match scan_row(table, seat, fuse, shape, mine, row) {
+            Looked::Clear => {}
+            found => return found,
         }
     }
     Looked::Clear
