@@ -1,5 +1,5 @@
 //! What a command answers, and the image set that it saves.
-ghost use Rattle.std.specs.Prelude.{◌≡◌, ◌≢◌, ◌≤◌, ℕ, List, Some, None, IsTrue, OnOk, Err};
+ghost use Rattle.std.specs.Prelude.{◌≡◌, ◌≢◌, ◌≤◌, ℕ, List, Some, None, IsTrue, IfOk, OnOk, Ok, Err};
 ghost use Rattle.std.specs.Option.{ForSome};
 ghost use Rattle.nvd_media.specs.Causes.{LeavesOutside, Rose};
 ghost use Rattle.nvd_media.specs.Images.{Becomes, IsEmptySet, IsUnfinished, Images};
@@ -12,8 +12,8 @@ ghost use Rattle.shell_changes.specs.Saved.{AreObjects, AreWholeSizes, CanBeSave
 use image_set::{CopyFault, OutlineLeft, SaveFault, SetLeft};
 use namespace_bytes::NamespacePatch;
 use nvd_media::{ImageSink, ImageSource};
-use shell_reports::Report;
-use std::alloc::Global;
+use shell_reports::{Report, RunStop};
+use std::alloc::{AllocError, Global};
 use std::marker::Model;
 
 /// An image set as it is left.
@@ -146,6 +146,17 @@ impl SavedSet {
 pub struct Answer {
     pub report: Report,
     pub saved: Option<SavedSet>,
+}
+
+/// Returns an answer, or the stop if memory ran out.
+pub fn in_memory(answer: Result<Answer, AllocError>) -> Result<Answer, RunStop>
+    ensures same { IfOk result (λ x. answer ≡ Ok x) }
+    ensures memory { result ≢ Err RunStop.ReadFault }
+{
+    match answer {
+        Ok(answer) => Ok(answer),
+        Err(_) => Err(RunStop::OutOfMemory),
+    }
 }
 
 /// The answer of a command that saves nothing.

@@ -8,7 +8,7 @@
 //!
 //! [`change_answer`] is the one way of `create`, `delete` and `rename`. Only `create --mode sector` formats an arena,
 //! so it alone needs contents in memory ([`SetRead`]). The others work on an outline of the set, and contents are
-//! copied from the source as the set is saved ([`SavedSet`]). A set can also be left with the bytes of a raw
+//! copied from the source as the set is saved ([`SavedSet`]). A set can also be left with the new bytes of a
 //! namespace in the contents that are copied ([`Left::Patched`]). [`init_answer`] changes one label area.
 //!
 //! One fuse counts all steps: recovery's, then the format's, then those of the labels. A refused command saves nothing,
@@ -46,7 +46,7 @@ mod running;
 mod saving;
 mod words;
 
-pub use answer::{Answer, Left, SavedSet, without_set};
+pub use answer::{Answer, Left, SavedSet, in_memory, without_set};
 pub use changing::{SetRead, change_answer};
 pub use init::init_answer;
 pub use laws::{

@@ -36,7 +36,7 @@ use nvd_media::{Chooser, Gate, ImageSink, ImageSource, TextSink, TextSource};
 use sector_service::Waiting;
 use session_script::Script;
 use shell_changes::{
-    Answer, SavedSet, SetRead, change_answer, init_answer, makes_sectors, without_set,
+    Answer, SavedSet, SetRead, change_answer, in_memory, init_answer, makes_sectors, without_set,
 };
 use shell_export::export_answer;
 use shell_import::import_answer;
@@ -51,17 +51,6 @@ use std::alloc::{AllocError, Global};
 use std::sync::Wait;
 use std::thread::Threads;
 use uuid::Uuid;
-
-/// The answer of a handler, or the stop if memory ran out.
-fn found_memory(answer: Result<Answer, AllocError>) -> Result<Answer, RunStop>
-    ensures same { IfOk result (λ x. answer ≡ Ok x) }
-    ensures memory { result ≢ Err RunStop.ReadFault }
-{
-    match answer {
-        Ok(answer) => Ok(answer),
-        Err(_) => Err(RunStop::OutOfMemory),
-    }
-}
 
 /// The answer of a handler that saves nothing.
 fn reported(report: Result<Report, AllocError>) -> Result<Answer, AllocError>
@@ -273,7 +262,7 @@ fn unloaded(alloc: Global, fault: LoadFault) -> Result<Answer, RunStop>
     match fault {
         LoadFault::ReadFault => Err(RunStop::ReadFault),
         LoadFault::OutOfMemory => Err(RunStop::OutOfMemory),
-        _ => found_memory(reported(load_answer(alloc, fault))),
+        _ => in_memory(reported(load_answer(alloc, fault))),
     }
 }
 
@@ -295,7 +284,7 @@ fn perform_outlined<S: ImageSource, C: Chooser>(
     ensures later { S.faults images.old ≤ S.faults images.new }
 {
     match load_outline(alloc, images) {
-        Ok(outline) => found_memory(outlined_answer(alloc, command, outline, choose)),
+        Ok(outline) => in_memory(outlined_answer(alloc, command, outline, choose)),
         Err(fault) => unloaded(alloc, fault),
     }
 }
@@ -318,7 +307,7 @@ fn perform_whole<R: Threads + Wait + Sync, S: ImageSource, C: Chooser, G: Gate>(
     ensures later { S.faults images.old ≤ S.faults images.new }
 {
     match load(alloc, images) {
-        Ok(loaded) => found_memory(loaded_answer(waiting, alloc, command, loaded, choose)),
+        Ok(loaded) => in_memory(loaded_answer(waiting, alloc, command, loaded, choose)),
         Err(why) => unloaded(alloc, why),
     }
 }
@@ -339,7 +328,7 @@ fn replay_loaded<S: ImageSource, C: Chooser>(
     ensures later { S.faults images.old ≤ S.faults images.new }
 {
     match load(alloc, images) {
-        Ok(loaded) => found_memory(replay_answer(alloc, uuid, schedule, loaded, choose)),
+        Ok(loaded) => in_memory(replay_answer(alloc, uuid, schedule, loaded, choose)),
         Err(why) => unloaded(alloc, why),
     }
 }
@@ -350,7 +339,7 @@ fn misread(alloc: Global, why: ScriptRefused) -> Result<Answer, RunStop>
     ensures saved { IfOk result (λ answer. answer.saved ≡ None) }
     ensures memory { result ≢ Err RunStop.ReadFault }
 {
-    found_memory(reported(script_answer(alloc, why)))
+    in_memory(reported(script_answer(alloc, why)))
 }
 
 /// What `replay` comes to: its schedule is read first.
@@ -440,7 +429,7 @@ fn serve_loaded<R: Threads + Wait + Sync, S: ImageSource, C: Chooser, G: Gate>(
     ensures later { S.faults images.old ≤ S.faults images.new }
 {
     match load(alloc, images) {
-        Ok(loaded) => found_memory(serve_answer(waiting, alloc, running, script, loaded, choose)),
+        Ok(loaded) => in_memory(serve_answer(waiting, alloc, running, script, loaded, choose)),
         Err(why) => unloaded(alloc, why),
     }
 }

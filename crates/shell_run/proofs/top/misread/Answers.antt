@@ -7,8 +7,8 @@ use Rattle.shell_run.proofs.top.misread.Goals as goal
 
 pub returns-clause-text : goal.returns-clause-text
 returns-clause-text c =
-    if_same (λ (answer : Answer). (contents : List (List ℕ)) → outcome_with answer contents ≡ script_outcome c.args.why) c.found_memory.result c.reported.result c.found_memory.ensures.same
+    if_same (λ (answer : Answer). (contents : List (List ℕ)) → outcome_with answer contents ≡ script_outcome c.args.why) c.in_memory.result c.reported.result c.in_memory.ensures.same
     (report_is c.script_answer.result c.reported.result (script_outcome c.args.why) c.reported.ensures.same c.reported.ensures.saved c.script_answer.ensures.text)
 
 pub returns-clause-saved : goal.returns-clause-saved
-returns-clause-saved c = if_same (λ (answer : Answer). answer.saved ≡ None) c.found_memory.result c.reported.result c.found_memory.ensures.same c.reported.ensures.saved
+returns-clause-saved c = if_same (λ (answer : Answer). answer.saved ≡ None) c.in_memory.result c.reported.result c.in_memory.ensures.same c.reported.ensures.saved

@@ -12,19 +12,19 @@ pub returns-in-Ok-clause-told : goal.returns-in-Ok-clause-told
 returns-in-Ok-clause-told g c =
     let leaves = LeavesBy g.C.Chooser.begins g.C.Chooser.picks c.args.choose.now in
     let held = g.S.ImageSource.held c.args.images.now in
-    if_same (IsTold (LoadedComes leaves c.args.command) held) c.found_memory.result c.outlined_answer.result c.found_memory.ensures.same
+    if_same (IsTold (LoadedComes leaves c.args.command) held) c.in_memory.result c.outlined_answer.result c.in_memory.ensures.same
     (if_both _ _ (IsTold (LoadedComes leaves c.args.command) held) c.outlined_answer.result
     (λ answer comes sized. outlined_told (LoadedComes leaves c.args.command) held c.load_outline.result c.in-Ok.outline answer c.in-Ok.is c.load_outline.ensures.told sized comes)
     c.outlined_answer.ensures.comes c.outlined_answer.ensures.sizes)
 
 pub returns-in-Ok-clause-copying : goal.returns-in-Ok-clause-copying
 returns-in-Ok-clause-copying g c =
-    if_same (λ (answer : Answer). IsTrue (copies_contents answer.saved) → IsTrue (copies c.args.command)) c.found_memory.result c.outlined_answer.result c.found_memory.ensures.same c.outlined_answer.ensures.copying
+    if_same (λ (answer : Answer). IsTrue (copies_contents answer.saved) → IsTrue (copies c.args.command)) c.in_memory.result c.outlined_answer.result c.in_memory.ensures.same c.outlined_answer.ensures.copying
 
 pub returns-in-Ok-clause-there : goal.returns-in-Ok-clause-there
 returns-in-Ok-clause-there g c =
     let held = g.S.ImageSource.held c.args.images.now in
-    if_same (λ (answer : Answer). HasContentsOf held answer.saved) c.found_memory.result c.outlined_answer.result c.found_memory.ensures.same
+    if_same (λ (answer : Answer). HasContentsOf held answer.saved) c.in_memory.result c.outlined_answer.result c.in_memory.ensures.same
     (if_more _ (λ (answer : Answer). HasContentsOf held answer.saved) c.outlined_answer.result
     (λ answer sized. outline_there held c.load_outline.result c.in-Ok.outline answer c.in-Ok.is c.load_outline.ensures.sizes sized) c.outlined_answer.ensures.sizes)
 

@@ -12,14 +12,14 @@ pub returns-in-Ok-clause-told : goal.returns-in-Ok-clause-told
 returns-in-Ok-clause-told g c =
     let leaves = LeavesBy g.C.Chooser.begins g.C.Chooser.picks c.args.choose.now c.args.running.seed in
     let held = g.S.ImageSource.held c.args.images.now in
-    if_same (IsTold (ServeComes leaves c.args.script.now) held) c.found_memory.result c.serve_answer.result c.found_memory.ensures.same
+    if_same (IsTold (ServeComes leaves c.args.script.now) held) c.in_memory.result c.serve_answer.result c.in_memory.ensures.same
     (if_both _ _ (IsTold (ServeComes leaves c.args.script.now) held) c.serve_answer.result
     (λ answer comes whole. loaded_told (ServeComes leaves c.args.script.now) held c.load.result c.in-Ok.loaded answer c.in-Ok.is c.load.ensures.told whole comes)
     c.serve_answer.ensures.comes c.serve_answer.ensures.whole)
 
 pub returns-in-Ok-clause-whole : goal.returns-in-Ok-clause-whole
 returns-in-Ok-clause-whole g c =
-    if_same (λ (answer : Answer). copies_contents answer.saved ≡ false) c.found_memory.result c.serve_answer.result c.found_memory.ensures.same c.serve_answer.ensures.whole
+    if_same (λ (answer : Answer). copies_contents answer.saved ≡ false) c.in_memory.result c.serve_answer.result c.in_memory.ensures.same c.serve_answer.ensures.whole
 
 pub returns-in-Err-clause-told : goal.returns-in-Err-clause-told
 returns-in-Err-clause-told g c =
