@@ -1,11 +1,12 @@
 -- From an outline to one whose labels are read.
-use Rattle.std.proofs.Common.{◌≡◌, ℕ, ◌+◌, ◌-◌, ◌*◌, ◌/◌, ◌%◌, ◌^◌, ◌<◌, ◌≤◌, max, List, [], ◌∷◌, inl, inr, length, map, get_or, Some, Ok, Err, refl, sym, ap, ◌∙◌, subst, arith}
+use Rattle.std.proofs.Common.{◌≡◌, ℕ, ◌+◌, ◌-◌, ◌*◌, ◌/◌, ◌%◌, ◌^◌, ◌<◌, ◌≤◌, max, List, [], ◌∷◌, inl, inr, length, map, sum, get_or, Some, Ok, Err, refl, sym, ap, ◌∙◌, subst, arith}
 use Rattle.std.specs.List.{All}
 use Rattle.std.proofs.Math.Nat.{max-eq_left, max-eq_right}
 use Rattle.std.proofs.lemmas.Bool.{cases_lt}
 use Rattle.std.proofs.lemmas.Nat.{pow-add, pow_below}
 use Rattle.std.proofs.lemmas.List.{get_or-map, length-map}
 use Rattle.std.proofs.lemmas.List.Elements.{All-contains}
+use Rattle.std.proofs.lemmas.List.Sums.{get_or-le-sum_by}
 use Rattle.std.proofs.lemmas.Option.{get_or_from_slice_get, slice_get-get_or, slice_get_within}
 use Rattle.nvd_words.specs.Checks.{first_fault}
 use Rattle.cut_words.specs.Words.{Words, settled}
@@ -13,7 +14,7 @@ use Rattle.cut_words.specs.WordBytes.{words_in}
 use Rattle.nfit_reader.specs.declared.table.Mapping.{Mapping}
 use Rattle.nfit_reader.specs.declared.table.Region.{Region}
 use Rattle.interleave.specs.Places.{by_offset, line_count_of, line_size_of, unit_of}
-use Rattle.interleave.specs.Sound.{IsShare, IsSound}
+use Rattle.interleave.specs.Sound.{IsShare, IsSound, span_of}
 use Rattle.interleave.specs.Sets.{faults_of, set_reading}
 use Rattle.interleave.proofs.Checked.{no_fault}
 use Rattle.interleave.proofs.Holders.{In, in_from, in_to}
@@ -82,6 +83,16 @@ module _ (sizes : List ℕ) (contents : List (List ℕ)) (have : HaveSizes sizes
       let same : by_offset r.mappings ≡ set = (no_fault (by_offset r.mappings) set (first_fault (faults_of r r.mappings)) read).1 in
       has_bytes m (All-contains (IsMapped sizes) r.mappings m mapped (in_to r.mappings m (in_by_offset r.mappings m (subst (λ (ms : List Mapping). In ms m) (sym same) (in_from set m c)))))
 
+-- ---- mappings
+
+-- no mapping of a set is larger than all contents together
+span_in : (sizes : List ℕ) (r : Region) (set : List Mapping) → set_reading r ≡ Ok set → AreMapped sizes r → span_of set ≤ sum sizes
+span_in sizes r [] read mapped = omega arith
+span_in sizes r (m ∷ ms) read mapped =
+    let same : by_offset r.mappings ≡ m ∷ ms = (no_fault (by_offset r.mappings) (m ∷ ms) (first_fault (faults_of r r.mappings)) read).1 in
+    let own : IsMapped sizes m = All-contains (IsMapped sizes) r.mappings m mapped (in_to r.mappings m (in_by_offset r.mappings m (subst (λ (l : List Mapping). In l m) (sym same) (inl refl)))) in
+    omega (arith, own.inside, get_or-le-sum_by (λ (n : ℕ). n) sizes m.«module» 0 own.there)
+
 -- ---- units
 
 -- a power of two that isn't below a page is whole pages
@@ -147,20 +158,35 @@ module _ (outline : Outline) (sound : IsOutlined outline) (loadable : IsLoadable
     whole : AreWholeSizes outline.sizes
     whole = whole_sizes outline.sizes loadable.sized
 
+    -- the region of a set
+    region_of : (region : ℕ) → region < length registry.sets → (r : Region) × ((set_reading r ≡ Ok (set_at (sets_of outline.nfit) region)) × AreMapped outline.sizes r)
+    region_of region lt =
+        let checked = sets_checked outline.nfit.regions 0 (set_none outline.nfit (labels_of areas) o.none) in
+        let own = checked region (set_at (sets_of outline.nfit) region) (slice_get-get_or (sets_of outline.nfit) region [] (omega (arith, lt, ap length sets_are))) in (
+          own.0,
+          (
+            own.2,
+            subst (AreMapped outline.sizes) (get_or_from_slice_get outline.nfit.regions region own.0 own.0 own.1)
+                (loadable.mapped region own.0 (slice_get_within outline.nfit.regions region own.0 own.1)),
+          ),
+        )
+
     reach : (contents : List (List ℕ)) → HaveSizes outline.sizes contents → (region : ℕ) → region < length registry.sets → ReachEnds (set_at registry.sets region) (rows_of contents)
     reach contents have region lt =
-        let checked = sets_checked outline.nfit.regions 0 (set_none outline.nfit (labels_of areas) o.none) in
-        let own = checked region (set_at (sets_of outline.nfit) region) (slice_get-get_or (sets_of outline.nfit) region [] (omega (arith, lt, ap length sets_are))) in
+        let own = region_of region lt in
         subst (λ (sets : List (List Mapping)). ReachEnds (set_at sets region) (rows_of contents)) (sym sets_are)
-        (reach_of outline.sizes contents have whole own.0 (set_at (sets_of outline.nfit) region) own.2
-        (subst (AreMapped outline.sizes) (get_or_from_slice_get outline.nfit.regions region own.0 own.0 own.1)
-        (loadable.mapped region own.0 (slice_get_within outline.nfit.regions region own.0 own.1))))
+        (reach_of outline.sizes contents have whole own.0 (set_at (sets_of outline.nfit) region) own.1.0 own.1.1)
+
+    spans : (region : ℕ) → region < length registry.sets → span_of (set_at registry.sets region) ≤ 536870912
+    spans region lt =
+        let own = region_of region lt in
+        subst (λ (sets : List (List Mapping)). span_of (set_at sets region) ≤ 536870912) (sym sets_are)
+        (omega (arith, loadable.total, span_in outline.sizes own.0 (set_at (sets_of outline.nfit) region) own.1.0 own.1.1))
 
     pages : (region : ℕ) → region < length registry.sets → unit_of (set_at registry.sets region) % 4096 ≡ 0
     pages region lt =
-        let checked = sets_checked outline.nfit.regions 0 (set_none outline.nfit (labels_of areas) o.none) in
-        let own = checked region (set_at (sets_of outline.nfit) region) (slice_get-get_or (sets_of outline.nfit) region [] (omega (arith, lt, ap length sets_are))) in
-        let s = sound_set own.0 (set_at (sets_of outline.nfit) region) own.2 in
+        let own = region_of region lt in
+        let s = sound_set own.0 (set_at (sets_of outline.nfit) region) own.1.0 in
         subst (λ (sets : List (List Mapping)). unit_of (set_at sets region) % 4096 ≡ 0) (sym sets_are) (whole_unit s.line s.lines s.span (set_at (sets_of outline.nfit) region) s.sound)
 
     pub open_outline : IsOpenOutline outline registry (rest_of outline)
@@ -177,5 +203,6 @@ module _ (outline : Outline) (sound : IsOutlined outline) (loadable : IsLoadable
       count = sym (length-map registry.areas words_of) ∙ ap length words_are ∙ sound.labels;
       sizes = whole;
       pages = pages;
+      spans = spans;
       reach = reach;
     }

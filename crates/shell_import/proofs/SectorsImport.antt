@@ -1,7 +1,7 @@
 -- From an outline to what an import into one of its namespaces of sectors comes to.
-use Rattle.std.proofs.Common.{◌≡◌, ◌≢◌, ◌+◌, ℕ, ◌*◌, ◌/◌, ◌%◌, Bool, true, List, length, map, Option, Some, None, Result, Ok, Err, sym, ap, ◌∙◌, subst, arith}
+use Rattle.std.proofs.Common.{◌≡◌, ◌≢◌, ◌+◌, ℕ, ◌*◌, ◌/◌, ◌%◌, ◌^◌, ◌<◌, ◌≤◌, Bool, true, List, length, map, Option, Some, None, Result, Ok, Err, sym, ap, ◌∙◌, subst, arith}
 use Rattle.std.specs.Prelude.{MatchOption}
-use Rattle.std.proofs.lemmas.Nat.{div-add-mod', mod-mul-add}
+use Rattle.std.proofs.lemmas.Nat.{div-add-mod', mod-mul-add, mul-le}
 use Rattle.cut_words.specs.Words.{Words}
 use Rattle.cut_words.specs.WordBytes.{words_in}
 use Rattle.nvd_media.specs.declared.object.Object.TheVariants as object
@@ -184,6 +184,12 @@ module _ (uuid bytes : List ℕ) (outline : Outline) (s : SectorImport) (it : Is
   whole_pages =
       subst (λ (ms : List Mapping). length ms * s.found.raw % 4096 ≡ 0) (sym it.set)
       (pages_of (unit_of (set_at it.registry.sets s.found.region)) s.found.raw (length (set_at it.registry.sets s.found.region)) (parts.pages s.found.region it.placed.lies.region) it.placed.lies.to)
+
+  -- a set has few modules, each with few bytes
+  pub few_bytes : length s.set < 2 ^ 16 → length s.set * s.found.raw ≤ 2 ^ 55
+  few_bytes ways =
+      let raw : s.found.raw ≤ 536870912 = omega (arith, parts.spans s.found.region it.placed.lies.region, it.placed.lies.inside) in
+      omega (arith, mul-le (length s.set) s.found.raw 65536 536870912 (omega (arith, ways)) raw)
 
   pub areas_whole : AreWhole (map area_words s.areas.items)
   areas_whole =

@@ -1,5 +1,5 @@
 -- How `import` begins, on a set that was loaded without its contents: this project's rules.
-use Rattle.std.specs.Prelude.{◌≡◌, ℕ, ◌*◌, ◌%◌, ◌<◌, true, false, List, length, map, MatchOption, Option, None, Some, Ok}
+use Rattle.std.specs.Prelude.{◌≡◌, ℕ, ◌*◌, ◌%◌, ◌<◌, ◌≤◌, true, false, List, length, map, MatchOption, Option, None, Some, Ok}
 use Rattle.std.specs.Option.{ForSome, option_map}
 use Rattle.cut_words.specs.Words.{Words}
 use Rattle.image_set.specs.declared.changing.OutlineLeft.{OutlineLeft}
@@ -12,6 +12,7 @@ use Rattle.namespace_bytes.specs.Putting.{AreAll}
 use Rattle.namespace_bytes.specs.SectorBytes.{HaveMapsOfBytes}
 use Rattle.nfit_reader.specs.declared.table.Mapping.{Mapping}
 use Rattle.interleave.specs.Places.{unit_of}
+use Rattle.interleave.specs.Sound.{span_of}
 use Rattle.namespace_areas.specs.declared.found.Found.{Found}
 use Rattle.namespace_areas.specs.Finding.{LiesInSet, set_at}
 use Rattle.namespace_areas.specs.Opening.{AreWhole}
@@ -70,6 +71,8 @@ pub record IsOpenOutline (outline : Outline) (registry : Registered) (rest : Out
   pub sizes : AreWholeSizes rest.sizes
   -- the unit of each set is whole pages
   pub pages : (region : ℕ) → region < length registry.sets → unit_of (set_at registry.sets region) % 4096 ≡ 0
+  -- no mapping is larger than all contents together may be: 512 MiB
+  pub spans : (region : ℕ) → region < length registry.sets → span_of (set_at registry.sets region) ≤ 536870912
   -- contents of these sizes hold the mappings of all sets
   pub reach : (contents : List (List ℕ)) → HaveSizes outline.sizes contents → (region : ℕ) → region < length registry.sets → ReachEnds (set_at registry.sets region) (rows_of contents)
 

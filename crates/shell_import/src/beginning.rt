@@ -1,4 +1,4 @@
-//! How `import` begins: on a set without its contents, which a raw namespace doesn't need.
+//! How `import` begins, by the labels of a set that was loaded without its contents.
 ghost use Rattle.std.specs.Prelude.{◌≡◌, ◌%◌, ◌<◌, ℕ, List, IfOk, length, map};
 ghost use Rattle.image_set.specs.declared.outline.Outline.{Outline as OutlineRead};
 ghost use Rattle.image_set.specs.Outline.{IsLoadable, IsOutlineRest, IsOutlined};
@@ -144,7 +144,7 @@ fn begin_named(
 /// - `Done`: the answer is what `import` comes to, whatever contents of these sizes the set has. It is a refusal; or `ok` and
 ///   a set of which a raw namespace gets the bytes, by place, while the contents are copied. Everything outside the
 ///   namespace's extents is saved as it is. Nothing but the bytes is in memory.
-/// - `Sectors`: the namespace is found, and is one of sectors. `import_answer` goes on with the contents.
+/// - `Sectors`: the namespace is found, and is one of sectors. `import_answer` goes on with its arenas.
 ///
 /// The refusals are those of `import_answer`, in the same order. The call fails only if memory runs out.
 pub(crate) fn begin_import(

@@ -14,21 +14,17 @@ ghost use Rattle.shell_import.specs.Beginning.{Fills, ImportsFrom, IsSectorImpor
 use crate::beginning::patched_answer;
 use crate::import::length_answer;
 use crate::unloaded::read_arenas_from;
-use arena_open::{ChainRefused, OpenRefused};
+use arena_open::ChainRefused;
 use image_set::OutlineRest;
 use interleave::InterleaveSet;
 use namespace_areas::{Area, Found};
 use namespace_bytes::{ArenaAt, NamespacePatch, NewBytes, SectorBytes, size_of_all};
 use nvd_media::{Failed, ImageSource};
 use nvd_words::Items;
-use shell_changes::{Answer, without_set};
+use shell_changes::{Answer, in_memory, without_set};
 use shell_reports::{RunStop, arena_answer};
 use std::alloc::{AllocError, Global};
 use uuid::Uuid;
-
-/// No namespace is larger, in bytes, since a set has at most 512 MiB of contents. An outline doesn't state this sum, so the bound is
-/// looked at here.
-const MOST: u64 = 1 << 55;
 
 /// A namespace of sectors that was found in a set, the other parts of the set, and the bytes for its sectors.
 #[derive(Drop)]
@@ -42,26 +38,13 @@ pub(crate) struct SectorImport {
     pub(crate) bytes: Vec<u8>,
 }
 
-/// The answer, or the stop if memory ran out.
-fn in_memory(answer: Result<Answer, AllocError>) -> Result<Answer, RunStop>
-    ensures same { IfOk result (λ x. answer ≡ Ok x) }
-    ensures memory { result ≢ Err RunStop.ReadFault }
-{
-    match answer {
-        Ok(answer) => Ok(answer),
-        Err(_) => Err(RunStop::OutOfMemory),
-    }
-}
-
-/// The answer that nothing is imported, since the arenas aren't opened. No word was stored, so power wasn't cut.
+/// The answer that nothing is imported, since the arenas aren't opened.
 fn unopened(alloc: Global, uuid: &Uuid, refused: ChainRefused) -> Result<Answer, AllocError>
+    requires { refused.fault ≢ open_refused.PowerCut }
     ensures text { IfOk result (λ answer. (contents : List (List ℕ)) → outcome_with answer contents ≡ arena_outcome uuid.now refused) }
     ensures saved { IfOk result (λ answer. answer.saved ≡ None) }
     ensures finding { IfOk result (λ _. IsFinding refused) }
 {
-    if refused.fault == OpenRefused::PowerCut {
-        return Err(AllocError);
-    }
     Ok(without_set(arena_answer(alloc, uuid, refused)?))
 }
 
@@ -103,10 +86,7 @@ impl SectorImport {
         ensures failed { result ≡ Err RunStop.ReadFault → Rose (S.faults images.old) (S.faults images.new) }
         ensures later { S.faults images.old ≤ S.faults images.new }
     {
-        let _span = self.set.span();
-        if u64::from(self.set.ways()) * self.found.raw > MOST {
-            return Err(RunStop::OutOfMemory);
-        }
+        let _ways = self.set.ways();
         match read_arenas_from(
             alloc,
             images,

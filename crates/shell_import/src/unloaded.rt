@@ -1,5 +1,5 @@
 //! The arenas of a namespace are read from a source, without the other contents.
-ghost use Rattle.std.specs.Prelude.{◌≡◌, ℕ, ◌+◌, ◌-◌, ◌*◌, ◌/◌, ◌%◌, ◌^◌, ◌<◌, ◌≤◌, IfOk, None, Ok, Err, List, length, map, drop};
+ghost use Rattle.std.specs.Prelude.{◌≡◌, ◌≢◌, ℕ, ◌+◌, ◌-◌, ◌*◌, ◌/◌, ◌%◌, ◌^◌, ◌<◌, ◌≤◌, IfOk, None, Ok, Err, List, length, map, drop};
 ghost use Rattle.nvd_words.specs.Checks.{Answers};
 ghost use Rattle.nvd_media.specs.Causes.{HasCause};
 ghost use Rattle.arena_layout.specs.Info.{IsArenaOf, info_reading};
@@ -83,7 +83,8 @@ fn log_group(log: &[u8], lane: u32) -> [u64; 8]
 /// Returns the current halves of all lanes, from the bytes of the log, or the fault of the first group that violates the format.
 fn groups_of(alloc: Global, log: &[u8], layout: &Layout) -> Result<Items<Group>, OpenRefused>
     requires { length log.now ≡ 64 * layout.now.lanes }
-    ensures { (words : List ℕ) → AreBytesOf words (layout.now.flog_off / 8) log.now → Answers OpenRefused.OutOfMemory result (groups_in layout.now words) }
+    ensures told { (words : List ℕ) → AreBytesOf words (layout.now.flog_off / 8) log.now → Answers OpenRefused.OutOfMemory result (groups_in layout.now words) }
+    ensures running { result ≢ Err OpenRefused.PowerCut }
 {
     let mut groups = Items::new(alloc);
     for lane in 0..layout.lanes {
@@ -113,6 +114,7 @@ fn read_log<S: ImageSource>(
     requires there { HasEnds (S.held images.old) extent.now.set }
     ensures told { (contents : List (List ℕ)) → Reveals (S.held images.old) extent.now.set contents → IfOk result (λ groups. Answers OpenRefused.OutOfMemory groups (groups_in layout.now (drop at (words_by extent.now contents)))) }
     ensures in_range { IfOk result (λ groups. IfOk groups (AreInRange layout.now.external)) }
+    ensures running { IfOk result (λ groups. groups ≢ Err OpenRefused.PowerCut) }
     ensures same { S.held images.new ≡ S.held images.old }
     ensures cause { HasCause (S.faults images.old) (S.faults images.new) result }
 {
@@ -190,6 +192,7 @@ fn read_arena_from<S: ImageSource>(
     requires there { HasEnds (S.held images.old) extent.now.set }
     ensures told { (contents : List (List ℕ)) → Reveals (S.held images.old) extent.now.set contents → IfOk result (λ opened. Answers OpenRefused.OutOfMemory opened (opening (drop at (words_by extent.now contents)) parent.now)) }
     ensures sound { IfOk result (λ opened. IfOk opened (λ opened. IsArenaOf parent.now (extent_bytes extent.now - 8 * at) opened.info)) }
+    ensures running { IfOk result (λ opened. opened ≢ Err OpenRefused.PowerCut) }
     ensures blocks { IfOk result (λ opened. IfOk opened (λ opened. HasBlocks (record { at = at; opened = opened }))) }
     ensures bytes { (contents : List (List ℕ)) → Reveals (S.held images.old) extent.now.set contents → IfOk result (λ opened. IfOk opened (λ opened. IsMapOfBytes (bytes_by extent.now contents) at opened.info.layout)) }
     ensures same { S.held images.new ≡ S.held images.old }
@@ -224,6 +227,7 @@ fn read_chain_from<S: ImageSource>(
     requires there { HasEnds (S.held images.old) extent.now.set }
     ensures read { (contents : List (List ℕ)) → Reveals (S.held images.old) extent.now.set contents → IfOk result (λ found. IfOk found (λ links. Ok (map (state_at (words_by extent.now contents)) links) ≡ chain_answer None (words_by extent.now contents) parent.now first)) }
     ensures linked { (contents : List (List ℕ)) → Reveals (S.held images.old) extent.now.set contents → IfOk result (λ found. IfOk found (Linked (words_by extent.now contents) parent.now first)) }
+    ensures running { IfOk result (λ found. (f : ChainRefused) → found ≡ Err f → f.fault ≢ OpenRefused.PowerCut) }
     ensures sized { IfOk result (λ found. IfOk found AreSized) }
     ensures bytes { (contents : List (List ℕ)) → Reveals (S.held images.old) extent.now.set contents → IfOk result (λ found. IfOk found (HaveMapsOfBytes (bytes_by extent.now contents))) }
     ensures refused { (contents : List (List ℕ)) → Reveals (S.held images.old) extent.now.set contents → IfOk result (λ found. (f : ChainRefused) → found ≡ Err f → IsFinding f → chain_answer None (words_by extent.now contents) parent.now first ≡ Err f) }
@@ -262,7 +266,8 @@ fn read_chain_from<S: ImageSource>(
 /// reach the end of each mapping.
 ///
 /// `all`: if the source reveals its contents, these are all arenas in the namespace's words. A refusal names the first arena that
-/// isn't opened; `OutOfMemory` may come in place of any answer. `bytes`: the numbers of each map are bytes. `sized`: whatever the
+/// isn't opened, but never `PowerCut`, since no word is stored; `OutOfMemory` may come in place of any answer. `bytes`: the numbers of
+/// each map are bytes. `sized`: whatever the
 /// source reveals, the arenas are sound and no larger than the namespace. `Failed` means that the source's count of failures rose.
 pub fn read_arenas_from<S: ImageSource>(
     alloc: Global,
@@ -280,6 +285,7 @@ pub fn read_arenas_from<S: ImageSource>(
     requires there { HasEnds (S.held images.old) set.now }
     ensures all { (contents : List (List ℕ)) → Reveals (S.held images.old) set.now contents → IfOk result (λ found. IfOk found (AreAll (words_of (over set.now offset raw (rows_of contents))).kept uuid.now)) }
     ensures refused { (contents : List (List ℕ)) → Reveals (S.held images.old) set.now contents → IfOk result (λ found. (f : ChainRefused) → found ≡ Err f → IsFinding f → opened_view (words_of (over set.now offset raw (rows_of contents))).kept uuid.now ≡ Err f) }
+    ensures running { IfOk result (λ found. (f : ChainRefused) → found ≡ Err f → f.fault ≢ OpenRefused.PowerCut) }
     ensures sized { IfOk result (λ found. IfOk found AreSized) }
     ensures bytes { (contents : List (List ℕ)) → Reveals (S.held images.old) set.now contents → IfOk result (λ found. IfOk found (HaveMapsOfBytes (bytes_by_place set.now offset raw contents))) }
     ensures same { S.held images.new ≡ S.held images.old }

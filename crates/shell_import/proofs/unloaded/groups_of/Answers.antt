@@ -14,12 +14,12 @@ loop-lane-preserved c = λ words are.
     (c.in-Ok.ensures.group ∙ ap (λ (ws : List ℕ). group_reading ws c.args.layout.now.external c.args.layout.now.internal) (c.log_group.ensures words c.args.layout.now are))
     (pushed c.push.result (c.push.new.self ≡ c.loop-lane.groups ++ c.in-Ok.group ∷ []) c.if-is_err.ensures.value c.push.ensures.ok)
 
-pub returns-in-Err : goal.returns-in-Err
-returns-in-Err c = λ words are not_memory.
+pub returns-in-Err-clause-told : goal.returns-in-Err-clause-told
+returns-in-Err-clause-told c = λ words are not_memory.
     lanes_stop c.args.layout.now words c.loop-lane.groups c.loop-lane.lane c.args.layout.now.lanes c.in-Err.fault
     (omega arith) (c.loop-lane.invariant words are)
     (c.in-Err.ensures.group ∙ ap (λ (ws : List ℕ). group_reading ws c.args.layout.now.external c.args.layout.now.internal) (c.log_group.ensures words c.args.layout.now are))
 
-pub returns : goal.returns
-returns c = λ words are not_memory.
+pub returns-clause-told : goal.returns-clause-told
+returns-clause-told c = λ words are not_memory.
     lanes_end c.args.layout.now words c.loop-lane.groups c.loop-lane.lane c.args.layout.now.lanes (omega arith) (c.loop-lane.invariant words are)

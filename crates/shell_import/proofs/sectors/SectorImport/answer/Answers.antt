@@ -1,4 +1,4 @@
-use Rattle.std.proofs.Common.{ℕ, List, length, subst}
+use Rattle.std.proofs.Common.{ℕ, List, length, subst, arith}
 use Rattle.std.specs.Prelude.{IfOk}
 use Rattle.image_set.specs.declared.outline.Outline.{Outline}
 use Rattle.namespace_bytes.specs.Patching.{bytes_by_place}
@@ -8,11 +8,17 @@ use Rattle.power_cut.specs.Namespace.{over, words_of}
 use Rattle.sector_namespaces.specs.View.{rows_of}
 use Rattle.shell_import.specs.Beginning.{ImportsFrom, IsSectorImport}
 use Rattle.shell_reports.proofs.More.{if_more}
-use Rattle.shell_import.proofs.SectorsImport.{imports_filled, imports_refused, kept_memory, reached, three, whole_pages}
+use Rattle.shell_import.proofs.SectorsImport.{few_bytes, imports_filled, imports_refused, kept_memory, reached, three, whole_pages}
 use Rattle.shell_import.proofs.sectors.SectorImport.answer.Goals as goal
 
 pub read_arenas_from-requires-clause-pages : goal.read_arenas_from-requires-clause-pages
 read_arenas_from-requires-clause-pages g c = whole_pages c.args.uuid.now c.requires.found.1.0 c.requires.found.0 c.args.self c.requires.found.1.1
+
+pub read_arenas_from-requires-clause-few : goal.read_arenas_from-requires-clause-few
+read_arenas_from-requires-clause-few g c = few_bytes c.args.uuid.now c.requires.found.1.0 c.requires.found.0 c.args.self c.requires.found.1.1 (omega (arith, c.ways-ways.ensures.ways, c.ways-ways.ensures.few))
+
+pub unopened-requires : goal.unopened-requires
+unopened-requires g c = c.in-Ok-Err.ensures.running c.in-Ok-Err.refused c.in-Ok-Err.field-0-is
 
 pub read_arenas_from-requires-clause-there : goal.read_arenas_from-requires-clause-there
 read_arenas_from-requires-clause-there g c = λ source told. (
