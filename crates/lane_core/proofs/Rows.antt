@@ -115,5 +115,5 @@ first_lines = refl
 next_group : map reader_place (254 ∷ 255 ∷ 256 ∷ 257 ∷ 288 ∷ []) ≡ 247 ∷ 255 ∷ 256 ∷ 264 ∷ 257 ∷ []
 next_group = refl
 
-groups : map reader_words (0 ∷ 1 ∷ 255 ∷ 256 ∷ 257 ∷ 512 ∷ []) ≡ 0 ∷ 256 ∷ 256 ∷ 256 ∷ 512 ∷ 512 ∷ []
+groups : map reader_words (0 ∷ 1 ∷ 255 ∷ 256 ∷ 257 ∷ 512 ∷ []) ≡ 512 ∷ 768 ∷ 768 ∷ 768 ∷ 1024 ∷ 1024 ∷ []
 groups = refl

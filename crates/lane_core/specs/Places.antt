@@ -59,9 +59,10 @@ IsIn x (KeptB l side) = (l < x.lanes) × (side < 2)
 IsIn x (Reader l) = l < x.lanes
 IsIn x (Lock k) = k < x.lanes
 
--- how many words the reader table of this many lanes has: 256 for each group of up to 256 lanes
+-- how many words the reader table of this many lanes has: 256 for each group of up to 256 lanes, and
+-- a gap of 512 words behind them, so that the locks stand in another page of 4 KiB
 abbrev pub reader_words : ℕ → ℕ
-reader_words lanes = 256 * ((lanes + 255) / 256)
+reader_words lanes = 256 * ((lanes + 255) / 256) + 512
 
 -- which word of the reader table is a lane's. A line of cache has 8 words, and lanes that run at
 -- once have neighbouring numbers: any 32 of these have their words in 32 lines

@@ -32,12 +32,14 @@ pub fn log_word(shape: &Shape, lane: u32, side: u32) -> u64
     shape.log_at + 8 * u64::from(lane) + 2 * u64::from(side)
 }
 
-/// Words of the reader table of this many lanes: 256 for each group of up to 256 lanes.
+/// Words of the reader table of this many lanes: 256 for each group of up to 256 lanes, and a gap of
+/// 512 words, or 4 KiB. So the locks stand in another page. Lanes store them while others scan the
+/// table, and the processor brings lines ahead of a scan as far as a page reaches.
 #[inline]
 pub fn reader_words(lanes: u32) -> u64
     ensures { result ≡ reader_words lanes }
 {
-    256 * ((u64::from(lanes) + 255) / 256)
+    256 * ((u64::from(lanes) + 255) / 256) + 512
 }
 
 /// Which word of the reader table is a lane's. Any 32 lanes with neighbouring numbers have theirs

@@ -23,7 +23,8 @@
 //! r of a group has word `8 * (r % 32) + r / 32` (`reader_place` of lane_core's specs/Places.antt).
 //! Lanes with neighbouring numbers run at once, so each stores in a line of its own, and still a
 //! writer's scan of 255 words loads 32 lines. It goes through them once for each 32 lanes. The word
-//! before the table is one of the backup info block, which no lane stores.
+//! before the table is one of the backup info block, which no lane stores. The 4 KiB behind it are
+//! unused. So the locks, which lanes store while others scan, stand in another page.
 //!
 //! # The rule
 //!
