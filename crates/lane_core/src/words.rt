@@ -33,8 +33,9 @@ pub fn log_word(shape: &Shape, lane: u32, side: u32) -> u64
 }
 
 /// Words of the reader table of this many lanes: 256 for each group of up to 256 lanes, and a gap of
-/// 512 words, or 4 KiB. So the locks stand in another page. Lanes store them while others scan the
-/// table, and the processor brings lines ahead of a scan as far as a page reaches.
+/// 512 words, or 4 KiB. The gap is for speed alone: so the locks, which lanes store while others
+/// scan the table, stand in another page. Without it, a write beside three other lanes was measured
+/// to take a third longer, most likely because the processor loads lines ahead of a scan.
 #[inline]
 pub fn reader_words(lanes: u32) -> u64
     ensures { result ≡ reader_words lanes }

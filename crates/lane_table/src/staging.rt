@@ -38,8 +38,8 @@ fn others_below(number: u32, lane: u32) -> u32
 /// `32 * row` on, or as many as there are: each has its reader word in a line of cache of its own.
 ///
 /// In a whole row of others, if the fuse has no limit, the loop becomes 32 loads in a row, each an
-/// instruction of its own that finds one line in every row. While one load went from line to line,
-/// a scan was slow beside lanes that commit: their locks stand in the lines behind these.
+/// instruction of its own that finds one line in every row. That takes fewer instructions than one
+/// load that goes from line to line.
 #[inline]
 fn scan_row(
     table: &Words,

@@ -1,5 +1,5 @@
 //! What a command answers, and the image set that it saves.
-ghost use Rattle.std.specs.Prelude.{◌≡◌, ◌≢◌, ◌≤◌, ℕ, List, Some, None, IsTrue, IfOk, OnOk, Ok, Err};
+ghost use Rattle.std.specs.Prelude.{◌≡◌, ◌≢◌, ◌≤◌, ℕ, List, Some, None, IsTrue, IfOk, OnOk, Ok, Err, is_ok};
 ghost use Rattle.std.specs.Option.{ForSome};
 ghost use Rattle.nvd_media.specs.Causes.{LeavesOutside, Rose};
 ghost use Rattle.nvd_media.specs.Images.{Becomes, IsEmptySet, IsUnfinished, Images};
@@ -152,6 +152,7 @@ pub struct Answer {
 pub fn in_memory(answer: Result<Answer, AllocError>) -> Result<Answer, RunStop>
     ensures same { IfOk result (λ x. answer ≡ Ok x) }
     ensures memory { result ≢ Err RunStop.ReadFault }
+    ensures made { is_ok result ≡ is_ok answer }
 {
     match answer {
         Ok(answer) => Ok(answer),
