@@ -10,7 +10,7 @@ use Rattle.std.proofs.Math.Nat.{mul-mod_left}
 use Rattle.nfit_reader.specs.declared.table.Mapping.{Mapping}
 use Rattle.interleave.specs.Places.{LiesAt, LiesBy, region_byte, unit_of}
 use Rattle.interleave.specs.Sound.{HasPlace, span_of}
-use Rattle.power_cut.specs.Namespace.{Namespace, AreApart, IsLaid, byte_at, byte_of, count_of, is_inside, or_place, place_by, place_of}
+use Rattle.power_cut.specs.Namespace.{Namespace, AreApart, IsLaid, byte_at, byte_of, count_of, is_inside, or_place, place_by, place_of, raw_byte, raw_bytes}
 
 -- ---- finding the first
 
@@ -136,6 +136,14 @@ sum_unit a b u p q =
     let b_is : b ≡ b / u * u = omega (arith, div-add-mod' b u, q) in
     let sum : a + b ≡ (a / u + b / u) * u = omega (arith, a_is, b_is) in
     ap (λ (n : ℕ). n % u) sum ∙ mul-mod_left (a / u + b / u) u
+
+-- a byte of the namespace is one of the region
+pub raw_in_region : (n : Namespace) (byte : ℕ) → IsLaid n → byte < raw_bytes n → raw_byte n byte < length n.set * span_of n.set
+raw_in_region n byte laid lt =
+    let m : ℕ = length n.set in
+    let sum : m * (n.offset + n.raw) ≡ m * n.offset + m * n.raw = omega arith in
+    let within : m * (n.offset + n.raw) ≤ m * span_of n.set = mul-le m (n.offset + n.raw) m (span_of n.set) (omega arith) laid.inside in
+    omega (arith, sum, lt, within)
 
 -- the place of a word's first byte
 pub record IsByte (n : Namespace) (y : ℕ) : Type 0 where

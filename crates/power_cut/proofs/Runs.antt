@@ -82,10 +82,12 @@ turn_at n first done size long which k laid rows inside fits some run =
     }
 
 pub turn : (seen n : Namespace) (first done size long most which k : ℕ) (row : Words) → seen ≡ n → IsLaid seen → HasRows seen.set seen.modules → first + long ≤ length (words_of n).kept → done < long
-    → size ≡ min most (long - done) → 0 < most → ((w j : ℕ) → LiesAt n.set (byte_at n (first + done)) w (8 * j) → IsWordRun n (first + done) w j most)
+    → size ≡ min most (long - done) → 0 < most → ((w j : ℕ) → LiesAt seen.set (byte_at seen (first + done)) w (8 * j) → IsWordRun seen (first + done) w j most)
     → LiesAt n.set (byte_at n (first + done)) which (8 * k) → which < length n.modules → row ≡ get_or seen.modules which row → Turn n first done size long k row
 turn seen n first done size long most which k row view laid rows inside less size_is some run there in_modules read =
-    let own : IsWordRun n (first + done) which k size = fewer n (first + done) which k most size (run which k there) (omega (arith, size_is)) in
+    let here : LiesAt seen.set (byte_at seen (first + done)) which (8 * k) = subst (λ (m : Namespace). LiesAt m.set (byte_at m (first + done)) which (8 * k)) (sym view) there in
+    let own : IsWordRun n (first + done) which k size =
+    subst (λ (m : Namespace). IsWordRun m (first + done) which k size) view (fewer seen (first + done) which k most size (run which k here) (omega (arith, size_is))) in
     let row_is : row ≡ row_of n.modules which = row_read n.modules which row in_modules (read ∙ ap (λ (m : Namespace). get_or m.modules which row) view) in
     subst (Turn n first done size long k) (sym row_is)
     (turn_at n first done size long which k (subst (λ (m : Namespace). IsLaid m) view laid) (subst (λ (m : Namespace). HasRows m.set m.modules) view rows) inside

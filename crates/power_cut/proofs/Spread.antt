@@ -232,6 +232,12 @@ word_of_rows n i which k rows lt lies there inside = record {
 pub row_read : (modules : List Words) (which : ℕ) (row : Words) → which < length modules → row ≡ get_or modules which row → row ≡ row_of modules which
 row_read modules which row lt is = get_or_read modules which row lt is blank
 
+-- a byte of the set lies in a module that has words
+pub in_rows : (n : Namespace) (y which address : ℕ) → HasRows n.set n.modules → LiesAt n.set y which address → which < length n.modules
+in_rows n y which address rows lies =
+    let reach = rows.reach lies.0 lies.1 in
+    omega (arith, reach.there, lies.2.of)
+
 -- the place of a namespace doesn't depend on the words
 pub laid_any : (n : Namespace) (modules : List Words) → IsLaid n → IsLaid (record { set = n.set; offset = n.offset; raw = n.raw; modules = modules })
 laid_any n modules laid = record {

@@ -54,6 +54,13 @@ pub record Namespace : Type 0 where
 abbrev pub count_of : Namespace → ℕ
 count_of n = length n.set * n.raw / 8
 
+-- its size in all modules, in bytes, and the byte of the region that is its byte `byte`
+abbrev pub raw_bytes : Namespace → ℕ
+raw_bytes n = length n.set * n.raw
+
+abbrev pub raw_byte : Namespace → ℕ → ℕ
+raw_byte n byte = length n.set * n.offset + byte
+
 -- the byte of the region at which word i begins
 abbrev pub byte_at : Namespace → ℕ → ℕ
 byte_at n i = length n.set * n.offset + 8 * i

@@ -11,6 +11,7 @@
 //! module 1  | line 1 | line 3 | ..                        which lie in both modules
 //! ```
 //!
+//! [`SetExtent`] is where a namespace lies, and tells the place of each of its bytes and words.
 //! [`SetWords`] is such a row of words. `specs/Namespace.antt` defines its words (`words_of`, by
 //! the formula of the places), where they lie (`IsOver`), and the modules' other words
 //! (`beside_of`); both together are all words (`AreAll`).
@@ -47,9 +48,11 @@
 //! ```
 #![tactic(auto)]
 
+mod extent;
 mod leaving;
 mod namespace;
 mod placing;
 
+pub use extent::SetExtent;
 pub use leaving::{ArenaLeft, Images, Place, leave_all};
 pub use namespace::{SetWords, beside_tells_the_place, reach_ends, words_and_beside_are_all};

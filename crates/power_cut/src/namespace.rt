@@ -1,11 +1,12 @@
 //! The words of a namespace, spread over the modules of an interleave set.
-ghost use Rattle.std.specs.Prelude.{◌≡◌, ℕ, ◌+◌, ◌*◌, ◌/◌, ◌%◌, ◌^◌, ◌<◌, ◌≤◌, true, None, is_some, length, slice_index_or};
+ghost use Rattle.std.specs.Prelude.{◌≡◌, ◌+◌, ◌*◌, ◌%◌, ◌<◌, ◌≤◌, true, None, is_some, length, slice_index_or};
 ghost use Rattle.std.specs.List.{All};
 ghost use Rattle.interleave.specs.Places.{LiesAt, unit_of};
 ghost use Rattle.interleave.specs.Sound.{IsWord, span_of};
-ghost use Rattle.power_cut.specs.Namespace.{Namespace, HasBytes, HasRows, ReachEnds, IsLaid, IsOver, IsRow, IsWordRun, AreApart, AreAll, AreSameOutside, byte_at, count_of, row_of, words_of};
+ghost use Rattle.power_cut.specs.Namespace.{HasBytes, HasRows, ReachEnds, IsOver, IsRow, AreApart, AreAll, AreSameOutside, byte_at, count_of, row_of, words_of};
 ghost use Rattle.power_cut.specs.Placed.{PlacedStay, beside_and_place};
 
+use crate::extent::SetExtent;
 use cut_words::{CutWords, Fuse, PowerCut, WordSpace};
 use interleave::InterleaveSet;
 use std::marker::Model;
@@ -57,23 +58,19 @@ pub fn reach_ends(set: &InterleaveSet, modules: &[CutWords]) -> bool
 /// call that doesn't change `beside` doesn't move the row ([`beside_tells_the_place`]).
 #[derive(Drop)]
 pub struct SetWords<'a> {
-    set: &'a InterleaveSet,
-    /// The namespace's address in each mapping, in bytes from the mapping's start.
-    offset: u64,
-    /// Its size in each mapping, in bytes.
-    raw: u64,
+    extent: SetExtent<'a>,
     /// The words of all modules, by number.
     modules: Vec<CutWords>,
 }
 
 impl<'a> Model for SetWords<'a> {
-    ghost use Rattle.power_cut.specs.Namespace.{Namespace, IsLaid, HasRows};
+    ghost use Rattle.power_cut.specs.Namespace.{Namespace, IsLaid, HasRows, over};
 
     ghost Value = { Namespace };
 
-    ghost view = { λ words. record { set = words.set.now; offset = words.offset; raw = words.raw; modules = words.modules.items } };
+    ghost view = { λ words. over words.extent.set words.extent.offset words.extent.raw words.modules.items };
 
-    ghost invariant = { λ words. IsLaid (record { set = words.set.now; offset = words.offset; raw = words.raw; modules = words.modules.items }) × HasRows words.set.now words.modules.items };
+    ghost invariant = { λ words. IsLaid (over words.extent.set words.extent.offset words.extent.raw words.modules.items) × HasRows words.extent.set words.modules.items };
 }
 
 impl<'a> SetWords<'a> {
@@ -94,12 +91,8 @@ impl<'a> SetWords<'a> {
         ensures apart { AreApart result }
         ensures over { IsOver result modules.items (words_of result) }
     {
-        let _unit = set.unit();
-        let _span = set.span();
         SetWords {
-            set,
-            offset,
-            raw,
+            extent: SetExtent::of(set, offset, raw),
             modules,
         }
     }
@@ -132,21 +125,7 @@ impl<'a> SetWords<'a> {
         ensures module { result.0 < length self.now.modules }
         ensures word { result.1 < length (row_of self.now.modules result.0).kept }
     {
-        let first = u64::from(self.set.ways()) * self.offset;
-        let (module, address) = self.set.place(first + WORD * i);
-        (module as usize, address / WORD)
-    }
-
-    /// Returns how many words of the namespace from word `i` on are contiguous in its module, up to the
-    /// end of the interleave line.
-    fn run_length(&self, i: u64) -> u64
-        requires { i < count_of self.now }
-        ensures some { 0 < result }
-        ensures run { (which k : ℕ) → LiesAt self.now.set (byte_at self.now i) which (8 * k)
-            → IsWordRun self.now i which k result }
-    {
-        let first = u64::from(self.set.ways()) * self.offset;
-        self.set.run_length(first + WORD * i) / WORD
+        self.extent.locate(i)
     }
 }
 
@@ -156,7 +135,7 @@ impl<'a> WordSpace for SetWords<'a> {
     ghost beside = { λ words. beside_and_place words };
 
     fn count(&self) -> u64 {
-        u64::from(self.set.ways()) * self.raw / WORD
+        self.extent.bytes() / WORD
     }
 
     fn load(&self, i: u64) -> u64 {
@@ -169,7 +148,7 @@ impl<'a> WordSpace for SetWords<'a> {
         while done < into.len() {
             let i = first + done as u64;
             let (module, word) = self.locate(i);
-            let size = self.run_length(i).min((into.len() - done) as u64) as usize;
+            let size = self.extent.word_run(i).min((into.len() - done) as u64) as usize;
             self.modules[module].load_from(word, &mut into[done..done + size]);
             done += size;
         }

@@ -1,24 +1,20 @@
-use Rattle.power_cut.specs.Namespace.{over}
+use Rattle.std.proofs.Common.{sym, subst}
+use Rattle.power_cut.specs.Namespace.{Namespace, ReachEnds, over}
 use Rattle.power_cut.proofs.Places.{are_apart}
-use Rattle.power_cut.proofs.Spread.{is_over, laid_of}
+use Rattle.power_cut.proofs.Spread.{is_over, laid_any}
 use Rattle.power_cut.proofs.namespace.SetWords.of.Goals as goal
 
 pub invariant_of-result : goal.invariant_of-result
 invariant_of-result c = (
-  laid_of c.args.set.now c.args.offset c.args.raw c.span-span.result c.unit-unit.result c.args.modules.items c.requires.from c.requires.to c.requires.inside
-      c.unit-unit.ensures.unit c.unit-unit.ensures.whole c.unit-unit.ensures.parts c.span-span.ensures.span c.span-span.ensures.fits c.span-span.ensures.each c.span-span.ensures.apart
-      c.span-span.ensures.places c.span-span.ensures.words,
-  record { rows = c.requires.rows; reach = c.requires.reach },
+  laid_any c.of.result c.args.modules.items c.of.ensures.laid,
+  record {
+    rows = c.requires.rows;
+    reach = subst (λ (n : Namespace). ReachEnds n.set c.args.modules.items) (sym c.of.ensures.made) c.requires.reach;
+  },
 )
 
 pub returns-clause-apart : goal.returns-clause-apart
-returns-clause-apart c = are_apart (over c.args.set.now c.args.offset c.args.raw c.args.modules.items)
-    (laid_of c.args.set.now c.args.offset c.args.raw c.span-span.result c.unit-unit.result c.args.modules.items c.requires.from c.requires.to c.requires.inside
-    c.unit-unit.ensures.unit c.unit-unit.ensures.whole c.unit-unit.ensures.parts c.span-span.ensures.span c.span-span.ensures.fits c.span-span.ensures.each c.span-span.ensures.apart
-    c.span-span.ensures.places c.span-span.ensures.words)
+returns-clause-apart c = are_apart (over c.of.result.set c.of.result.offset c.of.result.raw c.args.modules.items) (laid_any c.of.result c.args.modules.items c.of.ensures.laid)
 
 pub returns-clause-over : goal.returns-clause-over
-returns-clause-over c = is_over (over c.args.set.now c.args.offset c.args.raw c.args.modules.items)
-    (laid_of c.args.set.now c.args.offset c.args.raw c.span-span.result c.unit-unit.result c.args.modules.items c.requires.from c.requires.to c.requires.inside
-    c.unit-unit.ensures.unit c.unit-unit.ensures.whole c.unit-unit.ensures.parts c.span-span.ensures.span c.span-span.ensures.fits c.span-span.ensures.each c.span-span.ensures.apart
-    c.span-span.ensures.places c.span-span.ensures.words)
+returns-clause-over c = is_over (over c.of.result.set c.of.result.offset c.of.result.raw c.args.modules.items) (laid_any c.of.result c.args.modules.items c.of.ensures.laid)

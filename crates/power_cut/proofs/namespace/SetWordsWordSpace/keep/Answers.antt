@@ -14,7 +14,7 @@ locate-module-requires c = omega (arith, c.requires, count_is c.args.self.now)
 
 pub invariant_of-self : goal.invariant_of-self
 invariant_of-self c =
-    let n : Namespace = over c.self.inside.set.now c.self.inside.offset c.self.inside.raw c.self.inside.modules.items in
+    let n : Namespace = over c.self.inside.extent.set c.self.inside.extent.offset c.self.inside.extent.raw c.self.inside.modules.items in
     let which : ℕ = c.locate-module.result.0 in
     let k : ℕ = c.locate-module.result.1 in
     let laid : IsLaid n = c.self.invariant.0 in
@@ -30,7 +30,7 @@ invariant_of-self c =
 
 pub returns-clause-made : goal.returns-clause-made
 returns-clause-made c =
-    let n : Namespace = over c.self.inside.set.now c.self.inside.offset c.self.inside.raw c.self.inside.modules.items in
+    let n : Namespace = over c.self.inside.extent.set c.self.inside.extent.offset c.self.inside.extent.raw c.self.inside.modules.items in
     let which : ℕ = c.locate-module.result.0 in
     let k : ℕ = c.locate-module.result.1 in
     let laid : IsLaid n = c.self.invariant.0 in
@@ -47,7 +47,7 @@ returns-clause-made c =
 
 pub returns-clause-beside : goal.returns-clause-beside
 returns-clause-beside c =
-    let n : Namespace = over c.self.inside.set.now c.self.inside.offset c.self.inside.raw c.self.inside.modules.items in
+    let n : Namespace = over c.self.inside.extent.set c.self.inside.extent.offset c.self.inside.extent.raw c.self.inside.modules.items in
     let which : ℕ = c.locate-module.result.0 in
     let k : ℕ = c.locate-module.result.1 in
     let laid : IsLaid n = c.self.invariant.0 in

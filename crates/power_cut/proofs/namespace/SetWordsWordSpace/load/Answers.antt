@@ -9,7 +9,7 @@ locate-module-requires c = omega (arith, c.requires, count_is c.args.self.now)
 
 pub returns : goal.returns
 returns c =
-    let n : Namespace = over c.self.inside.set.now c.self.inside.offset c.self.inside.raw c.self.inside.modules.items in
+    let n : Namespace = over c.self.inside.extent.set c.self.inside.extent.offset c.self.inside.extent.raw c.self.inside.modules.items in
     let which : ℕ = c.locate-module.result.0 in
     let k : ℕ = c.locate-module.result.1 in
     let below : c.args.i < count_of c.args.self.now = omega (arith, c.requires, count_is c.args.self.now) in

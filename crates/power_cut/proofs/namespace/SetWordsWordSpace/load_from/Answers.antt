@@ -15,8 +15,11 @@ overflow_add-i c =
 pub locate-module-requires : goal.locate-module-requires
 locate-module-requires c = omega (arith, c.requires.inside, count_is c.args.self.now, c.loop-done-test.true, c.loop-done.invariant.count)
 
-pub run_length-requires : goal.run_length-requires
-run_length-requires c = omega (arith, c.requires.inside, count_is c.args.self.now, c.loop-done-test.true, c.loop-done.invariant.count)
+pub word_run-requires : goal.word_run-requires
+word_run-requires c =
+    let below : c.args.first + c.loop-done.done < count_of c.args.self.now =
+    omega (arith, c.requires.inside, count_is c.args.self.now, c.loop-done-test.true, c.loop-done.invariant.count) in
+    subst (λ (n : Namespace). c.args.first + c.loop-done.done < count_of n) (sym c.self.view_is) below
 
 pub load_from-requires-clause-inside : goal.load_from-requires-clause-inside
 load_from-requires-clause-inside c =
@@ -24,9 +27,9 @@ load_from-requires-clause-inside c =
     let into = c.loop-done.into in
     let size : ℕ = c.min-size.result in
     let turn_is : Turn c.args.self.now c.args.first done size (length into) c.locate-module.result.1 c.index.result.now =
-    turn (over c.self.inside.set.now c.self.inside.offset c.self.inside.raw c.self.inside.modules.items) c.args.self.now c.args.first done size (length into) c.run_length.result c.locate-module.result.0
+    turn (over c.self.inside.extent.set c.self.inside.extent.offset c.self.inside.extent.raw c.self.inside.modules.items) c.args.self.now c.args.first done size (length into) c.word_run.result c.locate-module.result.0
     c.locate-module.result.1 c.index.result.now c.self.view_is c.self.invariant.0 c.self.invariant.1 (omega (arith, c.requires.inside, c.loop-done.invariant.count)) c.loop-done-test.true c.min-size.ensures
-    c.run_length.ensures.some c.run_length.ensures.run c.locate-module.ensures.there c.locate-module.ensures.module c.index.ensures in
+    c.word_run.ensures.some c.word_run.ensures.run c.locate-module.ensures.there c.locate-module.ensures.module c.index.ensures in
     omega (arith, part_long done size into turn_is.fits, turn_is.room)
 
 pub load_from-requires-clause-flushed : goal.load_from-requires-clause-flushed
@@ -35,9 +38,9 @@ load_from-requires-clause-flushed c =
     let into = c.loop-done.into in
     let size : ℕ = c.min-size.result in
     let turn_is : Turn c.args.self.now c.args.first done size (length into) c.locate-module.result.1 c.index.result.now =
-    turn (over c.self.inside.set.now c.self.inside.offset c.self.inside.raw c.self.inside.modules.items) c.args.self.now c.args.first done size (length into) c.run_length.result c.locate-module.result.0
+    turn (over c.self.inside.extent.set c.self.inside.extent.offset c.self.inside.extent.raw c.self.inside.modules.items) c.args.self.now c.args.first done size (length into) c.word_run.result c.locate-module.result.0
     c.locate-module.result.1 c.index.result.now c.self.view_is c.self.invariant.0 c.self.invariant.1 (omega (arith, c.requires.inside, c.loop-done.invariant.count)) c.loop-done-test.true c.min-size.ensures
-    c.run_length.ensures.some c.run_length.ensures.run c.locate-module.ensures.there c.locate-module.ensures.module c.index.ensures in
+    c.word_run.ensures.some c.word_run.ensures.run c.locate-module.ensures.there c.locate-module.ensures.module c.index.ensures in
     subst (AreFlushed c.index.result.now c.locate-module.result.1) (sym (part_long done size into turn_is.fits))
     (turn_is.flushed (subst (AreFlushed (words_of c.args.self.now) c.args.first) (sym c.loop-done.invariant.count) c.requires.flushed))
 
@@ -47,9 +50,9 @@ loop-done-preserved c =
     let into = c.loop-done.into in
     let size : ℕ = c.min-size.result in
     let turn_is : Turn c.args.self.now c.args.first done size (length into) c.locate-module.result.1 c.index.result.now =
-    turn (over c.self.inside.set.now c.self.inside.offset c.self.inside.raw c.self.inside.modules.items) c.args.self.now c.args.first done size (length into) c.run_length.result c.locate-module.result.0
+    turn (over c.self.inside.extent.set c.self.inside.extent.offset c.self.inside.extent.raw c.self.inside.modules.items) c.args.self.now c.args.first done size (length into) c.word_run.result c.locate-module.result.0
     c.locate-module.result.1 c.index.result.now c.self.view_is c.self.invariant.0 c.self.invariant.1 (omega (arith, c.requires.inside, c.loop-done.invariant.count)) c.loop-done-test.true c.min-size.ensures
-    c.run_length.ensures.some c.run_length.ensures.run c.locate-module.ensures.there c.locate-module.ensures.module c.index.ensures in
+    c.word_run.ensures.some c.word_run.ensures.run c.locate-module.ensures.there c.locate-module.ensures.module c.index.ensures in
     let all = drop c.args.first (words_of c.args.self.now).kept in
     let part : c.load_from.new.into ≡ take size (drop done all) =
     c.load_from.ensures ∙ ap (λ (m : ℕ). take m (drop c.locate-module.result.1 c.index.result.now.kept)) (part_long done size into turn_is.fits) ∙ turn_is.kept in

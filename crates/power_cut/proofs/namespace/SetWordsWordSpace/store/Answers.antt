@@ -14,7 +14,7 @@ locate-module-requires c = omega (arith, c.requires.inside, count_is c.args.self
 
 pub store-requires-clause-settled : goal.store-requires-clause-settled
 store-requires-clause-settled c =
-    let n : Namespace = over c.self.inside.set.now c.self.inside.offset c.self.inside.raw c.self.inside.modules.items in
+    let n : Namespace = over c.self.inside.extent.set c.self.inside.extent.offset c.self.inside.extent.raw c.self.inside.modules.items in
     let which : ℕ = c.locate-module.result.0 in
     let k : ℕ = c.locate-module.result.1 in
     let laid : IsLaid n = c.self.invariant.0 in
@@ -29,7 +29,7 @@ store-requires-clause-settled c =
 
 pub invariant_of-self : goal.invariant_of-self
 invariant_of-self c =
-    let n : Namespace = over c.self.inside.set.now c.self.inside.offset c.self.inside.raw c.self.inside.modules.items in
+    let n : Namespace = over c.self.inside.extent.set c.self.inside.extent.offset c.self.inside.extent.raw c.self.inside.modules.items in
     let which : ℕ = c.locate-module.result.0 in
     let k : ℕ = c.locate-module.result.1 in
     let laid : IsLaid n = c.self.invariant.0 in
@@ -45,7 +45,7 @@ invariant_of-self c =
 
 pub returns-clause-made : goal.returns-clause-made
 returns-clause-made c =
-    let n : Namespace = over c.self.inside.set.now c.self.inside.offset c.self.inside.raw c.self.inside.modules.items in
+    let n : Namespace = over c.self.inside.extent.set c.self.inside.extent.offset c.self.inside.extent.raw c.self.inside.modules.items in
     let which : ℕ = c.locate-module.result.0 in
     let k : ℕ = c.locate-module.result.1 in
     let laid : IsLaid n = c.self.invariant.0 in
@@ -62,7 +62,7 @@ returns-clause-made c =
 
 pub returns-clause-beside : goal.returns-clause-beside
 returns-clause-beside c =
-    let n : Namespace = over c.self.inside.set.now c.self.inside.offset c.self.inside.raw c.self.inside.modules.items in
+    let n : Namespace = over c.self.inside.extent.set c.self.inside.extent.offset c.self.inside.extent.raw c.self.inside.modules.items in
     let which : ℕ = c.locate-module.result.0 in
     let k : ℕ = c.locate-module.result.1 in
     let laid : IsLaid n = c.self.invariant.0 in
