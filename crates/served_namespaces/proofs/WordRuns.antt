@@ -12,7 +12,7 @@ use Rattle.power_cut.specs.Namespace.{Namespace, HasRows, IsLaid, IsWordRun, bes
 use Rattle.power_cut.specs.Placed.{beside_and_place}
 use Rattle.interleave.specs.Places.{LiesAt}
 use Rattle.power_cut.proofs.Runs.{fewer, room}
-use Rattle.power_cut.proofs.Spread.{IsWordOf, blank, count_is, laid_any, row_here, row_read, with_row, word_of_rows}
+use Rattle.power_cut.proofs.Spread.{IsWordOf, blank, count_is, in_rows, laid_any, row_here, row_read, with_row, word_of_rows}
 use Rattle.served_namespaces.proofs.WordPuts.{beside_put, placed_same, rows_put, words_put}
 
 -- ---- lists
@@ -121,23 +121,23 @@ put_in n i which k size values row' laid rows inside run some there was whole en
     }
 
 pub put_run : (seen n : Namespace) (i which k size most : ℕ) (values : List ℕ) (row row' : Words) → seen ≡ n → IsLaid seen → HasRows seen.set seen.modules → i + length values ≤ length (words_of n).kept
-    → size ≡ min most (length values) → 0 < size → ((w j : ℕ) → LiesAt n.set (byte_at n i) w (8 * j) → IsWordRun n i w j most) → LiesAt n.set (byte_at n i) which (8 * k) → which < length n.modules
+    → size ≡ min most (length values) → 0 < size → ((w j : ℕ) → LiesAt seen.set (byte_at seen i) w (8 * j) → IsWordRun seen i w j most) → LiesAt seen.set (byte_at seen i) which (8 * k)
     → row ≡ get_or seen.modules which row → row ≡ settled row.kept → row' ≡ settled (put_at row.kept k (take size values)) → IsSettled (words_of n) → IsPut seen n i which (take size values) row'
-put_run seen n i which k size most values row row' view laid rows inside size_is some run there in_modules read was put whole =
-    let own : IsWordRun n i which k size = fewer n i which k most size (run which k there) (omega (arith, size_is)) in
-    let row_is : row ≡ row_of seen.modules which = row_read seen.modules which row (subst (λ (m : Namespace). which < length m.modules) (sym view) in_modules) read in
+put_run seen n i which k size most values row row' view laid rows inside size_is some run there read was put whole =
+    let own : IsWordRun seen i which k size = fewer seen i which k most size (run which k there) (omega (arith, size_is)) in
+    let in_modules : which < length seen.modules = in_rows seen (byte_at seen i) which (8 * k) rows there in
+    let row_is : row ≡ row_of seen.modules which = row_read seen.modules which row in_modules read in
     subst (λ (m : Namespace). IsPut seen m i which (take size values) row') view
     (put_in seen i which k size values row' laid rows (subst (λ (m : Namespace). i + size ≤ count_of m) (sym view) (omega (arith, size_is, inside, count_is n)))
-    (subst (λ (m : Namespace). IsWordRun m i which k size) (sym view) own) some (subst (λ (m : Namespace). which < length m.modules) (sym view) in_modules)
-    (subst IsSettled row_is was) (subst (λ (m : Namespace). IsSettled (words_of m)) (sym view) whole) (omega (arith, size_is))
+    own some in_modules (subst IsSettled row_is was) (subst (λ (m : Namespace). IsSettled (words_of m)) (sym view) whole) (omega (arith, size_is))
     (put ∙ ap (λ (r : Words). settled (put_at r.kept k (take size values))) row_is))
 
 -- the row has them
 pub put_room : (seen n : Namespace) (i which k size most count : ℕ) (row : Words) → seen ≡ n → IsLaid seen → HasRows seen.set seen.modules → i + count ≤ length (words_of n).kept
-    → size ≡ min most count → 0 < size → ((w j : ℕ) → LiesAt n.set (byte_at n i) w (8 * j) → IsWordRun n i w j most) → LiesAt n.set (byte_at n i) which (8 * k) → which < length n.modules
+    → size ≡ min most count → 0 < size → ((w j : ℕ) → LiesAt seen.set (byte_at seen i) w (8 * j) → IsWordRun seen i w j most) → LiesAt seen.set (byte_at seen i) which (8 * k)
     → row ≡ get_or seen.modules which row → k + size ≤ length row.kept
-put_room seen n i which k size most count row view laid rows inside size_is some run there in_modules read =
-    let own : IsWordRun n i which k size = fewer n i which k most size (run which k there) (omega (arith, size_is)) in
-    let row_is : row ≡ row_of n.modules which = row_read n.modules which row in_modules (read ∙ ap (λ (m : Namespace). get_or m.modules which row) view) in
+put_room seen n i which k size most count row view laid rows inside size_is some run there read =
+    let own : IsWordRun seen i which k size = fewer seen i which k most size (run which k there) (omega (arith, size_is)) in
+    let row_is : row ≡ row_of seen.modules which = row_read seen.modules which row (in_rows seen (byte_at seen i) which (8 * k) rows there) read in
     subst (λ (r : Words). k + size ≤ length r.kept) (sym row_is)
-    (room n i which k size (subst (λ (m : Namespace). IsLaid m) view laid) (subst (λ (m : Namespace). HasRows m.set m.modules) view rows) some (omega (arith, size_is, inside, count_is n)) own)
+    (room seen i which k size laid rows some (subst (λ (m : Namespace). i + size ≤ count_of m) (sym view) (omega (arith, size_is, inside, count_is n))) own)

@@ -2,13 +2,13 @@
 //!
 //! The words that are put are those that a crash left, so no power is cut while they are put. Each is put in one step, and no
 //! second value of it is kept beside it, as storing and flushing would.
-ghost use Rattle.std.specs.Prelude.{◌≡◌, ◌+◌, ◌*◌, ◌%◌, ◌<◌, ◌≤◌, ℕ, IfOk, length, take};
+ghost use Rattle.std.specs.Prelude.{◌≡◌, ◌+◌, ◌%◌, ◌<◌, ◌≤◌, IfOk, length, take};
 ghost use Rattle.arena_open.specs.Writes.{IsSettled};
 ghost use Rattle.cut_words.specs.WordBytes.{put_at};
 ghost use Rattle.cut_words.specs.Words.{settled};
-ghost use Rattle.interleave.specs.Places.{LiesAt, unit_of};
+ghost use Rattle.interleave.specs.Places.{unit_of};
 ghost use Rattle.interleave.specs.Sound.{span_of};
-ghost use Rattle.power_cut.specs.Namespace.{IsWordRun, ReachEnds, byte_at, count_of, over, row_of, words_of};
+ghost use Rattle.power_cut.specs.Namespace.{ReachEnds, over, words_of};
 ghost use Rattle.power_cut.specs.Placed.{beside_and_place};
 ghost use Rattle.sector_namespaces.specs.Creation.{AreSettled};
 
@@ -16,11 +16,9 @@ use cut_words::CutWords;
 use interleave::InterleaveSet;
 use nvd_media::ListChooser;
 use nvd_words::Items;
+use power_cut::SetExtent;
 use std::alloc::{AllocError, Global};
 use std::marker::Model;
-
-/// The size of a word, in bytes.
-const WORD: u64 = 8;
 
 /// The words of a module, of which none is pending. Contracts see the same as of `CutWords`.
 #[derive(Debug, Drop)]
@@ -92,23 +90,19 @@ pub(crate) fn cut_rows(alloc: Global, rows: Vec<PlainRow>) -> Result<Vec<CutWord
 /// the same as of `SetWords` of crate `power_cut`.
 #[derive(Drop)]
 pub(crate) struct PlainWords<'a> {
-    set: &'a InterleaveSet,
-    /// The namespace's address in each mapping, in bytes from the mapping's start.
-    offset: u64,
-    /// Its size in each mapping, in bytes.
-    raw: u64,
+    extent: SetExtent<'a>,
     /// The words of all modules, by number.
     rows: Vec<PlainRow>,
 }
 
 impl<'a> Model for PlainWords<'a> {
-    ghost use Rattle.power_cut.specs.Namespace.{Namespace, IsLaid, HasRows};
+    ghost use Rattle.power_cut.specs.Namespace.{Namespace, IsLaid, HasRows, over};
 
     ghost Value = { Namespace };
 
-    ghost view = { λ words. record { set = words.set.now; offset = words.offset; raw = words.raw; modules = words.rows.items } };
+    ghost view = { λ words. over words.extent.set words.extent.offset words.extent.raw words.rows.items };
 
-    ghost invariant = { λ words. IsLaid (record { set = words.set.now; offset = words.offset; raw = words.raw; modules = words.rows.items }) × HasRows words.set.now words.rows.items };
+    ghost invariant = { λ words. IsLaid (over words.extent.set words.extent.offset words.extent.raw words.rows.items) × HasRows words.extent.set words.rows.items };
 }
 
 impl<'a> PlainWords<'a> {
@@ -130,12 +124,8 @@ impl<'a> PlainWords<'a> {
         requires reach { ReachEnds set.now rows.items }
         ensures made { result ≡ over set.now offset raw rows.items }
     {
-        let _unit = set.unit();
-        let _span = set.span();
         PlainWords {
-            set,
-            offset,
-            raw,
+            extent: SetExtent::of(set, offset, raw),
             rows,
         }
     }
@@ -146,29 +136,6 @@ impl<'a> PlainWords<'a> {
     {
         let PlainWords { rows, .. } = self;
         rows
-    }
-
-    /// Returns the module of a word of the namespace, and the word's number there.
-    fn locate(&self, i: u64) -> (usize, u64)
-        requires { i < count_of self.now }
-        ensures there { LiesAt self.now.set (byte_at self.now i) result.0 (8 * result.1) }
-        ensures module { result.0 < length self.now.modules }
-        ensures word { result.1 < length (row_of self.now.modules result.0).kept }
-    {
-        let first = u64::from(self.set.ways()) * self.offset;
-        let (module, address) = self.set.place(first + WORD * i);
-        (module as usize, address / WORD)
-    }
-
-    /// Returns how many words of the namespace from word `i` on are contiguous in its module, up to the end of the interleave
-    /// line.
-    fn run_length(&self, i: u64) -> u64
-        requires { i < count_of self.now }
-        ensures some { 0 < result }
-        ensures run { (which k : ℕ) → LiesAt self.now.set (byte_at self.now i) which (8 * k) → IsWordRun self.now i which k result }
-    {
-        let first = u64::from(self.set.ways()) * self.offset;
-        self.set.run_length(first + WORD * i) / WORD
     }
 
     /// Puts the first of these words into those from `first` on. It stops at the end of the interleave line, and returns how many
@@ -182,8 +149,8 @@ impl<'a> PlainWords<'a> {
         ensures put { words_of self.new ≡ settled (put_at (words_of self.old).kept first (take result words.now)) }
         ensures beside { beside_and_place self.new ≡ beside_and_place self.old }
     {
-        let (module, word) = self.locate(first);
-        let size = self.run_length(first).min(words.len() as u64) as usize;
+        let (module, word) = self.extent.locate(first);
+        let size = self.extent.word_run(first).min(words.len() as u64) as usize;
         self.rows[module].put_words(word, &words[..size]);
         size
     }

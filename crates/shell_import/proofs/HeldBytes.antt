@@ -14,12 +14,12 @@ use Rattle.cut_words.specs.Words.{Words, settled}
 use Rattle.cut_words.specs.WordBytes.{words_in}
 use Rattle.arena_open.proofs.Bytes.{length_words, word_index}
 use Rattle.image_set.specs.Outline.{contents_in}
-use Rattle.power_cut.specs.Namespace.{Namespace, IsLaid, ReachEnds, byte_at, count_of, over, place_of, row_of, words_of}
+use Rattle.power_cut.specs.Namespace.{Namespace, IsLaid, ReachEnds, byte_at, count_of, over, place_of, raw_byte, raw_bytes, row_of, words_of}
 use Rattle.power_cut.proofs.Places.{byte_is as word_byte, place_is}
-use Rattle.power_cut.proofs.Spread.{at_range, count_is, kept_is, length_range}
+use Rattle.power_cut.proofs.Spread.{at_range, count_is, kept_is, laid_any, length_range}
 use Rattle.sector_namespaces.specs.View.{rows_of}
 use Rattle.namespace_bytes.specs.Patching.{byte_in}
-use Rattle.shell_import.specs.Unloaded.{AreBytesOf, Extent, HasEnds, Reveals, bytes_by, extent_bytes, words_by}
+use Rattle.shell_import.specs.Unloaded.{AreBytesOf, HasEnds, Reveals, bytes_by, words_by}
 use Rattle.shell_import.proofs.HeldArenas.{part_words}
 use Rattle.namespace_bytes.proofs.WholePatch.{row_is, same_number}
 
@@ -66,36 +66,28 @@ held_room held set y which address size ends some lies source told =
 
 -- ---- the bytes of a namespace
 
--- a byte lies in the region
-pub byte_in_region : (e : Extent) (i : ℕ) → IsLaid (over e.set e.offset e.raw []) → i < extent_bytes e → length e.set * e.offset + i < length e.set * span_of e.set
-byte_in_region e i laid lt =
-    let m : ℕ = length e.set in
-    let sum : m * (e.offset + e.raw) ≡ m * e.offset + m * e.raw = omega arith in
-    let within : m * (e.offset + e.raw) ≤ m * span_of e.set = mul-le m (e.offset + e.raw) m (span_of e.set) (omega arith) laid.inside in
-    omega (arith, sum, within, lt)
+pub raw_fits : (n : Namespace) → IsLaid n → raw_bytes n < 2 ^ 64
+raw_fits n laid =
+    let m : ℕ = length n.set in
+    let sum : m * (n.offset + n.raw) ≡ m * n.offset + m * n.raw = omega arith in
+    let within : m * (n.offset + n.raw) ≤ m * span_of n.set = mul-le m (n.offset + n.raw) m (span_of n.set) (omega arith) laid.inside in
+    omega (arith, sum, within, laid.fits)
 
-pub start_in_region : (e : Extent) (i : ℕ) → IsLaid (over e.set e.offset e.raw []) → i ≤ extent_bytes e → length e.set * e.offset + i ≤ length e.set * span_of e.set
-start_in_region e i laid le =
-    let m : ℕ = length e.set in
-    let sum : m * (e.offset + e.raw) ≡ m * e.offset + m * e.raw = omega arith in
-    let within : m * (e.offset + e.raw) ≤ m * span_of e.set = mul-le m (e.offset + e.raw) m (span_of e.set) (omega arith) laid.inside in
-    omega (arith, sum, within, le)
-
-pub bytes_long : (e : Extent) (contents : List (List ℕ)) → length (bytes_by e contents) ≡ extent_bytes e
+pub bytes_long : (e : Namespace) (contents : List (List ℕ)) → length (bytes_by e contents) ≡ raw_bytes e
 bytes_long e contents = length_range (λ i. byte_in contents (place_of e.set (length e.set * e.offset + i))) (length e.set * e.raw)
 
-module _ (e : Extent) (contents : List (List ℕ)) (laid : (modules : List Words) → IsLaid (over e.set e.offset e.raw modules)) (reach : ReachEnds e.set (rows_of contents)) where
+module _ (e : Namespace) (contents : List (List ℕ)) (laid : IsLaid e) (reach : ReachEnds e.set (rows_of contents)) where
   abbrev n : Namespace
   n = over e.set e.offset e.raw (rows_of contents)
 
   -- a byte is the one at its place
-  pub byte_is : (i which address : ℕ) → i < extent_bytes e → LiesAt e.set (length e.set * e.offset + i) which address → get_or (bytes_by e contents) i 0 ≡ get_or (get_or contents which []) address 0
+  pub byte_is : (i which address : ℕ) → i < raw_bytes e → LiesAt e.set (length e.set * e.offset + i) which address → get_or (bytes_by e contents) i 0 ≡ get_or (get_or contents which []) address 0
   byte_is i which address lt lies =
       at_range (λ i. byte_in contents (place_of e.set (length e.set * e.offset + i))) (length e.set * e.raw) i 0 lt
-      ∙ ap (byte_in contents) (place_is n (length e.set * e.offset + i) which address (laid (rows_of contents)) lies)
+      ∙ ap (byte_in contents) (place_is e (length e.set * e.offset + i) which address laid lies)
 
   -- bytes that are contiguous in a module
-  pub line_is : (first which address size : ℕ) → first + size ≤ extent_bytes e → 0 < size → ((j : ℕ) → j < size → LiesAt e.set (length e.set * e.offset + first + j) which (address + j))
+  pub line_is : (first which address size : ℕ) → first + size ≤ raw_bytes e → 0 < size → ((j : ℕ) → j < size → LiesAt e.set (length e.set * e.offset + first + j) which (address + j))
       → take size (drop address (get_or contents which [])) ≡ take size (drop first (bytes_by e contents))
   line_is first which address size fits some lies =
       let row : List ℕ = get_or contents which [] in
@@ -114,7 +106,7 @@ module _ (e : Extent) (contents : List (List ℕ)) (laid : (modules : List Words
 
   kept_word : (i : ℕ) → i < count_of n → get_or (words_of n).kept i 0 ≡ get_or (words_in (bytes_by e contents)) i 0
   kept_word i lt =
-      let own = laid (rows_of contents) in
+      let own : IsLaid n = laid_any e (rows_of contents) laid in
       let bytes : List ℕ = bytes_by e contents in
       let place = own.places.has (byte_at n i) (word_byte n i own lt).in_region in
       let word = own.words (byte_at n i) place.which place.address (word_byte n i own lt).whole place.lies in
@@ -139,66 +131,42 @@ module _ (e : Extent) (contents : List (List ℕ)) (laid : (modules : List Words
       let long : length (words_of n).kept ≡ length (words_in (bytes_by e contents)) = count_is n ∙ omega (arith, bytes_long e contents, length_words (bytes_by e contents)) in
       ext_get_or 0 (words_of n).kept (words_in (bytes_by e contents)) long (λ i lt. kept_word i (omega (arith, lt, count_is n)))
 
-pub words_long : (e : Extent) (contents : List (List ℕ)) → length (words_by e contents) ≡ extent_bytes e / 8
+pub words_long : (e : Namespace) (contents : List (List ℕ)) → length (words_by e contents) ≡ raw_bytes e / 8
 words_long e contents = count_is (over e.set e.offset e.raw (rows_of contents))
 
 -- bytes of the namespace as words
-pub words_from : (e own : Extent) → e ≡ own → ((modules : List Words) → IsLaid (over e.set e.offset e.raw modules)) → (contents : List (List ℕ)) → ReachEnds own.set (rows_of contents) → (first : ℕ) (bytes : List ℕ)
-    → first % 8 ≡ 0 → bytes ≡ take (length bytes) (drop first (bytes_by own contents)) → first + length bytes ≤ extent_bytes own → AreBytesOf (words_by own contents) (first / 8) bytes
-words_from e own view laid contents reach first bytes whole are inside =
-    let own_laid : (modules : List Words) → IsLaid (over own.set own.offset own.raw modules) = subst (λ (x : Extent). (modules : List Words) → IsLaid (over x.set x.offset x.raw modules)) view laid in
+pub words_from : (e : Namespace) → IsLaid e → (contents : List (List ℕ)) → ReachEnds e.set (rows_of contents) → (first : ℕ) (bytes : List ℕ) → first % 8 ≡ 0
+    → bytes ≡ take (length bytes) (drop first (bytes_by e contents)) → first + length bytes ≤ raw_bytes e → AreBytesOf (words_by e contents) (first / 8) bytes
+words_from e laid contents reach first bytes whole are inside =
     let from : first ≡ 8 * (first / 8) = omega (arith, whole) in
-    let part : AreBytesOf (words_in (bytes_by own contents)) (first / 8) bytes =
-    part_words (bytes_by own contents) bytes (first / 8) (are ∙ ap (λ (n : ℕ). take (length bytes) (drop n (bytes_by own contents))) from) (omega (arith, inside, from, bytes_long own contents)) in
-    subst (λ (words : List ℕ). AreBytesOf words (first / 8) bytes) (sym (words_are own contents own_laid reach)) part
+    let part : AreBytesOf (words_in (bytes_by e contents)) (first / 8) bytes =
+    part_words (bytes_by e contents) bytes (first / 8) (are ∙ ap (λ (n : ℕ). take (length bytes) (drop n (bytes_by e contents))) from) (omega (arith, inside, from, bytes_long e contents)) in
+    subst (λ (words : List ℕ). AreBytesOf words (first / 8) bytes) (sym (words_are e contents laid reach)) part
 
--- ---- one turn of a loop that reads `long` bytes of the namespace from byte `first` on, of which `done` are read
+-- ---- one turn of a loop that reads `long` bytes of the namespace from byte `first` on, of which `done` are read: the next `size` ones are contiguous in a
+-- module
 
-module _ (e own : Extent) (view : e ≡ own) (laid : (modules : List Words) → IsLaid (over e.set e.offset e.raw modules)) (ways first done long : ℕ) (is : ways ≡ length e.set) (inside : first + long ≤ extent_bytes own) where
-  whole : first + long ≤ extent_bytes e
-  whole = subst (λ (x : Extent). first + long ≤ extent_bytes x) (sym view) inside
+module _ (e : Namespace) (laid : IsLaid e) (first done long : ℕ) (inside : first + long ≤ raw_bytes e) (which address size most : ℕ) (less : done < long) (size_is : size ≡ min most (long - done))
+    (some : 0 < most) (lies : LiesAt e.set (raw_byte e (first + done)) which address) (run : (w a : ℕ) → LiesAt e.set (raw_byte e (first + done)) w a → IsRun e.set (raw_byte e (first + done)) w a most) where
+  pub turn_some : 0 < size
+  turn_some = omega (arith, less, size_is, some)
 
-  pub start_fits : ways * e.offset + first < 2 ^ 64
-  start_fits =
-      subst (λ (w : ℕ). w * e.offset + first < 2 ^ 64) (sym is)
-      (omega (arith, start_in_region e first (laid []) (omega (arith, whole)), (laid []).fits))
+  pub turn_size : done + size ≤ long
+  turn_size = omega (arith, less, size_is)
 
-  pub turn_in : done < long → ways * e.offset + first + done < length e.set * span_of e.set
-  turn_in less =
-      subst (λ (w : ℕ). w * e.offset + first + done < length e.set * span_of e.set) (sym is)
-      (omega (arith, byte_in_region e (first + done) (laid []) (omega (arith, whole, less))))
+  each : (j : ℕ) → j < size → LiesAt e.set (raw_byte e (first + done) + j) which (address + j)
+  each j lt = (run which address lies).each j (omega (arith, lt, size_is))
 
-  pub turn_fits : done < long → ways * e.offset + first + done < 2 ^ 64
-  turn_fits less = omega (arith, turn_in less, (laid []).fits)
+  -- the module has them
+  pub turn_room : (held : Option Images) → HasEnds held e.set → ForSome held (λ source. address + size ≤ length (bytes_in source (object.Contents which)))
+  turn_room held ends = held_room held e.set (raw_byte e (first + done)) which address size ends turn_some each
 
-  -- the next `size` ones are contiguous in a module
-  module _ (which address size most : ℕ) (less : done < long) (size_is : size ≡ min most (long - done)) (some : 0 < most) (lies : LiesAt e.set (ways * e.offset + first + done) which address)
-      (run : (w a : ℕ) → LiesAt e.set (ways * e.offset + first + done) w a → IsRun e.set (ways * e.offset + first + done) w a most) where
-    pub turn_some : 0 < size
-    turn_some = omega (arith, less, size_is, some)
-
-    pub turn_size : done + size ≤ long
-    turn_size = omega (arith, less, size_is)
-
-    each : (j : ℕ) → j < size → LiesAt e.set (length e.set * e.offset + (first + done) + j) which (address + j)
-    each j lt =
-        let sum : length e.set * e.offset + first + done + j ≡ length e.set * e.offset + (first + done) + j = omega arith in
-        subst (λ (y : ℕ). LiesAt e.set y which (address + j)) sum
-        (subst (λ (w : ℕ). LiesAt e.set (w * e.offset + first + done + j) which (address + j)) is ((run which address lies).each j (omega (arith, lt, size_is))))
-
-    -- the module has them
-    pub turn_room : (held : Option Images) → HasEnds held own.set → ForSome held (λ source. address + size ≤ length (bytes_in source (object.Contents which)))
-    turn_room held ends =
-        held_room held e.set (length e.set * e.offset + (first + done)) which address size (subst (λ (x : Extent). HasEnds held x.set) (sym view) ends) turn_some each
-
-    -- they are those of the namespace
-    pub turn_is : (held : Option Images) (contents : List (List ℕ)) (part : List ℕ) → Reveals held own.set contents
-        → ((source : Images) → held ≡ Some source → part ≡ take size (drop address (bytes_in source (object.Contents which)))) → part ≡ take size (drop done (drop first (bytes_by own contents)))
-    turn_is held contents part reveals read =
-        let reach : ReachEnds e.set (rows_of contents) = subst (λ (x : Extent). ReachEnds x.set (rows_of contents)) (sym view) reveals.reach in
-        let known : which < length contents = (in_contents e.set contents reach (ways * e.offset + first + done) which address lies).0 in
-        read reveals.source reveals.told
-        ∙ ap (λ (row : List ℕ). take size (drop address row)) (sym (row_held reveals.source contents which reveals.are known))
-        ∙ line_is e contents laid reach (first + done) which address size (omega (arith, turn_size, whole)) turn_some each
-        ∙ ap (λ (x : Extent). take size (drop (first + done) (bytes_by x contents))) view
-        ∙ ap (take size) (ap (λ (k : ℕ). drop k (bytes_by own contents)) (omega arith) ∙ sym (drop-drop done first (bytes_by own contents)))
+  -- they are those of the namespace
+  pub turn_is : (held : Option Images) (contents : List (List ℕ)) (part : List ℕ) → Reveals held e.set contents
+      → ((source : Images) → held ≡ Some source → part ≡ take size (drop address (bytes_in source (object.Contents which)))) → part ≡ take size (drop done (drop first (bytes_by e contents)))
+  turn_is held contents part reveals read =
+      let known : which < length contents = (in_contents e.set contents reveals.reach (raw_byte e (first + done)) which address lies).0 in
+      read reveals.source reveals.told
+      ∙ ap (λ (row : List ℕ). take size (drop address row)) (sym (row_held reveals.source contents which reveals.are known))
+      ∙ line_is e contents laid reveals.reach (first + done) which address size (omega (arith, turn_size, inside)) turn_some each
+      ∙ ap (take size) (ap (λ (k : ℕ). drop k (bytes_by e contents)) (omega arith) ∙ sym (drop-drop done first (bytes_by e contents)))

@@ -7,7 +7,7 @@ use Rattle.nfit_reader.specs.declared.table.Mapping.{Mapping}
 use Rattle.cut_words.specs.WordBytes.{words_in}
 use Rattle.arena_layout.specs.declared.layout.Layout.{Layout}
 use Rattle.image_set.specs.Outline.{contents_in}
-use Rattle.power_cut.specs.Namespace.{ReachEnds, over, words_of}
+use Rattle.power_cut.specs.Namespace.{Namespace, ReachEnds, over, words_of}
 use Rattle.sector_namespaces.specs.View.{rows_of}
 use Rattle.namespace_bytes.specs.Patching.{bytes_by_place}
 
@@ -26,23 +26,12 @@ pub record Reveals (held : Option Images) (set : List Mapping) (contents : List 
 
 -- ---- the namespace
 
--- A set's mappings in order of position; the namespace's address in each mapping, relative to the mapping's start, and its size there in
--- bytes.
-pub record Extent : Type 0 where
-  pub set : List Mapping
-  pub offset : ℕ
-  pub raw : ℕ
-
--- its size, in bytes
-abbrev pub extent_bytes : Extent → ℕ
-extent_bytes e = length e.set * e.raw
-
--- its bytes, by place
-abbrev pub bytes_by : Extent → List (List ℕ) → List ℕ
+-- its bytes, by place; its own modules hold nothing
+abbrev pub bytes_by : Namespace → List (List ℕ) → List ℕ
 bytes_by e contents = bytes_by_place e.set e.offset e.raw contents
 
 -- its words
-abbrev pub words_by : Extent → List (List ℕ) → List ℕ
+abbrev pub words_by : Namespace → List (List ℕ) → List ℕ
 words_by e contents = (words_of (over e.set e.offset e.raw (rows_of contents))).kept
 
 -- ---- its arenas

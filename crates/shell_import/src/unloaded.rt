@@ -12,14 +12,14 @@ ghost use Rattle.interleave.specs.Places.{unit_of};
 ghost use Rattle.interleave.specs.Sound.{span_of};
 ghost use Rattle.sector_namespaces.specs.Changing.{IsFinding};
 ghost use Rattle.sector_namespaces.specs.View.{opened_view, rows_of};
-ghost use Rattle.power_cut.specs.Namespace.{over, words_of};
+ghost use Rattle.power_cut.specs.Namespace.{over, raw_bytes, words_of};
 ghost use Rattle.namespace_bytes.specs.Putting.{AreAll, Linked};
 ghost use Rattle.namespace_bytes.specs.Patching.{bytes_by_place};
 ghost use Rattle.namespace_bytes.specs.SectorBytes.{HaveMapsOfBytes};
 ghost use Rattle.namespace_bytes.specs.SectorPut.{AreSized, HasBlocks};
-ghost use Rattle.shell_import.specs.Unloaded.{AreBytesOf, HasEnds, IsMapOfBytes, Reveals, bytes_by, extent_bytes, map_bytes, words_by};
+ghost use Rattle.shell_import.specs.Unloaded.{AreBytesOf, HasEnds, IsMapOfBytes, Reveals, bytes_by, map_bytes, words_by};
 
-use crate::extent::Extent;
+use crate::extent::read_extent;
 use arena_layout::{Info, InfoFault, Layout, read_info};
 use arena_open::{ChainRefused, OpenRefused, Opened, decode_arena};
 use flog::{Group, read_group};
@@ -30,27 +30,28 @@ use namespace_areas::first_arena;
 use namespace_bytes::ArenaAt;
 use nvd_media::{Failed, ImageSource};
 use nvd_words::{Items, word_at};
+use power_cut::SetExtent;
 use std::alloc::{AllocError, Global};
 use uuid::Uuid;
 
 /// Reads the info block of the arena whose first word is `at`.
 fn read_info_at<S: ImageSource>(
     images: &mut S,
-    extent: &Extent<'_>,
+    extent: &SetExtent<'_>,
     at: u64,
     parent: &Uuid,
 ) -> Result<Result<Info, InfoFault>, Failed>
-    requires pages { extent_bytes extent.now % 4096 ≡ 0 }
-    requires inside { 8 * at + 4096 ≤ extent_bytes extent.now }
+    requires pages { raw_bytes extent.now % 4096 ≡ 0 }
+    requires inside { 8 * at + 4096 ≤ raw_bytes extent.now }
     requires there { HasEnds (S.held images.old) extent.now.set }
     ensures told { (contents : List (List ℕ)) → Reveals (S.held images.old) extent.now.set contents → IfOk result (λ info. info ≡ info_reading (info_bytes (drop at (words_by extent.now contents))) parent.now (8 * length (drop at (words_by extent.now contents)))) }
-    ensures sound { IfOk result (λ info. IfOk info (IsArenaOf parent.now (extent_bytes extent.now - 8 * at))) }
+    ensures sound { IfOk result (λ info. IfOk info (IsArenaOf parent.now (raw_bytes extent.now - 8 * at))) }
     ensures same { S.held images.new ≡ S.held images.old }
     ensures cause { HasCause (S.faults images.old) (S.faults images.new) result }
 {
     let rest = extent.bytes() - 8 * at;
     let mut bytes = [0; 4096];
-    extent.read(images, 8 * at, &mut bytes)?;
+    read_extent(images, extent, 8 * at, &mut bytes)?;
     Ok(read_info(&bytes, parent, rest))
 }
 
@@ -104,13 +105,13 @@ fn groups_of(alloc: Global, log: &[u8], layout: &Layout) -> Result<Items<Group>,
 fn read_log<S: ImageSource>(
     alloc: Global,
     images: &mut S,
-    extent: &Extent<'_>,
+    extent: &SetExtent<'_>,
     at: u64,
     layout: &Layout,
 ) -> Result<Result<Items<Group>, OpenRefused>, Failed>
     requires layout { IsLayout layout.now }
-    requires few { extent_bytes extent.now ≤ 2 ^ 55 }
-    requires inside { 8 * at + layout.now.size ≤ extent_bytes extent.now }
+    requires few { raw_bytes extent.now ≤ 2 ^ 55 }
+    requires inside { 8 * at + layout.now.size ≤ raw_bytes extent.now }
     requires there { HasEnds (S.held images.old) extent.now.set }
     ensures told { (contents : List (List ℕ)) → Reveals (S.held images.old) extent.now.set contents → IfOk result (λ groups. Answers OpenRefused.OutOfMemory groups (groups_in layout.now (drop at (words_by extent.now contents)))) }
     ensures in_range { IfOk result (λ groups. IfOk groups (AreInRange layout.now.external)) }
@@ -122,7 +123,7 @@ fn read_log<S: ImageSource>(
         return Ok(Err(OpenRefused::OutOfMemory));
     };
     let log = room.as_mut_slice();
-    extent.read(images, 8 * at + layout.flog_off, log)?;
+    read_extent(images, extent, 8 * at + layout.flog_off, log)?;
     Ok(groups_of(alloc, log, layout))
 }
 
@@ -151,13 +152,13 @@ fn entries_of(alloc: Global, map: &[u8], layout: &Layout) -> Result<Vec<u32>, Al
 fn read_map<S: ImageSource>(
     alloc: Global,
     images: &mut S,
-    extent: &Extent<'_>,
+    extent: &SetExtent<'_>,
     at: u64,
     layout: &Layout,
 ) -> Result<Result<Vec<u32>, AllocError>, Failed>
     requires layout { IsLayout layout.now }
-    requires few { extent_bytes extent.now ≤ 2 ^ 55 }
-    requires inside { 8 * at + layout.now.size ≤ extent_bytes extent.now }
+    requires few { raw_bytes extent.now ≤ 2 ^ 55 }
+    requires inside { 8 * at + layout.now.size ≤ raw_bytes extent.now }
     requires there { HasEnds (S.held images.old) extent.now.set }
     ensures told { (contents : List (List ℕ)) → Reveals (S.held images.old) extent.now.set contents → IfOk result (λ entries. IfOk entries (λ entries. entries.items ≡ map_in layout.now (drop at (words_by extent.now contents)))) }
     ensures count { IfOk result (λ entries. IfOk entries (λ entries. length entries.items ≡ layout.now.external)) }
@@ -170,7 +171,7 @@ fn read_map<S: ImageSource>(
         return Ok(Err(AllocError));
     };
     let map = room.as_mut_slice();
-    extent.read(images, 8 * at + layout.map_off, map)?;
+    read_extent(images, extent, 8 * at + layout.map_off, map)?;
     Ok(entries_of(alloc, map, layout))
 }
 
@@ -182,16 +183,16 @@ fn read_map<S: ImageSource>(
 fn read_arena_from<S: ImageSource>(
     alloc: Global,
     images: &mut S,
-    extent: &Extent<'_>,
+    extent: &SetExtent<'_>,
     at: u64,
     parent: &Uuid,
 ) -> Result<Result<Opened, OpenRefused>, Failed>
-    requires few { extent_bytes extent.now ≤ 2 ^ 55 }
-    requires pages { extent_bytes extent.now % 4096 ≡ 0 }
-    requires inside { 8 * at + 4096 ≤ extent_bytes extent.now }
+    requires few { raw_bytes extent.now ≤ 2 ^ 55 }
+    requires pages { raw_bytes extent.now % 4096 ≡ 0 }
+    requires inside { 8 * at + 4096 ≤ raw_bytes extent.now }
     requires there { HasEnds (S.held images.old) extent.now.set }
     ensures told { (contents : List (List ℕ)) → Reveals (S.held images.old) extent.now.set contents → IfOk result (λ opened. Answers OpenRefused.OutOfMemory opened (opening (drop at (words_by extent.now contents)) parent.now)) }
-    ensures sound { IfOk result (λ opened. IfOk opened (λ opened. IsArenaOf parent.now (extent_bytes extent.now - 8 * at) opened.info)) }
+    ensures sound { IfOk result (λ opened. IfOk opened (λ opened. IsArenaOf parent.now (raw_bytes extent.now - 8 * at) opened.info)) }
     ensures running { IfOk result (λ opened. opened ≢ Err OpenRefused.PowerCut) }
     ensures blocks { IfOk result (λ opened. IfOk opened (λ opened. HasBlocks (record { at = at; opened = opened }))) }
     ensures bytes { (contents : List (List ℕ)) → Reveals (S.held images.old) extent.now.set contents → IfOk result (λ opened. IfOk opened (λ opened. IsMapOfBytes (bytes_by extent.now contents) at opened.info.layout)) }
@@ -216,14 +217,14 @@ fn read_arena_from<S: ImageSource>(
 fn read_chain_from<S: ImageSource>(
     alloc: Global,
     images: &mut S,
-    extent: &Extent<'_>,
+    extent: &SetExtent<'_>,
     first: u64,
     parent: &Uuid,
 ) -> Result<Result<Items<ArenaAt>, ChainRefused>, Failed>
     requires from { first % 512 ≡ 0 }
-    requires to { extent_bytes extent.now % 4096 ≡ 0 }
-    requires inside { 8 * first < extent_bytes extent.now }
-    requires small { extent_bytes extent.now ≤ 2 ^ 55 }
+    requires to { raw_bytes extent.now % 4096 ≡ 0 }
+    requires inside { 8 * first < raw_bytes extent.now }
+    requires small { raw_bytes extent.now ≤ 2 ^ 55 }
     requires there { HasEnds (S.held images.old) extent.now.set }
     ensures read { (contents : List (List ℕ)) → Reveals (S.held images.old) extent.now.set contents → IfOk result (λ found. IfOk found (λ links. Ok (map (state_at (words_by extent.now contents)) links) ≡ chain_answer None (words_by extent.now contents) parent.now first)) }
     ensures linked { (contents : List (List ℕ)) → Reveals (S.held images.old) extent.now.set contents → IfOk result (λ found. IfOk found (Linked (words_by extent.now contents) parent.now first)) }
@@ -291,7 +292,7 @@ pub fn read_arenas_from<S: ImageSource>(
     ensures same { S.held images.new ≡ S.held images.old }
     ensures cause { HasCause (S.faults images.old) (S.faults images.new) result }
 {
-    let extent = Extent::of(set, offset, raw);
+    let extent = SetExtent::of(set, offset, raw);
     if extent.bytes() == 0 {
         return Ok(Err(ChainRefused {
             arena: 0,

@@ -4,7 +4,8 @@ use Rattle.arena_layout.specs.Info.{IsArenaOf, info_reading}
 use Rattle.arena_open.specs.declared.refused.OpenRefused.TheVariants as refused
 use Rattle.arena_open.specs.Reading.{groups_in, info_bytes, map_in, on_map}
 use Rattle.arena_open.proofs.Opening.{lanes_refused, opening_info, opening_map}
-use Rattle.shell_import.specs.Unloaded.{IsMapOfBytes, Reveals, bytes_by, extent_bytes, words_by}
+use Rattle.power_cut.specs.Namespace.{raw_bytes}
+use Rattle.shell_import.specs.Unloaded.{IsMapOfBytes, Reveals, bytes_by, words_by}
 use Rattle.shell_import.proofs.HeldArenas.{answered_ok, blocks_found, decoded_with, ok_holds}
 use Rattle.shell_import.proofs.unloaded.read_arena_from.Goals as goal
 
@@ -32,8 +33,8 @@ returns-in-Ok-3-clause-told g c = λ contents reveals not_memory.
 
 pub returns-in-Ok-3-clause-sound : goal.returns-in-Ok-3-clause-sound
 returns-in-Ok-3-clause-sound g c =
-    decoded_with (IsArenaOf c.args.parent.now (extent_bytes c.args.extent.now - 8 * c.args.at)) c.in-Ok.info c.in-Ok-2.groups c.in-Ok-3.entries.items c.decode_arena.result c.decode_arena.ensures
-    (ok_holds (IsArenaOf c.args.parent.now (extent_bytes c.args.extent.now - 8 * c.args.at)) c.in_ok-info.field-0 c.in-Ok.info c.in-Ok.is c.in_ok-info.ensures.sound)
+    decoded_with (IsArenaOf c.args.parent.now (raw_bytes c.args.extent.now - 8 * c.args.at)) c.in-Ok.info c.in-Ok-2.groups c.in-Ok-3.entries.items c.decode_arena.result c.decode_arena.ensures
+    (ok_holds (IsArenaOf c.args.parent.now (raw_bytes c.args.extent.now - 8 * c.args.at)) c.in_ok-info.field-0 c.in-Ok.info c.in-Ok.is c.in_ok-info.ensures.sound)
 
 pub returns-in-Ok-3-clause-bytes : goal.returns-in-Ok-3-clause-bytes
 returns-in-Ok-3-clause-bytes g c = λ contents reveals.
@@ -44,7 +45,7 @@ returns-in-Ok-3-clause-bytes g c = λ contents reveals.
 
 pub returns-in-Ok-3-clause-blocks : goal.returns-in-Ok-3-clause-blocks
 returns-in-Ok-3-clause-blocks g c =
-    blocks_found c.args.at (extent_bytes c.args.extent.now) c.args.parent.now c.in-Ok.info c.in-Ok-2.groups c.in-Ok-3.entries.items c.decode_arena.result c.decode_arena.ensures
-    (ok_holds (IsArenaOf c.args.parent.now (extent_bytes c.args.extent.now - 8 * c.args.at)) c.in_ok-info.field-0 c.in-Ok.info c.in-Ok.is c.in_ok-info.ensures.sound)
+    blocks_found c.args.at (raw_bytes c.args.extent.now) c.args.parent.now c.in-Ok.info c.in-Ok-2.groups c.in-Ok-3.entries.items c.decode_arena.result c.decode_arena.ensures
+    (ok_holds (IsArenaOf c.args.parent.now (raw_bytes c.args.extent.now - 8 * c.args.at)) c.in_ok-info.field-0 c.in-Ok.info c.in-Ok.is c.in_ok-info.ensures.sound)
     (ok_holds (λ es. length es.items ≡ c.in-Ok.info.layout.external) c.in_ok-entries.field-0 c.in-Ok-3.entries c.in-Ok-3.is c.in_ok-entries.ensures.count)
     (omega (arith, c.requires.inside)) c.requires.few

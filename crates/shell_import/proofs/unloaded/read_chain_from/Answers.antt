@@ -12,7 +12,8 @@ use Rattle.arena_open.proofs.ChainInPlace.{ReadSoFar, read_last, read_on, read_r
 use Rattle.namespace_bytes.specs.Putting.{Linked, link_bytes}
 use Rattle.namespace_bytes.specs.SectorBytes.{HaveMapsOfBytes}
 use Rattle.namespace_bytes.specs.SectorPut.{HasBlocks}
-use Rattle.shell_import.specs.Unloaded.{IsMapOfBytes, Reveals, bytes_by, extent_bytes, words_by}
+use Rattle.power_cut.specs.Namespace.{raw_bytes}
+use Rattle.shell_import.specs.Unloaded.{IsMapOfBytes, Reveals, bytes_by, words_by}
 use Rattle.namespace_bytes.proofs.Sizes.{joined_linked}
 use Rattle.shell_import.proofs.HeldArenas.{Follows, answered_err, answered_ok, blocks_more, follows, links_long, maps_more, ok_holds, sum_next}
 use Rattle.shell_import.proofs.HeldBytes.{words_long}
@@ -78,9 +79,9 @@ returns-then-next-eq0-clause-sized g c =
     c.from_vec.ensures ∙ c.push_reserved.ensures.items ∙ ap (λ (ls : List Link). ls ++ c.new.result ∷ []) c.reserve.ensures.items ∙ ap (λ (link : Link). c.arenas.arenas.items ++ link ∷ []) c.new.ensures in
     let blocks : HasBlocks (record { at = c.arenas.at; opened = c.in-Ok.opened }) =
     ok_holds (λ (o : Opened). HasBlocks (record { at = c.arenas.at; opened = o })) c.in_ok-opened.field-0 c.in-Ok.opened c.in-Ok.is c.in_ok-opened.ensures.blocks in
-    let sound : IsArenaOf c.args.parent.now (extent_bytes c.args.extent.now - 8 * c.arenas.at) c.in-Ok.opened.info =
-    ok_holds (λ (o : Opened). IsArenaOf c.args.parent.now (extent_bytes c.args.extent.now - 8 * c.arenas.at) o.info) c.in_ok-opened.field-0 c.in-Ok.opened c.in-Ok.is c.in_ok-opened.ensures.sound in
-    let fits = (sum_next (extent_bytes c.args.extent.now) c.arenas.at c.args.parent.now c.arenas.arenas.items c.from_vec.result c.in-Ok.opened links_are sound (omega (arith, c.arenas.invariant.inside)) c.arenas.invariant.sum).0 in
+    let sound : IsArenaOf c.args.parent.now (raw_bytes c.args.extent.now - 8 * c.arenas.at) c.in-Ok.opened.info =
+    ok_holds (λ (o : Opened). IsArenaOf c.args.parent.now (raw_bytes c.args.extent.now - 8 * c.arenas.at) o.info) c.in_ok-opened.field-0 c.in-Ok.opened c.in-Ok.is c.in_ok-opened.ensures.sound in
+    let fits = (sum_next (raw_bytes c.args.extent.now) c.arenas.at c.args.parent.now c.arenas.arenas.items c.from_vec.result c.in-Ok.opened links_are sound (omega (arith, c.arenas.invariant.inside)) c.arenas.invariant.sum).0 in
     record {
       each = subst (λ (ls : List Link). All HasBlocks ls) (sym links_are) (blocks_more c.arenas.arenas.items (record { at = c.arenas.at; opened = c.in-Ok.opened }) c.arenas.invariant.each blocks);
       small = omega (arith, fits, c.requires.small);
@@ -88,20 +89,20 @@ returns-then-next-eq0-clause-sized g c =
 
 pub arenas-smaller : goal.arenas-smaller
 arenas-smaller g c =
-    let sound : IsArenaOf c.args.parent.now (extent_bytes c.args.extent.now - 8 * c.arenas.at) c.in-Ok.opened.info =
-    ok_holds (λ (o : Opened). IsArenaOf c.args.parent.now (extent_bytes c.args.extent.now - 8 * c.arenas.at) o.info) c.in_ok-opened.field-0 c.in-Ok.opened c.in-Ok.is c.in_ok-opened.ensures.sound in
-    let next : Follows (extent_bytes c.args.extent.now) c.arenas.at c.in-Ok.opened.info.next =
-    follows (extent_bytes c.args.extent.now) c.arenas.at c.args.parent.now c.in-Ok.opened.info c.requires.to c.arenas.invariant.whole (omega (arith, c.arenas.invariant.inside)) sound c.if-next-eq0.false in
+    let sound : IsArenaOf c.args.parent.now (raw_bytes c.args.extent.now - 8 * c.arenas.at) c.in-Ok.opened.info =
+    ok_holds (λ (o : Opened). IsArenaOf c.args.parent.now (raw_bytes c.args.extent.now - 8 * c.arenas.at) o.info) c.in_ok-opened.field-0 c.in-Ok.opened c.in-Ok.is c.in_ok-opened.ensures.sound in
+    let next : Follows (raw_bytes c.args.extent.now) c.arenas.at c.in-Ok.opened.info.next =
+    follows (raw_bytes c.args.extent.now) c.arenas.at c.args.parent.now c.in-Ok.opened.info c.requires.to c.arenas.invariant.whole (omega (arith, c.arenas.invariant.inside)) sound c.if-next-eq0.false in
     omega (arith, next.whole, next.large, next.inside)
 
 pub arenas-preserved : goal.arenas-preserved
 arenas-preserved g c =
     let links_are : c.push_reserved.new.self.items ≡ c.arenas.arenas.items ++ record { at = c.arenas.at; opened = c.in-Ok.opened } ∷ [] =
     c.push_reserved.ensures.items ∙ ap (λ (ls : List Link). ls ++ c.new.result ∷ []) c.reserve.ensures.items ∙ ap (λ (link : Link). c.arenas.arenas.items ++ link ∷ []) c.new.ensures in
-    let sound : IsArenaOf c.args.parent.now (extent_bytes c.args.extent.now - 8 * c.arenas.at) c.in-Ok.opened.info =
-    ok_holds (λ (o : Opened). IsArenaOf c.args.parent.now (extent_bytes c.args.extent.now - 8 * c.arenas.at) o.info) c.in_ok-opened.field-0 c.in-Ok.opened c.in-Ok.is c.in_ok-opened.ensures.sound in
-    let next : Follows (extent_bytes c.args.extent.now) c.arenas.at c.in-Ok.opened.info.next =
-    follows (extent_bytes c.args.extent.now) c.arenas.at c.args.parent.now c.in-Ok.opened.info c.requires.to c.arenas.invariant.whole (omega (arith, c.arenas.invariant.inside)) sound c.if-next-eq0.false in
+    let sound : IsArenaOf c.args.parent.now (raw_bytes c.args.extent.now - 8 * c.arenas.at) c.in-Ok.opened.info =
+    ok_holds (λ (o : Opened). IsArenaOf c.args.parent.now (raw_bytes c.args.extent.now - 8 * c.arenas.at) o.info) c.in_ok-opened.field-0 c.in-Ok.opened c.in-Ok.is c.in_ok-opened.ensures.sound in
+    let next : Follows (raw_bytes c.args.extent.now) c.arenas.at c.in-Ok.opened.info.next =
+    follows (raw_bytes c.args.extent.now) c.arenas.at c.args.parent.now c.in-Ok.opened.info c.requires.to c.arenas.invariant.whole (omega (arith, c.arenas.invariant.inside)) sound c.if-next-eq0.false in
     let blocks : HasBlocks (record { at = c.arenas.at; opened = c.in-Ok.opened }) =
     ok_holds (λ (o : Opened). HasBlocks (record { at = c.arenas.at; opened = o })) c.in_ok-opened.field-0 c.in-Ok.opened c.in-Ok.is c.in_ok-opened.ensures.blocks in
     record {
@@ -109,7 +110,7 @@ arenas-preserved g c =
       inside = omega (arith, next.whole, next.inside);
       ahead = omega (arith, next.large, c.arenas.invariant.ahead, links_long c.arenas.arenas.items c.push_reserved.new.self.items c.arenas.at c.in-Ok.opened links_are);
       each = subst (λ (ls : List Link). All HasBlocks ls) (sym links_are) (blocks_more c.arenas.arenas.items (record { at = c.arenas.at; opened = c.in-Ok.opened }) c.arenas.invariant.each blocks);
-      sum = (sum_next (extent_bytes c.args.extent.now) c.arenas.at c.args.parent.now c.arenas.arenas.items c.push_reserved.new.self.items c.in-Ok.opened links_are sound (omega (arith, c.arenas.invariant.inside)) c.arenas.invariant.sum).1
+      sum = (sum_next (raw_bytes c.args.extent.now) c.arenas.at c.args.parent.now c.arenas.arenas.items c.push_reserved.new.self.items c.in-Ok.opened links_are sound (omega (arith, c.arenas.invariant.inside)) c.arenas.invariant.sum).1
           c.if-next-eq0.false;
       same = c.in_ok-opened.ensures.same ∙ c.arenas.invariant.same;
       later = omega (arith, c.in_ok-opened.ensures.cause.later, c.arenas.invariant.later);

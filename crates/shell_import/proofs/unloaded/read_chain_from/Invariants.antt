@@ -4,14 +4,15 @@ use Rattle.std.specs.List.{All}
 use Rattle.arena_open.proofs.ChainInPlace.{ReadSoFar}
 use Rattle.namespace_bytes.specs.SectorBytes.{HaveMapsOfBytes}
 use Rattle.namespace_bytes.specs.SectorPut.{HasBlocks}
-use Rattle.shell_import.specs.Unloaded.{Reveals, bytes_by, extent_bytes, words_by}
+use Rattle.power_cut.specs.Namespace.{raw_bytes}
+use Rattle.shell_import.specs.Unloaded.{Reveals, bytes_by, words_by}
 use Rattle.namespace_bytes.specs.Putting.{link_bytes}
 use Rattle.shell_import.proofs.unloaded.read_chain_from.Given as goal
 
 abbrev pub invariant-arenas : goal.invariant-arenas
 invariant-arenas g l = record {
   whole : l.at % 512 ≡ 0;
-  inside : 8 * l.at + 4096 ≤ extent_bytes l.extent;
+  inside : 8 * l.at + 4096 ≤ raw_bytes l.extent;
   ahead : 2097152 * length l.arenas.items + l.first ≤ l.at;
   each : All HasBlocks l.arenas.items;
   sum : sum_by link_bytes l.arenas.items ≤ 8 * l.at;
@@ -23,4 +24,4 @@ invariant-arenas g l = record {
 }
 
 abbrev pub decreases-arenas : goal.decreases-arenas
-decreases-arenas g l = extent_bytes l.extent - 8 * l.at
+decreases-arenas g l = raw_bytes l.extent - 8 * l.at

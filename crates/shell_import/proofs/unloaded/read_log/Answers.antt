@@ -7,7 +7,7 @@ pub returns-clause-told : goal.returns-clause-told
 returns-clause-told g c = λ contents reveals.
     let whole : c.args.layout.now.flog_off % 8 ≡ 0 = omega (arith, c.requires.layout.flog_whole) in
     c.groups_of.ensures.told (drop c.args.at (words_by c.args.extent.now contents))
-    (area_words (words_by c.args.extent.now contents) c.args.at c.args.layout.now.flog_off c.read.new.into whole (c.in_ok-read.ensures.words contents reveals (omega (arith, whole))))
+    (area_words (words_by c.args.extent.now contents) c.args.at c.args.layout.now.flog_off c.read_extent.new.into whole (c.in_ok-read_extent.ensures.words contents reveals (omega (arith, whole))))
 
 pub returns-clause-in_range : goal.returns-clause-in_range
-returns-clause-in_range g c = groups_in_range c.args.layout.now c.read.new.into c.groups_of.result c.requires.layout c.groups_of.ensures.told
+returns-clause-in_range g c = groups_in_range c.args.layout.now c.read_extent.new.into c.groups_of.result c.requires.layout c.groups_of.ensures.told

@@ -1,6 +1,6 @@
 use Rattle.std.proofs.Common.{◌≡◌, ◌≤◌, ◌-◌, List, ℕ, length, take, drop}
 use Rattle.shell_import.specs.Unloaded.{Reveals, bytes_by}
-use Rattle.shell_import.proofs.extent.Extent.read.Given as goal
+use Rattle.shell_import.proofs.extent.read_extent.Given as goal
 
 abbrev pub invariant-loop-done : goal.invariant-loop-done
 invariant-loop-done g l = record {
@@ -8,7 +8,7 @@ invariant-loop-done g l = record {
   count : length l.into ≡ length l.fn.into;
   same : g.S.ImageSource.held l.images ≡ g.S.ImageSource.held l.fn.images;
   later : g.S.ImageSource.faults l.fn.images ≤ g.S.ImageSource.faults l.images;
-  front : (contents : List (List ℕ)) → Reveals (g.S.ImageSource.held l.fn.images) l.self.set contents → take l.done l.into ≡ take l.done (drop l.first (bytes_by l.self contents));
+  front : (contents : List (List ℕ)) → Reveals (g.S.ImageSource.held l.fn.images) l.extent.set contents → take l.done l.into ≡ take l.done (drop l.first (bytes_by l.extent contents));
 }
 
 abbrev pub decreases-loop-done : goal.decreases-loop-done
