@@ -33,7 +33,7 @@ use Rattle.session_script.specs.declared.script.Order.TheVariants as order
 use Rattle.session_account.specs.declared.reply.Reply.TheVariants as reply
 use Rattle.session_account.specs.Orders.{entry, InJournal}
 use Rattle.session_account.specs.Journal.{IsJournal, AreLeft}
-use Rattle.session_account.specs.Recovered.{LeftRecovers, recovered}
+use Rattle.session_account.specs.Recovered.{LeftRecovers, recovered_namespaces}
 use Rattle.session_account.specs.Words.{AreasHold}
 
 abbrev pair_mapping : ℕ → ℕ → ℕ → Mapping
@@ -118,7 +118,7 @@ abbrev renamed_by : ℕ → List (Option Area)
 renamed_by steps = after_steps made (changes_of (namespaces_of sets made) made rename_b) steps true
 
 -- after the first of them recovery leads back to the old name
-same_before : recovered sets (renamed_by 200) ≡ recovered sets made
+same_before : recovered_namespaces sets (renamed_by 200) ≡ recovered_namespaces sets made
 unfolding after_steps steps_of_all all_changed put_all put status_of first_fault checked by_position by_position_with taken_from given_to unfinished_gone
 same_before = refl
 
@@ -129,17 +129,17 @@ to_before = inl same_before
 abbrev statuses : Namespaces → List SetStatus
 statuses ns = map (λ (e : NamespaceEntry). e.status) ns.entries
 
-pub names_before : statuses (recovered sets (renamed_by 200)) ≡ Complete (codes "a") false ∷ []
+pub names_before : statuses (recovered_namespaces sets (renamed_by 200)) ≡ Complete (codes "a") false ∷ []
 unfolding after_steps steps_of_all all_changed put_all put status_of first_fault checked by_position by_position_with taken_from given_to unfinished_gone
 names_before = refl
 
 -- after the second it leads on to the new one
-pub names_after : statuses (recovered sets (renamed_by 300)) ≡ Complete (codes "b") false ∷ []
+pub names_after : statuses (recovered_namespaces sets (renamed_by 300)) ≡ Complete (codes "b") false ∷ []
 unfolding after_steps steps_of_all all_changed put_all put status_of first_fault checked by_position by_position_with taken_from given_to unfinished_gone
 names_after = refl
 
 -- the exception: a delete that begins while the rename is pending, and is cut after two changes, leaves two names, which recovery keeps
-pub names_differ : statuses (recovered sets (after_steps (renamed_by 200) (changes_of (namespaces_of sets (renamed_by 200)) (renamed_by 200) (command.Delete u)) 300 true)) ≡ Incomplete (Differs Names) ∷ []
+pub names_differ : statuses (recovered_namespaces sets (after_steps (renamed_by 200) (changes_of (namespaces_of sets (renamed_by 200)) (renamed_by 200) (command.Delete u)) 300 true)) ≡ Incomplete (Differs Names) ∷ []
 unfolding after_steps steps_of_all all_changed put_all put status_of first_fault checked by_position by_position_with taken_from given_to unfinished_gone
 names_differ = refl
 

@@ -31,7 +31,7 @@ use Rattle.namespace_laws.proofs.Standing as st
 use Rattle.namespace_ops.specs.Entries.{JournalEntry}
 use Rattle.namespace_ops.specs.Replay.{Kept, kept_by, namespaces_with}
 use Rattle.session_account.specs.Journal.{AreLeft, IsCutIn, kept_with, refusal_at, steps_at, steps_by}
-use Rattle.session_account.specs.Recovered.{IsOnPending, JournalsRecover, LeftRecovers, recovered}
+use Rattle.session_account.specs.Recovered.{IsOnPending, JournalsRecover, LeftRecovers, recovered_namespaces}
 use Rattle.session_account.proofs.Labels.{allowed_here, changes_same, puts_bytes}
 
 -- of one label the changes are one: it is made, or not
@@ -131,13 +131,13 @@ module _ (sets : List (List Mapping)) (regions : AreRegions sets) (areas : List 
 
   abbrev Recovers : Command → List (Option Area) → Type 0
   Recovers c left =
-      (recovered sets left ≡ recovered sets areas)
-      ⊎ (recovered sets left ≡ recovered sets (all_changed areas (cs c)))
+      (recovered_namespaces sets left ≡ recovered_namespaces sets areas)
+      ⊎ (recovered_namespaces sets left ≡ recovered_namespaces sets (all_changed areas (cs c)))
       ⊎ IsOnPending c ns (namespaces_of sets left)
 
   recovers : (c : Command) → refusal_of ns c ≡ None → (n : ℕ) (stays : Bool) → Recovers c (after_steps areas (cs c) n stays)
   recovers c none n stays =
-      let now : recovered sets (after_steps areas (cs c) n stays) ≡ after_recovery (namespaces_of sets (after_steps areas (cs c) n stays)) =
+      let now : recovered_namespaces sets (after_steps areas (cs c) n stays) ≡ after_recovery (namespaces_of sets (after_steps areas (cs c) n stays)) =
       recovery_agrees sets (after_steps areas (cs c) n stays) regions (cut_read c none n stays) in
       elim (to_either c none n stays) [
         | inl before ↦ inl (now ∙ before ∙ sym (recovery_agrees sets areas regions read))
@@ -162,8 +162,8 @@ module _ (sets : List (List Mapping)) (regions : AreRegions sets) where
   -- a cut comes in a command that isn't refused
   abbrev RecoversBy : Kept → JournalEntry → Option OpRefused → List (Option Area) → Type 0
   RecoversBy k e r left =
-      (recovered sets left ≡ recovered sets k.areas)
-      ⊎ (recovered sets left ≡ recovered sets (kept_by sets k e.command r).areas)
+      (recovered_namespaces sets left ≡ recovered_namespaces sets k.areas)
+      ⊎ (recovered_namespaces sets left ≡ recovered_namespaces sets (kept_by sets k e.command r).areas)
       ⊎ IsOnPending e.command (namespaces_of sets k.areas) (namespaces_of sets left)
 
   cut_recovers : (k : Kept) (fuse : Option ℕ) (e : JournalEntry) (left : List (Option Area)) (r : Option OpRefused) → refusal_at sets k e ≡ r → lasts fuse (steps_by sets k e r) ≡ false → LabelsAreRead k.areas
@@ -172,12 +172,12 @@ module _ (sets : List (List Mapping)) (regions : AreRegions sets) where
   cut_recovers k (Some n) e left (Some f) is short read cut = absurd (true≢false (sym (le-leb 0 n (omega arith)) ∙ short))
   cut_recovers k (Some n) e left None is short read (steps, spent, by) =
       let same = changes_same sets k.areas k.claims e.command in
-      subst (λ (xs : List Change). (recovered sets left ≡ recovered sets k.areas) ⊎ (recovered sets left ≡ recovered sets (all_changed k.areas xs)) ⊎ IsOnPending e.command (namespaces_of sets k.areas) (namespaces_of sets left)) (sym same)
+      subst (λ (xs : List Change). (recovered_namespaces sets left ≡ recovered_namespaces sets k.areas) ⊎ (recovered_namespaces sets left ≡ recovered_namespaces sets (all_changed k.areas xs)) ⊎ IsOnPending e.command (namespaces_of sets k.areas) (namespaces_of sets left)) (sym same)
       (left_recovers sets regions k.areas read e.command (allowed_here sets k.areas k.claims e.command is) steps left (subst (λ (xs : List Change). IsLeftBy k.areas xs steps left) same by))
 
   journal_recovers : (journal : List JournalEntry) (k : Kept) (fuse : Option ℕ) (left : List (Option Area)) → LabelsAreRead k.areas → AreLeft sets k fuse journal left → LeftRecovers sets k fuse journal left
   unfolding AreLeft LeftRecovers
-  journal_recovers [] k fuse left read is = ap (recovered sets) is
+  journal_recovers [] k fuse left read is = ap (recovered_namespaces sets) is
   journal_recovers (e ∷ es) k fuse left read is =
       by_power (lasts fuse (steps_at sets k e)) refl
       (journal_recovers es (kept_with sets k e) (burnt fuse (steps_at sets k e)) left (read_after k e.command (refusal_at sets k e) refl read)) is

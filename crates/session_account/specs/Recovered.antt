@@ -14,8 +14,8 @@ use Rattle.namespace_ops.specs.Replay.{Kept}
 use Rattle.session_account.specs.Journal.{AreLeft, kept_with, steps_at}
 
 -- the namespaces of areas once they are recovered
-abbrev pub recovered : List (List Mapping) → List (Option Area) → Namespaces
-recovered sets areas = namespaces_of sets (recovered_areas sets areas)
+abbrev pub recovered_namespaces : List (List Mapping) → List (Option Area) → Namespaces
+recovered_namespaces sets areas = namespaces_of sets (recovered_areas sets areas)
 
 -- ---- a command that was cut
 
@@ -37,15 +37,15 @@ IsOnPending c before left = ⊥
 -- recovered, the areas after the cut have the namespaces from before the command, or those from after it
 abbrev pub CutRecovers : List (List Mapping) → Kept → JournalEntry → List (Option Area) → Type 0
 CutRecovers sets k e left =
-    (recovered sets left ≡ recovered sets k.areas)
-    ⊎ (recovered sets left ≡ recovered sets (kept_with sets k e).areas)
+    (recovered_namespaces sets left ≡ recovered_namespaces sets k.areas)
+    ⊎ (recovered_namespaces sets left ≡ recovered_namespaces sets (kept_with sets k e).areas)
     ⊎ IsOnPending e.command (namespaces_of sets k.areas) (namespaces_of sets left)
 
 -- ---- a journal
 
 -- recovered, the areas at its end have the namespaces that its commands made; or, if one was cut, those from before or after that one
 unfoldable pub LeftRecovers : List (List Mapping) → Kept → Option ℕ → List JournalEntry → List (Option Area) → Type 0
-LeftRecovers sets k fuse [] left = recovered sets left ≡ recovered sets k.areas
+LeftRecovers sets k fuse [] left = recovered_namespaces sets left ≡ recovered_namespaces sets k.areas
 LeftRecovers sets k fuse (e ∷ es) left =
     MatchBool (lasts fuse (steps_at sets k e))
     (LeftRecovers sets (kept_with sets k e) (burnt fuse (steps_at sets k e)) es left)
