@@ -34,7 +34,7 @@ use Rattle.sector_service.specs.Calls.{IsLeft, IsWrite, Paid, answered, within}
 use Rattle.sector_service.specs.Rows.{Parts, with_part}
 use Rattle.sector_service.specs.Served.{shape_of}
 use Rattle.sector_service.proofs.Sessions.{with_other, with_same}
-use Rattle.session_service.specs.declared.finding.Found.{Found}
+use Rattle.session_service.specs.declared.finding.FoundSector.{FoundSector}
 use Rattle.session_service.specs.Namespaces.{IsFound, core_at, shape_by}
 use Rattle.session_service.specs.Runners.{Standing, calls_by, stands_by}
 use Rattle.session_service.proofs.Cores.{core_apart}
@@ -42,7 +42,7 @@ use Rattle.session_service.proofs.Cores.{core_apart}
 both : (a b : ℕ) → ((a == a) && (b == b)) ≡ true
 both a b = (λ i. (eq-eqb a a refl i) && (eq-eqb b b refl i))
 
-module _ (all : List Serving) (held : Option (List ℕ)) (sector : ℕ) (f : Found) (found : IsFound all held sector f) (known : Parts) where
+module _ (all : List Serving) (held : Option (List ℕ)) (sector : ℕ) (f : FoundSector) (found : IsFound all held sector f) (known : Parts) where
   abbrev pub j : ℕ
   j = core_at all found.spot.place found.spot.arena
 

@@ -10,8 +10,8 @@ use Rattle.session_account.specs.declared.reply.Reply.{Reply}
 use Rattle.session_account.specs.declared.reply.Reply.TheVariants as reply
 use Rattle.session_account.specs.Sectors.{on_open, on_spot}
 use Rattle.session_account.specs.Serving.{Served, Serving, Shape, Spot, IsArena, arenas_by, no_serving, sectors_of, served_from, spot_by, spot_from}
-use Rattle.session_service.specs.declared.finding.Found.{Found}
-use Rattle.session_service.specs.declared.namespaces.Place.{Place}
+use Rattle.session_service.specs.declared.finding.FoundSector.{FoundSector}
+use Rattle.session_service.specs.declared.namespaces.NamespaceCores.{NamespaceCores}
 use Rattle.session_service.specs.Namespaces.{AreLaid, FirstsFrom, HasNone, IsFirstOf, IsFound, IsFoundAt, LiesAt, arenas_in, core_at, externals, external_in, serving_at, servings_at, shape_as}
 
 -- ---- numbers
@@ -45,7 +45,7 @@ core_low [] place h = absurd (omega (arith, h))
 core_low (s ∷ all) zero h = omega (arith, length-append s.arenas (arenas_in all))
 core_low (s ∷ all) (suc place) h = let r = core_low all place (omega (arith, h)) in omega (arith, r, length-append s.arenas (arenas_in all))
 
-pub first_at : (n : ℕ) (places : List Place) (i k : ℕ) (d : Place) → FirstsFrom n places → i < length places → (get_or places i d).first + k ≡ n + core_at (servings_at places) i k
+pub first_at : (n : ℕ) (places : List NamespaceCores) (i k : ℕ) (d : NamespaceCores) → FirstsFrom n places → i < length places → (get_or places i d).first + k ≡ n + core_at (servings_at places) i k
 first_at n [] i k d h lt = absurd (omega (arith, lt))
 first_at n (p ∷ ps) zero k d h lt = ap (λ (m : ℕ). m + k) h.0
 first_at n (p ∷ ps) (suc i) k d h lt =
@@ -102,7 +102,7 @@ sectors_same (l ∷ ls) = sum_by-cons (λ (a : Shape). a.sectors) (shape_as l) (
 abbrev pub served_at : ℕ → List Shape → Served
 served_at place arenas = record { place = place; arenas = arenas }
 
-pub served_first : (n : ℕ) (places : List Place) (uuid : List ℕ) (i : ℕ) (d : Place) → IsFirstOf places uuid i → served_from n (servings_at places) uuid ≡ Some (served_at (n + i) (map shape_as (get_or places i d).arenas.items))
+pub served_first : (n : ℕ) (places : List NamespaceCores) (uuid : List ℕ) (i : ℕ) (d : NamespaceCores) → IsFirstOf places uuid i → served_from n (servings_at places) uuid ≡ Some (served_at (n + i) (map shape_as (get_or places i d).arenas.items))
 served_first n [] uuid i d h = absurd (let t = h.there in omega (arith, t))
 served_first n (p ∷ ps) uuid zero d h =
     let at : n ≡ n + 0 = omega arith in
@@ -115,7 +115,7 @@ served_first n (p ∷ ps) uuid (suc i) d h =
     ∙ served_first (n + 1) ps uuid i d inner
     ∙ ap (λ (m : ℕ). Some (served_at m (map shape_as (get_or ps i d).arenas.items))) at
 
-pub served_none : (n : ℕ) (places : List Place) (uuid : List ℕ) → HasNone places uuid → served_from n (servings_at places) uuid ≡ None
+pub served_none : (n : ℕ) (places : List NamespaceCores) (uuid : List ℕ) → HasNone places uuid → served_from n (servings_at places) uuid ≡ None
 served_none n [] uuid h = refl
 served_none n (p ∷ ps) uuid h =
     ap (λ (b : Bool). if b then Some (served_at n (map shape_as p.arenas.items)) else served_from (n + 1) (servings_at ps) uuid) (h 0 p (omega arith))
@@ -123,7 +123,7 @@ served_none n (p ∷ ps) uuid h =
 
 -- ---- what `find` finds
 
-module _ (places : List Place) (uuid : List ℕ) (i : ℕ) (place : Place) (first : IsFirstOf places uuid i) (is : place ≡ get_or places i place) where
+module _ (places : List NamespaceCores) (uuid : List ℕ) (i : ℕ) (place : NamespaceCores) (first : IsFirstOf places uuid i) (is : place ≡ get_or places i place) where
   served_is : served_from 0 (servings_at places) uuid ≡ Some (served_at i (map shape_as place.arenas.items))
   served_is =
       let at : 0 + i ≡ i = omega arith in
@@ -132,7 +132,7 @@ module _ (places : List Place) (uuid : List ℕ) (i : ℕ) (place : Place) (firs
   serving_is : get_or (servings_at places) i no_serving ≡ serving_at place
   serving_is = get_or-map serving_at places i place no_serving first.there ∙ ap serving_at (sym is)
 
-  pub is_found : (sector : ℕ) (f : Found) → AreLaid places → IsFoundAt place sector f → IsFound (servings_at places) (Some uuid) sector f
+  pub is_found : (sector : ℕ) (f : FoundSector) → AreLaid places → IsFoundAt place sector f → IsFound (servings_at places) (Some uuid) sector f
   is_found sector f laid at =
       let ls = place.arenas.items in
       let x = there ls at.k at.lies.there in
@@ -150,13 +150,13 @@ module _ (places : List Place) (uuid : List ℕ) (i : ℕ) (place : Place) (firs
         inside = subst (λ (l : Layout). f.sector < l.external) x.1 (at.lies.inside x.0);
         core_is =
             let c = first_at 0 places i at.k place laid.firsts first.there in
-            let p = ap (λ (p : Place). p.first) is in
+            let p = ap (λ (p : NamespaceCores). p.first) is in
             let e = at.core_is in omega (arith, c, p, e);
         sector_is = refl;
         bytes_is = at.bytes_is x.0 ∙ ap (λ (l : Layout). l.sector) x.1;
       }
 
-  pub all_found : (sector : ℕ) (result : Result Found Reply) → AreLaid places → IfOk result (IsFoundAt place sector) → IfOk result (IsFound (servings_at places) (Some uuid) sector)
+  pub all_found : (sector : ℕ) (result : Result FoundSector Reply) → AreLaid places → IfOk result (IsFoundAt place sector) → IfOk result (IsFound (servings_at places) (Some uuid) sector)
   all_found sector (Ok f) laid h = is_found sector f laid h
   all_found sector (Err why) laid h = tt
 
@@ -172,7 +172,7 @@ module _ (places : List Place) (uuid : List ℕ) (i : ℕ) (place : Place) (firs
   pub few_first : AreLaid places → place.first < 2 ^ 32
   few_first laid =
       let c = first_at 0 places i 0 place laid.firsts first.there in
-      let p = ap (λ (p : Place). p.first) is in
+      let p = ap (λ (p : NamespaceCores). p.first) is in
       let f = laid.few in omega (arith, c, p, f, low)
 
   pub few_arenas : AreLaid places → length place.arenas.items < 2 ^ 32
@@ -184,12 +184,12 @@ module _ (places : List Place) (uuid : List ℕ) (i : ℕ) (place : Place) (firs
       ∙ ap (λ (s : Option Spot). on_spot (map shape_as place.arenas.items) s further) (past_spot i 0 place.arenas.items sector past)
       ∙ ap (λ (n : ℕ). Some (reply.Range n)) (sectors_same place.arenas.items)
 
-pub no_namespace : (places : List Place) (uuid : List ℕ) (sector : ℕ) (further : Shape → Option Reply) → HasNone places uuid → on_open (servings_at places) (Some uuid) sector further ≡ Some (reply.Range 0)
+pub no_namespace : (places : List NamespaceCores) (uuid : List ℕ) (sector : ℕ) (further : Shape → Option Reply) → HasNone places uuid → on_open (servings_at places) (Some uuid) sector further ≡ Some (reply.Range 0)
 no_namespace places uuid sector further none = ap (λ (s : Option Served). on_spot (arenas_by s) (spot_by s sector) further) (served_none 0 places uuid none)
 
-pub in_err : (r : Result Found Reply) (x y : Reply) → r ≡ Err x → r ≡ Err y → x ≡ y
+pub in_err : (r : Result FoundSector Reply) (x y : Reply) → r ≡ Err x → r ≡ Err y → x ≡ y
 in_err r x y a b = ap (why_of x) (sym a ∙ b)
   where
-    why_of : Reply → Result Found Reply → Reply
+    why_of : Reply → Result FoundSector Reply → Reply
     why_of z (Err w) = w
     why_of z (Ok f) = z

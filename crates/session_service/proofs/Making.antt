@@ -11,7 +11,7 @@ use Rattle.arena_open.specs.declared.state.ArenaState.{ArenaState}
 use Rattle.session_account.specs.Serving.{Serving}
 use Rattle.session_account.proofs.Following.{either}
 use Rattle.sector_service.specs.Served.{Served, fresh}
-use Rattle.session_service.specs.declared.namespaces.Place.{Place}
+use Rattle.session_service.specs.declared.namespaces.NamespaceCores.{NamespaceCores}
 use Rattle.session_service.specs.declared.namespaces.ServedNamespace.{ServedNamespace}
 use Rattle.session_service.specs.declared.service.Service.{Service}
 use Rattle.session_script.specs.declared.script.SessionLines.{SessionLines}
@@ -65,7 +65,7 @@ all_whole (n ∷ served) open_all i d h =
 
 -- ---- a service
 
-pub is_laid : (service : Service) (places : List Place) (served : List ServedNamespace) → service.places.items ≡ places → servings_at places ≡ servings_of served → AreLaid places → arenas_of service ≡ states_in served → All AreOpened served → IsLaid service
+pub is_laid : (service : Service) (places : List NamespaceCores) (served : List ServedNamespace) → service.places.items ≡ places → servings_at places ≡ servings_of served → AreLaid places → arenas_of service ≡ states_in served → All AreOpened served → IsLaid service
 is_laid service places served same all laid arenas opened = record {
   laid = subst AreLaid (sym same) laid;
   shapes = ap (λ (ss : List ArenaState). map shape_by ss) arenas ∙ shapes_of served ∙ ap arenas_in (sym (ap servings_at same ∙ all));
@@ -82,7 +82,7 @@ pub states_more : (served : List ServedNamespace) (n : ServedNamespace) → stat
 states_more [] n = append-nil n.arenas.items
 states_more (m ∷ served) n = ap (λ ss. m.arenas.items ++ ss) (states_more served n) ∙ sym (append_assoc m.arenas.items (states_in served) n.arenas.items)
 
-pub firsts_more : (n : ℕ) (places : List Place) (p : Place) → FirstsFrom n places → p.first ≡ n + length (arenas_in (servings_at places)) → FirstsFrom n (places ++ p ∷ [])
+pub firsts_more : (n : ℕ) (places : List NamespaceCores) (p : NamespaceCores) → FirstsFrom n places → p.first ≡ n + length (arenas_in (servings_at places)) → FirstsFrom n (places ++ p ∷ [])
 firsts_more n [] p h is = (omega (arith, is), tt)
 firsts_more n (x ∷ places) p h is =
     let l = length-map x.arenas.items (λ (a : Layout). shape_as a) in
@@ -90,7 +90,7 @@ firsts_more n (x ∷ places) p h is =
     (h.0, firsts_more (n + length x.arenas.items) places p h.1 (omega (arith, is, l, a)))
 
 -- the place that was made for a namespace
-module _ (p : Place) (n : ServedNamespace) (uuid : p.uuid ≡ n.uuid) (layouts : p.arenas.items ≡ map (λ a. a.info.layout) n.arenas.items) where
+module _ (p : NamespaceCores) (n : ServedNamespace) (uuid : p.uuid ≡ n.uuid) (layouts : p.arenas.items ≡ map (λ a. a.info.layout) n.arenas.items) where
   pub serving_is : serving_at p ≡ serving_of n
   serving_is = λ i. record { uuid = uuid i; arenas = (ap (map shape_as) layouts ∙ two n.arenas.items) i }
     where
@@ -98,7 +98,7 @@ module _ (p : Place) (n : ServedNamespace) (uuid : p.uuid ≡ n.uuid) (layouts :
       two [] = refl
       two (s ∷ states) = ap (λ ss. shape_by s ∷ ss) (two states)
 
-  module _ (places places' : List Place) (more : places' ≡ places ++ p ∷ []) (served : List ServedNamespace) (cores cores' : List Served) (made : cores' ≡ cores ++ map fresh n.arenas.items) where
+  module _ (places places' : List NamespaceCores) (more : places' ≡ places ++ p ∷ []) (served : List ServedNamespace) (cores cores' : List Served) (made : cores' ≡ cores ++ map fresh n.arenas.items) where
     pub all_more : servings_at places ≡ servings_of served → servings_at places' ≡ servings_of (served ++ n ∷ [])
     all_more all =
         ap servings_at more ∙ map-append serving_at places (p ∷ []) ∙ (λ i. all i ++ serving_is i ∷ []) ∙ sym (map-append serving_of served (n ∷ []))
@@ -122,7 +122,7 @@ module _ (p : Place) (n : ServedNamespace) (uuid : p.uuid ≡ n.uuid) (layouts :
     cores_more is =
         made ∙ ap (λ cs. cs ++ map fresh n.arenas.items) is ∙ sym (map-append fresh (states_in served) n.arenas.items) ∙ ap (λ ss. map fresh ss) (sym (states_more served n))
 
-abbrev pub servings : List Place → List Serving
+abbrev pub servings : List NamespaceCores → List Serving
 servings places = servings_at places
 
 pub rooms_length : (rooms : List ℕ) (sessions : List SessionLines) → rooms ≡ rooms_of sessions → length rooms ≡ length sessions

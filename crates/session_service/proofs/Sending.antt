@@ -46,11 +46,11 @@ use Rattle.registry_service.specs.contracts.served.ServedRegistry as ServedRegis
 use Rattle.registry_service.specs.contracts.served.ServedRegistryParted.TheImpl as orders_parted
 use Rattle.session_account.specs.contracts.reply.Reply as Reply
 use Rattle.session_account.proofs.reply.Reply.TheSendSync as reply
-use Rattle.session_service.specs.contracts.namespaces.Place as Place
+use Rattle.session_service.specs.contracts.namespaces.NamespaceCores as NamespaceCores
 use Rattle.session_service.specs.contracts.runner.Runner as Runner
 use Rattle.session_service.specs.contracts.service.Orders as Orders
 use Rattle.session_service.specs.contracts.service.Service as Service
-use Rattle.session_service.proofs.namespaces.Place.TheSendSync as place
+use Rattle.session_service.proofs.namespaces.NamespaceCores.TheSendSync as place
 use Rattle.session_service.proofs.service.Switch.TheSendSync as switch
 
 served_send : IsSend ServedCore.the_row
@@ -136,7 +136,7 @@ pub service_field_sync : IsSync (Service.the_field).row
 service_field_sync = struct_sync (shape Service.the_type) (
   heap.the_field_sync,
   (
-    vec.the_sync Place.the_row Heap.the_row allocator.ghosts place.the_sync heap.the_sync,
+    vec.the_sync NamespaceCores.the_row Heap.the_row allocator.ghosts place.the_sync heap.the_sync,
     (
       vec.the_sync (Turn.the_row ServedCore.the_row ServedPart.the_row parted.ghosts) Heap.the_row allocator.ghosts turn_sync heap.the_sync,
       (struct_sync (shape Orders.the_type) (orders_turn_sync, tt), (switch.the_field_sync, tt)),

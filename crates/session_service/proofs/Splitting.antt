@@ -6,7 +6,7 @@ use Rattle.std.proofs.lemmas.List.{length-map, length-take-le, take-append-drop}
 use Rattle.std.proofs.Math.Seq.{drop-cons, take-suc}
 use Rattle.lane_core.specs.declared.machine.Core.{Core}
 use Rattle.session_account.specs.Serving.{Serving}
-use Rattle.session_service.specs.declared.namespaces.Place.{Place}
+use Rattle.session_service.specs.declared.namespaces.NamespaceCores.{NamespaceCores}
 use Rattle.session_service.specs.Namespaces.{arenas_in, serving_at, servings_at, shape_as}
 use Rattle.session_service.specs.Ran.{in_row}
 
@@ -14,7 +14,7 @@ row_more : {Z : Type 0} (vs : List (Vec Core Z)) (v : Vec Core Z) → in_row (vs
 row_more [] v = append-nil v.items
 row_more (x ∷ vs) v = ap (λ cs. x.items ++ cs) (row_more vs v) ∙ sym (append_assoc x.items (in_row vs) v.items)
 
-module _ {Z : Type 0} (places : List Place) (j : ℕ) (p : Place) (lt : j < length places) (is : p ≡ get_or places j p) (row : List Core) (vs vs' : List (Vec Core Z)) (v : Vec Core Z) (rest behind : List Core) (pushed : vs' ≡ vs ++ v ∷ [])
+module _ {Z : Type 0} (places : List NamespaceCores) (j : ℕ) (p : NamespaceCores) (lt : j < length places) (is : p ≡ get_or places j p) (row : List Core) (vs vs' : List (Vec Core Z)) (v : Vec Core Z) (rest behind : List Core) (pushed : vs' ≡ vs ++ v ∷ [])
     (front : v.items ≡ take (length p.arenas.items) rest) (back : behind ≡ drop (length p.arenas.items) rest) where
   places_more : servings_at (take (suc j) places) ≡ servings_at (take j places) ++ serving_at p ∷ []
   places_more = ap servings_at (take-suc places j p lt ∙ ap (λ x. take j places ++ x ∷ []) (sym is)) ∙ map-append serving_at (take j places) (p ∷ [])

@@ -46,7 +46,7 @@ use Rattle.sector_service.specs.Rows.{Know, KnowsAt, OneBecomes, OneGoes, Parts,
 use Rattle.sector_service.specs.Served.{shape_of}
 use Rattle.sector_service.specs.Switch.{IsNextCaller, StopsWhenSpent}
 use Rattle.sector_service.proofs.Sessions.{with_other, with_same}
-use Rattle.session_service.specs.declared.finding.Found.{Found}
+use Rattle.session_service.specs.declared.finding.FoundSector.{FoundSector}
 use Rattle.session_service.specs.declared.runner.Runner.{Runner}
 use Rattle.session_service.specs.declared.service.Service.{Service}
 use Rattle.session_service.specs.Namespaces.{IsFound, core_at, shape_by}
@@ -375,7 +375,7 @@ earlier all place k n call on (l ∷ lines) (a ∷ replies) le = one (stand_of a
     one (Some s) below more = (below s refl, more)
 
 -- the arena of a core
-pub layout_is : (service : Service) (laid : IsLaid service) (held : Option (List ℕ)) (sector : ℕ) (f : Found) (found : IsFound (all_of service) held sector f)
+pub layout_is : (service : Service) (laid : IsLaid service) (held : Option (List ℕ)) (sector : ℕ) (f : FoundSector) (found : IsFound (all_of service) held sector f)
     → (core_at (all_of service) found.spot.place found.spot.arena < length (locks_of service)) × (shape_by (arena_at (arenas_of service) (core_at (all_of service) found.spot.place found.spot.arena)) ≡ found.spot.shape)
 layout_is service laid held sector f found =
     let all = all_of service in
@@ -392,7 +392,7 @@ layout_is service laid held sector f found =
       sym (get_or-map shape_by arenas j _ d inside) ∙ ap (λ (xs : List Shape). get_or xs j d) laid.shapes ∙ core_shape all found.spot.place found.spot.arena d found.there ∙ found.shape_is d,
     )
 
-module _ (service : Service) (script : Script) (q : ℕ) (l : Line) (r : Runner) (next : IsNext service script q l r) (sector : ℕ) (f : Found) (found : IsFound (all_of service) r.held sector f) where
+module _ (service : Service) (script : Script) (q : ℕ) (l : Line) (r : Runner) (next : IsNext service script q l r) (sector : ℕ) (f : FoundSector) (found : IsFound (all_of service) r.held sector f) where
   abbrev pub the_all : List Serving
   the_all = all_of service
 
@@ -598,7 +598,7 @@ module _ (service : Service) (script : Script) (q : ℕ) (sector : ℕ) (r : Run
     pub write_refused : ((further : Shape → Option Reply) → on_open (all_of service) r.held sector further ≡ Some why) → Goes service script q r.replies.items answer r'
     write_refused check = write_checked (open_check (all_of service) r.held sector why (check (λ shape. None))) (check (λ shape. wrong_length (size_of value shape.bytes) shape.bytes))
 
-    pub write_misfits : (f : Found) → IsFound (all_of service) r.held sector f → wrong_length (size_of value f.bytes) f.bytes ≡ Some why → Goes service script q r.replies.items answer r'
+    pub write_misfits : (f : FoundSector) → IsFound (all_of service) r.held sector f → wrong_length (size_of value f.bytes) f.bytes ≡ Some why → Goes service script q r.replies.items answer r'
     write_misfits f found e = write_checked (misfit_check (size_of value f.bytes) f.bytes why e) (sectors.write_checks (all_of service) r.held sector f found r_parts value ∙ e)
       where
         r_parts : Parts
@@ -675,7 +675,7 @@ fits_whole value n e = sym (size_is value n) ∙ by (size_of value n) e
     by said e = eqb_is said (said == n) refl e
 
 -- a sector has whole words
-pub whole_words : (service : Service) (laid : IsLaid service) (held : Option (List ℕ)) (sector : ℕ) (f : Found) → IsFound (all_of service) held sector f → f.bytes % 8 ≡ 0
+pub whole_words : (service : Service) (laid : IsLaid service) (held : Option (List ℕ)) (sector : ℕ) (f : FoundSector) → IsFound (all_of service) held sector f → f.bytes % 8 ≡ 0
 whole_words service laid held sector f found =
     let j : ℕ = core_at (all_of service) found.spot.place found.spot.arena in
     let at = layout_is service laid held sector f found in

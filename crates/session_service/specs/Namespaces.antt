@@ -5,8 +5,8 @@ use Rattle.arena_layout.specs.declared.layout.Layout.{Layout}
 use Rattle.arena_open.specs.declared.state.ArenaState.{ArenaState}
 use Rattle.arena_open.specs.Moves.{IsOpenState}
 use Rattle.session_account.specs.Serving.{Shape, Serving, Spot, IsArena, no_serving, spot_in}
-use Rattle.session_service.specs.declared.finding.Found.{Found}
-use Rattle.session_service.specs.declared.namespaces.Place.{Place}
+use Rattle.session_service.specs.declared.finding.FoundSector.{FoundSector}
+use Rattle.session_service.specs.declared.namespaces.NamespaceCores.{NamespaceCores}
 use Rattle.session_service.specs.declared.namespaces.ServedNamespace.{ServedNamespace}
 
 -- ---- what is served
@@ -43,33 +43,33 @@ core_at (s ∷ all) (suc place) k = length s.arenas + core_at all place k
 
 -- ---- places
 
-abbrev pub serving_at : Place → Serving
+abbrev pub serving_at : NamespaceCores → Serving
 serving_at p = record { uuid = p.uuid; arenas = map shape_as p.arenas.items }
 
-abbrev pub servings_at : List Place → List Serving
+abbrev pub servings_at : List NamespaceCores → List Serving
 servings_at places = map serving_at places
 
 -- each says how many cores stand before those of its namespace
-abbrev pub FirstsFrom : ℕ → List Place → Type 0
+abbrev pub FirstsFrom : ℕ → List NamespaceCores → Type 0
 FirstsFrom n [] = ⊤
 FirstsFrom n (p ∷ places) = (p.first ≡ n) × FirstsFrom (n + length p.arenas.items) places
 
 -- and there are few cores in all
-pub record AreLaid (places : List Place) : Type 0 where
+pub record AreLaid (places : List NamespaceCores) : Type 0 where
   pub firsts : FirstsFrom 0 places
   pub few : length (arenas_in (servings_at places)) < 2 ^ 32
 
 -- ---- a sector
 
 -- no namespace has this UUID
-abbrev pub HasNone : List Place → List ℕ → Type 0
-HasNone places uuid = (i : ℕ) (d : Place) → i < length places → bytes_eq (slice_index_or places i d).uuid uuid ≡ false
+abbrev pub HasNone : List NamespaceCores → List ℕ → Type 0
+HasNone places uuid = (i : ℕ) (d : NamespaceCores) → i < length places → bytes_eq (slice_index_or places i d).uuid uuid ≡ false
 
 -- the first that has it
-pub record IsFirstOf (places : List Place) (uuid : List ℕ) (i : ℕ) : Type 0 where
+pub record IsFirstOf (places : List NamespaceCores) (uuid : List ℕ) (i : ℕ) : Type 0 where
   pub there : i < length places
-  pub same : (d : Place) → bytes_eq (slice_index_or places i d).uuid uuid ≡ true
-  pub before : (j : ℕ) (d : Place) → j < i → bytes_eq (slice_index_or places j d).uuid uuid ≡ false
+  pub same : (d : NamespaceCores) → bytes_eq (slice_index_or places i d).uuid uuid ≡ true
+  pub before : (j : ℕ) (d : NamespaceCores) → j < i → bytes_eq (slice_index_or places j d).uuid uuid ≡ false
 
 abbrev pub external_in : Layout → ℕ
 external_in l = l.external
@@ -84,14 +84,14 @@ pub record LiesAt (arenas : List Layout) (sector k own : ℕ) : Type 0 where
   pub inside : (d : Layout) → own < (slice_index_or arenas k d).external
 
 -- a sector of the namespace at this place
-pub record IsFoundAt (place : Place) (sector : ℕ) (f : Found) : Type 0 where
+pub record IsFoundAt (place : NamespaceCores) (sector : ℕ) (f : FoundSector) : Type 0 where
   pub k : ℕ
   pub lies : LiesAt place.arenas.items sector k f.sector
   pub core_is : f.core ≡ place.first + k
   pub bytes_is : (d : Layout) → f.bytes ≡ (slice_index_or place.arenas.items k d).sector
 
 -- a sector of the namespace that is open, and its core
-pub record IsFound (all : List Serving) (held : Option (List ℕ)) (sector : ℕ) (f : Found) : Type 0 where
+pub record IsFound (all : List Serving) (held : Option (List ℕ)) (sector : ℕ) (f : FoundSector) : Type 0 where
   pub uuid : List ℕ
   pub is_open : held ≡ Some uuid
   pub spot : Spot

@@ -12,7 +12,7 @@ ghost use Rattle.session_service.specs.Seated.{KeepAllButCores};
 ghost use Rattle.session_service.specs.Services.{IsNewCore, arena_of};
 
 use crate::closing::close_cores;
-use crate::namespaces::Place;
+use crate::namespaces::NamespaceCores;
 use crate::runner::Runner;
 use crate::service::Service;
 use lane_core::Core;
@@ -80,7 +80,11 @@ fn hand_in(alloc: Global, runners: Vec<Runner>) -> Result<HandedIn, AllocError>
 }
 
 // The cores of each namespace, out of those of all.
-fn split(alloc: Global, places: &[Place], row: Vec<Core>) -> Result<Vec<Vec<Core>>, AllocError>
+fn split(
+    alloc: Global,
+    places: &[NamespaceCores],
+    row: Vec<Core>,
+) -> Result<Vec<Vec<Core>>, AllocError>
     requires { length (arenas_in (servings_at places.now)) ≡ length row.items }
     ensures cores { IfOk result (λ v. in_row v.items ≡ row.items) }
     ensures counts { IfOk result (λ v. map (λ c. length c.items) v.items ≡ map (λ s. length s.arenas) (servings_at places.now)) }

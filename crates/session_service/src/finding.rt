@@ -6,14 +6,14 @@ ghost use Rattle.session_account.specs.declared.reply.Reply.{Reply as Replied};
 ghost use Rattle.session_account.specs.declared.reply.Reply.TheVariants as reply;
 ghost use Rattle.session_service.specs.Namespaces.{AreLaid, HasNone, IsFirstOf, IsFound, IsFoundAt, LiesAt, externals, servings_at};
 
-use crate::namespaces::Place;
+use crate::namespaces::NamespaceCores;
 use arena_layout::Layout;
 use session_account::Reply;
 use uuid::Uuid;
 
 /// A sector of a core.
 #[derive(Debug, Drop)]
-pub struct Found {
+pub struct FoundSector {
     /// The number of the core, among all cores.
     pub(crate) core: usize,
     /// The number of the sector in the core's arena.
@@ -23,7 +23,7 @@ pub struct Found {
 }
 
 /// The place of the namespace with a UUID, if there is one.
-fn place_of(places: &[Place], uuid: &Uuid) -> Option<usize>
+fn place_of(places: &[NamespaceCores], uuid: &Uuid) -> Option<usize>
     ensures { MatchOption result (HasNone places.now uuid.now) (IsFirstOf places.now uuid.now) }
 {
     for (i, place) in places.iter().enumerate() {
@@ -62,14 +62,14 @@ fn locate(arenas: &[Layout], sector: u64) -> Option<(usize, u32)>
 }
 
 /// Finds a sector of a namespace at its place.
-fn find_at(place: &Place, sector: u64) -> Result<Found, Reply>
+fn find_at(place: &NamespaceCores, sector: u64) -> Result<FoundSector, Reply>
     requires first { place.now.first < 2 ^ 32 }
     requires few { length place.now.arenas.items < 2 ^ 32 }
     ensures found { IfOk result (IsFoundAt place.now sector) }
     ensures check { (r : Replied) → result ≡ Err r → (externals place.now.arenas.items ≤ sector) × (r ≡ reply.Range (externals place.now.arenas.items)) }
 {
     match locate(place.arenas.as_slice(), sector) {
-        Some((k, own)) => Ok(Found {
+        Some((k, own)) => Ok(FoundSector {
             core: place.first + k,
             sector: own,
             bytes: place.arenas[k].sector,
@@ -81,7 +81,11 @@ fn find_at(place: &Place, sector: u64) -> Result<Found, Reply>
 }
 
 /// Finds a sector of the namespace that is open, or says why there is none.
-pub(crate) fn find(places: &[Place], held: Option<Uuid>, sector: u64) -> Result<Found, Reply>
+pub(crate) fn find(
+    places: &[NamespaceCores],
+    held: Option<Uuid>,
+    sector: u64,
+) -> Result<FoundSector, Reply>
     requires { AreLaid places.now }
     ensures found { IfOk result (IsFound (servings_at places.now) held sector) }
     ensures check { (r : Replied) (further : Shape → Option Replied) → result ≡ Err r → on_open (servings_at places.now) held sector further ≡ Some r }

@@ -5,7 +5,7 @@ ghost use Rattle.sector_service.specs.Served.{fresh};
 ghost use Rattle.session_service.specs.Made.{states_in};
 ghost use Rattle.session_service.specs.Namespaces.{AreLaid, AreOpened, servings_at, servings_of};
 
-use crate::namespaces::{Place, ServedNamespace};
+use crate::namespaces::{NamespaceCores, ServedNamespace};
 use arena_layout::Layout;
 use arena_open::ArenaState;
 use sector_service::ServedCore;
@@ -32,7 +32,7 @@ fn add_namespace(
     alloc: Global,
     namespace: ServedNamespace,
     cores: &mut Vec<ServedCore>,
-) -> Result<Place, AllocError>
+) -> Result<NamespaceCores, AllocError>
     requires { AreOpened namespace }
     ensures place { IfOk result (λ p. (p.uuid ≡ namespace.uuid) × (p.first ≡ length cores.old.items)) }
     ensures layouts { IfOk result (λ p. p.arenas.items ≡ map (λ a. a.info.layout) namespace.arenas.items) }
@@ -44,7 +44,7 @@ fn add_namespace(
     for state in arenas {
         add_arena(alloc, state, &mut layouts, cores)?;
     }
-    Ok(Place {
+    Ok(NamespaceCores {
         uuid,
         first,
         arenas: layouts,
@@ -56,7 +56,7 @@ fn add_namespace(
 pub(crate) fn lay(
     alloc: Global,
     served: Vec<ServedNamespace>,
-) -> Result<(Vec<Place>, Vec<ServedCore>), AllocError>
+) -> Result<(Vec<NamespaceCores>, Vec<ServedCore>), AllocError>
     requires { All AreOpened served.items }
     ensures all { IfOk result (λ r. servings_at r.0.items ≡ servings_of served.items) }
     ensures laid { IfOk result (λ r. AreLaid r.0.items) }

@@ -12,7 +12,7 @@ pub struct ServedNamespace {
 
 /// Where the cores of a namespace stand among all cores, and the layouts of its arenas.
 #[derive(Drop)]
-pub struct Place {
+pub struct NamespaceCores {
     pub(crate) uuid: Uuid,
     /// The number of its first core.
     pub(crate) first: usize,

@@ -9,7 +9,7 @@ ghost use Rattle.session_service.specs.Seated.{AreSeated, HaveNone, KnowCores};
 ghost use Rattle.session_service.specs.Services.{IsNewCore, arenas_of};
 
 use crate::laying::lay;
-use crate::namespaces::{Place, ServedNamespace};
+use crate::namespaces::{NamespaceCores, ServedNamespace};
 use crate::runner::Runner;
 use crate::seats::{hand_out, stools};
 use cut_words::Fuse;
@@ -38,7 +38,7 @@ pub struct Orders {
 #[derive(Drop)]
 pub struct Service {
     pub(crate) alloc: Global,
-    pub(crate) places: Vec<Place>,
+    pub(crate) places: Vec<NamespaceCores>,
     pub(crate) turns: Vec<Turn<ServedCore>>,
     pub(crate) registry: Orders,
     pub(crate) switch: Switch,
