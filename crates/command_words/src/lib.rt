@@ -27,6 +27,6 @@ mod uuids;
 mod values;
 
 pub use argument::{Argument, Form};
-pub use numbers::number_from;
+pub use numbers::{number_from, number_in};
 pub use uuids::uuid_from;
 pub use values::{Parsed, WordsFault, parse};

@@ -9,15 +9,16 @@ pub fn number_from(word: &str, least: u64, most: u64) -> Option<u64>
     ensures low { IfSome result (λ n. least ≤ n) }
     ensures high { IfSome result (λ n. n ≤ most) }
 {
-    let number = spelled(word.as_bytes(), most)?;
+    let number = number_in(word.as_bytes(), most)?;
     if number < least {
         return None;
     }
     Some(number)
 }
 
-/// Returns the number that a word denotes, if it is at most a limit.
-fn spelled(word: &[u8], limit: u64) -> Option<u64>
+/// Returns the number that a word denotes, if it is at most a limit. It has decimal digits without
+/// sign or leading zero; 0 is `0`.
+pub fn number_in(word: &[u8], limit: u64) -> Option<u64>
     ensures number { result ≡ limited limit (number_of word.now) }
     ensures within { IfSome result (λ n. n ≤ limit) }
 {

@@ -23,4 +23,4 @@ mod rules;
 pub use agreeing::some_local;
 pub use deciding::status;
 pub use placed::{Field, Placed, SetStatus, Why};
-pub use rules::is_outside;
+pub use rules::{is_outside, relative_address};

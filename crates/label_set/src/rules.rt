@@ -43,7 +43,7 @@ fn start_of(set: &InterleaveSet, module: u32) -> Option<u64>
 }
 
 /// Returns a label's address relative to the start of its mapping, in bytes.
-fn relative(set: &InterleaveSet, placed: &Placed) -> u64
+pub fn relative_address(set: &InterleaveSet, placed: &Placed) -> u64
     ensures { result ≡ relative_of set.now placed.now }
 {
     match start_of(set, placed.module) {
@@ -86,7 +86,7 @@ fn is_unaligned(set: &InterleaveSet, placed: &Placed) -> bool
     ensures { result ≡ is_unaligned set.now placed.now }
 {
     let unit = set.unit();
-    relative(set, placed) % unit != 0 || placed.label.raw % unit != 0
+    relative_address(set, placed) % unit != 0 || placed.label.raw % unit != 0
 }
 
 impl Rule {
@@ -137,7 +137,7 @@ pub fn agrees(field: Field, set: &InterleaveSet, first: &Placed, placed: &Placed
 {
     match field {
         Field::Count => u32::from(placed.label.count) == set.ways(),
-        Field::Dpa => relative(set, placed) == relative(set, first),
+        Field::Dpa => relative_address(set, placed) == relative_address(set, first),
         Field::RawSize => placed.label.raw == first.label.raw,
         Field::LbaSize => placed.label.lba == first.label.lba,
         Field::Guids => same_guids(first, placed),

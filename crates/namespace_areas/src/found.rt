@@ -1,6 +1,5 @@
 ghost use Rattle.std.specs.Prelude.{◌≡◌, ◌<◌, ◌^◌, IfOk, Ok, length, slice_get};
 ghost use Rattle.std.specs.Option.{option_map};
-ghost use Rattle.label_set.specs.Rules.{mapping_of, relative_of};
 ghost use Rattle.namespace_map.specs.Namespaces.{entry_at, entry_with};
 ghost use Rattle.namespace_map.specs.Commands.{is_complete, is_sector};
 ghost use Rattle.namespace_areas.specs.Finding.{LiesInSet, found_of};
@@ -8,7 +7,7 @@ ghost use Rattle.namespace_areas.specs.Finding.{LiesInSet, found_of};
 use crate::{LabelGroups, region_of};
 use interleave::InterleaveSet;
 use label_codec::Mode;
-use label_set::{Placed, SetStatus, status};
+use label_set::{Placed, SetStatus, relative_address, status};
 use namespace_map::OpRefused;
 use uuid::Uuid;
 
@@ -23,26 +22,6 @@ pub struct Found {
     pub raw: u64,
     /// How it is accessed.
     pub mode: Mode,
-}
-
-/// The first device address of a module's mapping.
-fn start_of(set: &InterleaveSet, module: u32) -> Option<u64>
-    ensures { result ≡ option_map (λ m. m.start) (mapping_of set.now «module») }
-{
-    match set.position(module) {
-        Some(position) => Some(set.start(u32::from(position))),
-        None => None,
-    }
-}
-
-/// A label's address from the start of its mapping on, in bytes.
-fn relative(set: &InterleaveSet, placed: &Placed) -> u64
-    ensures { result ≡ relative_of set.now placed.now }
-{
-    match start_of(set, placed.module) {
-        Some(start) => placed.label.dpa.saturating_sub(start),
-        None => placed.label.dpa,
-    }
 }
 
 /// Whether labels make a complete namespace.
@@ -87,7 +66,7 @@ fn found_by(sets: &[InterleaveSet], labels: &[Placed]) -> Result<Found, OpRefuse
     }
     Ok(Found {
         region,
-        offset: relative(set, first),
+        offset: relative_address(set, first),
         raw: first.label.raw,
         mode,
     })

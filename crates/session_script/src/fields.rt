@@ -6,7 +6,8 @@ ghost use Rattle.session_script.specs.Fields.{rest_of, at_end, name_field, numbe
 use crate::fault::{LineFault, LineKind};
 use crate::lines::{count_before, text_from};
 use crate::payload::Payload;
-use crate::words::{number_in, uuid_in, value_in};
+use crate::words::{uuid_in, value_in};
+use command_words::number_in;
 use nvd_words::Items;
 use std::alloc::Global;
 use uuid::Uuid;

@@ -54,4 +54,4 @@ pub use schedule_lines::{LinesLeft, ReplayLines};
 pub use script::{Line, Order, Script, SessionLines};
 pub use sessions::read_script;
 pub use texts::{cell_text, value_text, words_text};
-pub use words::value_in;
+pub use words::{is_printable, value_in};

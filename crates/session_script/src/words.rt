@@ -1,11 +1,10 @@
 //! What a word denotes.
-ghost use Rattle.std.specs.Prelude.{◌≡◌, ◌≢◌, ◌≤◌, IfOk, IfSome, Some, None, drop, take, option_map, option_and_then};
+ghost use Rattle.std.specs.Prelude.{◌≡◌, IfOk, Some, None, drop, take, option_map, option_and_then};
 ghost use Rattle.std.specs.List.{list_all};
 ghost use Rattle.std.specs.Result.{result_ok};
 ghost use Rattle.std.specs.Str.{is_utf8};
 ghost use Rattle.hex.specs.Hex.{decode_of};
 ghost use Rattle.uuid.specs.Text.{parsed};
-ghost use Rattle.command_words.specs.Numbers.{digits_after, limited, number_of};
 ghost use Rattle.session_script.specs.Fields.{fill_of, hyphenated, is_plain, is_printable, value_of};
 
 use crate::payload::Payload;
@@ -38,42 +37,10 @@ fn all_plain(bytes: &[u8]) -> bool
 }
 
 /// Returns whether a line is UTF-8 without control characters.
-pub(crate) fn is_printable(text: &[u8]) -> bool
+pub fn is_printable(text: &[u8]) -> bool
     ensures { result ≡ is_printable text.now }
 {
     is_text(text) && all_plain(text)
-}
-
-/// Returns the number that a word denotes, if it is at most a limit.
-pub(crate) fn number_in(word: &[u8], limit: u64) -> Option<u64>
-    ensures number { result ≡ limited limit (number_of word.now) }
-    ensures within { IfSome result (λ n. n ≤ limit) }
-{
-    match word {
-        [] => None,
-        [b'0', _, ..] => None,
-        digits => digits_in(digits, limit),
-    }
-}
-
-#[tactic(auto, using(command_words::proofs::Digits::limited_past))]
-fn digits_in(digits: &[u8], limit: u64) -> Option<u64>
-    ensures number { result ≡ limited limit (digits_after 0 digits.now) }
-    ensures within { IfSome result (λ n. n ≤ limit) }
-{
-    let mut value = 0;
-    let mut rest = digits;
-    while let [digit, others @ ..] = rest {
-        if !digit.is_ascii_digit() {
-            return None;
-        }
-        value = value * 10 + u128::from(*digit - b'0');
-        if value > u128::from(limit) {
-            return None;
-        }
-        rest = others;
-    }
-    Some(value as u64)
 }
 
 fn any_uuid(word: &[u8]) -> Option<Uuid>

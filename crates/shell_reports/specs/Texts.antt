@@ -1,23 +1,14 @@
 -- The texts of values: this project's rules.
-use Rattle.std.specs.Prelude.{ℕ, ◌==◌, nat_le, Bool, not, ◌&&◌, ◌||◌, if◌then◌else◌, List, [], ◌∷◌, ◌++◌, codes}
-use Rattle.std.specs.List.{list_all}
-use Rattle.std.specs.Str.{is_utf8}
+use Rattle.std.specs.Prelude.{ℕ, ◌==◌, ◌||◌, if◌then◌else◌, List, [], ◌∷◌, ◌++◌, codes}
 use Rattle.std.specs.Fmt.{decimal}
 use Rattle.hex.specs.Hex.{encode_lower}
+use Rattle.session_script.specs.Fields.{is_printable}
 use Rattle.uuid.specs.Text.{hyphenated_text, lower}
 use Rattle.label_codec.specs.declared.label.LabelFault.{LabelFault}
 use Rattle.label_codec.specs.declared.label.LabelFault.TheVariants.{Checksum, Slot, OddSize}
 use Rattle.label_codec.specs.declared.label.SizeField.TheVariants.{Dpa, RawSize}
 use Rattle.label_codec.specs.declared.mode.Mode.{Mode}
 use Rattle.label_codec.specs.declared.mode.Mode.TheVariants.{Raw, Sector, Sector1, Other}
-
--- a byte that isn't a control character: those are U+0000 to U+001F and U+007F, each of one byte in UTF-8
-abbrev pub is_plain : ℕ → Bool
-is_plain byte = nat_le 32 byte && not (byte == 127)
-
--- UTF-8 without control characters
-abbrev pub is_printable : List ℕ → Bool
-is_printable name = is_utf8 name && list_all is_plain name
 
 -- with a backslash before each quotation mark and each backslash
 abbrev pub escaped : List ℕ → List ℕ

@@ -1,42 +1,11 @@
 //! The texts of values in lines.
 ghost use Rattle.std.specs.Prelude.{◌≡◌, ◌++◌, ◌∷◌, [], IfOk, string_bytes, codes};
-ghost use Rattle.std.specs.Str.{is_utf8};
-ghost use Rattle.std.specs.List.{list_all};
 ghost use Rattle.hex.specs.Hex.{encode_lower};
-ghost use Rattle.shell_reports.specs.Texts.{is_plain, is_printable, escaped, name_text, mode_text, label_fault_text};
+ghost use Rattle.shell_reports.specs.Texts.{escaped, name_text, mode_text, label_fault_text};
 
 use label_codec::{LabelFault, Mode, SizeField};
+use session_script::is_printable;
 use std::alloc::{AllocError, Global};
-
-/// Returns whether bytes are UTF-8.
-fn is_text(bytes: &[u8]) -> bool
-    ensures { result ≡ is_utf8 bytes.now }
-{
-    match str::from_utf8(bytes) {
-        Ok(_) => true,
-        Err(_) => false,
-    }
-}
-
-/// Returns whether a byte isn't a control character of ASCII.
-fn is_plain(byte: u8) -> bool
-    ensures { result ≡ is_plain byte }
-{
-    32 <= byte && byte != 127
-}
-
-fn all_plain(bytes: &[u8]) -> bool
-    ensures { result ≡ list_all is_plain bytes.now }
-{
-    bytes.iter().all(|byte| is_plain(*byte))
-}
-
-/// Returns whether a name is UTF-8 without control characters.
-fn is_printable(name: &[u8]) -> bool
-    ensures { result ≡ is_printable name.now }
-{
-    is_text(name) && all_plain(name)
-}
 
 /// Returns a text with a backslash before each quotation mark and each backslash.
 fn escaped(alloc: Global, text: &[u8]) -> Result<Vec<u8>, AllocError>
