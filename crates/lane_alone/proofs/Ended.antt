@@ -1,4 +1,4 @@
--- What a write leaves of an arena's words once it is through, and no lane is in a call.
+-- An arena's words once a write is through and no lane is in a call.
 use Rattle.std.proofs.Common.{◌≡◌, ◌≢◌, ◌⊎◌, ℕ, zero, suc, ◌+◌, ◌*◌, ◌/◌, ◌<◌, ◌≤◌, Bool, true, false, not, List, [], ◌++◌, length, map, get_or, Ok, Result, refl, sym, ap, ◌∙◌, subst, inl, inr, arith}
 use Rattle.std.specs.Prelude.{◌&&◌, ◌==◌, filter, if◌then◌else◌}
 use Rattle.std.specs.List.{range_with_len}

@@ -1,4 +1,4 @@
--- One write on an arena that nobody else uses, and what it leaves of the arena's words: Linux's BTT document, and UEFI 2.10, section 6.3.
+-- One write on an arena that nobody else uses, and the arena's words after it: Linux's BTT document, and UEFI 2.10, section 6.3.
 use Rattle.std.specs.Prelude.{◌≡◌, ℕ, ◌-◌, ◌<◌, ◌||◌, if◌then◌else◌, Bool, true, false, List, [], ◌∷◌, ◌++◌, length, slice_get, Option, Some, None, Ok}
 use Rattle.arena_open.specs.declared.cell.Cell.TheVariants as cell
 use Rattle.arena_open.specs.declared.opened.Opened.{Opened}

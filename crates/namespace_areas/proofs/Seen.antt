@@ -1,4 +1,4 @@
--- What areas show that are held, and what a crash leaves of them.
+-- What areas show that are held, and their state after a crash.
 use Rattle.std.proofs.Common.{◌≡◌, ℕ, zero, suc, ◌+◌, ◌*◌, List, [], ◌∷◌, length, map, Option, Some, None, Result, Ok, Err, refl, sym, ap, ◌∙◌, subst, arith, inl, inr}
 use Rattle.std.specs.Prelude.{count_by, slice_get}
 use Rattle.std.proofs.lemmas.Option.{none-some}
@@ -109,7 +109,7 @@ seen_read areas = record {
   bytes = λ m s l e. let (bytes, stands) = label_stands areas m s l e in stands.raw_some;
 }
 
--- ---- what a crash leaves of them
+-- ---- their state after a crash
 
 pub left_kept : (words : Words) (left : List ℕ) → words ≡ settled words.kept → IsLeft words left → left ≡ words.kept
 left_kept words left is h =

@@ -16,7 +16,7 @@ IsRunning (Ready area) = area.stopped ≡ false
 abbrev pub AreRunning : List Area → Type 0
 AreRunning areas = All IsRunning areas
 
--- the labels that an area shows, by slot; None where it isn't read
+-- the labels that an area shows, by slot; None if it isn't read
 abbrev pub shown_in : Area → Option (List (Option Label))
 shown_in Absent = None
 shown_in (Refused refused) = None

@@ -14,6 +14,6 @@ number_in region = region.0
 unfoldable pub namespace_with : List (List Mapping) → List Placed → Placed → Namespace
 namespace_with sets own first = namespace_of (entry_with sets own first) 0
 
--- none where there is no label
+-- none if there is no label
 abbrev pub namespace_in : List (List Mapping) → List Placed → Option Namespace
 namespace_in sets own = option_map (namespace_with sets own) (slice_get own 0)

@@ -43,7 +43,7 @@ area_by values block = record { block = block.size; slots = slots_by (bytes_of v
 abbrev pub ready_seen : AreaState → SeenArea
 ready_seen area = area_by area.words.kept area.block
 
--- an area, none where it isn't ready
+-- an area, none if it isn't ready
 abbrev pub area_seen : Area → Option SeenArea
 area_seen Absent = None
 area_seen (Refused refused) = None
@@ -53,15 +53,15 @@ area_seen (Ready area) = Some (ready_seen area)
 abbrev pub areas_seen : List Area → List (Option SeenArea)
 areas_seen areas = map area_seen areas
 
--- ---- what a crash leaves of them
+-- ---- their state after a crash
 
--- an area's words, none where there is no area
+-- an area's words, none if there is no area
 abbrev pub words_of : Area → Option Words
 words_of Absent = None
 words_of (Refused refused) = Some refused.words
 words_of (Ready area) = Some area.words
 
--- of each area a row of values: of each word its kept value, or the one that a load gives
+-- of each area a row of values: of each word its kept value, or the one that a load returns
 abbrev pub AreLeft : List Area → List (Option (List ℕ)) → Type 0
 AreLeft areas rows = Each IsLeftOf (map words_of areas) rows
 
@@ -69,7 +69,7 @@ abbrev pub shown_by : List ℕ → Result IndexBlock AreaFault → Option SeenAr
 shown_by values (Ok block) = Some (area_by values block)
 shown_by values (Err fault) = None
 
--- the area that values are opened as, none where there are none, or where they are refused
+-- the area that values are opened as, none if there are none, or if they are refused
 abbrev pub area_shown : Option (List ℕ) → Option SeenArea
 area_shown None = None
 area_shown (Some values) = shown_by values (block_in (bytes_of values))

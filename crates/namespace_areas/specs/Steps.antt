@@ -34,7 +34,7 @@ area_steps values uuid label = steps_by values uuid label (block_in (bytes_of va
 
 -- ---- one change
 
--- the words of all label areas by the modules' numbers, none where a module has no area
+-- the words of all label areas by the modules' numbers, none if a module has no area
 abbrev pub Rows : Type 0
 Rows = List (Option (List ℕ))
 

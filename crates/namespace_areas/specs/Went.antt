@@ -24,8 +24,8 @@ HasRoom area (Some label) = 1 ≤ free_in (slots_of area)
 abbrev pub area_after : SeenArea → List ℕ → Option Label → SeenArea
 area_after area uuid label = record area { slots = replaced (slot_of area.slots uuid) label area.slots }
 
--- What a cut after n steps of a change leaves is opened as the area before it; where one step alone is missing, as that or as the
--- one after it; and with all steps as the one after it.
+-- After a crash n steps into a change the words are opened as the area before the change; if one step alone was missing, as that or
+-- as the area after it; after all steps, as the area after it.
 pub record ShowsCut (old new : SeenArea) (count n : ℕ) (values : List ℕ) : Type 0 where
   pub before : n + 1 < count → area_shown (Some values) ≡ Some old
   pub either : n + 1 ≡ count → (area_shown (Some values) ≡ Some old) ⊎ (area_shown (Some values) ≡ Some new)
@@ -68,7 +68,7 @@ pub record Went (old new : List Area) (fuse left : Option ℕ) (changes : List C
   -- then no area is stopped, and they show what the changes make of what they showed
   pub held : whole ≡ true → AreHeld new
   pub done : whole ≡ true → areas_seen new ≡ all_changed (areas_seen old) changes
-  -- after a crash the areas show what a crash after the fuse's steps leaves of the changes
+  -- after a crash the areas show the state in which the changes are after the fuse's steps
   pub cut : (n : ℕ) → fuse ≡ Some n → (rows : List (Option (List ℕ))) → AreLeft new rows → IsLeftBy (areas_seen old) changes n (areas_shown rows)
   -- an area that isn't ready stays as it is, and each keeps its size
   pub beside : map unready new ≡ map unready old

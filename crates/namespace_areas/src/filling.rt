@@ -82,7 +82,7 @@ pub(crate) fn fill(room: &mut Vec<Placed>, areas: &[Area])
     }
 }
 
-/// The slots of an area; none where it isn't read.
+/// The slots of an area; none if it isn't read.
 fn slot_count(area: &Area) -> usize
     requires { IsRunning area.now }
     ensures count { result ≡ slots_of area.now }

@@ -18,8 +18,8 @@
 //!
 //! ```text
 //! fuse lasts       the areas show what the change makes of what they showed; the next change may follow
-//! power is cut     each area's words are old or new, word by word; opened again, they show what a crash after so many
-//!                  steps leaves of the changes (`IsLeftBy`)
+//! power is cut     each area's words are old or new, word by word; opened again, they show the state after a crash that
+//!                  many steps into the changes (`IsLeftBy`)
 //! ```
 //!
 //! The list of all stores and flushes of the changes (`all_steps`) fixes the areas' words to the byte: after all of them

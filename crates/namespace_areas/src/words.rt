@@ -20,7 +20,7 @@ fn words_of(area: Area) -> Option<CutWords>
 
 /// The words of the label areas of all modules, by the modules' numbers: none for a module that has no area.
 ///
-/// What a crash leaves of these words is what it leaves of the areas (`AreLeft`). The one error is out of memory; then
+/// A crash may make of these words just what it may make of the areas' words (`AreLeft`). The one error is out of memory; then
 /// the areas are dropped.
 pub fn into_words(alloc: Global, areas: Vec<Area>) -> Result<Items<Option<CutWords>>, AllocError>
     ensures { IfOk result (λ words. words ≡ map words_of areas.items) }

@@ -1,4 +1,4 @@
--- A create that isn't refused: what a cut of its label changes leaves of its entry.
+-- A create that isn't refused: its entry after a crash in its label changes.
 use Rattle.std.proofs.Common.{◌≡◌, ◌≢◌, ℕ, suc, ◌+◌, ◌%◌, ◌≤◌, Bool, true, false, List, [], ◌∷◌, length, Option, Some, None, refl, sym, ap, ◌∙◌, subst, arith, inl, inr}
 use Rattle.std.specs.Prelude.{◌==◌, nat_lt, map, find, slice_get, position}
 use Rattle.std.specs.Option.{option_map}

@@ -42,7 +42,7 @@ namespaces_in s = with_claims (shown s.sets s.areas) s.claims
 abbrev pub GoesOn : State → Reply → Type 0
 GoesOn s reply = (s.stopped ≡ false) × (reply ≢ Err OutOfMemory)
 
--- a command that may want memory
+-- a command that may need memory
 abbrev pub takes_memory : Command → Bool
 takes_memory (Create spec) = true
 takes_memory other = false

@@ -68,8 +68,8 @@ opening_of r = record { areas = areas_seen r.opening; claims = [] }
 abbrev pub kept_of : State → Kept
 kept_of s = record { areas = areas_seen s.areas; claims = s.claims }
 
--- Power was cut after n steps. The first `before` of them touch no label area. Those behind are steps of label changes, and what a crash
--- leaves of the areas is what it leaves of these changes.
+-- Power was cut after n steps. The first `before` of them touch no label area. Those behind are steps of label changes, and the areas
+-- after a crash show these changes cut at that step.
 pub record IsCutAfter (began : List (Option SeenArea)) (before : ℕ) (changes : List Change) (areas : List Area) (n : ℕ) : Type 0 where
   pub short : n < before + steps_of_all began changes
   pub within : n < before → (rows : List (Option (List ℕ))) → AreLeft areas rows → areas_shown rows ≡ began

@@ -105,8 +105,8 @@ impl LabelStore {
     ///
     /// It isn't stopped. Refusals, after which nothing has changed (`delete_refusal` of `namespace_areas`): `NoSuch`,
     /// `NotComplete`, `ReadOnlyLabel`, `NoSlot`. Else `PowerCut` comes exactly if the fuse has fewer steps left than
-    /// these changes take, and then it is stopped: what a crash leaves of the areas is what it leaves of the changes. It
-    /// takes no memory.
+    /// these changes take, and then it is stopped: the areas after a crash show the changes cut at that step. It takes
+    /// no memory.
     pub(crate) fn delete(&mut self, fuse: &mut Fuse, uuid: &Uuid) -> Result<(), OpRefused>
         requires running { self.old.stopped ≡ false }
         ensures carried { Carried self.old.sets self.old.areas self.new.areas fuse.old fuse.new (command.Delete uuid.now) result }

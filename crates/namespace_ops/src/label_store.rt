@@ -76,7 +76,8 @@ impl LabelStore {
     /// the namespace's name and without it, on each module with a free slot. All else of a label is kept.
     ///
     /// It isn't stopped. It takes no memory. `PowerCut` comes exactly if the fuse has fewer steps left than these changes
-    /// take, and then it is stopped: what a crash leaves of the areas is what it leaves of the changes (`Went`). After `Ok` the namespaces are what recovery makes of the map (`after_recovery`).
+    /// take, and then it is stopped: the areas after a crash show the changes cut at that step
+    /// (`Went`). After `Ok` the namespaces are what recovery makes of the map (`after_recovery`).
     pub(crate) fn recover(&mut self, fuse: &mut Fuse) -> Result<(), PowerCut>
         requires running { self.old.stopped ≡ false }
         ensures went { Went self.old.areas self.new.areas fuse.old fuse.new (recovery_changes self.old.sets (areas_seen self.old.areas)) (is_ok result) }

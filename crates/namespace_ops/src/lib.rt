@@ -35,7 +35,7 @@
 //!
 //! ```text
 //! opening ──► entry 0 ──► entry 1 ──► .. ──► the namespaces of now       until power is cut
-//! opening ──► entry 0 ──► .. ──► those from which the cut command began ──► what a crash leaves of its changes
+//! opening ──► entry 0 ──► .. ──► those from which the cut command began ──► the state after a crash in its changes
 //! ```
 //!
 //! Once power was cut, every later call answers `PowerCut` and changes nothing but the journal. `reserve` makes the room of

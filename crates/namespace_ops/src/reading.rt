@@ -19,7 +19,7 @@ use std::alloc::{AllocError, Global};
 use uuid::Uuid;
 
 impl Registry {
-    /// The calls with a tag, in their order. Replayed on the opening they give what the registry has; from the first
+    /// The calls with a tag, in their order. Replayed on the opening they make what the registry has; from the first
     /// `PowerCut` on, what a crash leaves.
     pub fn journal(&self) -> &[JournalEntry]
         ensures entries { result.now ≡ self.now.journal }

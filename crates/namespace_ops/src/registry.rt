@@ -173,7 +173,7 @@ impl Registry {
 
     /// Opens the namespaces of an image set. The journal is empty, and will replay from these areas.
     ///
-    /// The table is as `read_nfit` gives it. The areas stand by the modules' numbers, and none was changed since it was read;
+    /// The table is as `read_nfit` returns it. The areas stand by the modules' numbers, and none was changed since it was read;
     /// those that aren't there, or weren't read, have no labels. Refusals, of which the first that holds is answered, and
     /// which drop the areas:
     ///
@@ -217,8 +217,8 @@ impl Registry {
     /// namespace's name and without it, on each module with a free slot. All else of a label is kept.
     ///
     /// Power wasn't cut, and the journal is empty; after `Ok` it will replay from the areas as they are then. It takes no
-    /// memory. `PowerCut` comes exactly if the fuse has fewer steps left than the changes take. What a crash leaves of the
-    /// areas is then what it leaves of the changes (`Went`), and the registry is stopped.
+    /// memory. `PowerCut` comes exactly if the fuse has fewer steps left than the changes take. Then the
+    /// areas after a crash show the changes cut at that step (`Went`), and the registry is stopped.
     pub fn recover(&mut self, fuse: &mut Fuse) -> Result<(), PowerCut>
         requires running { self.old.stopped ≡ false }
         requires first { self.old.journal ≡ [] }

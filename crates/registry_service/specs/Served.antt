@@ -45,7 +45,7 @@ pub record WasCut (sets : List (List Mapping)) (from : Kept) (rows : Rows) (firs
   pub off : WentOff sets began words left entry areas
   pub same : AllByRecursion IsOff later
 
--- What commands leave of the label areas that a registry began with: one that isn't ready is as it was, each has its size, and unless
+-- After commands, the label areas that a registry began with: one that isn't ready is as it was, each has its size, and unless
 -- power was cut none stands in the middle of a change.
 pub record AreKept (opening areas : List Area) (stopped : Bool) : Type 0 where
   pub beside : map unready areas ≡ map unready opening

@@ -44,7 +44,7 @@ pub fn lock_registry(
     Turn::of(alloc, served, sessions)
 }
 
-/// Closes the lock, and gives the registry and what is left of its fuse.
+/// Closes the lock, and returns the registry and its fuse.
 ///
 /// The sets are those that it began with, and each label area is of its size; one that isn't ready is
 /// as it was (`areas`). The answered calls are a journal from what the registry began with, under the fuse that it had

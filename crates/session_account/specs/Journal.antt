@@ -1,4 +1,4 @@
--- A journal of sessions' commands, where power is cut after so many steps on labels: what each entry replies, and the label areas at
+-- A journal of sessions' commands, if power is cut after so many steps on labels: what each entry replies, and the label areas at
 -- its end.
 use Rattle.std.specs.Prelude.{◌≡◌, ⊤, ℕ, List, [], ◌∷◌, Option, Some, None, Err, MatchBool}
 use Rattle.std.specs.List.{AllByRecursion}

@@ -77,7 +77,7 @@ pub record PowerPart : Type 0 where
 abbrev pub ToldOfOne : ℕ → (ℕ → PowerPart) → Type 0
 ToldOfOne count parts = (q : ℕ) → IsTrue (parts q).told → (r : ℕ) × (r < count) × IsSome (parts r).stopped
 
--- a session switches power off itself where it has a cut of its own, and is cut then; for the label side where a command of its own was cut
+-- a session switches power off itself if it has a cut of its own, and is cut then; on the label side, if a command of its own was cut
 abbrev pub HasCause : Script → SessionLines → List Reply → List JournalEntry → Option Who → Type 0
 HasCause script session replies own None = Unit {0}
 HasCause script session replies own (Some itself) = IsSome session.cut × IsTrue (has_cut replies)
@@ -110,7 +110,7 @@ pub record AreClosed (all : List Serving) (count : ℕ) (journal : List JournalE
   pub no_call : (place k : ℕ) → IsArena all place k → AllByRecursion (λ l. l.tag.session < count) (calls place k)
   pub told : ToldOfOne count power
 
--- the theorem of the tie: closed locks and sessions that are done give the accounts
+-- a law: closed locks and sessions that are done imply the accounts
 abbrev pub AccountsFollow : Type 0
 AccountsFollow =
     (all : List Serving) (script : Script) (replies : List (List Reply)) (journal : List JournalEntry) (room : List ℕ) (histories : Histories) (calls : Calls) (power : ℕ → PowerPart)
@@ -120,7 +120,7 @@ AccountsFollow =
 
 -- ---- what is left of an arena
 
--- the theorem of the tie, of what is left: where the sessions are done, the contents survive by their accounts
+-- a law: if the sessions are done, the contents survive by their accounts
 abbrev pub SurvivalFollows : Type 0
 SurvivalFollows =
     (all : List Serving) (script : Script) (replies : List (List Reply)) (journal : List JournalEntry) (room : List ℕ) (histories : Histories) (calls : Calls) (power : ℕ → PowerPart)

@@ -1,4 +1,4 @@
--- What a power cut leaves of an arena's sectors, by the calls that were cut.
+-- An arena's sectors after a crash, by the calls that were cut.
 use Rattle.std.specs.Prelude.{◌≡◌, ◌⊎◌, ℕ, ◌<◌, List, Any}
 use Rattle.arena_open.specs.declared.cell.Cell.{Cell}
 use Rattle.lane_core.specs.declared.history.Act.{Act}

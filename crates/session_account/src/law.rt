@@ -10,7 +10,7 @@ pub fn accounts_follow()
     ensures { AccountsFollow }
 {}
 
-/// Then whatever a power cut leaves of a core survives by the accounts.
+/// Then each state that a core may have after a crash survives by the accounts.
 pub fn survival_follows()
     ensures { SurvivalFollows }
 {}

@@ -21,7 +21,7 @@
 //!
 //! | promise | law |
 //! |---|---|
-//! | what the locks give when they are closed, and sessions that are done, give the accounts | [`accounts_follow`] |
+//! | closed locks and sessions that are done imply the accounts | [`accounts_follow`] |
 //! | what may survive of a core survives by the accounts | [`survival_follows`] |
 //! | a session begins, goes on by an answered call, stops at a cut, or ends | [`begins_so`], [`goes_on`], [`stops_so`], [`ends_so`] |
 //! | a call on a sector stands in its arena alone, and a write stands as the same if it was answered or cut | [`stands_here`], [`writes_same`], [`call_ends`], [`call_stops`] |

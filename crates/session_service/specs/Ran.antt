@@ -44,7 +44,7 @@ replies_of replies = map (λ v. v.items) replies
 abbrev pub journal_of : Ran → List JournalEntry
 journal_of ran = answered ran.registry.journal
 
--- The core of an arena after the sessions. What a power cut may leave of it survives by the accounts.
+-- The core of an arena after the sessions. Each state that it may have after a crash survives by the accounts.
 pub record IsRunCore (state : ArenaState) (history : List HistoryEntry) (flights : List Flight) (core : Core) : Type 0 where
   pub of_arena : IsCoreOf state core
   pub legal : IsLegal (first_cells state) history
@@ -59,7 +59,7 @@ pub record HasServed (registry : Registered) (served : List ServedNamespace) (sc
   pub commands : IsJournal registry.sets (opening_of registry) script.labelcut (journal_of ran)
   -- if power lasted for all commands, the label areas are those of the journal's end
   pub on : ran.registry.stopped ≡ false → AreLeft registry.sets (opening_of registry) script.labelcut (journal_of ran) (areas_seen ran.registry.areas)
-  -- if not, they are what a crash leaves of the command in which it was cut
+  -- if not, they are in the state after a crash in the command in which it was cut
   pub off : ran.registry.stopped ≡ true → (rows : List (Option (List ℕ))) → AreasLeft ran.registry.areas rows → AreLeft registry.sets (opening_of registry) script.labelcut (journal_of ran) (areas_shown rows)
   -- either way their words are those that the commands stored and flushed, as long as power lasted, if no area stood in the middle of a
   -- change at first

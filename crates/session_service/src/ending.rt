@@ -124,8 +124,7 @@ fn closed(
 /// histories, in order, and power was cut only if a session's own steps or those on labels ended
 /// (`accounts`). The journal is one run of its commands on the registry as it was handed over,
 /// and gives its label areas and their words (`commands`, `on`, `off`, `words`). Each history is
-/// legal, and what a power cut may leave of a core is its end, or what a write in flight would leave
-/// (`cores`).
+/// legal; after a crash a core is as at its end, or as a write in flight would make it (`cores`).
 ///
 /// Conditions: `of_namespaces` made the locks, and each session has run (`run_sessions`).
 pub fn close(

@@ -96,10 +96,10 @@ pub(crate) fn run_at<R: Wait, G: Gate>(
 /// Runs all sessions of a script, in at most `workers` threads, and returns when each has come to
 /// its end.
 ///
-/// A session makes its calls one after another. It ends behind its last call, where what it has
-/// open is given back, or at the first that is answered `Cut`. Condition: each session is ready, as
-/// `of_namespaces` made it. Then what each was answered belongs to what stands of it, whatever the
-/// threads did (`AreEnded`); [`close`](crate::close) asks for that.
+/// A session makes its calls one after another. It ends behind its last call, when it gives back
+/// what it has open, or at the first that is answered `Cut`. Condition: each session is ready, as
+/// `of_namespaces` made it. Then the replies of each agree with its account, whatever the threads
+/// did (`AreEnded`); [`close`](crate::close) asks for that.
 pub fn run_sessions<R: Threads + Wait + Sync, G: Gate>(
     waiting: &Waiting<R, G>,
     service: &Service,

@@ -1,4 +1,4 @@
--- What a crash leaves of a command's own namespace, on areas that recovery has made. There a namespace that is still pending has a label on a
+-- A command's own namespace after a crash in the command, on areas that recovery has made. There a namespace that is still pending has a label on a
 -- module without a free slot.
 use Rattle.std.proofs.Common.{◌≡◌, ◌⊎◌, ℕ, ◌≤◌, Bool, true, false, cond, List, [], ◌∷◌, length, map, filter, Option, Some, None, refl, sym, ap, ◌∙◌, subst, inl, inr, arith}
 use Rattle.std.specs.Prelude.{◌==◌, if◌then◌else◌, nat_lt, slice_get}

@@ -36,7 +36,7 @@ pub record SavesDone (objects : List (Option (List ℕ)) → List (List ℕ) →
   pub left : Each IsLeft contents contents_left
   pub saves : IsSaving ending.Done done_text (objects rows contents_left) outcome
 
--- What the chooser leaves of areas and contents is saved.
+-- The areas and the contents are saved as they are after the crash, as the chooser picks.
 pub record SavesCut (leaves : ℕ → List (Option Words) → List (Option (List ℕ)) → Type 0) (objects : List (Option (List ℕ)) → List (List ℕ) → Images) (power : Power) (areas : List Area) (contents : List Words) (outcome : Outcome) : Type 0 where
   pub rows : List (Option (List ℕ))
   pub kept : AreLeft areas rows

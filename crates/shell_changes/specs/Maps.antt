@@ -123,7 +123,7 @@ abbrev pub CrashIsInEither : (ℕ → List (Option Words) → List (Option (List
 CrashIsInEither leaves = (c : Command) (power : Power) (loaded : ImageSet) (sets : List (List Mapping)) (outcome : Outcome) (n : ℕ) → power.steps ≡ Some n → sets_in loaded ≡ Ok sets
     → ChangeComes leaves c power loaded outcome → outcome.ending ≡ ending.PowerCut → IsCutIn sets loaded c n outcome
 
--- a law: what a crash leaves of a command recovers to the recovery of what was loaded, or to that of the command applied to it
+-- a law: the state after a crash in a command recovers to the recovery of what was loaded, or to that of the command applied to it
 abbrev pub CrashRecovers : (ℕ → List (Option Words) → List (Option (List ℕ)) → Type 0) → Type 0
 CrashRecovers leaves = (c : Command) (power : Power) (loaded : ImageSet) (sets : List (List Mapping)) (outcome : Outcome) → ChangesLabels c → HasTable loaded → sets_in loaded ≡ Ok sets
     → ChangeComes leaves c power loaded outcome → outcome.ending ≡ ending.PowerCut
@@ -138,7 +138,7 @@ uuid_of (Rename uuid name) = uuid
 uuid_of (Claim uuid) = uuid
 uuid_of (Unclaim uuid) = uuid
 
--- What a crash leaves of a namespace's delete. One that is still pending once recovery is made has a label on a module without a free slot. So it has
+-- A namespace after a crash in its delete. One that is still pending once recovery is made has a label on a module without a free slot. So it has
 -- one label, else its delete is refused; and it is as it was, or gone.
 pub record DeleteIsLeft (e : NamespaceEntry) (left : Option NamespaceEntry) : Type 0 where
   pub between : CutOfDelete e left
@@ -151,7 +151,7 @@ pub record RenameIsLeft (e : NamespaceEntry) (name : List ℕ) (left : Option Na
   pub between : CutOfRename e name left
   pub alone : length e.parts ≡ 1 → CutOfRenameAlone e name left
 
--- what a crash leaves of a command's own namespace, by the tables of `namespace_laws`
+-- a command's own namespace after a crash in it, by the tables of `namespace_laws`
 abbrev pub OwnIsLeft : Namespaces → Command → Option NamespaceEntry → Type 0
 OwnIsLeft before (Create spec) left = CutOfCreate (new_entry before spec) left × (length (set_of before spec.region) ≡ 1 → CutOfCreateAlone (new_entry before spec) left)
 OwnIsLeft before (Delete uuid) left = (e : NamespaceEntry) × (lookup uuid before.entries ≡ Some e) × DeleteIsLeft e left
@@ -159,7 +159,7 @@ OwnIsLeft before (Rename uuid name) left = (e : NamespaceEntry) × (lookup uuid 
 OwnIsLeft before (Claim uuid) left = ⊥
 OwnIsLeft before (Unclaim uuid) left = ⊥
 
--- what a crash leaves of the namespaces that recovery made
+-- the namespaces that recovery made, after a crash in a command
 pub record IsLeftOf (before ns : Namespaces) (c : Command) : Type 0 where
   -- every other namespace is as it was, and no two have extents that meet
   pub others : (other : List ℕ) → other ≢ uuid_of c → lookup other ns.entries ≡ lookup other before.entries

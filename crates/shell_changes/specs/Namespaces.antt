@@ -45,8 +45,8 @@ pub record IsDone (loaded : ImageSet) (areas : List (Option Area)) (work : Work)
   pub has : HasRows now (all_rows (rows_in loaded) (label_changes work)) set
   pub saves : IsSaving ending.Done done_text set outcome
 
--- power is cut within the work: the set is saved with what the chooser leaves of the words of its label areas, as their first stores and
--- keeps have left them, and then of the contents, if a format has begun
+-- power is cut within the work: the set is saved as it is after the crash. The chooser picks first in the words of the label areas, after their
+-- first stores and keeps, and then in the contents, if a format has begun
 pub record IsPowerCut (leaves : ℕ → List (Option Words) → List (Option (List ℕ)) → Type 0) (loaded : ImageSet) (areas : List (Option Area)) (work : Work) (power : Power) (outcome : Outcome) : Type 0 where
   pub steps : ℕ
   pub given : power.steps ≡ Some steps
@@ -98,8 +98,8 @@ OnSets leaves loaded c power (Ok sets) outcome =
     let areas = areas_in loaded.labels in Goes leaves loaded areas (work_in sets areas c) (refusal_in sets areas c) power outcome
 OnSets leaves loaded c power (Err fault) outcome = outcome ≡ open_outcome fault
 
--- What a command on namespaces may come to on a set that is loaded, whose label areas have a label area's size. `leaves` says what a
--- power cut may leave of rows of words, by the number from which the chooser is begun.
+-- What a command on namespaces may come to on a set that is loaded, whose label areas have a label area's size. `leaves` says what
+-- rows of words may be after a crash, by the number from which the chooser is begun.
 abbrev pub ChangeComes : (ℕ → List (Option Words) → List (Option (List ℕ)) → Type 0) → Command → Power → ImageSet → Outcome → Type 0
 ChangeComes leaves c power loaded outcome = OnSets leaves loaded c power (sets_in loaded) outcome
 

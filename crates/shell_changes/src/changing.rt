@@ -243,7 +243,7 @@ fn whole_answer<C: Chooser>(
 }
 
 /// The answer of `create`, `delete` or `rename` on an image set: `ok` and the set with the changes of recovery and of the
-/// command; `cut N` and what a power cut after N steps of these leaves of it; or the first reason for which the command
+/// command; `cut N` and its state after a crash N steps into these; or the first reason for which the command
 /// is refused once recovery has made its changes, which saves nothing; or the first region that is no interleave set, or
 /// the least two UUIDs of which extents meet. A command that makes sectors formats an arena in the contents, between
 /// recovery and its labels; contents outside the namespace's extents are saved as they were read. All work burns one fuse.

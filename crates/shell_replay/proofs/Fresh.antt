@@ -1,4 +1,4 @@
--- A core that was just made, and what a cut leaves of its words.
+-- A core that was just made, and its words after a crash.
 use Rattle.std.proofs.Common.{◌≡◌, ℕ, Bool, List, [], ◌∷◌, Some, refl, subst}
 use Rattle.cut_words.specs.Leaving.{LeavesFrom}
 use Rattle.arena_open.specs.declared.state.ArenaState.{ArenaState}

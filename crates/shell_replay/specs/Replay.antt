@@ -36,7 +36,7 @@ pub record ReopensIn (uuid : List ℕ) (state : ArenaState) (held : Held) (now :
   pub info : new.info ≡ state.info
   pub sectors : (sector : ℕ) → sector < state.info.layout.external → MaySurvive (first_cells state) held sector (first_cells new sector)
 
--- The words of a namespace of one arena after a schedule and a power cut. `leaves` says what a power cut may leave of rows of words, by
+-- The words of a namespace of one arena after a schedule and a power cut. `leaves` says what rows of words may be after a crash, by
 -- the number from which the chooser is begun.
 pub record HasReplayed (leaves : ℕ → List (Option Words) → List (Option (List ℕ)) → Type 0) (uuid : List ℕ) (schedule : Schedule) (state : ArenaState) (was now : List ℕ) : Type 0 where
   -- the arena's words after the cut: the chooser decides for each pending word, in rising order

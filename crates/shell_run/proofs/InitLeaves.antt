@@ -1,4 +1,4 @@
--- What `init` leaves of an image set.
+-- The image set after `init`.
 use Rattle.std.proofs.Common.{◌≡◌, ℕ, ◌*◌, Bool, true, false, List, length, Option, Some, None, Result, Ok, Err, refl, sym, ap, ◌∙◌, subst, inl}
 use Rattle.nvd_media.specs.Images.{Images, IsSameSet}
 use Rattle.cut_words.specs.Words.{Words, Step, after, settled, IsLeft}

@@ -37,7 +37,7 @@ use Rattle.shell_run.specs.Scripts.{bytes_in, script_in, script_outcome}
 
 -- ---- a case for each command
 
--- what a command without a script may come to on the set that it loads; `leaves` says what a power cut may leave of rows of words, by the number from
+-- what a command without a script may come to on the set that it loads; `leaves` says what rows of words may be after a crash, by the number from
 -- which the chooser is begun
 abbrev pub LoadedComes : (ℕ → List (Option Words) → List (Option (List ℕ)) → Type 0) → CommandLine → ImageSet → Outcome → Type 0
 LoadedComes leaves (Labels m) loaded outcome = outcome ≡ labels_outcome m loaded

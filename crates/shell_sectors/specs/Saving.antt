@@ -22,7 +22,7 @@ use Rattle.shell_sectors.specs.Found.{HasModules, IsUnchanged, with_contents}
 abbrev pub LeavesOn : {C : Type 0} → (C → ℕ → Bool → C → Type 0) → C → List (Option Words) → List (Option (List ℕ)) → Type 0
 LeavesOn {C} picks before words left = (after : C) × InTurn (LeavesOption picks) words left before after
 
--- The set is saved with the label areas and the contents after a power cut. `leaves` says what it may leave of the label areas' words.
+-- The set is saved with the label areas and the contents after a power cut. `leaves` says what the label areas' words may be after it.
 pub record SavesLeft (leaves : List (Option Words) → List (Option (List ℕ)) → Type 0) (report : Report) (rest : Unchanged) (contents : List Words) (outcome : Outcome) : Type 0 where
   pub labels : List (Option (List ℕ))
   pub areas : AreLeft rest.registry.areas labels

@@ -71,7 +71,7 @@ pub record AreSame (namespaces : List OpenedNamespace) (served : List ServedName
 abbrev pub IsCutOf : Core → List ℕ → Type 0
 IsCutOf core words = (state : ArenaState) → IsCoreOf state core → ArenaCut state (held_by core) words
 
--- What sessions have come to on namespaces that are open, in place of what was loaded. `leaves` says what the cut may leave of their words.
+-- What sessions have come to on namespaces that are open, in place of what was loaded. `leaves` says what their words may be after the cut.
 pub record IsServed (leaves : List (Option Words) → List (Option (List ℕ)) → Type 0) (loaded : ImageSet) (sets : List (List Mapping)) (areas : List (Option SeenArea)) (words : Rows) (namespaces : List OpenedNamespace) (script : Script) (served : Served) : Type 0 where
   pub journal : List JournalEntry
   pub histories : Histories

@@ -1,4 +1,4 @@
--- What a power cut behind sessions leaves of words that weren't flushed, as the chooser picks: this project's model of a power cut.
+-- Words that weren't flushed when power was cut behind sessions, after the crash, as the chooser picks: this project's model of a power cut.
 use Rattle.std.specs.Prelude.{◌≡◌, ℕ, ◌<◌, List, [], ◌++◌, flat_map, length, map, slice_index_or, Bool, Option, Some, Vec}
 use Rattle.std.specs.Global.{Global}
 use Rattle.cut_words.specs.Words.{Words}
@@ -45,7 +45,7 @@ core_words cores = flat_map (map (λ (core : Core). Some (words_in core.row))) c
 abbrev pub words_left : List (List (List ℕ)) → List (Option (List ℕ))
 words_left parts = flat_map (map (λ (part : List ℕ). Some part)) parts
 
--- Namespaces that were open after the cut. `leaves` says what it may leave of their cores' words.
+-- Namespaces that were open after the cut. `leaves` says what their cores' words may be after it.
 pub record ArenasChosen (leaves : List (Option Words) → List (Option (List ℕ)) → Type 0) (sets : List (List Mapping)) (opened : List OpenedNamespace) (histories : Histories) (flights : ℕ → ℕ → List Flight) (now : List Words) : Type 0 where
   pub cores : List (List Core)
   pub parts : List (List (List ℕ))
@@ -57,8 +57,8 @@ pub record ArenasChosen (leaves : List (Option Words) → List (Option (List ℕ
 
 -- ---- arenas and label areas
 
--- All words after the cut. `leaves` says what it may leave of rows of words: first of the cores', and then of the label areas'. `Hold` says
--- which words these hold, with what was stored since their last flush; whatever the cut could have left of them is due.
+-- All words after the cut. `leaves` says what rows of words may be after it: first the cores', and then the label areas'. `Hold` says
+-- which words these hold, with what was stored since their last flush; whatever they could be after the cut is due.
 pub record IsChosen (leaves : List (Option Words) → List (Option (List ℕ)) → Type 0) (Hold : List (Option Words) → Type 0) (IsDue : List (Option Area) → Type 0) (sets : List (List Mapping)) (opened : List OpenedNamespace) (histories : Histories)
     (flights : ℕ → ℕ → List Flight) (now : List Words) (labels : List (Option (List ℕ))) : Type 0 where
   pub pending : List (Option Words)

@@ -41,6 +41,6 @@ ServesOnSets leaves loaded script (Ok sets) outcome = OnRecovered leaves sets lo
 ServesOnSets leaves loaded script (Err fault) outcome = outcome ≡ open_outcome fault
 
 -- what `serve` may come to on a set that is loaded: the table and the labels are checked, labels are recovered with power that stays on,
--- the namespaces are opened, and then the sessions run. `leaves` says what a power cut behind them may leave of rows of words.
+-- the namespaces are opened, and then the sessions run. `leaves` says what rows of words may be after a crash behind them.
 abbrev pub ServeComes : (List (Option Words) → List (Option (List ℕ)) → Type 0) → Script → ImageSet → Outcome → Type 0
 ServeComes leaves script loaded outcome = ServesOnSets leaves loaded script (sets_in loaded) outcome

@@ -74,7 +74,7 @@ pub record SavesParts (text : List ℕ) (loaded : ImageSet) (areas : List (Optio
 -- ---- what sessions come to
 
 -- The sessions of a script have run on namespaces that are open, from label areas that recovery has left, with these words. The text is a
--- function of their replies. `leaves` says what a power cut may leave of rows of words. However their steps came between one another, and
+-- function of their replies. `leaves` says what rows of words may be after a crash. However their steps came between one another, and
 -- wherever power was cut:
 pub record Serves (leaves : List (Option Words) → List (Option (List ℕ)) → Type 0) (text : List (List Reply) → List ℕ) (sets : List (List Mapping)) (loaded : ImageSet) (areas : List (Option Area)) (words : Rows) (opened : List OpenedNamespace) (script : Script) (outcome : Outcome) : Type 0 where
   pub replies : List (List Reply)
