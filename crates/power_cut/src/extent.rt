@@ -1,7 +1,7 @@
 //! Where a namespace lies in an interleave set.
 ghost use Rattle.std.specs.Prelude.{◌≡◌, ℕ, ◌+◌, ◌*◌, ◌%◌, ◌<◌, ◌≤◌, [], length};
 ghost use Rattle.interleave.specs.Places.{LiesAt, unit_of};
-ghost use Rattle.interleave.specs.Sound.{IsRun, span_of};
+ghost use Rattle.interleave.specs.Sound.{IsRun, line_of, span_of};
 ghost use Rattle.power_cut.specs.Namespace.{IsLaid, IsWordRun, byte_at, raw_byte, raw_bytes, count_of, over};
 
 use interleave::InterleaveSet;
@@ -80,6 +80,7 @@ impl<'a> SetExtent<'a> {
         ensures some { 0 < result }
         ensures run { (which address : ℕ) → LiesAt self.now.set (raw_byte self.now byte) which address
             → IsRun self.now.set (raw_byte self.now byte) which address result }
+        ensures line { raw_byte self.now byte % line_of self.now.set + result ≡ line_of self.now.set }
     {
         self.set.run_length(self.first() + byte)
     }
@@ -100,6 +101,7 @@ impl<'a> SetExtent<'a> {
         ensures some { 0 < result }
         ensures run { (which k : ℕ) → LiesAt self.now.set (byte_at self.now i) which (8 * k)
             → IsWordRun self.now i which k result }
+        ensures line { byte_at self.now i % line_of self.now.set + 8 * result ≡ line_of self.now.set }
     {
         self.set.run_length(self.first() + WORD * i) / WORD
     }
