@@ -14,22 +14,25 @@ mkdir -p specs proofs
 invariant() {
     mkdir -p "proofs/$1"
     cat >"proofs/$1/Invariants.antt" <<EOS
-use Rattle.std.proofs.Common.{◌≡◌, length}
+use Rattle.std.proofs.Common.{◌≡◌, ◌+◌, [], ◌∷◌, length, true}
 use Rattle.std.specs.Prelude.{All}
-use Rattle.lane_table.specs.Kits.{IsOf}
+use Rattle.lane_table.specs.Kits.{arena_id, held_in, IsOf}
+use Rattle.lane_table.specs.Law.{may_enter, new_pass}
 use Rattle.lanes_bench.proofs.$1.Given as goal
 
 abbrev pub invariant-$2 : goal.invariant-$2
 invariant-$2 l = $3
 EOS
 }
-invariant stage loop 'IsOf l.arena l.lane.kit'
-invariant commit loop 'IsOf l.arena l.staged.kit'
-invariant read loop 'IsOf l.arena l.lane.kit × (length l.into ≡ length l.initial.into)'
-invariant fill loop-sector 'IsOf l.arena l.lane.kit'
-invariant write_many loop 'IsOf l.arena l.lane.kit'
-invariant read_many loop 'IsOf l.arena l.lane.kit × (length l.words ≡ 64)'
-invariant workers loop 'All (λ k. IsOf l.arena k.kit) l.lanes.items'
+may='may_enter (held_in l.KIT) (record { session = l.session; call = l.next }) ≡ true'
+invariant stage loop "IsOf l.arena l.lane.kit × ($(echo "$may" | sed 's/KIT/lane.kit/'))"
+invariant commit loop "IsOf l.arena l.staged.kit × ($(echo "$may" | sed 's/KIT/staged.kit/'))"
+invariant read loop "IsOf l.arena l.lane.kit × (length l.into ≡ length l.initial.into) × ($(echo "$may" | sed 's/KIT/lane.kit/'))"
+invariant fill loop-sector 'IsOf l.arena l.client.lane.kit'
+invariant write_many loop 'IsOf l.arena l.client.lane.kit'
+invariant read_many loop 'IsOf l.arena l.client.lane.kit × (length l.words ≡ 64)'
+invariant workers loop 'All (λ k. IsOf l.arena k.kit) l.lanes.items × All (λ k. held_in k.kit ≡ []) l.lanes.items × All (λ p. p.seat.table_id ≡ arena_id l.arena) l.passes.items × All (λ p. p.seat.me.0.loose ≡ new_pass p.session ∷ []) l.passes.items'
+invariant passes_of loop '(IsOf l.arena l.first.kit) × (l.first.kit.number ≡ 0) × (l.first.kit.made ≡ l.counter) × (held_in l.first.kit ≡ held_in l.initial.first.kit) × All (λ p. p.seat.table_id ≡ arena_id l.arena) l.passes.items × All (λ p. p.seat.me.0.loose ≡ new_pass p.session ∷ []) l.passes.items'
 build
 rustc -O --edition 2021 -o "$work/twin" "$top/bench/lanes_twin.rs"
 python3 - out/lanes_bench "$work/twin" <<'PY'

@@ -1,5 +1,5 @@
 -- The lanes' seats while they are made.
-use Rattle.std.proofs.Common.{◌≡◌, ℕ, suc, ◌+◌, ◌-◌, ◌<◌, ◌≤◌, inl, inr, List, [], ◌∷◌, ◌++◌, length, false, refl, sym, ap, ◌∙◌, subst, arith, length-append}
+use Rattle.std.proofs.Common.{◌≡◌, ℕ, zero, suc, ◌+◌, ◌-◌, ◌<◌, ◌≤◌, inl, inr, List, [], ◌∷◌, ◌++◌, length, false, refl, sym, ap, ◌∙◌, subst, arith, length-append, add-one}
 use Rattle.std.proofs.lemmas.List.{get_or_default}
 use Rattle.std.specs.Prelude.{All, slice_index_or}
 use mathlib.Core.Option.{some}
@@ -15,10 +15,11 @@ use Rattle.lane_core.specs.Cut.{half_at}
 use Rattle.lane_table.specs.declared.lanes.Lane.{Lane}
 use Rattle.lane_table.specs.declared.table.Key.{Key}
 use Rattle.lane_table.specs.declared.table.Owned.{Owned}
+use Rattle.lane_table.specs.declared.table.PassPart.{PassPart}
 use Rattle.lane_table.specs.declared.table.View.{View}
 use Rattle.lane_table.specs.Begun.{AreFresh, IsBegun, IsNew, IsFresh, lane_at}
-use Rattle.lane_table.specs.Kits.{IsAt}
-use Rattle.lane_table.specs.Law.{keeper, seated, dealt, next_seat, opened_from, opened_owned, areas_in, words_of, side_of}
+use Rattle.lane_table.specs.Kits.{IsAt, held_in}
+use Rattle.lane_table.specs.Law.{keeper, seated, dealt, next_seat, opened_from, opened_owned, first_loose, unmade_from, others, areas_in, words_of, side_of}
 use Rattle.lane_table.proofs.Moves.{rule}
 use Rattle.lane_table.proofs.Splits.{splits, at_end}
 
@@ -32,19 +33,28 @@ waits k n total lt = ap (opened_from k n) (one_less n total lt) ∙ ap (λ m. op
     next : (n : ℕ) → suc n ≡ n + 1
     next n = omega arith
 
-pub splits_as : {S : Type 0} (x : Shape) (c : ℕ → Cell) (ws : List ℕ) (id : ℕ) (v : View) (o : Owned) (os : List Owned) → v ≡ keeper (o ∷ os) → Splits {S = S} (rule x c ws) id v (dealt v) (next_seat v)
-splits_as {S = S} x c ws id v o os is = subst (λ v. Splits {S = S} (rule x c ws) id v (dealt v) (next_seat v)) (sym is) (splits x c ws id (keeper (o ∷ os)) o os refl refl)
+pub splits_as : {S : Type 0} (x : Shape) (c : ℕ → Cell) (ws : List ℕ) (id : ℕ) (v : View) (o : Owned) (os : List Owned) (ps : List PassPart) → v ≡ keeper (o ∷ os) ps → Splits {S = S} (rule x c ws) id v (dealt v) (next_seat v)
+splits_as {S = S} x c ws id v o os ps is = subst (λ v. Splits {S = S} (rule x c ws) id v (dealt v) (next_seat v)) (sym is) (splits x c ws id (keeper (o ∷ os) ps) o os refl refl)
 
 -- the new seat, and the dealer after it
-pub seat_is : {S : Type 0} (m d : Me S View) (os : List Owned) (o : Owned) (rest : List Owned) → m ≡ (next_seat d.0, []) → d ≡ (keeper os, []) → os ≡ o ∷ rest → m ≡ (seated o, [])
-seat_is m d os o rest q is w = q ∙ ap (λ d. (next_seat d.0, [])) is ∙ ap (λ os. (next_seat (keeper os), [])) w
+pub seat_is : {S : Type 0} (m d : Me S View) (os : List Owned) (o : Owned) (rest : List Owned) (ps : List PassPart) → m ≡ (next_seat d.0, []) → d ≡ (keeper os ps, []) → os ≡ o ∷ rest → m ≡ (seated o ps, [])
+seat_is m d os o rest ps q is w = q ∙ ap (λ d. (next_seat d.0, [])) is ∙ ap (λ os. (next_seat (keeper os ps), [])) w
 
-pub dealer_is : {S : Type 0} (m d : Me S View) (os : List Owned) (o : Owned) (rest : List Owned) → m ≡ (dealt d.0, d.1) → d ≡ (keeper os, []) → os ≡ o ∷ rest → m ≡ (keeper rest, [])
-dealer_is m d os o rest q is w = q ∙ ap (λ d. (dealt d.0, d.1)) is ∙ ap (λ os. (dealt (keeper os), [])) w
+pub dealer_is : {S : Type 0} (m d : Me S View) (os : List Owned) (o : Owned) (rest : List Owned) (ps : List PassPart) → m ≡ (dealt d.0, d.1) → d ≡ (keeper os ps, []) → os ≡ o ∷ rest → m ≡ (keeper rest [], [])
+dealer_is m d os o rest ps q is w = q ∙ ap (λ d. (dealt d.0, d.1)) is ∙ ap (λ os. (dealt (keeper os ps), [])) w
+
+-- the first lane's seat makes the passes
+pub first_makes : (l : ℕ) → l ≡ 0 → first_loose l ≡ unmade_from 0 ∷ others (first_loose l)
+first_makes zero e = refl
+first_makes (suc l) e = absurd (omega arith)
+
+-- one lane on, no pass is left to hand out
+pub none_later : (n : ℕ) → first_loose (n + 1) ≡ []
+none_later n = ap first_loose (add-one n)
 
 -- a lane's seat is as the code takes it
-pub new_seat : {S : Type 0} (k : Key) (l : ℕ) (state : LaneState) (me : Me S View) → IsBegun k → l < k.shape.lanes → me ≡ (seated (opened_owned k l), []) → state ≡ lane_at k.lanes.value l → IsNew l state me
-new_seat k l state me b lt is st =
+pub new_seat : {S : Type 0} (k : Key) (l : ℕ) (state : LaneState) (me : Me S View) (ps : List PassPart) → IsBegun k → l < k.shape.lanes → me ≡ (seated (opened_owned k l) ps, []) → (l ≡ 0 → ps ≡ unmade_from 0 ∷ others ps) → state ≡ lane_at k.lanes.value l → IsNew l state me
+new_seat k l state me ps b lt is first st =
     let a = areas_in k.shape (words_of k) in
     let same : state.group.half ≡ half_at a l (side_of k l) = ap (λ (s : LaneState). s.group.half) st ∙ b.halves l lt in
     let side : state.group.side ≡ side_of k l = ap (λ (s : LaneState). s.group.side) st in
@@ -56,6 +66,8 @@ new_seat k l state me b lt is st =
       numbered = (ap (λ m. m.0.number) is, subst (λ (x : Shape). l < x.lanes) (sym (ap (λ m. m.0.shape) is)) lt);
       alone = (ap (λ m. m.0.rest) is, ap (λ m. m.1) is);
       log = ap (λ m. m.0.lane.log) is;
+      held = ap (λ m. m.0.held) is;
+      makes = λ z. ap (λ m. m.0.loose) is ∙ first z ∙ ap (λ m. unmade_from 0 ∷ others m.0.loose) (sym is);
       phase = ap (λ m. m.0.lane.phase) is;
       mine = record {
         number = ap (λ m. m.0.number) is;
@@ -69,11 +81,14 @@ new_seat k l state me b lt is st =
       in_range = subst (λ (x : Shape). state.free < x.sectors + x.lanes) (sym (ap (λ m. m.0.shape) is)) (subst (λ n. n < k.shape.sectors + k.shape.lanes) (sym block) (b.opens.sized l lt).old);
     }
 
-pub fresh : (table : TableId) (k : Key) (l : ℕ) (lane : Lane) → lane.kit.seat.table_id ≡ table → lane.kit.seat.me ≡ (seated (opened_owned k l), []) → lane.kit.number ≡ l → lane.kit.fuse.set ≡ false → IsFresh table k l lane
-fresh table k l lane t is n f = record {
+pub fresh : (table : TableId) (k : Key) (l : ℕ) (lane : Lane) → lane.kit.seat.table_id ≡ table → lane.kit.seat.me ≡ (seated (opened_owned k l) (first_loose l), []) → lane.kit.number ≡ l → lane.kit.made ≡ 0 → lane.kit.fuse.set ≡ false → IsFresh table k l lane
+fresh table k l lane t is n m f = record {
   at = (t, ap (λ m. m.0.shape) is);
   number = n;
-  owned = ap (λ (n : ℕ). record { number = n; lane = lane.kit.seat.me.0.lane; shape = lane.kit.seat.me.0.shape }) n ∙ ap (λ m. record { number = l; lane = m.0.lane; shape = m.0.shape }) is;
+  owned = ap (λ (n : ℕ). record { number = n; lane = lane.kit.seat.me.0.lane; shape = lane.kit.seat.me.0.shape; held = lane.kit.seat.me.0.held; steps = lane.kit.seat.me.0.count.steps }) n
+      ∙ ap (λ m. record { number = l; lane = m.0.lane; shape = m.0.shape; held = m.0.held; steps = m.0.count.steps }) is;
+  loose = ap (λ m. m.0.loose) is;
+  made = m;
   no_fuse = f;
 }
 
@@ -93,3 +108,9 @@ are_own table k x lanes is f i d lt =
     let lane = slice_index_or lanes i d in
     let at = (f.each i lane (at_index lanes i lane lt (get_or_default lanes i d lane lt))).at in
     (at.0, at.1 ∙ is)
+
+-- and hold no pass
+pub are_free : (table : TableId) (k : Key) (lanes : List Lane) → AreFresh table k lanes → All (λ l. held_in l.kit ≡ []) lanes
+are_free table k lanes f i d lt =
+    let lane = slice_index_or lanes i d in
+    ap (λ (o : Owned). o.held) (f.each i lane (at_index lanes i lane lt (get_or_default lanes i d lane lt))).owned

@@ -17,7 +17,10 @@ use Rattle.lane_table.specs.declared.table.Call.{Call}
 use Rattle.lane_table.specs.declared.table.View.{View}
 use Rattle.lane_table.specs.Fuse.{Fell, Burnt}
 use Rattle.lane_table.specs.Reads.{found_by, cell_of_kind, after_read, calling, BlockEnds, Gets, ReadEnds, Answers}
-use Rattle.lane_table.specs.Told.{answered, called, looking, looked_at, IsAfter}
+use Rattle.lane_table.specs.Told.{answered, called, looking, looked_at, IsAfterEntry}
+use Rattle.lane_core.specs.Machine.{read}
+use Rattle.arena_open.specs.declared.cell.Cell.TheVariants as cell
+use Rattle.lane_table.specs.Law.{entered}
 
 -- what an entry says, by its kind and its block
 pub found_is : (e t : ℕ) (r : MapEntry) (k : Kind) → r ≡ entry_of e t → r.kind ≡ k → found_by k r.block ≡ found_by (kind_in e) (block_in e t)
@@ -44,7 +47,7 @@ module _ {S : Type 0} (me me' : Me S View) (b c : Fuse) (old new : List ℕ) (t 
     w,
     [],
     (
-      subst (λ kk. me' ≡ (record (me.0) { lane = record (answered me.0.number (calling t me.0.lane) (cell_of_kind kk new)) { loaded = w; got = [] }; count = me'.0.count }, me.1)) (sym r.0) r.1.0,
+      subst (λ kk. me' ≡ (entered (read me.0.number (calling t me.0.lane) (cell_of_kind kk new)) (record (me.0) { lane = record (answered me.0.number (calling t me.0.lane) (cell_of_kind kk new)) { loaded = w; got = [] }; count = me'.0.count }), me.1)) (sym r.0) r.1.0,
       let q = r.1.1 in omega (arith, q),
     ),
   )
@@ -65,7 +68,7 @@ module _ {S : Type 0} (me me' : Me S View) (a b c : Fuse) (old new : List ℕ) (
       let is : a.set ≡ true = sym look.0 ∙ f.0 in
       let x = look.1 is in (is, f.1, omega (arith, x, f.2), f.3)
 
-  gets_words : (k : Kind) (found : CellKind) → has_bytes k ≡ true → found ≡ cell_kind.Bytes → IsAfter (me.0.shape.width + 4) me (after_read me.0.number (record (calling t me.0.lane) { loaded = w }) new) me' → Fell (me.0.shape.width + 4) a c → Gets me me' a c old new t w k found
+  gets_words : (k : Kind) (found : CellKind) → has_bytes k ≡ true → found ≡ cell_kind.Bytes → IsAfterEntry (me.0.shape.width + 4) me (after_read me.0.number (record (calling t me.0.lane) { loaded = w }) new) (read me.0.number (calling t me.0.lane) (cell.Bytes new)) me' → Fell (me.0.shape.width + 4) a c → Gets me me' a c old new t w k found
   gets_words kind.Zero found h is after fell = absurd cc
   gets_words kind.Bad found h is after fell = absurd cc
   gets_words kind.Initial found h is after fell = (is, after, fell)
@@ -90,7 +93,7 @@ module _ {S : Type 0} (me me' : Me S View) (a b c : Fuse) (old new : List ℕ) (
       )
   ends_on fate.Cut h r =
       let q = r.3.1 in
-      let lt = r.2 in (r.0 + 1, r.1, omega (arith, lt), (r.3.0, omega (arith, q)), r.4, r.5, burnt_on r.0 r.6)
+      let lt = r.2 in (r.0 + 1, r.1, omega (arith, lt), (r.3.0, omega (arith, q)), r.4, r.5, r.6, burnt_on r.0 r.7)
 
   pub block_ended : (seen : Me S View) (f : ReadFate) → has_bytes (kind_in (entry_in w t.sector)) ≡ true → seen ≡ looked_at (kind_in (entry_in w t.sector)) w (called t me) → BlockEnds seen me' b c old new f → ReadEnds me me' a c old new t f
   block_ended seen f h s r = ends_on f h (subst (λ seen. BlockEnds seen me' b c old new f) (s ∙ goes_looking (kind_in (entry_in w t.sector)) w (called t me) h) r)

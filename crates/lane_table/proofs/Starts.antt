@@ -11,10 +11,13 @@ use Rattle.lane_core.specs.Places.{IsShape, SeenData, KeptData, SeenMap, KeptMap
 use Rattle.lane_core.proofs.Beginning.{opened_sound}
 use Rattle.lane_core.proofs.Places.{data_in, reader_in}
 use Rattle.lane_table.specs.declared.table.Key.{Key}
+use Rattle.lane_core.specs.declared.history.Entry.{Entry}
+use Rattle.lane_core.specs.History.{of_lane, of_session}
 use Rattle.lane_table.specs.declared.table.Owned.{Owned}
+use Rattle.lane_table.specs.declared.table.PassPart.{PassPart}
 use Rattle.lane_table.specs.declared.table.View.{View}
 use Rattle.lane_table.specs.Begun.{IsBegun, row_of}
-use Rattle.lane_table.specs.Law.{holds, first, opened_from, opened_owned, Seats, owned, areas_in, words_of, side_of}
+use Rattle.lane_table.specs.Law.{holds, first, opened_from, opened_owned, Seats, Passes, Loose, unmade_from, unlogged, rising, owned, areas_in, words_of, side_of}
 
 -- ---- the words
 
@@ -49,6 +52,10 @@ opened_at k n (suc c) (suc j) o e = let r = opened_at k (suc n) c j o e in (omeg
 only_first : (v u : View) (i : ℕ) → get_elem? (v ∷ []) i ≡ some u → (i ≡ 0) × (v ≡ u)
 only_first v u zero e = (refl, some-injective v u e)
 only_first v u (suc i) e = absurd (some-ne-none u (sym e))
+
+only_loose : (t u : PassPart) (i : ℕ) → get_elem? (t ∷ []) i ≡ some u → (i ≡ 0) × (t ≡ u)
+only_loose t u zero e = (refl, some-injective t u e)
+only_loose t u (suc i) e = absurd (some-ne-none u (sym e))
 
 -- ---- the rule
 
@@ -95,6 +102,24 @@ module _ (k : Key) (b : IsBegun k) where
             (r.0 ∙ sym y.0, sym (ap (λ (o : Owned). o.number) r.2) ∙ z ∙ ap (λ (o : Owned). o.number) y.2);
       }
 
+  -- every session's pass is yet to be made
+  passes : Passes (first k ∷ []) s.lanes s.history
+  unfolding of_lane of_session
+  passes =
+      record {
+        homes = λ q. Loose 0 0;
+        loose = λ i j u t e a. let q = only_first (first k) u i e in let r = only_loose (unmade_from 0) t j (subst (λ (u : View). get_elem? u.loose j ≡ some t) (sym q.1) a) in
+            ((λ n c. (cc_loose i j q.0 r.0, ap (λ (t : PassPart). t.entries) r.1)), sym (ap (λ (t : PassPart). rising t.entries) r.1));
+        held = λ i j u o e a m t is. let r = had i j u o e a in absurd (some-ne-none t (sym (ap (λ (o : Owned). get_elem? o.held m) (sym r.2) ∙ is)));
+        unfinished = λ l j e is. absurd (no_past l j e is);
+      }
+    where
+      cc_loose : (i j : ℕ) → i ≡ 0 → j ≡ 0 → Loose 0 0 ≡ Loose i j
+      cc_loose i j p q = cc
+
+      no_past : (l j : ℕ) (e : Entry) → get_elem? (unlogged (s.lanes l).log l s.history) j ≡ some e → ⊥
+      no_past l j e is = some-ne-none e (sym is)
+
   shown : Shows x (row_of x ws) s
   shown (SeenData c j) i = seen_word x ws b.shape b.size (x.data_at + c * x.inner + j) (data_low x b.shape c j i.0 i.1)
   shown (KeptData c j) i = kept_word x ws b.shape b.size (x.data_at + c * x.inner + j) (data_low x b.shape c j i.0 i.1)
@@ -108,4 +133,4 @@ module _ (k : Key) (b : IsBegun k) where
   shown (Lock l) i = ap (slice_index (row_of x ws)) (right (2 * x.total) (reader_words x.lanes) l) ∙ zero_word x ws b.shape b.size (reader_words x.lanes + l) (in_locks (reader_words x.lanes) x.lanes l i)
 
   pub begins : (S : Type 0) → holds {S = S} k (opening (row_of x ws) [] (first k))
-  begins S = (s, record { sound = opened_sound (geometry x) (areas_in x ws) (side_of k) b.opens; shape = b.shape; size = row_length x ws b.shape b.size; shown = shown; fixed = λ i f. (seen_word x ws b.shape b.size i f.inside, kept_word x ws b.shape b.size i f.inside); seats = seats })
+  begins S = (s, record { sound = opened_sound (geometry x) (areas_in x ws) (side_of k) b.opens; shape = b.shape; size = row_length x ws b.shape b.size; shown = shown; fixed = λ i f. (seen_word x ws b.shape b.size i f.inside, kept_word x ws b.shape b.size i f.inside); seats = seats; passes = passes })

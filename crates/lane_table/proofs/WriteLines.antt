@@ -1,5 +1,5 @@
 -- The lines of a write, each as a step on one word.
-use Rattle.std.proofs.Common.{◌≡◌, ℕ, ◌+◌, ◌-◌, ◌*◌, ◌/◌, ◌^◌, ◌<◌, ◌≤◌, ◌≢◌, ◌==◌, if◌then◌else◌, inl, inr, zero, suc, true, List, [], ◌∷◌, ◌++◌, get_or, refl, sym, ap, ◌∙◌, subst, arith, mod-lt}
+use Rattle.std.proofs.Common.{◌≡◌, ℕ, ◌+◌, ◌-◌, ◌*◌, ◌/◌, ◌^◌, ◌<◌, ◌≤◌, ◌≢◌, ◌==◌, if◌then◌else◌, inl, inr, zero, suc, true, List, [], ◌∷◌, ◌++◌, map, get_or, refl, sym, ap, ◌∙◌, subst, arith, mod-lt}
 use mathlib.Core.Option.{some}
 use prog.Atomic.{either}
 use Rattle.atomic_table.specs.Table.{Allows, Me}
@@ -12,7 +12,7 @@ use Rattle.map_table.specs.Entry.{entry_in, with_entry}
 use Rattle.lane_core.specs.Areas.{Geometry, put, block_in, normal, word_a, word_b, next_seq}
 use Rattle.lane_core.specs.Machine as machine
 use Rattle.lane_core.specs.Machine.{State, lock_of, other, other_lane, looked, wrote}
-use Rattle.lane_core.specs.Invariant.{IsSound, uses_sector, stored, is_known, has_log_a, is_log_b_stored, is_switched}
+use Rattle.lane_core.specs.Invariant.{IsSound, is_reading, uses_sector, stored, is_known, has_log_a, is_log_b_stored, is_switched}
 use Rattle.lane_core.specs.Places.{Place, SeenData, KeptData, SeenMap, KeptMap, SeenA, KeptA, SeenB, KeptB, Reader, Lock, word_of, value_of, geometry}
 use Rattle.lane_core.proofs.Put.{put_at, put2_at, same_or_not}
 use Rattle.lane_core.proofs.Places.{put_again}
@@ -25,9 +25,10 @@ use Rattle.lane_core.proofs.Switching.{map_store_sound, map_keep_sound}
 use Rattle.lane_table.specs.declared.table.Call.{Call}
 use Rattle.lane_table.specs.declared.table.Key.{Key}
 use Rattle.lane_table.specs.declared.table.View.{View}
-use Rattle.lane_table.specs.Law.{holds, opening_of, words_of, with, found, counted, uncounted, looks, with_by}
+use Rattle.lane_table.specs.Law.{holds, opening_of, words_of, with, found, counted, uncounted, looks, with_by, may_enter, noted}
 use Rattle.lane_table.specs.Told.{begun, tracked, scanned, scan_phase, with_word, with_keep, kept_phase, locked, missed, known, a_stored, a_kept, b_stored, b_kept, switched, map_kept, freed, blocks}
-use Rattle.lane_table.proofs.Moves.{allows_step, allows_line, allows_weaker, phase_of, Stands}
+use Rattle.lane_table.proofs.Moves.{allows_step, allows_line, allows_weaker, phase_of, all_logged, Stands}
+use Rattle.lane_table.proofs.Passes.{Effect, enters, quiet}
 
 pub lock_in : (g : Geometry) (sector : ℕ) → 0 < g.lanes → lock_of g sector < g.lanes
 unfolding lock_of
@@ -108,6 +109,8 @@ module _ {S : Type 0} (key : Key) (slots id i : ℕ) (me : Me S View) (live : me
       (λ s h n is. record {
         new = record (s.lanes v.number) { phase = machine.first_phase (geometry x); words = [] };
         next = machine.begin_write (geometry x) s v.number;
+        hands = v.held;
+        enters = quiet v.number v.held refl (ap (λ (p : Lane). p.log) h.lane);
         sound = begin_write_sound (geometry x) o s v.number h.sound h.number (phase_of x o v s _ h e);
         lanes = refl;
         here = sym is;
@@ -128,6 +131,8 @@ module _ {S : Type 0} (key : Key) (slots id i : ℕ) (me : Me S View) (live : me
         | inl z ↦ record {
           new = record (s.lanes v.number) { phase = Idle };
           next = machine.give_up (geometry x) s v.number;
+          hands = v.held;
+          enters = quiet v.number v.held refl (ap (λ (p : Lane). p.log) h.lane);
           sound = give_up_sound (geometry x) o s v.number h.sound h.number (Scanning j) (free_scanning j) (phase_of x o v s _ h e) refl;
           lanes = refl;
           here = sym is;
@@ -137,6 +142,8 @@ module _ {S : Type 0} (key : Key) (slots id i : ℕ) (me : Me S View) (live : me
         | inr nz ↦ record {
           new = record (s.lanes v.number) { phase = if j + 2 == x.lanes then Staging 0 else Scanning (j + 1); words = [] };
           next = machine.scan_on (geometry x) s v.number j;
+          hands = v.held;
+          enters = quiet v.number v.held refl (ap (λ (p : Lane). p.log) h.lane);
           sound = scan_on_sound (geometry x) o s v.number h.sound h.number j (phase_of x o v s _ h e) (λ r. nz (is ∙ r ∙ ap (λ (p : Lane). suc p.block) h.lane));
           lanes = refl;
           here = sym is;
@@ -166,6 +173,7 @@ module _ {S : Type 0} (key : Key) (slots id i : ℕ) (me : Me S View) (live : me
       (λ s h. (subst (λ (p : Lane). p.block < x.sectors + x.lanes) h.lane (h.sound.blocks.lane_in v.number h.number), lt))
       (λ s h n is. record {
         next = machine.data_store (geometry x) s v.number k w;
+        quiet = (refl, refl);
         sound = data_store_sound (geometry x) o s v.number k w h.sound h.number (phase_of x o v s _ h e) lt;
         lanes = refl;
         here = ap (λ (p : Lane). value_of (machine.data_store (geometry x) s v.number k w) (SeenData p.block k)) (sym h.lane) ∙ put2_at s.seen.data_at (s.lanes v.number).block k w;
@@ -189,6 +197,8 @@ module _ {S : Type 0} (key : Key) (slots id i : ℕ) (me : Me S View) (live : me
       (λ s h n is. record {
         new = record (s.lanes v.number) { phase = kept_phase x k };
         next = machine.data_keep (geometry x) s v.number k;
+        hands = v.held;
+        enters = quiet v.number v.held refl (ap (λ (p : Lane). p.log) h.lane);
         sound = data_keep_sound (geometry x) o s v.number k h.sound h.number (phase_of x o v s _ h e) le;
         lanes = refl;
         here = ap (λ (p : Lane). value_of (machine.data_keep (geometry x) s v.number k) (KeptData p.block (k - x.width))) (sym h.lane) ∙ put2_at s.kept.data_at (s.lanes v.number).block (k - x.width) _
@@ -220,6 +230,8 @@ module _ {S : Type 0} (key : Key) (slots id i : ℕ) (me : Me S View) (live : me
         | inl z ↦ record {
           new = record (s.lanes v.number) { phase = Locked; tag = t.tag; sector = t.sector };
           next = machine.lock_take (geometry x) s v.number t.tag t.sector;
+          hands = v.held;
+          enters = quiet v.number v.held refl (ap (λ (p : Lane). p.log) h.lane);
           sound = lock_take_sound (geometry x) o s v.number h.sound h.number t.tag t.sector (phase_of x o v s _ h e) ls (sym is ∙ z);
           lanes = refl;
           here = put_at s.locks (lock_of (geometry x) t.sector) (suc v.number) ∙ sym (either_one n (suc v.number) z);
@@ -232,6 +244,8 @@ module _ {S : Type 0} (key : Key) (slots id i : ℕ) (me : Me S View) (live : me
         | inr nz ↦ record {
           new = v.lane;
           next = s;
+          hands = v.held;
+          enters = quiet v.number v.held refl refl;
           sound = h.sound;
           lanes = sym (put_again s.lanes v.number v.lane (sym h.lane));
           here = sym is ∙ sym (either_other n (suc v.number) nz);
@@ -261,6 +275,8 @@ module _ {S : Type 0} (key : Key) (slots id i : ℕ) (me : Me S View) (live : me
       (λ s h n is. record {
         new = record (s.lanes v.number) { phase = Known; loaded = n };
         next = machine.map_load (geometry x) s v.number;
+        hands = v.held;
+        enters = quiet v.number v.held refl (ap (λ (p : Lane). p.log) h.lane);
         sound = map_load_sound (geometry x) o s v.number h.sound h.number (phase_of x o v s _ h e);
         lanes = ap (λ w. put s.lanes v.number (record (s.lanes v.number) { phase = Known; loaded = w })) (ap (λ (p : Lane). s.seen.map_at (p.sector / 2)) h.lane ∙ sym is);
         here = sym is;
@@ -283,6 +299,7 @@ module _ {S : Type 0} (key : Key) (slots id i : ℕ) (me : Me S View) (live : me
       (λ s h. (h.number, omega arith))
       (λ s h n is. record {
         next = machine.log_a_store (geometry x) s v.number;
+        quiet = (refl, refl);
         sound = log_a_store_sound (geometry x) o s v.number h.sound h.number (phase_of x o v s _ h e);
         lanes = refl;
         here = ap (λ (p : Lane). value_of (machine.log_a_store (geometry x) s v.number) (SeenA v.number (other p.side))) (sym h.lane) ∙ put2_at s.seen.log_a v.number (other (s.lanes v.number).side) _ ∙ ap (λ (p : Lane). word_a p.sector (looked p)) h.lane;
@@ -298,6 +315,7 @@ module _ {S : Type 0} (key : Key) (slots id i : ℕ) (me : Me S View) (live : me
       (λ s h. (h.number, omega arith))
       (λ s h n is. record {
         next = machine.log_a_keep (geometry x) s v.number;
+        quiet = (refl, refl);
         sound = log_a_keep_sound (geometry x) o s v.number h.sound h.number (phase_of x o v s _ h e);
         lanes = refl;
         here = ap (λ (p : Lane). value_of (machine.log_a_keep (geometry x) s v.number) (KeptA v.number (other p.side))) (sym h.lane) ∙ put2_at s.kept.log_a v.number (other (s.lanes v.number).side) _
@@ -316,6 +334,7 @@ module _ {S : Type 0} (key : Key) (slots id i : ℕ) (me : Me S View) (live : me
       (λ s h. (h.number, omega arith))
       (λ s h n is. record {
         next = machine.log_b_store (geometry x) s v.number;
+        quiet = (refl, refl);
         sound = log_b_store_sound (geometry x) o s v.number h.sound h.number (phase_of x o v s _ h e);
         lanes = refl;
         here = ap (λ (p : Lane). value_of (machine.log_b_store (geometry x) s v.number) (SeenB v.number (other p.side))) (sym h.lane) ∙ put2_at s.seen.log_b v.number (other (s.lanes v.number).side) _ ∙ ap (λ (p : Lane). word_b p.block (next_seq p.half.seq)) h.lane;
@@ -332,6 +351,7 @@ module _ {S : Type 0} (key : Key) (slots id i : ℕ) (me : Me S View) (live : me
       (λ s h. (h.number, omega arith))
       (λ s h n is. record {
         next = machine.log_b_keep (geometry x) s v.number;
+        quiet = (refl, refl);
         sound = log_b_keep_sound (geometry x) o s v.number h.sound h.number (phase_of x o v s _ h e);
         lanes = refl;
         here = ap (λ (p : Lane). value_of (machine.log_b_keep (geometry x) s v.number) (KeptB v.number (other p.side))) (sym h.lane) ∙ put2_at s.kept.log_b v.number (other (s.lanes v.number).side) _
@@ -340,20 +360,24 @@ module _ {S : Type 0} (key : Key) (slots id i : ℕ) (me : Me S View) (live : me
       }))
 
   -- MapStore
-  pub stores_map : (m : ℕ) → v.lane.phase ≡ Logged → i ≡ word_of x (SeenMap (v.lane.sector / 2)) → m ≡ with_entry v.lane.loaded v.lane.sector (normal v.lane.block)
+  pub stores_map : (m : ℕ) → v.lane.phase ≡ Logged → may_enter v.held v.lane.tag ≡ true → i ≡ word_of x (SeenMap (v.lane.sector / 2)) → m ≡ with_entry v.lane.loaded v.lane.sector (normal v.lane.block)
       → Allows (holds key) slots id me i (λ _. m) (λ n w. w ≡ switched me)
-  stores_map m e ei em =
+  stores_map m e ok ei em =
       stores m (with_entry v.lane.loaded v.lane.sector (normal v.lane.block)) (SeenMap (v.lane.sector / 2)) (λ n w. w ≡ switched me) ei em
-      (allows_line counted x o ws slots id v me.1 (SeenMap (v.lane.sector / 2)) (λ _. with_entry v.lane.loaded v.lane.sector (normal v.lane.block))
-      (λ n p. record p { phase = Switched; block = looked p; words = []; log = p.log ++ wrote v.number p ∷ [] }) live
+      (allows_step counted x o ws slots id v me.1 (SeenMap (v.lane.sector / 2)) (λ _. with_entry v.lane.loaded v.lane.sector (normal v.lane.block)) (λ n w. w ≡ switched me) live
       (λ s h. map_word_in x.sectors v.lane.sector (sector_in x o v s _ h e refl))
       (λ s h n is. record {
+        new = record (s.lanes v.number) { phase = Switched; block = looked (s.lanes v.number); words = []; log = (s.lanes v.number).log ++ wrote v.number (s.lanes v.number) ∷ [] };
         next = machine.map_store (geometry x) s v.number;
+        hands = map (noted (wrote v.number v.lane)) v.held;
         sound = map_store_sound (geometry x) o s v.number h.sound h.number (phase_of x o v s _ h e);
         lanes = refl;
+        enters = subst (λ (p : Lane). Effect s.history (s.history ++ wrote v.number p ∷ []) v.number v.lane.log (p.log ++ wrote v.number p ∷ []) v.held (map (noted (wrote v.number v.lane)) v.held)) (sym h.lane)
+            (enters v.held (wrote v.number v.lane) ok refl (all_logged x o v s h (ap is_reading e)));
         here = ap (λ (p : Lane). value_of (machine.map_store (geometry x) s v.number) (SeenMap (p.sector / 2))) (sym h.lane) ∙ put_at s.seen.map_at ((s.lanes v.number).sector / 2) _
             ∙ ap (λ (p : Lane). with_entry p.loaded p.sector (normal p.block)) h.lane;
         there = λ t ne. but_seen_map x s (machine.map_store (geometry x) s v.number).lanes (machine.map_store (geometry x) s v.number).history ((s.lanes v.number).sector / 2) _ t (λ r. ne (r ∙ ap (λ (p : Lane). SeenMap (p.sector / 2)) h.lane));
+        tells = ap (λ (p : Lane). (record (with v (record p { phase = Switched; block = looked p; words = []; log = p.log ++ wrote v.number p ∷ [] })) { held = map (noted (wrote v.number v.lane)) v.held }, me.1)) h.lane;
       }))
 
   -- MapKeep: what is kept is the lane's own map word
@@ -365,6 +389,7 @@ module _ {S : Type 0} (key : Key) (slots id i : ℕ) (me : Me S View) (live : me
       (λ s h. map_word_in x.sectors v.lane.sector (sector_in x o v s _ h e refl))
       (λ s h n is. record {
         next = machine.map_keep (geometry x) s v.number;
+        quiet = (refl, refl);
         sound = map_keep_sound (geometry x) o s v.number h.sound h.number (phase_of x o v s _ h e);
         lanes = refl;
         here = ap (λ (p : Lane). value_of (machine.map_keep (geometry x) s v.number) (KeptMap (p.sector / 2))) (sym h.lane) ∙ put_at s.kept.map_at ((s.lanes v.number).sector / 2) _
@@ -381,6 +406,7 @@ module _ {S : Type 0} (key : Key) (slots id i : ℕ) (me : Me S View) (live : me
       (λ s h. lock_in (geometry x) v.lane.sector h.sound.geometry.lanes)
       (λ s h n is. record {
         next = machine.lock_free (geometry x) s v.number;
+        quiet = (refl, refl);
         sound = lock_free_sound (geometry x) o s v.number h.sound h.number (phase_of x o v s _ h e);
         lanes = refl;
         here = ap (λ (p : Lane). value_of (machine.lock_free (geometry x) s v.number) (Lock (lock_of (geometry x) p.sector))) (sym h.lane) ∙ put_at s.locks (lock_of (geometry x) (s.lanes v.number).sector) 0;

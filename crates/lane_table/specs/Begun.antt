@@ -1,5 +1,5 @@
 -- What a table is made from: the words of an opened arena, twice, and no reader and no lock.
-use Rattle.std.specs.Prelude.{◌≡◌, ℕ, ◌+◌, ◌<◌, List, [], ◌++◌, length, replicate, slice_index_or, true, false}
+use Rattle.std.specs.Prelude.{◌≡◌, ℕ, ◌+◌, ◌<◌, List, [], ◌∷◌, ◌++◌, length, replicate, slice_index_or, true, false}
 use mathlib.Core.Option.{some}
 use lib.ListN.{get_elem?}
 use Rattle.atomic_table.specs.Seated.{TableId}
@@ -18,8 +18,8 @@ use Rattle.lane_table.specs.declared.lanes.Lane.{Lane}
 use Rattle.lane_table.specs.declared.table.Key.{Key}
 use Rattle.lane_table.specs.declared.table.View.{View}
 use Rattle.lane_table.specs.Conditions.{IsMine}
-use Rattle.lane_table.specs.Kits.{IsAt, owned_in}
-use Rattle.lane_table.specs.Law.{areas_in, no_state, opening_of, words_of, opened_owned}
+use Rattle.lane_table.specs.Kits.{IsAt, owned_in, loose_in}
+use Rattle.lane_table.specs.Law.{areas_in, no_state, opening_of, words_of, opened_owned, first_loose, unmade_from, others}
 use Rattle.lane_table.specs.Told.{blocks}
 
 -- the row of a table of these words
@@ -59,6 +59,8 @@ pub record IsNew {S : Type 0} (number : ℕ) (state : LaneState) (me : Me S View
   pub numbered : (me.0.number ≡ number) × (number < me.0.shape.lanes)
   pub alone : (me.0.rest ≡ []) × (me.1 ≡ [])
   pub log : me.0.lane.log ≡ []
+  pub held : me.0.held ≡ []
+  pub makes : number ≡ 0 → me.0.loose ≡ unmade_from 0 ∷ others me.0.loose
   pub phase : me.0.lane.phase ≡ Idle
   pub mine : IsMine (record { number = number; block = state.free; side = state.group.side; seq = state.group.half.seq }) me.0
   pub in_range : state.free < blocks me.0.shape
@@ -68,6 +70,9 @@ pub record IsFresh (table : TableId) (k : Key) (l : ℕ) (lane : Lane) : Type 0 
   pub at : IsAt table k.shape lane.kit
   pub number : lane.kit.number ≡ l
   pub owned : owned_in lane.kit ≡ opened_owned k l
+  -- lane 0 makes the sessions' passes, and has made none
+  pub loose : loose_in lane.kit ≡ first_loose l
+  pub made : lane.kit.made ≡ 0
   pub no_fuse : lane.kit.fuse.set ≡ false
 
 -- each lane stands at its number

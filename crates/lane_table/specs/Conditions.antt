@@ -1,5 +1,5 @@
 -- What each step asks of its caller.
-use Rattle.std.specs.Prelude.{◌≡◌, ℕ, ◌<◌, ◌≤◌, true, [], Vec, vec_capacity}
+use Rattle.std.specs.Prelude.{◌≡◌, ℕ, ◌<◌, ◌≤◌, true}
 use Rattle.atomic_table.specs.Seated.{TableId}
 use Rattle.atomic_table.specs.Table.{Me}
 use Rattle.lane_core.specs.declared.phase.Phase.{Phase}
@@ -31,7 +31,3 @@ pub record IsMine (m : Mine) (v : View) : Type 0 where
   pub two : m.side < 2
   pub written : 1 ≤ m.seq
   pub ring : m.seq ≤ 3
-
--- room for the words of one call
-abbrev pub IsRoom : {Z : Type 0} → ℕ → Vec ℕ Z → Type 0
-IsRoom width v = (v.items ≡ []) × (width ≤ vec_capacity v)

@@ -1,5 +1,5 @@
 -- What a read does to its seat, to its fuse, and to the room for the sector's words.
-use Rattle.std.specs.Prelude.{◌≡◌, ◌≢◌, ⊤, ℕ, ◌+◌, ◌/◌, ◌^◌, ◌<◌, ◌≤◌, List, [], ◌∷◌, ◌++◌, suc, length, take, drop, replicate, vec_len}
+use Rattle.std.specs.Prelude.{◌≡◌, ◌≢◌, ⊤, false, ℕ, ◌+◌, ◌/◌, ◌^◌, ◌<◌, ◌≤◌, List, [], ◌∷◌, ◌++◌, suc, length, take, drop, replicate, vec_len}
 use Rattle.atomic_table.specs.Seated.{TableId}
 use Rattle.atomic_table.specs.Table.{Me}
 use Rattle.map_table.specs.declared.kinds.Kind.{Kind}
@@ -14,6 +14,8 @@ use Rattle.lane_core.specs.declared.phase.Phase.{Phase}
 use Rattle.lane_core.specs.declared.phase.Phase.TheVariants.{Idle, Called, Reading}
 use Rattle.lane_core.specs.declared.shape.Shape.{Shape}
 use Rattle.lane_core.specs.Areas.{kind_in}
+use Rattle.lane_core.specs.Cut.{is_open}
+use Rattle.lane_core.specs.Machine.{read}
 use Rattle.lane_core.specs.Places.{word_of, SeenData, SeenMap, Reader}
 use Rattle.lane_table.specs.declared.fuse.Fuse.{Fuse}
 use Rattle.lane_table.specs.declared.loading.Found.{Found}
@@ -28,7 +30,7 @@ use Rattle.lane_table.specs.declared.table.Call.{Call}
 use Rattle.lane_table.specs.declared.table.View.{View}
 use Rattle.lane_table.specs.Conditions.{IsWord}
 use Rattle.lane_table.specs.Fuse.{Fell, Burnt}
-use Rattle.lane_table.specs.Told.{IsAfter, answered, called, looked_at}
+use Rattle.lane_table.specs.Told.{IsAfter, IsAfterEntry, answered, called, looked_at}
 
 -- the words of a read of a sector by lane `number`, and of this block
 pub record AreReadWords (table : TableId) (x : Shape) (number sector block : ℕ) (w : ReadWords) : Type 0 where
@@ -77,14 +79,14 @@ module _ {S : Type 0} (me me' : Me S View) (a b : Fuse) (old new : List ℕ) whe
   abbrev pub Loaded : ℕ → Type 0
   Loaded n = (n ≤ length old) × IsAfter n me (after_loads new n me.0.lane) me' × (new ≡ take n new ++ drop n old) × (n ≡ length old → Fell n a b) × (n < length old → Burnt n a b)
 
-  -- the fuse had n steps: the lane stopped before it was answered
+  -- the fuse had n steps: the lane stopped before it was answered, and no log entry of it is stored
   abbrev pub Stops : ℕ → Type 0
-  Stops most = (n : ℕ) × (p : Lane) × (n < most) × IsAfter n me p me' × (p.log ≡ me.0.lane.log) × (new ≡ room_left p.phase p.got old) × Burnt n a b
+  Stops most = (n : ℕ) × (p : Lane) × (n < most) × IsAfter n me p me' × (p.log ≡ me.0.lane.log) × (is_open p.phase ≡ false) × (new ≡ room_left p.phase p.got old) × Burnt n a b
 
   -- From Looking on. Got: the words of the block. Moved: the last two map words that were found
   -- have different entries for the sector, and the reader word is clear again
   abbrev pub BlockEnds : ReadFate → Type 0
-  BlockEnds (fate.Got k) = (k ≡ cell_kind.Bytes) × IsAfter (me.0.shape.width + 3) me (after_read me.0.number me.0.lane new) me' × Fell (me.0.shape.width + 3) a b
+  BlockEnds (fate.Got k) = (k ≡ cell_kind.Bytes) × IsAfterEntry (me.0.shape.width + 3) me (after_read me.0.number me.0.lane new) (read me.0.number me.0.lane (cell.Bytes new)) me' × Fell (me.0.shape.width + 3) a b
   BlockEnds (fate.Moved e f) =
       (e ≡ entry_in me.0.lane.loaded me.0.lane.sector) × (f ≡ entry_in me'.0.count.last me.0.lane.sector) × (e ≢ f)
       × IsAfter 3 me (record (me.0.lane) { phase = Idle }) me' × (me'.0.count.before ≡ me.0.count.last) × (new ≡ old) × Fell 3 a b
@@ -94,8 +96,8 @@ module _ {S : Type 0} (me me' : Me S View) (a b : Fuse) (old new : List ℕ) whe
   abbrev pub Gets : Call → ℕ → Kind → CellKind → Type 0
   Gets t w kind.Zero k = (k ≡ cell_kind.Bytes) × (new ≡ replicate me.0.shape.width 0) × (me' ≡ looked_at kind.Zero w (called t me)) × Fell 1 a b
   Gets t w kind.Bad k = (k ≡ cell_kind.Bad) × (new ≡ old) × (me' ≡ looked_at kind.Bad w (called t me)) × Fell 1 a b
-  Gets t w kind.Initial k = (k ≡ cell_kind.Bytes) × IsAfter (me.0.shape.width + 4) me (after_read me.0.number (record (calling t me.0.lane) { loaded = w }) new) me' × Fell (me.0.shape.width + 4) a b
-  Gets t w kind.Normal k = (k ≡ cell_kind.Bytes) × IsAfter (me.0.shape.width + 4) me (after_read me.0.number (record (calling t me.0.lane) { loaded = w }) new) me' × Fell (me.0.shape.width + 4) a b
+  Gets t w kind.Initial k = (k ≡ cell_kind.Bytes) × IsAfterEntry (me.0.shape.width + 4) me (after_read me.0.number (record (calling t me.0.lane) { loaded = w }) new) (read me.0.number (calling t me.0.lane) (cell.Bytes new)) me' × Fell (me.0.shape.width + 4) a b
+  Gets t w kind.Normal k = (k ≡ cell_kind.Bytes) × IsAfterEntry (me.0.shape.width + 4) me (after_read me.0.number (record (calling t me.0.lane) { loaded = w }) new) (read me.0.number (calling t me.0.lane) (cell.Bytes new)) me' × Fell (me.0.shape.width + 4) a b
 
   -- Got: one step if the entry says zeros or bad, else four and one for each word. Moved: four
   -- steps, and the two map words that were found have different entries for the sector. Cut: as
@@ -110,7 +112,7 @@ module _ {S : Type 0} (me me' : Me S View) (a b : Fuse) (old new : List ℕ) whe
 module _ {S : Type 0} (me me' : Me S View) (new : List ℕ) where
   -- a read that got a cell of this kind was answered with it
   abbrev pub Answers : Call → ReadFate → Type 0
-  Answers t (fate.Got k) = (n m : ℕ) × (g : List ℕ) × IsAfter n me (record (answered me.0.number (calling t me.0.lane) (cell_of_kind k new)) { loaded = m; got = g }) me'
+  Answers t (fate.Got k) = (n m : ℕ) × (g : List ℕ) × IsAfterEntry n me (record (answered me.0.number (calling t me.0.lane) (cell_of_kind k new)) { loaded = m; got = g }) (read me.0.number (calling t me.0.lane) (cell_of_kind k new)) me'
   Answers t (fate.Moved e f) = ⊤
   Answers t fate.Cut = ⊤
 
@@ -121,6 +123,6 @@ read_logged t k = record { tag = t.tag; sector = t.sector; act = logged.Read k }
 -- What a read leaves in its lane's log. Got: one call more. Moved: what was there. Cut: what was there
 -- stands first
 abbrev pub LogEnds : Call → LaneLog → LaneLog → ReadFate → Type 0
-LogEnds t a b (fate.Got k) = (b.past.calls.items ≡ a.past.calls.items ++ read_logged t k ∷ []) × (b.past.written ≡ a.past.written) × (b.rooms ≡ a.rooms) × (suc b.spare ≡ a.spare)
+LogEnds t a b (fate.Got k) = (b.calls.items ≡ a.calls.items ++ read_logged t k ∷ []) × (suc b.spare ≡ a.spare)
 LogEnds t a b (fate.Moved e f) = b ≡ a
-LogEnds t a b fate.Cut = (take (vec_len a.past.calls) b.past.calls.items ≡ a.past.calls.items) × (b.past.written ≡ a.past.written) × (b.rooms ≡ a.rooms)
+LogEnds t a b fate.Cut = take (vec_len a.calls) b.calls.items ≡ a.calls.items

@@ -1,9 +1,10 @@
 -- What staging a write does to its seat and to its fuse.
-use Rattle.std.specs.Prelude.{◌≡◌, ℕ, ◌+◌, ◌-◌, ◌*◌, ◌<◌, ◌≤◌, nat_lt, if◌then◌else◌, min, List, [], length, take, suc}
+use Rattle.std.specs.Prelude.{◌≡◌, ℕ, ◌+◌, ◌-◌, ◌*◌, ◌<◌, ◌≤◌, nat_lt, if◌then◌else◌, false, min, List, [], length, take, suc}
 use Rattle.atomic_table.specs.Table.{Me}
 use Rattle.lane_core.specs.declared.lane.Lane.{Lane}
 use Rattle.lane_core.specs.declared.phase.Phase.TheVariants.{Idle, Staging, Staged}
 use Rattle.lane_core.specs.declared.shape.Shape.{Shape}
+use Rattle.lane_core.specs.Cut.{is_open}
 use Rattle.lane_core.specs.Machine.{other_lane}
 use Rattle.lane_table.specs.declared.fuse.Fuse.{Fuse}
 use Rattle.lane_table.specs.declared.staging.Looked.{Looked}
@@ -66,4 +67,4 @@ module _ {S : Type 0} (me me' : Me S View) (a b : Fuse) where
   abbrev pub StageEnds : List ℕ → StageFate → Type 0
   StageEnds ws fate.Staged = IsAfter (stage_steps me.0.shape) me (record (me.0.lane) { phase = Staged; words = ws }) me' × Fell (stage_steps me.0.shape) a b
   StageEnds ws (fate.Tracked r) = (j : ℕ) × (j + 1 < me.0.shape.lanes) × (r ≡ other_lane me.0.number j) × IsAfter (j + 1) me (record (me.0.lane) { phase = Idle; words = [] }) me' × (me'.0.count.last ≡ suc me.0.lane.block) × Fell (j + 1) a b
-  StageEnds ws fate.Cut = (n : ℕ) × (p : Lane) × (n < stage_steps me.0.shape) × IsAfter n me p me' × (p.log ≡ me.0.lane.log) × Burnt n a b
+  StageEnds ws fate.Cut = (n : ℕ) × (p : Lane) × (n < stage_steps me.0.shape) × IsAfter n me p me' × (p.log ≡ me.0.lane.log) × (is_open p.phase ≡ false) × Burnt n a b

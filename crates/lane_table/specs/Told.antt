@@ -16,11 +16,16 @@ use Rattle.lane_core.specs.Areas.{kind_in, next_seq}
 use Rattle.lane_core.specs.Machine.{other, looked, wrote, read}
 use Rattle.lane_table.specs.declared.table.Call.{Call}
 use Rattle.lane_table.specs.declared.table.View.{View}
-use Rattle.lane_table.specs.Law.{spent, with, with_by, found, uncounted}
+use Rattle.lane_core.specs.declared.history.Entry.{Entry}
+use Rattle.lane_table.specs.Law.{spent, with, with_by, found, uncounted, entered}
 
 -- after k counted steps the lane of a seat is p, and all else is as it was
 abbrev pub IsAfter : {S : Type 0} → ℕ → Me S View → Lane → Me S View → Type 0
 IsAfter k me p me' = (me' ≡ (record (me.0) { lane = p; count = me'.0.count }, me.1)) × (me'.0.count.steps ≡ me.0.count.steps + k)
+
+-- the same, and its pass has this entry more
+abbrev pub IsAfterEntry : {S : Type 0} → ℕ → Me S View → Lane → Entry → Me S View → Type 0
+IsAfterEntry k me p e me' = (me' ≡ (entered e (record (me.0) { lane = p; count = me'.0.count }), me.1)) × (me'.0.count.steps ≡ me.0.count.steps + k)
 
 -- blocks of an arena of a shape: each sector has one, and so has each lane
 abbrev pub blocks : Shape → ℕ
@@ -49,6 +54,10 @@ module _ {S : Type 0} where
 
   abbrev pub on_found : ℕ → Me S View → Lane → Me S View
   on_found n me p = (found n me.0 p, me.1)
+
+  -- and its pass has an entry more
+  abbrev pub on_entered : Entry → Me S View → Me S View
+  on_entered e me = (entered e me.0, me.1)
 
   -- ---- a seat that comes
 
@@ -120,7 +129,7 @@ module _ {S : Type 0} where
   b_kept me = on me (record (me.0.lane) { phase = Logged; side = other me.0.lane.side; half = record { lba = me.0.lane.sector; old = looked me.0.lane; new = me.0.lane.block; seq = next_seq me.0.lane.half.seq } })
 
   abbrev pub switched : Me S View → Me S View
-  switched me = on me (record (me.0.lane) { phase = Switched; block = looked me.0.lane; words = []; log = me.0.lane.log ++ wrote me.0.number me.0.lane ∷ [] })
+  switched me = on_entered (wrote me.0.number me.0.lane) (on me (record (me.0.lane) { phase = Switched; block = looked me.0.lane; words = []; log = me.0.lane.log ++ wrote me.0.number me.0.lane ∷ [] }))
 
   abbrev pub map_kept : Me S View → Me S View
   map_kept me = on me (record (me.0.lane) { phase = Kept })
@@ -173,8 +182,8 @@ module _ {S : Type 0} where
   -- after a look that found the map word n, in which the sector's entry is of this kind: reads of
   -- zeros and bad sectors are answered
   abbrev pub looked_at : Kind → ℕ → Me S View → Me S View
-  looked_at kind.Zero n me = on_found n me (answered me.0.number me.0.lane (cell.Bytes (replicate me.0.shape.width 0)))
-  looked_at kind.Bad n me = on_found n me (answered me.0.number me.0.lane cell.Bad)
+  looked_at kind.Zero n me = on_entered (read me.0.number me.0.lane (cell.Bytes (replicate me.0.shape.width 0))) (on_found n me (answered me.0.number me.0.lane (cell.Bytes (replicate me.0.shape.width 0))))
+  looked_at kind.Bad n me = on_entered (read me.0.number me.0.lane cell.Bad) (on_found n me (answered me.0.number me.0.lane cell.Bad))
   looked_at kind.Initial n me = looking n me
   looked_at kind.Normal n me = looking n me
 
@@ -214,7 +223,7 @@ module _ {S : Type 0} where
   given_up me = on me (record (me.0.lane) { phase = Idle })
 
   abbrev pub answered_with_words : Me S View → Me S View
-  answered_with_words me = on me (record (answered me.0.number me.0.lane (cell.Bytes me.0.lane.got)) { got = [] })
+  answered_with_words me = on_entered (read me.0.number me.0.lane (cell.Bytes me.0.lane.got)) (on me (record (answered me.0.number me.0.lane (cell.Bytes me.0.lane.got)) { got = [] }))
 
   abbrev pub rtt_clear : Step S → Me S View → ℕ → Me S View → Type 0
   rtt_clear step before n after =

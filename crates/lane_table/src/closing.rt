@@ -4,7 +4,7 @@ ghost use Rattle.std.specs.Prelude.{◌≡◌, ◌≤◌, [], length, IfOk, IfEr
 use crate::arena::Arena;
 use crate::gathering::{copy_words, gather};
 use crate::lanes::LaneEnd;
-use crate::log::LaneCalls;
+use crate::log::LoggedCall;
 use std::alloc::{AllocError, Global};
 
 /// What a closed arena leaves: its words as they are seen and as they are kept, and at `l` the
@@ -13,7 +13,7 @@ use std::alloc::{AllocError, Global};
 pub struct Closed {
     pub seen: Vec<u64>,
     pub kept: Vec<u64>,
-    pub logs: Vec<LaneCalls>,
+    pub logs: Vec<Vec<LoggedCall>>,
 }
 
 /// Out of memory. The arena and its lanes come back.

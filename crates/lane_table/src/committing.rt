@@ -4,6 +4,7 @@ ghost use Rattle.lane_core.specs.declared.phase.Phase.TheVariants.{Staged, Known
 ghost use Rattle.lane_table.specs.Conditions.{IsMine, IsSeated};
 ghost use Rattle.lane_table.specs.Committed.{AreCommitWords, AreCommitValues, Ended};
 ghost use Rattle.lane_table.specs.Fuse.{Fell, Burnt};
+ghost use Rattle.lane_table.specs.Law.{may_enter};
 ghost use Rattle.lane_table.specs.Told.{path, blocks};
 
 use crate::fuse::Fuse;
@@ -52,6 +53,7 @@ pub fn finish(
     requires seat { IsSeated Known table.now.table_id seat.old.table_id seat.old.me }
     requires side { seat.old.me.0.lane.side < 2 }
     requires words { AreCommitWords table.now.table_id table.now.key.shape seat.old.me.0.number seat.old.me.0.lane.side seat.old.me.0.lane.sector words }
+    requires pass { may_enter seat.old.me.0.held seat.old.me.0.lane.tag ≡ true }
     requires values { AreCommitValues seat.old.me.0.lane a b map }
     ensures table { seat.new.table_id ≡ seat.old.table_id }
     ensures went { (seat.new.me ≡ path result seat.old.me) × (result ≤ 7) }
@@ -97,6 +99,7 @@ pub fn commit(
     requires block { mine.block < 2 ^ 30 }
     requires words { AreCommitWords table.now.table_id table.now.key.shape mine.number mine.side call.sector words }
     requires sector { call.sector < table.now.key.shape.sectors }
+    requires pass { may_enter seat.old.me.0.held call.tag ≡ true }
     ensures table { seat.new.table_id ≡ seat.old.table_id }
     ensures ended { Ended call seat.old.me seat.new.me fuse.old fuse.new result }
 {

@@ -17,12 +17,14 @@ pub(crate) fn seated(alloc: Global, seat: LaneSeat, number: u32, state: LaneStat
     requires { IsNew number state seat.me }
     ensures seat { result.kit.seat ≡ seat }
     ensures number { result.kit.number ≡ number }
+    ensures made { result.kit.made ≡ 0 }
     ensures fuse { result.kit.fuse.set ≡ false }
 {
     Lane {
         kit: Kit {
             seat,
             number,
+            made: 0,
             fuse: Fuse::of(None),
             log: LaneLog::new(alloc),
         },

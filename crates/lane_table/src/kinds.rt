@@ -36,6 +36,41 @@ impl Join<View> for JoinSeat {
     ghost spent = { spent };
 }
 
+// ---- passes: further uses of the two kinds above, which change no word either
+
+/// Lane 0's seat makes the pass of the next session.
+pub struct MakePass;
+
+impl Split<View> for MakePass {
+    ghost use Rattle.lane_table.specs.Law.{left_to_make, made_pass};
+
+    ghost left = { left_to_make };
+
+    ghost right = { made_pass };
+}
+
+/// A lane gives its pass away.
+pub struct GivePass;
+
+impl Split<View> for GivePass {
+    ghost use Rattle.lane_table.specs.Law.{without_pass, given_pass};
+
+    ghost left = { without_pass };
+
+    ghost right = { given_pass };
+}
+
+/// A lane takes a pass.
+pub struct TakePass;
+
+impl Join<View> for TakePass {
+    ghost use Rattle.lane_table.specs.Law.{with_pass, spent};
+
+    ghost both = { with_pass };
+
+    ghost spent = { spent };
+}
+
 // ---- a write
 
 /// The lane's own reader word is loaded. No line of the algorithm: the view learns that a write

@@ -1,9 +1,10 @@
 //! A lane with its seat, in each of its states. A call takes the lane in one state and returns it
 //! in another, so a state has no method for a call that it doesn't allow.
-ghost use Rattle.std.specs.Prelude.{◌≡◌, ◌+◌, ◌<◌, true, [], All, vec_len, vec_capacity};
+ghost use Rattle.std.specs.Prelude.{◌≡◌, ◌+◌, ◌<◌, true, [], ◌∷◌, vec_len, vec_capacity};
 ghost use Rattle.lane_core.specs.declared.phase.Phase.TheVariants.{Idle as IsIdle, Staged as IsStaged};
-ghost use Rattle.lane_table.specs.Conditions.{IsMine, IsRoom};
+ghost use Rattle.lane_table.specs.Conditions.{IsMine};
 ghost use Rattle.lane_table.specs.Logs.{IsLogOf};
+ghost use Rattle.lane_table.specs.Law.{unmade_from, others};
 ghost use Rattle.lane_table.specs.Told.{blocks};
 
 use crate::fuse::Fuse;
@@ -16,29 +17,32 @@ use crate::table::LaneSeat;
 pub struct Kit {
     pub(crate) seat: LaneSeat,
     pub(crate) number: u32,
+    /// How many passes its seat has made. Only lane 0 makes passes.
+    pub(crate) made: u32,
     pub(crate) fuse: Fuse,
     pub(crate) log: LaneLog,
     ghost live: { seat.me.0.live ≡ true },
     ghost numbered: { (seat.me.0.number ≡ number) × (number < seat.me.0.shape.lanes) },
     ghost alone: { (seat.me.0.rest ≡ []) × (seat.me.1 ≡ []) },
-    ghost logged: { IsLogOf log.past seat.me.0.lane.log },
-    ghost rooms_are: { All (IsRoom seat.me.0.shape.width) log.rooms.items },
+    ghost makes: { number ≡ 0 → seat.me.0.loose ≡ unmade_from made ∷ others seat.me.0.loose },
+    ghost logged: { IsLogOf log.calls seat.me.0.lane.log },
 }
 
 /// Puts together again what a lane has.
-pub(crate) fn kit_of(seat: LaneSeat, number: u32, fuse: Fuse, log: LaneLog) -> Kit
+pub(crate) fn kit_of(seat: LaneSeat, number: u32, made: u32, fuse: Fuse, log: LaneLog) -> Kit
     requires live { seat.me.0.live ≡ true }
     requires numbered { (seat.me.0.number ≡ number) × (number < seat.me.0.shape.lanes) }
     requires alone { (seat.me.0.rest ≡ []) × (seat.me.1 ≡ []) }
-    requires logged { IsLogOf log.past seat.me.0.lane.log }
-    requires rooms_are { All (IsRoom seat.me.0.shape.width) log.rooms.items }
+    requires makes { number ≡ 0 → seat.me.0.loose ≡ unmade_from made ∷ others seat.me.0.loose }
+    requires logged { IsLogOf log.calls seat.me.0.lane.log }
     ensures me { result.seat.me ≡ seat.me }
-    ensures parts { (result.seat ≡ seat) × (result.number ≡ number) × (result.fuse ≡ fuse) }
+    ensures parts { (result.seat ≡ seat) × (result.number ≡ number) × (result.made ≡ made) × (result.fuse ≡ fuse) }
     ensures log { result.log ≡ log }
 {
     Kit {
         seat,
         number,
+        made,
         fuse,
         log,
     }
@@ -54,18 +58,15 @@ pub struct Lane {
     ghost in_range: { mine.block < blocks kit.seat.me.0.shape },
 }
 
-/// A lane whose free block has the words of a write, seen and kept.
+/// A lane whose free block has the words of a write, seen and kept. Its seat knows the words.
 #[derive(Drop)]
 pub struct Staged {
     pub(crate) kit: Kit,
     pub(crate) mine: Mine,
-    pub(crate) words: Vec<u64>,
     ghost staged: { kit.seat.me.0.lane.phase ≡ IsStaged },
     ghost mine_is: { IsMine mine kit.seat.me.0 },
     ghost in_range: { mine.block < blocks kit.seat.me.0.shape },
-    ghost words_are: { kit.seat.me.0.lane.words ≡ words.items },
-    ghost taken: { vec_len kit.log.past.calls + kit.log.spare < vec_capacity kit.log.past.calls },
-    ghost taken_list: { vec_len kit.log.past.written + kit.log.spare < vec_capacity kit.log.past.written },
+    ghost taken: { vec_len kit.log.calls + kit.log.spare < vec_capacity kit.log.calls },
 }
 
 /// A lane whose fuse was spent when a step was due. It stays in that step.
@@ -95,11 +96,7 @@ impl LaneEnd {
                 kit
             }
             LaneEnd::Staged(staged) => {
-                let Staged {
-                    kit,
-                    mine: _,
-                    words: _,
-                } = staged;
+                let Staged { kit, mine: _ } = staged;
                 kit
             }
             LaneEnd::Stopped(stopped) => {

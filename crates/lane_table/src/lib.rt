@@ -40,6 +40,19 @@
 //! until then no step can tell them. A read's call joins as the read begins. A view counts its
 //! steps and has what the last two looks found, so a call can't claim a step that it didn't make.
 //!
+//! # Sessions
+//!
+//! A session's calls use one lane after another. Its **pass** goes along: a seat that knows the
+//! session's calls so far. `Lane::take_pass` joins it into the lane's view (`held`), `Lane::give_pass`
+//! splits it off again. A call that enters the history, or is answered, adds its entry to the lane's
+//! log and to the pass that the lane holds, in the same step. While a lane holds a pass, the seat's
+//! count of steps is the pass's.
+//!
+//! The rule (`Passes` of specs/Law.antt) says for each session where its pass is, and that the
+//! session's part of the history is the pass's list, but for a read whose words the lane still loads.
+//! The passes that are yet to be made are one more such part, which lane 0's seat carries: their
+//! sessions have no entries.
+//!
 //! # A read and a write of one block
 //!
 //! A reader says in its reader word which block it reads, and looks at the map again before it
@@ -57,11 +70,13 @@
 //! | the rule holds of a new table, whose history begins with the cells that a reader of the arena gets, and each lane's seat knows its lane | [`Arena::of`] | `IsMadeOf`, `AreFresh` of specs/Begun.antt |
 //! | staging is one look at each other lane's reader word, then a store and a keep of each word; if a lane reports a reader, its last look found it | [`Lane::try_stage`] | `Stages` of specs/Outcomes.antt |
 //! | a commit is the nine steps in order, or one step that found the lock's holder, or as many steps as the fuse had | [`Staged::try_commit`] | `Commits` of specs/Outcomes.antt, `way` of specs/Committed.antt |
-//! | a refused commit returns the lane with its words | the same | `Commits`, case MapBusy |
+//! | a refused commit returns the lane as it was, with its words | the same | `Commits`, case MapBusy |
 //! | a read stands in its lane's part of the history with the cell that it returns, after the number of steps that its entry needs | [`Lane::try_read`] | `Reads`, `Stands` of specs/Outcomes.antt |
 //! | a read says that the sector moved only if its two looks found different entries | the same | `Reads`, case Moved |
+//! | a session's pass has the call that its lane answered, with its cell or its words | [`Staged::try_commit`], [`Lane::try_read`] | `CommitNotes`, `ReadNotes` of specs/Outcomes.antt |
+//! | a pass has its session's part of the history that the arena's `close` returns, and the numbers of its calls rise | [`Arena::close`] | `IsClosed`, fields `held` and `loose` |
 //! | a fuse that is set falls by one with each step; a step that is due without one isn't made | each step | `Fell`, `Burnt` of specs/Fuse.antt |
-//! | the words at the end meet the invariant with the lanes' ends; one legal history has their calls, and the logs have these, with the words of writes and without those of reads; and each sector survives a power cut | [`Arena::close`] | `IsClosed` of specs/Closed.antt |
+//! | the words at the end meet the invariant with the lanes' ends; one legal history has their calls, and the logs have these, without words; and each sector survives a power cut | [`Arena::close`] | `IsClosed` of specs/Closed.antt |
 //! | each word that no lane stores, such as those of the info blocks, is as the arena was opened | the same | `IsClosed`, fields `seen_fixed` and `kept_fixed` |
 //! | after a power loss these words open again, with the history's cells or those of a write in flight | [`closed_words_reopen`] | `ClosedWordsReopen` of specs/Reopened.antt |
 //!
@@ -85,6 +100,7 @@ mod opening;
 mod outcome;
 mod pieces;
 mod reading;
+mod session_pass;
 mod spots;
 mod staged;
 mod staging;
@@ -99,6 +115,7 @@ pub use fuse::Fuse;
 pub use lanes::{Kit, Lane, LaneEnd, Staged, Stopped};
 pub use law::closed_words_reopen;
 pub use loading::Pause;
-pub use log::{LaneCalls, LaneLog, LoggedAct, LoggedCall};
+pub use log::{LaneLog, LoggedAct, LoggedCall};
 pub use outcome::{CommitOutcome, ReadOutcome, StageOutcome};
-pub use table::{Call, Count, Key, LaneSeat, Law, Owned, View, WordTable, Words};
+pub use session_pass::Pass;
+pub use table::{Call, Count, Key, LaneSeat, Law, Owned, PassPart, View, WordTable, Words};

@@ -1,5 +1,5 @@
 //! Reads a sector's words: looks at the map and at the block, and the loop over the block's words.
-ghost use Rattle.std.specs.Prelude.{◌≡◌, ◌<◌, ◌≤◌, ◌+◌, ◌/◌, ◌^◌, [], length};
+ghost use Rattle.std.specs.Prelude.{◌≡◌, ◌<◌, ◌≤◌, ◌+◌, ◌/◌, ◌^◌, [], true, length};
 ghost use Rattle.map_table.specs.Entry.{entry_in};
 ghost use Rattle.lane_core.specs.declared.phase.Phase.TheVariants.{Idle, Looking, Reading};
 ghost use Rattle.lane_core.specs.Areas.{block_in, kind_in};
@@ -7,6 +7,7 @@ ghost use Rattle.lane_core.specs.Machine.{looked};
 ghost use Rattle.lane_core.specs.Places.{word_of, SeenData, SeenMap, Reader};
 ghost use Rattle.lane_table.specs.Conditions.{IsSeated, IsWord};
 ghost use Rattle.lane_table.specs.Fuse.{Fell};
+ghost use Rattle.lane_table.specs.Law.{may_enter};
 ghost use Rattle.lane_table.specs.Reads.{found_by, read_logged, Loaded, LoadedFirst, BlockEnds, ReadEnds, LogEnds, Answers, AreReadWords};
 ghost use Rattle.lane_table.specs.Told.{blocks};
 
@@ -177,6 +178,7 @@ fn read_block(
     requires into { length into.old ≡ table.now.key.shape.width }
     requires at { AreReadWords table.now.table_id table.now.key.shape seat.old.me.0.number seat.old.me.0.lane.sector (looked seat.old.me.0.lane) at }
     requires spare { 0 < supplies.old.log.spare }
+    requires pass { may_enter seat.old.me.0.held seat.old.me.0.lane.tag ≡ true }
     ensures table { seat.new.table_id ≡ seat.old.table_id }
     ensures ends { BlockEnds seat.old.me seat.new.me supplies.old.fuse supplies.new.fuse into.old into.new result }
     ensures log { LogEnds call supplies.old.log supplies.new.log result }
@@ -222,6 +224,7 @@ pub fn read<P: Pause>(
     requires sector { call.sector < arena.now.shape.sectors }
     requires into { length into.old ≡ arena.now.shape.width }
     requires spare { 0 < supplies.old.log.spare }
+    requires pass { may_enter seat.old.me.0.held call.tag ≡ true }
     ensures table { seat.new.table_id ≡ seat.old.table_id }
     ensures ends { ReadEnds seat.old.me seat.new.me supplies.old.fuse supplies.new.fuse into.old into.new call result }
     ensures answers { Answers seat.old.me seat.new.me into.new call result }

@@ -1,10 +1,10 @@
 //! A lane's calls that stand in the history, and the room for those to come. Each call adds an
-//! entry of 16 bytes, so four share a line of cache. A write adds its words to a list of their own.
-ghost use Rattle.std.specs.Prelude.{◌≡◌, ◌+◌, ◌<◌, ◌≤◌, ◌++◌, [], ◌∷◌, suc, length, take, vec_len, vec_capacity, All, OnOk};
-ghost use Rattle.lane_table.specs.Conditions.{IsRoom};
+//! entry of 16 bytes, so four share a line of cache. The log has no words: a read returned them, and
+//! the arena has those of a write.
+ghost use Rattle.std.specs.Prelude.{◌≡◌, ◌+◌, ◌<◌, ◌≤◌, ◌++◌, [], ◌∷◌, suc, take, vec_len, vec_capacity, OnOk};
 
 use arena_open::CellKind;
-use nvd_words::{Items, Tag};
+use nvd_words::Tag;
 use std::alloc::{AllocError, Global};
 
 /// What a call in a lane's log did.
@@ -12,7 +12,7 @@ use std::alloc::{AllocError, Global};
 pub enum LoggedAct {
     /// It was read as a cell of this kind. `Lane::try_read` returned its words.
     Read(CellKind),
-    /// It was written. Its words stand in the lane's list of written words.
+    /// It was written.
     Write,
 }
 
@@ -25,56 +25,14 @@ pub struct LoggedCall {
     pub act: LoggedAct,
 }
 
-/// The calls of a lane.
-#[derive(Debug, Drop)]
-pub struct LaneCalls {
-    /// Oldest first.
-    pub calls: Vec<LoggedCall>,
-    /// The words of its writes, oldest first: the k-th write of `calls` has the k-th words.
-    pub written: Vec<Items<u64>>,
-}
-
 /// A lane's calls that stand in the history, and the room for those to come.
 #[derive(Drop)]
 pub struct LaneLog {
-    pub(crate) past: LaneCalls,
-    /// Room for the words of writes to come, each of a sector.
-    pub(crate) rooms: Vec<Vec<u64>>,
+    /// Oldest first.
+    pub(crate) calls: Vec<LoggedCall>,
     /// How many more calls there is room for.
     pub(crate) spare: usize,
-    ghost room: { vec_len past.calls + spare ≤ vec_capacity past.calls },
-    ghost room_of_writes: { vec_len past.written + spare ≤ vec_capacity past.written },
-    ghost rooms_last: { spare ≤ vec_len rooms },
-}
-
-/// Fills room that was reserved for a call's words.
-fn fill(room: &mut Vec<u64>, words: &[u64])
-    requires { IsRoom (length words.now) room.old }
-    ensures { room.new.items ≡ words.now }
-{
-    match room.extend_from_slice(words) {
-        Ok(()) => {}
-        Err(AllocError) => unreachable!(),
-    }
-}
-
-/// Rooms for the words of this many calls.
-fn more_rooms(
-    alloc: Global,
-    rooms: &mut Vec<Vec<u64>>,
-    width: usize,
-    calls: usize,
-) -> Result<(), AllocError>
-    requires rooms { All (IsRoom width) rooms.old.items }
-    ensures rooms { All (IsRoom width) rooms.new.items }
-    ensures enough { OnOk result (calls ≤ vec_len rooms.new) }
-    ensures more { vec_len rooms.old ≤ vec_len rooms.new }
-{
-    for _ in rooms.len()..calls {
-        let room = Vec::with_capacity(alloc, width)?;
-        rooms.push(room)?;
-    }
-    Ok(())
+    ghost room: { vec_len calls + spare ≤ vec_capacity calls },
 }
 
 /// Touches the room for so many calls to come. The system finds memory for a page when it is first
@@ -98,120 +56,71 @@ fn touch(calls: &mut Vec<LoggedCall>, more: usize)
     calls.truncate(count);
 }
 
-/// Touches the room for so many lists of words, as [`touch`] does.
-fn touch_lists(alloc: Global, written: &mut Vec<Items<u64>>, more: usize)
-    requires room { vec_len written.old + more ≤ vec_capacity written.old }
-    ensures items { written.new.items ≡ written.old.items }
-    ensures capacity { vec_capacity written.new ≡ vec_capacity written.old }
-{
-    let count = written.len();
-    for _ in 0..more {
-        written.push_reserved(Items::new(alloc));
-    }
-    written.truncate(count);
-}
-
 impl LaneLog {
     /// No call, and no room for one.
     pub(crate) fn new(alloc: Global) -> LaneLog
-        ensures calls { result.past.calls.items ≡ [] }
-        ensures written { result.past.written.items ≡ [] }
-        ensures rooms { result.rooms.items ≡ [] }
+        ensures calls { result.calls.items ≡ [] }
     {
         LaneLog {
-            past: LaneCalls {
-                calls: Vec::new(alloc),
-                written: Vec::new(alloc),
-            },
-            rooms: Vec::new(alloc),
+            calls: Vec::new(alloc),
             spare: 0,
         }
     }
 
-    /// Reserves room for this many calls, each with the words of a sector. The only refusal is out
-    /// of memory.
-    pub(crate) fn reserve(
-        &mut self,
-        alloc: Global,
-        width: usize,
-        calls: usize,
-    ) -> Result<(), AllocError>
-        requires rooms { All (IsRoom width) self.old.rooms.items }
-        ensures rooms { All (IsRoom width) self.new.rooms.items }
-        ensures calls { self.new.past.calls.items ≡ self.old.past.calls.items }
-        ensures written { self.new.past.written.items ≡ self.old.past.written.items }
+    /// Reserves room for this many calls. The only refusal is out of memory.
+    pub(crate) fn reserve(&mut self, calls: usize) -> Result<(), AllocError>
+        ensures calls { self.new.calls.items ≡ self.old.calls.items }
         ensures enough { OnOk result (calls ≤ self.new.spare) }
         ensures more { self.old.spare ≤ self.new.spare }
     {
         if calls <= self.spare {
             return Ok(());
         }
-        self.past.calls.reserve(calls)?;
-        touch(&mut self.past.calls, calls);
-        self.past.written.reserve(calls)?;
-        touch_lists(alloc, &mut self.past.written, calls);
-        more_rooms(alloc, &mut self.rooms, width, calls)?;
+        self.calls.reserve(calls)?;
+        touch(&mut self.calls, calls);
         self.spare = calls;
         Ok(())
     }
 
     /// How many calls there are.
     pub(crate) fn count(&self) -> usize
-        ensures { result ≡ vec_len self.now.past.calls }
+        ensures { result ≡ vec_len self.now.calls }
     {
-        self.past.calls.len()
+        self.calls.len()
     }
 
     /// Keeps the first calls, this many. The others go.
     pub(crate) fn keep_first(&mut self, count: usize)
-        ensures calls { self.new.past.calls.items ≡ take count self.old.past.calls.items }
-        ensures written { self.new.past.written ≡ self.old.past.written }
-        ensures rooms { self.new.rooms ≡ self.old.rooms }
+        ensures calls { self.new.calls.items ≡ take count self.old.calls.items }
     {
-        self.past.calls.truncate(count);
+        self.calls.truncate(count);
     }
 
-    /// Takes room for a write, and fills it with the words.
-    pub(crate) fn take_room(&mut self, words: &[u64]) -> Vec<u64>
-        requires rooms { All (IsRoom (length words.now)) self.old.rooms.items }
+    /// Takes the room of one call.
+    pub(crate) fn take_room(&mut self)
         requires spare { 0 < self.old.spare }
-        ensures words { result.items ≡ words.now }
-        ensures rooms { All (IsRoom (length words.now)) self.new.rooms.items }
-        ensures past { self.new.past ≡ self.old.past }
+        ensures calls { self.new.calls ≡ self.old.calls }
         ensures less { suc self.new.spare ≡ self.old.spare }
     {
         self.spare -= 1;
-        match self.rooms.pop() {
-            Some(mut room) => {
-                fill(&mut room, words);
-                room
-            }
-            None => unreachable!(),
-        }
     }
 
-    /// Adds a write of these words, whose room was taken.
-    pub(crate) fn add_write(&mut self, call: LoggedCall, words: Vec<u64>)
-        requires taken { vec_len self.old.past.calls + self.old.spare < vec_capacity self.old.past.calls }
-        requires taken_list { vec_len self.old.past.written + self.old.spare < vec_capacity self.old.past.written }
-        ensures added { self.new.past.calls.items ≡ self.old.past.calls.items ++ call ∷ [] }
-        ensures words { self.new.past.written.items ≡ self.old.past.written.items ++ words.items ∷ [] }
-        ensures rooms { self.new.rooms ≡ self.old.rooms }
+    /// Adds a call whose room was taken.
+    pub(crate) fn add(&mut self, call: LoggedCall)
+        requires taken { vec_len self.old.calls + self.old.spare < vec_capacity self.old.calls }
+        ensures added { self.new.calls.items ≡ self.old.calls.items ++ call ∷ [] }
         ensures spare { self.new.spare ≡ self.old.spare }
     {
-        self.past.calls.push_reserved(call);
-        self.past.written.push_reserved(Items::from_vec(words));
+        self.calls.push_reserved(call);
     }
 
-    /// Adds a read. It needs no room for words.
+    /// Takes the room of a read, and adds it.
     pub(crate) fn add_read(&mut self, call: LoggedCall)
         requires spare { 0 < self.old.spare }
-        ensures added { self.new.past.calls.items ≡ self.old.past.calls.items ++ call ∷ [] }
-        ensures written { self.new.past.written ≡ self.old.past.written }
-        ensures rooms { self.new.rooms ≡ self.old.rooms }
+        ensures added { self.new.calls.items ≡ self.old.calls.items ++ call ∷ [] }
         ensures less { suc self.new.spare ≡ self.old.spare }
     {
-        self.spare -= 1;
-        self.past.calls.push_reserved(call);
+        self.take_room();
+        self.add(call);
     }
 }

@@ -1,9 +1,9 @@
 //! Makes a table of an arena.
-ghost use Rattle.std.specs.Prelude.{◌≡◌, ◌<◌, ◌+◌, ◌^◌, ◌++◌, length, replicate, All, IfOk};
+ghost use Rattle.std.specs.Prelude.{◌≡◌, ◌<◌, ◌+◌, ◌^◌, ◌++◌, [], length, replicate, All, IfOk};
 ghost use Rattle.arena_open.specs.Moves.{IsOpenState};
 ghost use Rattle.lane_core.specs.Places.{reader_words};
 ghost use Rattle.lane_table.specs.Begun.{row_of, IsMadeOf, IsOpenArena, AreFresh};
-ghost use Rattle.lane_table.specs.Kits.{arena_id, IsOf};
+ghost use Rattle.lane_table.specs.Kits.{arena_id, held_in, IsOf};
 ghost use Rattle.lane_table.specs.Law.{words_of};
 
 use crate::arena::Arena;
@@ -42,6 +42,7 @@ fn arena_of(
     ensures shape { IfOk result (λ r. (r.0.shape ≡ shape) × (words_of r.0.table.shared.key ≡ words.now) × (r.0.table.shared.key.lanes.value ≡ states.now)) }
     ensures lanes { IfOk result (λ r. AreFresh (arena_id r.0) r.0.table.shared.key r.1.items) }
     ensures own { IfOk result (λ r. All (λ l. IsOf r.0 l.kit) r.1.items) }
+    ensures free { IfOk result (λ r. All (λ l. held_in l.kit ≡ []) r.1.items) }
 {
     let key = Key {
         shape,
@@ -56,7 +57,7 @@ fn arena_of(
 
 impl Arena {
     /// An opened arena on words that its lanes share, and its lanes in the order of their numbers,
-    /// each with its seat. The only refusal is out of memory.
+    /// each with its seat and without a pass. The only refusal is out of memory.
     ///
     /// Condition: `open_arena` returned this state.
     pub fn of(alloc: Global, state: ArenaState) -> Result<(Arena, Vec<Lane>), AllocError>
@@ -64,6 +65,7 @@ impl Arena {
         ensures arena { IfOk result (λ r. IsMadeOf state r.0) }
         ensures lanes { IfOk result (λ r. AreFresh (arena_id r.0) r.0.table.shared.key r.1.items) }
         ensures own { IfOk result (λ r. All (λ l. IsOf r.0 l.kit) r.1.items) }
+        ensures free { IfOk result (λ r. All (λ l. held_in l.kit ≡ []) r.1.items) }
     {
         let shape = Shape::of(&state.info.layout);
         arena_of(alloc, shape, &state.words, &state.lanes)

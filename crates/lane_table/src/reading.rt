@@ -15,9 +15,10 @@ impl Pause for Straight {
 }
 
 impl Lane {
-    ghost use Rattle.std.specs.Prelude.{◌≡◌, ◌<◌, length};
-    ghost use Rattle.lane_table.specs.Kits.{IsOf, spare_in};
-    ghost use Rattle.lane_table.specs.Outcomes.{Reads, Stands};
+    ghost use Rattle.std.specs.Prelude.{◌≡◌, ◌<◌, true, length};
+    ghost use Rattle.lane_table.specs.Kits.{IsOf, spare_in, held_in};
+    ghost use Rattle.lane_table.specs.Law.{may_enter};
+    ghost use Rattle.lane_table.specs.Outcomes.{Reads, Stands, ReadNotes};
 
     /// Reads a sector of the arena into `into`. It looks at the sector's entry, says in its reader
     /// word which block it reads, looks at the entry again, and loads the words only if the entry
@@ -39,8 +40,10 @@ impl Lane {
         requires sector { sector < arena.now.shape.sectors }
         requires into { length into.old ≡ arena.now.shape.width }
         requires spare { 0 < spare_in self.kit }
+        requires pass { may_enter (held_in self.kit) tag ≡ true }
         ensures reads { Reads (record { tag = tag; sector = sector }) into.old into.new self result }
         ensures stands { Stands (record { tag = tag; sector = sector }) into.new self result }
+        ensures notes { ReadNotes (record { tag = tag; sector = sector }) into.new self result }
     {
         self.try_read_paused(arena, tag, sector, into, &mut Straight)
     }
@@ -59,13 +62,16 @@ impl Lane {
         requires sector { sector < arena.now.shape.sectors }
         requires into { length into.old ≡ arena.now.shape.width }
         requires spare { 0 < spare_in self.kit }
+        requires pass { may_enter (held_in self.kit) tag ≡ true }
         ensures reads { Reads (record { tag = tag; sector = sector }) into.old into.new self result }
         ensures stands { Stands (record { tag = tag; sector = sector }) into.new self result }
+        ensures notes { ReadNotes (record { tag = tag; sector = sector }) into.new self result }
     {
         let Lane { kit, mine } = self;
         let Kit {
             mut seat,
             number,
+            made,
             fuse,
             log,
         } = kit;
@@ -76,19 +82,19 @@ impl Lane {
         let Supplies { fuse, mut log } = supplies;
         match fate {
             ReadFate::Got(kind) => {
-                let kit = kit_of(seat, number, fuse, log);
+                let kit = kit_of(seat, number, made, fuse, log);
                 let lane = Lane { kit, mine };
                 ReadOutcome::Got { lane, kind }
             }
             ReadFate::Moved(first, then) => {
-                let kit = kit_of(seat, number, fuse, log);
+                let kit = kit_of(seat, number, made, fuse, log);
                 let lane = Lane { kit, mine };
                 ReadOutcome::Moved { lane, first, then }
             }
             ReadFate::Cut => {
                 log.keep_first(stood);
                 ReadOutcome::Cut(Stopped {
-                    kit: kit_of(seat, number, fuse, log),
+                    kit: kit_of(seat, number, made, fuse, log),
                 })
             }
         }

@@ -4,7 +4,7 @@ use crate::fuse::Fuse;
 use crate::lanes::{Kit, Lane, Staged, Stopped, kit_of};
 use crate::outcome::StageOutcome;
 use crate::staging::{StageFate, stage};
-use std::alloc::{AllocError, Global};
+use std::alloc::AllocError;
 
 impl Lane {
     ghost use Rattle.std.specs.Prelude.{◌≡◌, ◌<◌, ◌≤◌, length, OnOk};
@@ -44,10 +44,9 @@ impl Lane {
         self.kit.fuse = Fuse::of(steps);
     }
 
-    /// Reserves room for this many calls, each with the words of a sector, so that they take no
-    /// memory. The only refusal is out of memory.
-    pub fn reserve(&mut self, alloc: Global, arena: &Arena, calls: usize) -> Result<(), AllocError>
-        requires arena { IsOf arena.now self.old.kit }
+    /// Reserves room for this many calls, 16 bytes each, so that they take no memory. The only
+    /// refusal is out of memory.
+    pub fn reserve(&mut self, calls: usize) -> Result<(), AllocError>
         ensures enough { OnOk result (calls ≤ spare_in self.new.kit) }
         ensures more { spare_in self.old.kit ≤ spare_in self.new.kit }
         ensures same { IsSame self.old.kit self.new.kit }
@@ -55,9 +54,7 @@ impl Lane {
         ensures fuse { self.new.kit.fuse ≡ self.old.kit.fuse }
         ensures mine { self.new.mine ≡ self.old.mine }
     {
-        self.kit
-            .log
-            .reserve(alloc, arena.shape.width as usize, calls)
+        self.kit.log.reserve(calls)
     }
 
     /// Stages a write of these words: looks once at each other lane's reader word, stores the words
@@ -73,6 +70,7 @@ impl Lane {
         let Kit {
             mut seat,
             number,
+            made,
             mut fuse,
             mut log,
         } = kit;
@@ -80,12 +78,12 @@ impl Lane {
         let fate = stage(table, &mut seat, &mut fuse, &arena.shape, mine, words);
         match fate {
             StageFate::Staged => {
-                let words = log.take_room(words);
-                let kit = kit_of(seat, number, fuse, log);
-                StageOutcome::Staged(Staged { kit, mine, words })
+                log.take_room();
+                let kit = kit_of(seat, number, made, fuse, log);
+                StageOutcome::Staged(Staged { kit, mine })
             }
             StageFate::Tracked(reader) => {
-                let kit = kit_of(seat, number, fuse, log);
+                let kit = kit_of(seat, number, made, fuse, log);
                 StageOutcome::Tracked {
                     lane: Lane { kit, mine },
                     reader,
@@ -93,7 +91,7 @@ impl Lane {
                 }
             }
             StageFate::Cut => StageOutcome::Cut(Stopped {
-                kit: kit_of(seat, number, fuse, log),
+                kit: kit_of(seat, number, made, fuse, log),
             }),
         }
     }

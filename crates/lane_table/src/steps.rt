@@ -11,6 +11,7 @@ ghost use Rattle.lane_core.specs.Machine.{other, other_lane, looked, lock_of};
 ghost use Rattle.lane_core.specs.Places.{geometry, SeenData, KeptData, SeenA, KeptA, SeenB, KeptB, SeenMap, KeptMap, Reader, Lock};
 ghost use Rattle.lane_table.specs.Conditions.{IsSeated, IsWord, IsLockOf};
 ghost use Rattle.lane_table.specs.Fuse.{Fell, Burnt};
+ghost use Rattle.lane_table.specs.Law.{may_enter};
 ghost use Rattle.lane_table.specs.Told.{begun, tracked, scanned, with_word, with_keep, locked, missed, known, a_stored, a_kept, b_stored, b_kept, switched, map_kept, freed, blocks};
 ghost use Rattle.lane_table.specs.Told.{called, looked_at, published, reading, moved, with_load, given_up, answered_with_words};
 
@@ -254,6 +255,7 @@ pub fn flog_b_keep(
 #[inline]
 pub fn map_store(table: &Words, seat: &mut LaneSeat, fuse: &mut Fuse, at: usize, value: u64) -> bool
     requires seat { IsSeated Logged table.now.table_id seat.old.table_id seat.old.me }
+    requires pass { may_enter seat.old.me.0.held seat.old.me.0.lane.tag ≡ true }
     requires at { IsWord table.now.table_id table.now.key.shape at (SeenMap (seat.old.me.0.lane.sector / 2)) }
     requires value { value ≡ with_entry seat.old.me.0.lane.loaded seat.old.me.0.lane.sector (normal seat.old.me.0.lane.block) }
     ensures table { seat.new.table_id ≡ seat.old.table_id }
@@ -322,6 +324,7 @@ pub fn read_begin(table: &Words, seat: &mut LaneSeat, at: usize, call: Call)
 #[inline]
 pub fn map_look(table: &Words, seat: &mut LaneSeat, fuse: &mut Fuse, at: usize) -> Option<u64>
     requires seat { IsSeated Called table.now.table_id seat.old.table_id seat.old.me }
+    requires pass { may_enter seat.old.me.0.held seat.old.me.0.lane.tag ≡ true }
     requires at { IsWord table.now.table_id table.now.key.shape at (SeenMap (seat.old.me.0.lane.sector / 2)) }
     ensures table { seat.new.table_id ≡ seat.old.table_id }
     ensures looked { IfSome result (λ n. seat.new.me ≡ looked_at (kind_in (entry_in n seat.old.me.0.lane.sector)) n seat.old.me) }
@@ -357,6 +360,7 @@ pub fn rtt_set(table: &Words, seat: &mut LaneSeat, fuse: &mut Fuse, at: usize, b
 #[inline]
 pub fn map_check(table: &Words, seat: &mut LaneSeat, fuse: &mut Fuse, at: usize) -> Option<u64>
     requires seat { IsSeated Published table.now.table_id seat.old.table_id seat.old.me }
+    requires pass { may_enter seat.old.me.0.held seat.old.me.0.lane.tag ≡ true }
     requires at { IsWord table.now.table_id table.now.key.shape at (SeenMap (seat.old.me.0.lane.sector / 2)) }
     ensures table { seat.new.table_id ≡ seat.old.table_id }
     ensures same { IfSome result (λ n. entry_in n seat.old.me.0.lane.sector ≡ entry_in seat.old.me.0.lane.loaded seat.old.me.0.lane.sector → seat.new.me ≡ reading n seat.old.me) }
@@ -399,6 +403,7 @@ pub fn data_load(
 #[inline]
 pub fn rtt_clear(table: &Words, seat: &mut LaneSeat, fuse: &mut Fuse, at: usize) -> bool
     requires seat { IsSeated (Reading table.now.key.shape.width) table.now.table_id seat.old.table_id seat.old.me }
+    requires pass { may_enter seat.old.me.0.held seat.old.me.0.lane.tag ≡ true }
     requires at { IsWord table.now.table_id table.now.key.shape at (Reader seat.old.me.0.number) }
     ensures table { seat.new.table_id ≡ seat.old.table_id }
     ensures made { result ≡ true → (seat.new.me ≡ answered_with_words seat.old.me) × Fell 1 fuse.old fuse.new }

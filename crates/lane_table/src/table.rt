@@ -1,7 +1,7 @@
 //! The table that lanes share: the rule of its words, and what each seat knows.
 use arena_open::LaneState;
 use atomic_table::{Seat, Shared, Table, TableRule};
-use lane_core::{Lane, Shape};
+use lane_core::{Entry, Lane, Shape};
 use nvd_words::{Items, Tag};
 use std::alloc::Global;
 use std::snapshot::Snapshot;
@@ -14,15 +14,29 @@ pub struct Call {
     pub sector: u32,
 }
 
-/// A lane, its number, and the shape of its arena. No code makes a value of it.
+/// What is known of a session by its pass. No code makes a value of it.
+pub struct PassPart {
+    pub session: u32,
+    /// It stands for this session and for all later ones: their passes are yet to be made.
+    pub unmade: bool,
+    /// The steps that lanes made while they held the pass.
+    pub steps: u64,
+    /// The session's calls that stand in its lanes' logs, oldest first.
+    pub entries: [Entry; 0],
+}
+
+/// A lane, its number, the shape of its arena, the pass that it holds if there is one, and how many
+/// steps its seat has counted. No code makes a value of it.
 pub struct Owned {
     pub number: u32,
     pub lane: Lane,
     pub shape: Shape,
+    pub held: [PassPart; 0],
+    pub steps: u64,
 }
 
-/// How many steps a seat has made, and what the last two looks at a word found. No code makes a
-/// value of it.
+/// How many steps a seat has made, and what the last two looks at a word found. While its lane holds
+/// a pass, the steps are the pass's. No code makes a value of it.
 pub struct Count {
     pub steps: u64,
     pub last: u64,
@@ -36,8 +50,12 @@ pub struct View {
     pub number: u32,
     pub lane: Lane,
     pub shape: Shape,
+    /// The pass that its lane holds, if there is one.
+    pub held: [PassPart; 0],
     /// The lanes that it has yet to hand out, or has taken back.
     pub rest: [Owned; 0],
+    /// Passes that no lane holds.
+    pub loose: [PassPart; 0],
     pub count: Count,
 }
 

@@ -42,10 +42,11 @@ fn mine_after(mine: Mine, block: u32) -> Mine
 }
 
 impl Staged {
-    ghost use Rattle.std.specs.Prelude.{◌≡◌, ◌<◌};
+    ghost use Rattle.std.specs.Prelude.{◌≡◌, ◌<◌, true};
     ghost use Rattle.lane_table.specs.Fuse.{of_left};
-    ghost use Rattle.lane_table.specs.Kits.{IsOf, IsSame};
-    ghost use Rattle.lane_table.specs.Outcomes.{Commits};
+    ghost use Rattle.lane_table.specs.Kits.{IsOf, IsSame, held_in};
+    ghost use Rattle.lane_table.specs.Law.{may_enter};
+    ghost use Rattle.lane_table.specs.Outcomes.{Commits, CommitNotes};
 
     /// Sets or takes away the lane's fuse.
     pub fn set_fuse(&mut self, steps: Option<u64>)
@@ -53,7 +54,6 @@ impl Staged {
         ensures same { IsSame self.old.kit self.new.kit }
         ensures seat { self.new.kit.seat ≡ self.old.kit.seat }
         ensures log { self.new.kit.log ≡ self.old.kit.log }
-        ensures words { self.new.words ≡ self.old.words }
         ensures mine { self.new.mine ≡ self.old.mine }
     {
         self.kit.fuse = Fuse::of(steps);
@@ -65,12 +65,15 @@ impl Staged {
     pub fn try_commit(self, arena: &Arena, tag: Tag, sector: u32) -> CommitOutcome
         requires arena { IsOf arena.now self.kit }
         requires sector { sector < arena.now.shape.sectors }
+        requires pass { may_enter (held_in self.kit) tag ≡ true }
         ensures commits { Commits (record { tag = tag; sector = sector }) self result }
+        ensures notes { CommitNotes (record { tag = tag; sector = sector }) self result }
     {
-        let Staged { kit, mine, words } = self;
+        let Staged { kit, mine } = self;
         let Kit {
             mut seat,
             number,
+            made: passes_made,
             mut fuse,
             mut log,
         } = kit;
@@ -78,23 +81,23 @@ impl Staged {
         let call = Call { tag, sector };
         match commit(&arena.table.shared, &mut seat, &mut fuse, at, mine, call) {
             Fate::Done(block) => {
-                log.add_write(written(call), words);
+                log.add(written(call));
                 CommitOutcome::Done(Lane {
-                    kit: kit_of(seat, number, fuse, log),
+                    kit: kit_of(seat, number, passes_made, fuse, log),
                     mine: mine_after(mine, block),
                 })
             }
             Fate::Busy(holder) => {
-                let kit = kit_of(seat, number, fuse, log);
-                let staged = Staged { kit, mine, words };
+                let kit = kit_of(seat, number, passes_made, fuse, log);
+                let staged = Staged { kit, mine };
                 CommitOutcome::MapBusy { staged, holder }
             }
             Fate::Cut(made) => {
                 if made >= 7 {
-                    log.add_write(written(call), words);
+                    log.add(written(call));
                 }
                 CommitOutcome::Cut(Stopped {
-                    kit: kit_of(seat, number, fuse, log),
+                    kit: kit_of(seat, number, passes_made, fuse, log),
                 })
             }
         }

@@ -1,17 +1,17 @@
 //! An arena of 16 MiB whose words two lanes share, with 32,480 sectors of 512 bytes. At first 32,480 is lane 0's free block, and 32,481
-//! is lane 1's. The entry 0x8000_0009 says that sector 9 has zeros, and 0xC000_7EE1 that it has block 32,481.
-ghost use Rattle.std.specs.Prelude.{◌≡◌, ◌<◌, All, IfOk, IfSome, Some};
+//! is lane 1's. The entry 0x8000_0009 says that sector 9 has zeros, and 0xC000_7EE1 that it has block 32,481. Lane 0 holds the pass of
+//! session 0, and lane 1 that of session 1.
+ghost use Rattle.std.specs.Prelude.{◌≡◌, ◌<◌, [], ◌∷◌, All, IfOk, IfSome, Some};
 ghost use Rattle.arena_open.specs.Moves.{IsOpenState};
-ghost use Rattle.lane_table.specs.declared.lanes.Lane.{Lane as Lane_at};
-ghost use Rattle.lane_table.specs.Kits.{arena_id, kit_in, IsOf};
+ghost use Rattle.lane_table.specs.Kits.{arena_id, held_in, kit_in, IsOf};
+ghost use Rattle.table_tests.specs.declared.client.Client.{Client as Client_at};
 
+use crate::client::{Client, begin, commit, cut, go_on, moved, read, read_again, refused, stage};
 use crate::words::{new_words, parent, value_of};
 use arena_layout::plan;
 use arena_open::{ArenaState, CellKind, open_arena};
 use cut_words::{CutWords, Fuse, WordSpace};
-use lane_table::{
-    Arena, Closed, CommitOutcome, Lane, LaneEnd, Pause, ReadOutcome, StageOutcome, Staged,
-};
+use lane_table::{Arena, Closed, Lane, LaneEnd, Pause, ReadOutcome, StageOutcome};
 use map_table::entry_in;
 use nvd_words::Tag;
 use std::alloc::{AllocError, Global};
@@ -19,17 +19,16 @@ use std::test::Fail;
 use std::thread;
 use std::thread::Threads;
 
-/// Any session's call.
-const TAG: Tag = Tag {
-    session: 0,
-    call: 0,
-};
-
-/// How often a lane tries again while another one reads its free block: until that thread goes on, however busy the machine is.
-const TRIES: u32 = u32::MAX;
-
 /// How often a lane reads beside another's writes.
 const READS: u32 = 10_000;
+
+/// A read that goes on at once.
+#[derive(Drop)]
+struct Straight;
+
+impl Pause for Straight {
+    fn pause(&mut self) {}
+}
 
 /// The arena of these words.
 fn opened(alloc: Global, words: Vec<u64>) -> Result<ArenaState, Fail>
@@ -43,23 +42,11 @@ fn opened(alloc: Global, words: Vec<u64>) -> Result<ArenaState, Fail>
     Ok(state)
 }
 
-/// Takes the last one of an arena's lanes.
-fn last_of(arena: &Arena, lanes: &mut Vec<Lane>) -> Result<Lane, AllocError>
-    requires { All (λ l. IsOf arena.now l.kit) lanes.old.items }
-    ensures lane { IfOk result (λ l. IsOf arena.now l.kit) }
-    ensures others { All (λ l. IsOf arena.now l.kit) lanes.new.items }
-{
-    match lanes.pop() {
-        Some(lane) => Ok(lane),
-        None => Err(AllocError),
-    }
-}
-
-/// A new arena and its two lanes.
-fn new_pair(alloc: Global) -> Result<(Arena, Lane, Lane), Fail>
+/// A new arena and its two lanes, each with the pass of a session.
+fn new_pair(alloc: Global) -> Result<(Arena, Client, Client), Fail>
     ensures arena { IfOk result (λ r. (r.0.shape.width ≡ 64) × (r.0.shape.lanes ≡ 2) × (11 < r.0.shape.sectors)) }
-    ensures first { IfOk result (λ r. IsOf r.0 r.1.kit × (r.1.kit.number ≡ 0)) }
-    ensures second { IfOk result (λ r. IsOf r.0 r.2.kit × (r.2.kit.number ≡ 1)) }
+    ensures first { IfOk result (λ r. IsOf r.0 r.1.lane.kit × (r.1.lane.kit.number ≡ 0)) }
+    ensures second { IfOk result (λ r. IsOf r.0 r.2.lane.kit × (r.2.lane.kit.number ≡ 1)) }
 {
     let state = opened(alloc, new_words(alloc)?)?;
     let layout = &state.info.layout;
@@ -67,85 +54,60 @@ fn new_pair(alloc: Global) -> Result<(Arena, Lane, Lane), Fail>
         return Err(AllocError)?;
     }
     let (arena, mut lanes) = Arena::of(alloc, state)?;
-    let second = last_of(&arena, &mut lanes)?;
-    let first = last_of(&arena, &mut lanes)?;
-    if first.number() != 0 || second.number() != 1 {
+    let (Some(second), Some(mut first)) = (lanes.pop(), lanes.pop()) else {
         return Err(AllocError)?;
-    }
+    };
+    let passes = (first.pass(&arena), first.pass(&arena));
+    let first = begin(&arena, first, passes.0);
+    let second = begin(&arena, second, passes.1);
     Ok((arena, first, second))
 }
 
-/// A lane stages a write, each word with the same value. While another lane reads its free block it tries again.
-fn stage(alloc: Global, arena: &Arena, mut lane: Lane, value: u64) -> Option<Staged>
-    requires width { arena.now.shape.width ≡ 64 }
-    requires lane { IsOf arena.now lane.kit }
-    ensures { IfSome result (λ s. IsOf arena.now s.kit × (s.kit.number ≡ lane.kit.number)) }
-{
-    lane.reserve(alloc, arena, 1).ok()?;
-    for _ in 0..TRIES {
-        match lane.try_stage(arena, &[value; 64]) {
-            StageOutcome::Staged(staged) => return Some(staged),
-            StageOutcome::Tracked { lane: back, .. } => lane = back,
-            StageOutcome::Cut(_) => return None,
-        }
-    }
-    None
-}
-
-/// A lane writes to sector 9.
-fn write(alloc: Global, arena: &Arena, lane: Lane, value: u64) -> Option<Lane>
+/// A session writes to sector 9.
+fn write(arena: &Arena, client: Client, value: u64) -> Option<Client>
     requires width { arena.now.shape.width ≡ 64 }
     requires sectors { 11 < arena.now.shape.sectors }
-    requires lane { IsOf arena.now lane.kit }
-    ensures { IfSome result (λ l. IsOf arena.now l.kit × (l.kit.number ≡ lane.kit.number)) }
+    requires lane { IsOf arena.now client.lane.kit }
+    ensures { IfSome result (λ c. IsOf arena.now c.lane.kit × (c.lane.kit.number ≡ client.lane.kit.number)) }
 {
-    let staged = stage(alloc, arena, lane, value)?;
-    match staged.try_commit(arena, TAG, 9) {
-        CommitOutcome::Done(lane) => Some(lane),
-        _ => None,
-    }
+    commit(arena, stage(arena, client, value)?, 9)
 }
 
-/// A lane writes these values to sector 9, one after another.
-fn write_all(alloc: Global, arena: &Arena, mut lane: Lane, values: &[u64]) -> Option<Lane>
+/// A session writes these values to sector 9, one after another.
+fn write_all(arena: &Arena, mut client: Client, values: &[u64]) -> Option<Client>
     requires width { arena.now.shape.width ≡ 64 }
     requires sectors { 11 < arena.now.shape.sectors }
-    requires lane { IsOf arena.now lane.kit }
-    ensures { IfSome result (λ l. IsOf arena.now l.kit × (l.kit.number ≡ lane.kit.number)) }
+    requires lane { IsOf arena.now client.lane.kit }
+    ensures { IfSome result (λ c. IsOf arena.now c.lane.kit × (c.lane.kit.number ≡ client.lane.kit.number)) }
 {
     for value in values {
-        lane = write(alloc, arena, lane, *value)?;
+        client = write(arena, client, *value)?;
     }
-    Some(lane)
+    Some(client)
 }
 
-/// A lane reads sector 9 many times, until it finds the last value. `None` if two words of a read differ, or if a value is older than one
-/// that was read before.
-fn read_rising(alloc: Global, arena: &Arena, mut lane: Lane, last: u64) -> Option<Lane>
+/// A session reads sector 9 many times, until it finds the last value. `None` if two words of a read differ, or if a value is older than
+/// one that was read before.
+fn read_rising(arena: &Arena, mut client: Client, last: u64) -> Option<Client>
     requires width { arena.now.shape.width ≡ 64 }
     requires sectors { 11 < arena.now.shape.sectors }
-    requires lane { IsOf arena.now lane.kit }
-    ensures { IfSome result (λ l. IsOf arena.now l.kit × (l.kit.number ≡ lane.kit.number)) }
+    requires lane { IsOf arena.now client.lane.kit }
+    ensures { IfSome result (λ c. IsOf arena.now c.lane.kit × (c.lane.kit.number ≡ client.lane.kit.number)) }
 {
     let mut newest = 0;
     let mut into = [0; 64];
     for _ in 0..READS {
         if newest == last {
-            return Some(lane);
+            return Some(client);
         }
-        lane.reserve(alloc, arena, 1).ok()?;
-        match lane.try_read(arena, TAG, 9, &mut into) {
-            ReadOutcome::Got { lane: back, .. } => lane = back,
-            ReadOutcome::Moved { lane: back, .. } => lane = back,
-            ReadOutcome::Cut(_) => return None,
-        }
+        client = read_again(arena, client, 9, &mut into)?;
         let value = value_of(&into)?;
         if value < newest {
             return None;
         }
         newest = value;
     }
-    Some(lane)
+    Some(client)
 }
 
 /// Closes an arena of two lanes.
@@ -166,7 +128,7 @@ fn close(alloc: Global, arena: Arena, first: LaneEnd, second: LaneEnd) -> Result
 /// How many calls a lane's log has.
 fn calls_of(closed: &Closed, lane: usize) -> Option<usize> {
     if lane < closed.logs.len() {
-        Some(closed.logs[lane].calls.len())
+        Some(closed.logs[lane].len())
     } else {
         None
     }
@@ -181,21 +143,20 @@ fn entry_of(words: &[u64], sector: u32) -> Result<u32, Fail> {
     Ok(entry_in(words[at as usize], sector))
 }
 
-/// A lane that writes these values to sector 9 between a reader's first look at the map and the store of its reader word.
+/// A session that writes these values to sector 9 between a reader's first look at the map and the store of its reader word.
 #[derive(Drop)]
 struct Meanwhile<'a> {
-    alloc: Global,
     arena: &'a Arena,
-    lane: Option<Lane>,
+    client: Option<Client>,
     values: &'a [u64],
     ghost sized: { (arena.now.shape.width ≡ 64) × (11 < arena.now.shape.sectors) },
-    ghost its_lane: { (l : Lane_at) → lane ≡ Some l → IsOf arena.now l.kit },
+    ghost its_lane: { (c : Client_at) → client ≡ Some c → IsOf arena.now c.lane.kit },
 }
 
 impl<'a> Pause for Meanwhile<'a> {
     fn pause(&mut self) {
-        if let Some(lane) = self.lane.take() {
-            self.lane = write_all(self.alloc, self.arena, lane, self.values);
+        if let Some(client) = self.client.take() {
+            self.client = write_all(self.arena, client, self.values);
         }
     }
 }
@@ -206,29 +167,16 @@ impl<'a> Pause for Meanwhile<'a> {
 fn a_lane_that_stops_keeps_its_lock(rt: HostRuntime) -> Result<(), Fail> {
     let alloc = rt.alloc();
     let (arena, first, second) = new_pair(alloc)?;
-    let mut staged = stage(alloc, &arena, second, 11).ok_or(AllocError)?;
-    staged.set_fuse(Some(1));
-    let CommitOutcome::Cut(stopped) = staged.try_commit(&arena, TAG, 9) else {
-        return Err(AllocError)?;
-    };
-    let staged = stage(alloc, &arena, first, 22).ok_or(AllocError)?;
-    let CommitOutcome::MapBusy { staged, holder } = staged.try_commit(&arena, TAG, 8) else {
-        return Err(AllocError)?;
-    };
+    let ready = stage(&arena, second, 11).ok_or(AllocError)?;
+    let stopped = cut(&arena, ready, 9, 1).ok_or(AllocError)?;
+    let ready = stage(&arena, first, 22).ok_or(AllocError)?;
+    let (ready, holder) = refused(&arena, ready, 8).ok_or(AllocError)?;
     assert_eq!(rt; holder, 1);
-    let CommitOutcome::Done(first) = staged.try_commit(&arena, TAG, 10) else {
-        return Err(AllocError)?;
-    };
-    let staged = stage(alloc, &arena, first, 33).ok_or(AllocError)?;
-    let CommitOutcome::Done(first) = staged.try_commit(&arena, TAG, 11) else {
-        return Err(AllocError)?;
-    };
-    let closed = close(
-        alloc,
-        arena,
-        LaneEnd::Idle(first),
-        LaneEnd::Stopped(stopped),
-    )?;
+    let first = commit(&arena, ready, 10).ok_or(AllocError)?;
+    let ready = stage(&arena, first, 33).ok_or(AllocError)?;
+    let first = commit(&arena, ready, 11).ok_or(AllocError)?;
+    let first = LaneEnd::Idle(first.lane);
+    let closed = close(alloc, arena, first, LaneEnd::Stopped(stopped))?;
     assert_eq!(rt; calls_of(&closed, 0), Some(2));
     for (sector, entry) in [
         (8, 0x8000_0008),
@@ -245,13 +193,12 @@ fn a_lane_that_stops_keeps_its_lock(rt: HostRuntime) -> Result<(), Fail> {
 fn nine_steps_make_a_commit(rt: HostRuntime) -> Result<(), Fail> {
     let alloc = rt.alloc();
     let (arena, first, second) = new_pair(alloc)?;
-    let mut staged = stage(alloc, &arena, second, 11).ok_or(AllocError)?;
-    staged.set_fuse(Some(9));
-    let CommitOutcome::Done(second) = staged.try_commit(&arena, TAG, 9) else {
-        return Err(AllocError)?;
-    };
-    assert_eq!(rt; second.left(), Some(0));
-    let closed = close(alloc, arena, LaneEnd::Idle(first), LaneEnd::Idle(second))?;
+    let mut ready = stage(&arena, second, 11).ok_or(AllocError)?;
+    ready.staged.set_fuse(Some(9));
+    let second = commit(&arena, ready, 9).ok_or(AllocError)?;
+    assert_eq!(rt; second.lane.left(), Some(0));
+    let second = LaneEnd::Idle(second.lane);
+    let closed = close(alloc, arena, LaneEnd::Idle(first.lane), second)?;
     assert!(rt; closed.seen.as_slice() == closed.kept.as_slice());
     assert_eq!(rt; entry_of(&closed.kept, 9)?, 0xC000_7EE1);
     Ok(())
@@ -262,17 +209,10 @@ fn nine_steps_make_a_commit(rt: HostRuntime) -> Result<(), Fail> {
 fn a_commit_that_is_cut_is_completed_by_opening(rt: HostRuntime) -> Result<(), Fail> {
     let alloc = rt.alloc();
     let (arena, first, second) = new_pair(alloc)?;
-    let mut staged = stage(alloc, &arena, second, 11).ok_or(AllocError)?;
-    staged.set_fuse(Some(6));
-    let CommitOutcome::Cut(stopped) = staged.try_commit(&arena, TAG, 9) else {
-        return Err(AllocError)?;
-    };
-    let closed = close(
-        alloc,
-        arena,
-        LaneEnd::Idle(first),
-        LaneEnd::Stopped(stopped),
-    )?;
+    let ready = stage(&arena, second, 11).ok_or(AllocError)?;
+    let stopped = cut(&arena, ready, 9, 6).ok_or(AllocError)?;
+    let first = LaneEnd::Idle(first.lane);
+    let closed = close(alloc, arena, first, LaneEnd::Stopped(stopped))?;
     assert_eq!(rt; entry_of(&closed.seen, 9)?, 0x8000_0009);
     let Closed { kept, .. } = closed;
     let state = opened(alloc, kept)?;
@@ -285,21 +225,27 @@ fn a_commit_that_is_cut_is_completed_by_opening(rt: HostRuntime) -> Result<(), F
 #[test]
 fn a_write_finds_the_reader_of_its_block(rt: HostRuntime) -> Result<(), Fail> {
     let alloc = rt.alloc();
-    let (arena, mut first, second) = new_pair(alloc)?;
-    let second = write(alloc, &arena, second, 11).ok_or(AllocError)?;
-    first.reserve(alloc, &arena, 1)?;
-    first.set_fuse(Some(2));
-    let ReadOutcome::Cut(_) = first.try_read(&arena, TAG, 9, &mut [0; 64]) else {
+    let (arena, first, second) = new_pair(alloc)?;
+    let second = write(&arena, second, 11).ok_or(AllocError)?;
+    let mut reader = first.lane;
+    reader.reserve(1)?;
+    reader.set_fuse(Some(2));
+    let tag = Tag {
+        session: 0,
+        call: 0,
+    };
+    let ReadOutcome::Cut(_) = reader.try_read(&arena, tag, 9, &mut [0; 64]) else {
         return Err(AllocError)?;
     };
-    let mut second = write(alloc, &arena, second, 22).ok_or(AllocError)?;
-    second.reserve(alloc, &arena, 1)?;
-    second.set_fuse(Some(9));
+    let second = write(&arena, second, 22).ok_or(AllocError)?;
+    let mut writer = second.lane;
+    writer.reserve(1)?;
+    writer.set_fuse(Some(9));
     let StageOutcome::Tracked {
         lane,
         reader,
         block,
-    } = second.try_stage(&arena, &[33; 64])
+    } = writer.try_stage(&arena, &[33; 64])
     else {
         return Err(AllocError)?;
     };
@@ -311,26 +257,15 @@ fn a_write_finds_the_reader_of_its_block(rt: HostRuntime) -> Result<(), Fail> {
 #[test]
 fn a_read_finds_the_block_that_came_back(rt: HostRuntime) -> Result<(), Fail> {
     let alloc = rt.alloc();
-    let (arena, mut first, second) = new_pair(alloc)?;
-    let lane = write(alloc, &arena, second, 11);
+    let (arena, first, second) = new_pair(alloc)?;
     let mut meanwhile = Meanwhile {
-        alloc,
         arena: &arena,
-        lane,
+        client: write(&arena, second, 11),
         values: &[22, 33],
     };
-    first.reserve(alloc, &arena, 1)?;
     let mut into = [7; 64];
-    let read = first.try_read_paused(&arena, TAG, 9, &mut into, &mut meanwhile);
-    assert!(rt;
-        matches!(
-            read,
-            ReadOutcome::Got {
-                kind: CellKind::Bytes,
-                ..
-            }
-        )
-    );
+    let (_, kind) = read(&arena, first, 9, &mut into, &mut meanwhile).ok_or(AllocError)?;
+    assert!(rt; matches!(kind, CellKind::Bytes));
     assert_eq!(rt; value_of(&into), Some(33));
     Ok(())
 }
@@ -339,59 +274,61 @@ fn a_read_finds_the_block_that_came_back(rt: HostRuntime) -> Result<(), Fail> {
 #[test]
 fn a_read_says_that_its_sector_moved(rt: HostRuntime) -> Result<(), Fail> {
     let alloc = rt.alloc();
-    let (arena, mut reader, second) = new_pair(alloc)?;
-    let lane = write(alloc, &arena, second, 11);
+    let (arena, reader, second) = new_pair(alloc)?;
     let mut meanwhile = Meanwhile {
-        alloc,
         arena: &arena,
-        lane,
+        client: write(&arena, second, 11),
         values: &[22],
     };
-    reader.reserve(alloc, &arena, 1)?;
     let mut into = [7; 64];
-    let read = reader.try_read_paused(&arena, TAG, 9, &mut into, &mut meanwhile);
-    let ReadOutcome::Moved { lane, first, then } = read else {
-        return Err(AllocError)?;
-    };
+    let (reader, first, then) =
+        moved(&arena, reader, 9, &mut into, &mut meanwhile).ok_or(AllocError)?;
     assert_eq!(rt;
         (first, then, value_of(&into)),
         (0xC000_7EE1, 0xC000_0009, Some(7))
     );
-    let read = lane.try_read(&arena, TAG, 9, &mut into);
-    assert!(rt;
-        matches!(
-            read,
-            ReadOutcome::Got {
-                kind: CellKind::Bytes,
-                ..
-            }
-        )
-    );
+    let (_, kind) = read(&arena, reader, 9, &mut into, &mut Straight).ok_or(AllocError)?;
+    assert!(rt; matches!(kind, CellKind::Bytes));
     assert_eq!(rt; value_of(&into), Some(22));
     Ok(())
 }
 
-/// One lane reads while another one writes, each in a thread of its own.
+/// A session writes by lane 0 and then by lane 1. Each lane has its own call, and the session goes on counting.
+#[test]
+fn a_session_goes_from_lane_to_lane(rt: HostRuntime) -> Result<(), Fail> {
+    let alloc = rt.alloc();
+    let (arena, first, second) = new_pair(alloc)?;
+    let first = write(&arena, first, 11).ok_or(AllocError)?;
+    let (first, second) = go_on(&arena, first, second).ok_or(AllocError)?;
+    let second = write(&arena, second, 22).ok_or(AllocError)?;
+    assert_eq!(rt; (second.session, second.next), (0, 2));
+    let second = LaneEnd::Idle(second.lane);
+    let closed = close(alloc, arena, LaneEnd::Idle(first), second)?;
+    assert_eq!(rt; (calls_of(&closed, 0), calls_of(&closed, 1)), (Some(1), Some(1)));
+    assert_eq!(rt; (closed.logs[0][0].tag.call, closed.logs[1][0].tag.call), (0, 1));
+    Ok(())
+}
+
+/// One session reads while another one writes, each in a thread of its own.
 fn at_once<R: Threads + Sync>(
     rt: &R,
-    alloc: Global,
     arena: &Arena,
-    first: Lane,
-    second: Lane,
+    first: Client,
+    second: Client,
     values: &[u64],
-) -> (Option<Lane>, Option<Lane>)
+) -> (Option<Client>, Option<Client>)
     requires width { arena.now.shape.width ≡ 64 }
     requires sectors { 11 < arena.now.shape.sectors }
-    requires first { IsOf arena.now first.kit }
-    requires second { IsOf arena.now second.kit }
-    ensures first { IfSome result.0 (λ l. IsOf arena.now l.kit × (l.kit.number ≡ first.kit.number)) }
-    ensures second { IfSome result.1 (λ l. IsOf arena.now l.kit × (l.kit.number ≡ second.kit.number)) }
+    requires first { IsOf arena.now first.lane.kit }
+    requires second { IsOf arena.now second.lane.kit }
+    ensures first { IfSome result.0 (λ c. IsOf arena.now c.lane.kit × (c.lane.kit.number ≡ first.lane.kit.number)) }
+    ensures second { IfSome result.1 (λ c. IsOf arena.now c.lane.kit × (c.lane.kit.number ≡ second.lane.kit.number)) }
 {
     let last = values.len() as u64;
     thread::join(
         rt,
-        move || read_rising(alloc, arena, first, last),
-        move || write_all(alloc, arena, second, values),
+        move || read_rising(arena, first, last),
+        move || write_all(arena, second, values),
     )
 }
 
@@ -404,10 +341,10 @@ fn a_read_beside_writes_is_whole(rt: HostRuntime) -> Result<(), Fail> {
     for value in 0..2_000u64 {
         values.push(value + 1)?;
     }
-    let (first, second) = at_once(&rt, alloc, &arena, first, second, &values);
-    let first = first.ok_or(AllocError)?;
-    let second = second.ok_or(AllocError)?;
-    let closed = close(alloc, arena, LaneEnd::Idle(first), LaneEnd::Idle(second))?;
+    let (first, second) = at_once(&rt, &arena, first, second, &values);
+    let first = LaneEnd::Idle(first.ok_or(AllocError)?.lane);
+    let second = LaneEnd::Idle(second.ok_or(AllocError)?.lane);
+    let closed = close(alloc, arena, first, second)?;
     assert_eq!(rt; calls_of(&closed, 1), Some(2_000));
     assert!(rt; closed.seen.as_slice() == closed.kept.as_slice());
     Ok(())

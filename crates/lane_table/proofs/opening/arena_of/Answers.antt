@@ -5,7 +5,7 @@ use Rattle.lane_table.specs.declared.table.Call.{Call}
 use Rattle.lane_table.specs.declared.table.Key.{Key}
 use Rattle.lane_table.specs.Begun.{row_of, IsOpenArena, IsBegun}
 use Rattle.lane_table.specs.Law.{holds, first}
-use Rattle.lane_table.proofs.Dealt.{are_own}
+use Rattle.lane_table.proofs.Dealt.{are_free, are_own}
 use Rattle.lane_table.proofs.Starts.{begins}
 use Rattle.lane_table.proofs.opening.arena_of.Goals as goal
 
@@ -20,3 +20,6 @@ of_words-requires c =
 
 pub returns-clause-own : goal.returns-clause-own
 returns-clause-own c = are_own _ _ _ _ (ap (λ (k : Key). k.shape) c.in_ok-table.ensures.5) c.in_ok-lanes.ensures
+
+pub returns-clause-free : goal.returns-clause-free
+returns-clause-free c = are_free _ _ _ c.in_ok-lanes.ensures

@@ -14,5 +14,5 @@ kit_of-kit-requires-clause-logged g c =
     let log = c.read-fate.new.supplies.log in
     let a = c.in-Got.ensures.answers in
     let more = c.in-Got.ensures.log in
-    subst (λ m. IsLogOf log.past m.0.lane.log) (sym a.3.0)
-    (read_added s.kit.log.past log.past me.0.lane.log me.0.number (calling t me.0.lane) (read_logged t kind) s.kit.logged more.0 kind c.read-fate.new.into refl more.1)
+    subst (λ m. IsLogOf log.calls m.0.lane.log) (sym a.3.0)
+    (read_added s.kit.log.calls log.calls me.0.lane.log me.0.number (calling t me.0.lane) (read_logged t kind) s.kit.logged more.0 kind c.read-fate.new.into refl)

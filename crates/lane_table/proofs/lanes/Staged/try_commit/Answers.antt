@@ -48,8 +48,8 @@ kit_of-requires-clause-logged c =
     let d = c.in-Done.ensures.ended in
     let me = s.kit.seat.me in
     let t : Call = record { tag = c.args.tag; sector = c.args.sector } in
-    subst (λ m. IsLogOf c.add_write.new.self.past m.0.lane.log) (sym d.1)
-    (write_added s.kit.log.past c.add_write.new.self.past me.0.lane.log me.0.number (joining t d.0 me) c.written.result s.kit.logged c.add_write.ensures.added s.words.items c.written.ensures (sym s.words_are) c.add_write.ensures.words)
+    subst (λ m. IsLogOf c.add.new.self.calls m.0.lane.log) (sym d.1)
+    (write_added s.kit.log.calls c.add.new.self.calls me.0.lane.log me.0.number (joining t d.0 me) c.written.result s.kit.logged c.add.ensures.added c.written.ensures)
 
 pub kit_of-requires-in-Cut-clause-logged : goal.kit_of-requires-in-Cut-clause-logged
 kit_of-requires-in-Cut-clause-logged c =
@@ -60,11 +60,10 @@ kit_of-requires-in-Cut-clause-logged c =
     let is = ap (λ m. m.0.lane.log) d.2 in
     elim c.if-made-ge7.branch [
       | then-made-ge7 w ↦
-          subst (λ (log : LaneLog). IsLogOf log.past c.commit.new.seat.me.0.lane.log) (sym w.log-is)
-          (subst (λ h. IsLogOf w.add_write-then-made-ge7.new.self.past h) (sym (is ∙ log_after t d.0 me c.in-Cut.made (omega (arith, w.if-made-ge7.true)) d.1))
-          (write_added s.kit.log.past w.add_write-then-made-ge7.new.self.past me.0.lane.log me.0.number (joining t d.0 me) w.written-then-made-ge7.result s.kit.logged w.add_write-then-made-ge7.ensures.added s.words.items
-          w.written-then-made-ge7.ensures (sym s.words_are) w.add_write-then-made-ge7.ensures.words))
+          subst (λ (log : LaneLog). IsLogOf log.calls c.commit.new.seat.me.0.lane.log) (sym w.log-is)
+          (subst (λ h. IsLogOf w.add-then-made-ge7.new.self.calls h) (sym (is ∙ log_after t d.0 me c.in-Cut.made (omega (arith, w.if-made-ge7.true)) d.1))
+          (write_added s.kit.log.calls w.add-then-made-ge7.new.self.calls me.0.lane.log me.0.number (joining t d.0 me) w.written-then-made-ge7.result s.kit.logged w.add-then-made-ge7.ensures.added w.written-then-made-ge7.ensures))
       | else-made-ge7 w ↦
-          subst (λ (log : LaneLog). IsLogOf log.past c.commit.new.seat.me.0.lane.log) (sym w.log-is)
-          (subst (λ h. IsLogOf s.kit.log.past h) (sym (is ∙ log_before t d.0 me c.in-Cut.made (omega (arith, w.if-made-ge7.false)))) s.kit.logged)
+          subst (λ (log : LaneLog). IsLogOf log.calls c.commit.new.seat.me.0.lane.log) (sym w.log-is)
+          (subst (λ h. IsLogOf s.kit.log.calls h) (sym (is ∙ log_before t d.0 me c.in-Cut.made (omega (arith, w.if-made-ge7.false)))) s.kit.logged)
     ]
