@@ -135,7 +135,7 @@ module _ (first : Cells) (core : Core) (s : State) (left : List ℕ) (k : ShowsS
 
 -- ---- the arena
 
-module _ (state : ArenaState) (own : ℕ) (words : List ℕ) (core : Core) (left : List ℕ) (t : IsThrough state own words core) (cut : CutSurvives core left) (again : Reopens state (held_by core) left) where
+module _ (state : ArenaState) (own : ℕ) (words : List ℕ) (core : Core) (left : List ℕ) (t : IsThrough state own words core) (cut : CutSurvives core left) (again : Reopens state (MaySurvive (first_cells state) (held_by core)) left) where
   h : IsCoreOf state core
   h = t.arena
 
@@ -172,7 +172,7 @@ module _ (state : ArenaState) (own : ℕ) (words : List ℕ) (core : Core) (left
   left_size = cut.size ∙ ap (λ (x : Shape). x.total) t.arena.shape
 
   fixed : SameFixed (shape_of state.info.layout) state.words left
-  fixed = subst (λ (x : Shape). SameFixed x state.words left) t.arena.shape again.fixed
+  fixed = again.fixed
 
   current' : (i : ℕ) → i < state.info.layout.lanes → IsCurrent (areas_of (shape_of state.info.layout) left) i (t.arena.shows.0.lanes i).side
   current' = subst (λ (x : Shape). (i : ℕ) → i < x.lanes → IsCurrent (areas_of x left) i (t.arena.shows.0.lanes i).side) t.arena.shape currents
@@ -200,7 +200,7 @@ module _ (state : ArenaState) (own : ℕ) (words : List ℕ) (core : Core) (left
   survives i c (inr f) = never (sym (ap is_open (t.idle f.lane f.call f.there)) ∙ f.unfinished)
 
   module _ (behind parent : List ℕ) (arena : Opened) (opens : opening (state.words ++ behind) parent ≡ Ok arena) where
-    f : IsFoundAgain state (held_by core) (left ++ behind) parent
+    f : IsFoundAgain state (MaySurvive (first_cells state) (held_by core)) (left ++ behind) parent
     f = again.opens behind parent arena opens
 
     p : Parts (state.words ++ behind) parent arena
@@ -246,7 +246,7 @@ module _ (state : ArenaState) (own : ℕ) (words : List ℕ) (core : Core) (left
       opens = f.opens;
       info = f.info;
       none = ap (λ (o : Opened). o.moves) (ok_same f.arena found (opening (left ++ behind) parent) f.opens found_opens) ∙ none_left;
-      cells = λ i lt. survives i (cell_at f.arena.info.layout (state_of (left ++ behind) f.arena).words i) (f.contents i (subst (λ (x : Shape). i < x.sectors) (sym t.arena.shape) lt));
+      cells = λ i lt. survives i (cell_at f.arena.info.layout (state_of (left ++ behind) f.arena).words i) (f.contents i lt);
     }
 
   pub written : IsWritten state own words left

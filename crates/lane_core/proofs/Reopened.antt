@@ -1,6 +1,6 @@
 -- What opening finds in a core's words after a power cut.
-use Rattle.std.proofs.Common.{◌≡◌, ℕ, zero, suc, ◌*◌, ◌/◌, ◌<◌, ◌≤◌, inl, inr, Bool, true, List, ◌++◌, length, take, Result, Ok, Err, refl, sym, ap, ◌∙◌, subst, arith, take_all}
-use Rattle.std.specs.Prelude.{IfOk}
+use Rattle.std.proofs.Common.{◌≡◌, ℕ, zero, suc, ◌*◌, ◌/◌, ◌<◌, ◌≤◌, ◌⊎◌, inl, inr, Bool, true, false, cond, List, ◌++◌, length, get_or, take, Option, Some, None, Result, Ok, Err, refl, sym, ap, ◌∙◌, subst, arith, take_all}
+use Rattle.std.specs.Prelude.{IfOk, unwrap_or}
 use Rattle.arena_layout.specs.declared.info.Info.{Info}
 use Rattle.arena_layout.specs.declared.layout.Layout.{Layout}
 use Rattle.arena_layout.specs.Info.{info_of, StandsFor}
@@ -14,6 +14,7 @@ use Rattle.arena_open.specs.Reading.{cell_at, info_bytes, opening}
 use Rattle.arena_open.specs.Moves.{IsOpenState, state_of}
 use Rattle.arena_open.proofs.Opening.{Parts, parts}
 use Rattle.arena_open.proofs.InPlace.{cell_same}
+use Rattle.lane_core.specs.declared.arena_words.ArenaWords.{ArenaWords}
 use Rattle.lane_core.specs.declared.machine.Core.{Core}
 use Rattle.lane_core.specs.declared.lane.Lane.{Lane}
 use Rattle.lane_core.specs.declared.shape.Shape.{Shape}
@@ -21,7 +22,7 @@ use Rattle.lane_core.specs.Arenas.{areas_of, cells_in}
 use Rattle.lane_core.specs.History.{Cells, cell_in, end_of}
 use Rattle.lane_core.specs.Machines.{IsCore, IsFresh, IsSomeCore}
 use Rattle.lane_core.specs.Places.{geometry, shape_of}
-use Rattle.lane_core.specs.Reopening.{IsCoreOf, IsFoundAgain, MaySurvive, Reopens, first_cells}
+use Rattle.lane_core.specs.Reopening.{IsCoreOf, IsEither, IsFoundAgain, MaySurvive, Reopens, first_cells}
 use Rattle.cut_words.specs.Words.{IsLeft}
 use Rattle.cut_words.specs.Leaving.{LeavesFrom}
 use Rattle.cut_words.proofs.ByWord.{is_left}
@@ -48,14 +49,15 @@ use Rattle.lane_core.proofs.Cells.{cells_are}
 use Rattle.lane_core.proofs.Cutting.{some_side}
 use Rattle.lane_core.proofs.Fresh.{first, fresh_core, second}
 use Rattle.lane_core.proofs.Marked.{new_marked}
-use Rattle.lane_core.proofs.Leaves.{kept_length, stored_length}
+use Rattle.lane_core.proofs.Leaves.{kept_at, kept_length, stored_at, stored_length}
 use Rattle.lane_core.proofs.Put.{never, put_elim}
 use Rattle.lane_core.proofs.Recovering.{recovers}
 use Rattle.lane_core.proofs.Served.{served_idle}
 use Rattle.lane_core.proofs.Shapes.{shape_is}
 use Rattle.lane_core.proofs.Survivals.{are_left, left_word, row_enough}
 use Rattle.lane_core.specs.Areas.{put}
-use Rattle.std.proofs.lemmas.List.{take-append-le}
+use Rattle.std.proofs.lemmas.Bool.{cases_lt}
+use Rattle.std.proofs.lemmas.List.{get_or_past, get_or-take, take-append-le}
 
 -- ---- a core that was just made
 
@@ -192,17 +194,54 @@ module _ (state : ArenaState) (held : Held) (left : List ℕ) (h : IsHeldOf stat
         (may_survive (first_cells state) held h.room h.s k t _ (subst (λ (c : Cell). Survives (geometry held.shape) (first_cells state) h.s t c)
         (ap (λ (x : Shape). cell_in x.width (areas_of x left).data_at (recovered_entry (areas_of x left) sides.0 x.lanes t) t) h.shape) (r.contents t lt)))
 
-    found_again : IsFoundAgain state held (left ++ behind) parent
-    found_again = record { arena = found; opens = found_opens; info = refl; contents = contents }
+    found_again : IsFoundAgain state (MaySurvive (first_cells state) held) (left ++ behind) parent
+    found_again = record { arena = found; opens = found_opens; info = refl; contents = λ t lt. contents t (subst (λ (x : Shape). t < x.sectors) (sym h.shape) lt) }
 
-  pub reopens : Reopens state held left
-  reopens = record { fixed = fixed_core; opens = λ behind parent arena opens. found_again behind parent arena opens }
+  pub reopens : Reopens state (MaySurvive (first_cells state) held) left
+  reopens = record { size = left_size ∙ sym h.opened.count; fixed = fixed_left; opens = λ behind parent arena opens. found_again behind parent arena opens }
 
 pub reopens_from : {C : Type 0} (picks : C → ℕ → Bool → C → Type 0) (state : ArenaState) (core : Core) (left : List ℕ) (first last : C) → IsCoreOf state core
-    → LeavesFrom picks 0 (words_in core.row).kept (words_in core.row).stored left first last → Reopens state (held_by core) left
+    → LeavesFrom picks 0 (words_in core.row).kept (words_in core.row).stored left first last → Reopens state (MaySurvive (first_cells state) (held_by core)) left
 reopens_from picks state core left first last h asked =
     let enough = row_enough core (first_cells state, h.shows) in
     reopens state (held_by core) left (held_of state core h) (is_left picks (words_in core.row) left first last (stored_length core.row enough ∙ sym (kept_length core.row enough)) asked)
+
+-- ---- whichever of its two values each word has
+
+module _ (row : RowWords) (size : 2 * length row.pending ≤ length row.words) (marked : IsMarked row) (left : List ℕ) (is : IsEither (words_in row).kept (take (length row.pending) row.words) left) where
+  -- word i is the kept one, or the one that a load returns
+  abbrev TwoAt : ℕ → Option ℕ → Type 0
+  TwoAt i o = (get_or left i 0 ≡ get_or (words_in row).kept i 0) ⊎ (get_or left i 0 ≡ unwrap_or o (get_or (words_in row).kept i 0))
+
+  by_flag : (i : ℕ) → i < length row.pending → (b : Bool) → get_or row.pending i false ≡ b → get_or left i 0 ≡ get_or row.words i 0 → TwoAt i (cond b (Some (get_or row.words i 0)) None)
+  by_flag i lt true on e = inr e
+  by_flag i lt false off e = inl (e ∙ marked i lt off ∙ sym (kept_at row size i lt))
+
+  two_inside : (i : ℕ) → i < length row.pending → TwoAt i (get_or (words_in row).stored i None)
+  two_inside i lt = elim (is.each i) [
+    | inl e ↦ inl e
+    | inr e ↦ subst (TwoAt i) (sym (stored_at row size i lt)) (by_flag i lt (get_or row.pending i false) refl (e ∙ get_or-take (length row.pending) row.words i 0 lt))
+  ]
+
+  past_both : (i : ℕ) → length row.pending ≤ i → get_or left i 0 ≡ get_or (words_in row).kept i 0
+  past_both i le = get_or_past left i 0 (omega (arith, le, is.same_length, kept_length row size)) ∙ sym (get_or_past (words_in row).kept i 0 (omega (arith, le, kept_length row size)))
+
+  two_left : IsLeft (words_in row) left
+  two_left = record {
+    same_length = is.same_length;
+    each = λ i. elim (cases_lt i (length row.pending)) [
+      | inl lt ↦ two_inside i lt
+      | inr le ↦ inl (past_both i le)
+    ];
+  }
+
+pub reopens_ended : {E : Type 0} (core : Core) (r : Result ArenaWords E) → IfOk r (λ w. w.seen.items ≡ take (length core.row.pending) core.row.words) → IfOk r (λ w. w.kept.items ≡ (words_in core.row).kept)
+    → IfOk r (λ w. (state : ArenaState) (left : List ℕ) → IsCoreOf state core → IsEither w.kept.items w.seen.items left → Reopens state (MaySurvive (first_cells state) (held_by core)) left)
+reopens_ended core (Err e) seen kept = tt
+reopens_ended core (Ok w) seen kept = λ state left h is.
+    let either : IsEither (words_in core.row).kept (take (length core.row.pending) core.row.words) left =
+    subst (λ (ks : List ℕ). IsEither ks (take (length core.row.pending) core.row.words) left) kept (subst (λ (ss : List ℕ). IsEither w.kept.items ss left) seen is) in
+    reopens state (held_by core) left (held_of state core h) (two_left core.row (row_enough core (first_cells state, h.shows)) h.marked left either)
 
 pub fresh_sound : {E : Type 0} (state : ArenaState) (r : Result Core E) → IsOpenState state → IfOk r (IsFresh state) → IfOk r IsSomeCore
 fresh_sound state (Err e) h f = tt

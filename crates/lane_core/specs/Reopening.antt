@@ -1,5 +1,5 @@
 -- The core of an opened arena, and what opening finds in its words after a power cut.
-use Rattle.std.specs.Prelude.{◌≡◌, ◌⊎◌, ℕ, ◌<◌, true, List, ◌++◌, slice_get, Some, Ok}
+use Rattle.std.specs.Prelude.{◌≡◌, ◌⊎◌, ℕ, ◌<◌, true, List, ◌++◌, length, slice_get, slice_index, Some, Ok}
 use Rattle.arena_open.specs.declared.cell.Cell.{Cell}
 use Rattle.arena_open.specs.declared.cell.Cell.TheVariants as cell
 use Rattle.arena_open.specs.declared.opened.Opened.{Opened}
@@ -51,15 +51,23 @@ pub record IsInFlight (held : Held) (sector : ℕ) (found : Cell) : Type 0 where
 abbrev pub MaySurvive : Cells → Held → ℕ → Cell → Type 0
 MaySurvive first held sector found = (found ≡ end_of first held.entries sector) ⊎ IsInFlight held sector found
 
--- the words open as the core's arena, and each sector has a cell that may survive
-pub record IsFoundAgain (state : ArenaState) (held : Held) (words parent : List ℕ) : Type 0 where
+-- The words open as the arena, and each sector has a cell that it may have. `May t c` says that sector t
+-- may have cell c.
+pub record IsFoundAgain (state : ArenaState) (May : ℕ → Cell → Type 0) (words parent : List ℕ) : Type 0 where
   pub arena : Opened
   pub opens : opening words parent ≡ Ok arena
   pub info : arena.info ≡ state.info
-  pub contents : (sector : ℕ) → sector < held.shape.sectors → MaySurvive (first_cells state) held sector (cell_at arena.info.layout (state_of words arena).words sector)
+  pub contents : (sector : ℕ) → sector < state.info.layout.external → May sector (cell_at arena.info.layout (state_of words arena).words sector)
 
--- The words after a power cut of a core that held this, of an arena. If the arena's words opened in
--- a namespace, these open in their place, whatever stands behind them.
-pub record Reopens (state : ArenaState) (held : Held) (left : List ℕ) : Type 0 where
-  pub fixed : SameFixed held.shape state.words left
-  pub opens : (behind parent : List ℕ) (arena : Opened) → opening (state.words ++ behind) parent ≡ Ok arena → IsFoundAgain state held (left ++ behind) parent
+-- An arena's words after a power cut, by the cells that its sectors may have then. Info blocks and
+-- padding are as they were. If the arena's words opened in a namespace, these open in their place,
+-- whatever stands behind them.
+pub record Reopens (state : ArenaState) (May : ℕ → Cell → Type 0) (left : List ℕ) : Type 0 where
+  pub size : length left ≡ length state.words
+  pub fixed : SameFixed (shape_in state) state.words left
+  pub opens : (behind parent : List ℕ) (arena : Opened) → opening (state.words ++ behind) parent ≡ Ok arena → IsFoundAgain state May (left ++ behind) parent
+
+-- each word by itself is the kept one or the seen one
+pub record IsEither (kept seen left : List ℕ) : Type 0 where
+  pub same_length : length left ≡ length kept
+  pub each : (i : ℕ) → (slice_index left i ≡ slice_index kept i) ⊎ (slice_index left i ≡ slice_index seen i)

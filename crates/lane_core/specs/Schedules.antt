@@ -29,7 +29,7 @@ use Rattle.lane_core.specs.Held.{Held, held_by, recorded}
 use Rattle.lane_core.specs.History.{IsLegal, of_lane}
 use Rattle.lane_core.specs.Idle.{idle_of}
 use Rattle.lane_core.specs.Machines.{IsFresh, StepsOnce}
-use Rattle.lane_core.specs.Reopening.{first_cells, Reopens}
+use Rattle.lane_core.specs.Reopening.{MaySurvive, Reopens, first_cells}
 use Rattle.lane_core.specs.Rows.{new_row, words_in}
 use Rattle.lane_core.specs.Sessions.{is_unfinished, sector_in, tag_in}
 
@@ -240,7 +240,7 @@ pub record Stands (state : ArenaState) (now : Played) : Type 0 where
   pub answered : AllByRecursion IsTold now.answers
   pub lanes : (l : ℕ) (p : LaneNow) → slice_get now.held.lanes l ≡ Some p → LaneStands l p now.held.entries now.answers (now.calls l)
   pub no_other : (l : ℕ) → length now.held.lanes ≤ l → of_lane l now.held.entries ≡ []
-  pub survives : (left : List ℕ) → IsLeft (words_in now.held.row) left → Reopens state now.held left
+  pub survives : (left : List ℕ) → IsLeft (words_in now.held.row) left → Reopens state (MaySurvive (first_cells state) now.held) left
 
 abbrev pub SchedulesStand : Type 0
 SchedulesStand = (state : ArenaState) (asked : List Asked) → IsOpenState state → AllByRecursion (FitsShape (shape_in state)) asked → Stands state (scheduled state asked)

@@ -65,9 +65,11 @@
 //! | [`Core::log`] | the calls that a lane answered, and its write whose map word is stored | `entries` |
 //! | [`Core::cut`] | the chooser is asked once for each word stored since its last keep; each sector survives as above | `asked`, `survives` |
 //! | the same | the words after the crash open as the same arena, each sector as at the end of the history or with the words of one write in flight | `reopens` |
+//! | [`Core::into_words`] | whichever of its two values each word has after the crash, they open so too | `reopens` |
 //! | `begin`, `step` | if sessions make one call at a time, no entry of one stands behind its open read | `serves` |
 #![tactic(auto)]
 
+mod arena_words;
 mod begin;
 mod buffer;
 mod call;
@@ -90,6 +92,7 @@ mod stepped;
 mod steps;
 mod words;
 
+pub use arena_words::ArenaWords;
 pub use call::{Begun, Call};
 pub use history::{Act, Entry};
 pub use in_call::InCall;

@@ -2,6 +2,7 @@ ghost use Rattle.std.specs.Prelude.{◌≡◌, ◌<◌, ◌+◌, ◌^◌, ◌++�
 ghost use Rattle.cut_words.specs.Leaving.{LeavesFrom, LeavesOne};
 ghost use Rattle.lane_core.specs.Rows.{kept_in, new_row, put_in, stored_in, words_in};
 
+use crate::arena_words::ArenaWords;
 use crate::words::reader_words;
 use nvd_media::Chooser;
 use nvd_words::Flags;
@@ -124,5 +125,19 @@ impl Row {
         }
         words.truncate(count);
         words
+    }
+
+    /// The arena's words, seen and kept. It takes memory for the kept ones.
+    pub fn into_words(self) -> Result<ArenaWords, AllocError>
+        requires size { 2 * length self.pending ≤ length self.words }
+        ensures seen { IfOk result (λ made. made.seen.items ≡ take (length self.pending) self.words) }
+        ensures kept { IfOk result (λ made. made.kept.items ≡ (words_in self).kept) }
+    {
+        let Row { words, pending } = self;
+        let count = pending.len();
+        let mut seen = words;
+        let mut kept = seen.split_off(count)?;
+        kept.truncate(count);
+        Ok(ArenaWords { seen, kept })
     }
 }
