@@ -26,7 +26,7 @@ use Rattle.lane_core.specs.Cut.{AreLeft, IsCurrent, IsRecoverable, Survives, is_
 use Rattle.lane_core.specs.Fixed.{SameFixed}
 use Rattle.lane_core.specs.History.{Cells, cell_in, end_of}
 use Rattle.lane_core.specs.Places.{IsShape, SeenData, KeptData, SeenMap, KeptMap, SeenA, KeptA, SeenB, KeptB, word_of, geometry, shape_of}
-use Rattle.lane_core.specs.Reopening.{first_cells}
+use Rattle.lane_core.specs.Reopening.{IsEither, IsFoundAgain, Reopens, first_cells}
 use Rattle.lane_core.proofs.Again.{found_arena, found_cell_is, left_opens}
 use Rattle.lane_core.proofs.Places.{seen_data_low, seen_map_low, seen_a_low, seen_b_low}
 use Rattle.lane_core.proofs.Put.{put_elim}
@@ -37,7 +37,7 @@ use Rattle.lane_table.specs.declared.table.Key.{Key}
 use Rattle.lane_table.specs.Closed.{AreInOrder, IsClosed}
 use Rattle.lane_table.specs.Kits.{kit_in}
 use Rattle.lane_table.specs.Law.{opening_of, words_of}
-use Rattle.lane_table.specs.Reopened.{ClosedWordsReopen, IsFoundAgain, IsLeftOf, MaySurvive}
+use Rattle.lane_table.specs.Reopened.{ClosedWordsReopen, MaySurvive}
 
 -- an element below the length
 some_at : {A : Type 0} (xs : List A) (i : ℕ) → i < length xs → (x : A) × (get_elem? xs i ≡ some x)
@@ -56,7 +56,7 @@ sides_of areas (suc n) each =
     )
 
 module _ (state : ArenaState) (k : Key) (ends : List LaneEnd) (c : Closed) (left : List ℕ) (h : IsOpenState state) (shape : k.shape ≡ shape_of state.info.layout) (words : words_of k ≡ state.words)
-    (begins : opening_of k ≡ first_cells state) (order : AreInOrder k.shape.lanes ends) (closed : IsClosed k ends c) (hl : IsLeftOf c left) where
+    (begins : opening_of k ≡ first_cells state) (order : AreInOrder k.shape.lanes ends) (closed : IsClosed k ends c) (hl : IsEither c.kept.items c.seen.items left) where
   abbrev x : Shape
   x = k.shape
 
@@ -156,9 +156,12 @@ module _ (state : ArenaState) (k : Key) (ends : List LaneEnd) (c : Closed) (left
         (may_survive t _ below (subst (λ (found : Cell). Survives (geometry x) (opening_of k) closed.state t found)
         (ap (λ (x : Shape). cell_in x.width (areas_of x left).data_at (recovered_entry (areas_of x left) sides.0 x.lanes t) t) shape) (r.contents t below)))
 
-    pub found_again : IsFoundAgain state ends closed.history (left ++ behind) parent
+    found_again : IsFoundAgain state (MaySurvive state ends closed.history) (left ++ behind) parent
     found_again = record { arena = found; opens = found_opens; info = refl; contents = contents }
 
+  pub reopens : Reopens state (MaySurvive state ends closed.history) left
+  reopens = record { size = left_size ∙ sym h.count; fixed = fixed_left; opens = λ behind parent before opens. found_again behind parent before opens }
+
 pub closed_words_reopen : ClosedWordsReopen
-closed_words_reopen state a ends c left h made order closed hl behind parent before opens =
-    found_again state a.table.shared.key ends c left h (a.shape_is ∙ made.shape) made.words made.begins (subst (λ (x : Shape). AreInOrder x.lanes ends) (sym a.shape_is) order) closed hl behind parent before opens
+closed_words_reopen state a ends c left h made order closed hl =
+    reopens state a.table.shared.key ends c left h (a.shape_is ∙ made.shape) made.words made.begins (subst (λ (x : Shape). AreInOrder x.lanes ends) (sym a.shape_is) order) closed hl

@@ -13,7 +13,11 @@ use std::alloc::Global;
 
 /// A seat that knows what the lanes' seats knew, and their logs in the order in which they were
 /// handed in.
-pub(crate) fn gather(shared: &Words, ends: Vec<LaneEnd>, logs: &mut Vec<Vec<LoggedCall>>) -> LaneSeat
+pub(crate) fn gather(
+    shared: &Words,
+    ends: Vec<LaneEnd>,
+    logs: &mut Vec<Vec<LoggedCall>>,
+) -> LaneSeat
     requires table { 0 < shared.now.table_id.words }
     requires ends { All (λ e. (kit_in e).seat.table_id ≡ shared.now.table_id) ends.items }
     requires room { (logs.old.items ≡ []) × (length ends.items ≤ vec_capacity logs.old) }

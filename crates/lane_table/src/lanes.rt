@@ -84,7 +84,19 @@ pub enum LaneEnd {
 }
 
 impl LaneEnd {
+    ghost use Rattle.lane_table.specs.Fuse.{of_left};
     ghost use Rattle.lane_table.specs.Kits.{kit_in};
+
+    /// The steps that are left, if a fuse is set.
+    pub fn left(&self) -> Option<u64>
+        ensures { result ≡ of_left (kit_in self.now).fuse }
+    {
+        match self {
+            LaneEnd::Idle(lane) => lane.kit.fuse.left(),
+            LaneEnd::Staged(staged) => staged.kit.fuse.left(),
+            LaneEnd::Stopped(stopped) => stopped.kit.fuse.left(),
+        }
+    }
 
     /// What the lane has.
     pub(crate) fn into_kit(self) -> Kit

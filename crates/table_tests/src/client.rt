@@ -4,7 +4,9 @@ ghost use Rattle.lane_table.specs.Kits.{arena_id, held_in, IsOf};
 ghost use Rattle.lane_table.specs.Law.{may_enter, new_pass};
 
 use arena_open::CellKind;
-use lane_table::{Arena, CommitOutcome, Lane, Pass, Pause, ReadOutcome, StageOutcome, Staged, Stopped};
+use lane_table::{
+    Arena, CommitOutcome, Lane, Pass, Pause, ReadOutcome, StageOutcome, Staged, Stopped,
+};
 use nvd_words::Tag;
 
 /// How often a lane tries again while another one reads its free block: until that thread goes on, however busy the machine is.
@@ -52,7 +54,11 @@ pub(crate) fn stage(arena: &Arena, client: Client, value: u64) -> Option<Ready>
     requires lane { IsOf arena.now client.lane.kit }
     ensures { IfSome result (λ r. IsOf arena.now r.staged.kit × (r.staged.kit.number ≡ client.lane.kit.number)) }
 {
-    let Client { mut lane, session, next } = client;
+    let Client {
+        mut lane,
+        session,
+        next,
+    } = client;
     lane.reserve(1).ok()?;
     for _ in 0..TRIES {
         match lane.try_stage(arena, &[value; 64]) {
@@ -75,7 +81,7 @@ pub(crate) fn stage(arena: &Arena, client: Client, value: u64) -> Option<Ready>
 pub(crate) fn commit(arena: &Arena, ready: Ready, sector: u32) -> Option<Client>
     requires lane { IsOf arena.now ready.staged.kit }
     requires sector { sector < arena.now.shape.sectors }
-    ensures { IfSome result (λ c. IsOf arena.now c.lane.kit × (c.lane.kit.number ≡ ready.staged.kit.number)) }
+    ensures lane { IfSome result (λ c. IsOf arena.now c.lane.kit × (c.lane.kit.number ≡ ready.staged.kit.number)) }
 {
     let Ready {
         staged,
@@ -160,9 +166,13 @@ pub(crate) fn read<P: Pause>(
     requires sector { sector < arena.now.shape.sectors }
     requires into { length into.old ≡ arena.now.shape.width }
     ensures into { length into.new ≡ length into.old }
-    ensures { IfSome result (λ r. IsOf arena.now r.0.lane.kit × (r.0.lane.kit.number ≡ client.lane.kit.number)) }
+    ensures lane { IfSome result (λ r. IsOf arena.now r.0.lane.kit × (r.0.lane.kit.number ≡ client.lane.kit.number)) }
 {
-    let Client { mut lane, session, next } = client;
+    let Client {
+        mut lane,
+        session,
+        next,
+    } = client;
     let tag = Tag {
         session,
         call: next,
@@ -194,9 +204,13 @@ pub(crate) fn moved<P: Pause>(
     requires sector { sector < arena.now.shape.sectors }
     requires into { length into.old ≡ arena.now.shape.width }
     ensures into { length into.new ≡ length into.old }
-    ensures { IfSome result (λ r. IsOf arena.now r.0.lane.kit × (r.0.lane.kit.number ≡ client.lane.kit.number)) }
+    ensures lane { IfSome result (λ r. IsOf arena.now r.0.lane.kit × (r.0.lane.kit.number ≡ client.lane.kit.number)) }
 {
-    let Client { mut lane, session, next } = client;
+    let Client {
+        mut lane,
+        session,
+        next,
+    } = client;
     let tag = Tag {
         session,
         call: next,
@@ -217,14 +231,23 @@ pub(crate) fn moved<P: Pause>(
 
 /// A read that is tried until it gets a cell.
 #[tactic(auto, using(lane_table::proofs::Passes::may_go_on))]
-pub(crate) fn read_again(arena: &Arena, client: Client, sector: u32, into: &mut [u64]) -> Option<Client>
+pub(crate) fn read_again(
+    arena: &Arena,
+    client: Client,
+    sector: u32,
+    into: &mut [u64],
+) -> Option<Client>
     requires lane { IsOf arena.now client.lane.kit }
     requires sector { sector < arena.now.shape.sectors }
     requires into { length into.old ≡ arena.now.shape.width }
     ensures into { length into.new ≡ length into.old }
-    ensures { IfSome result (λ c. IsOf arena.now c.lane.kit × (c.lane.kit.number ≡ client.lane.kit.number)) }
+    ensures lane { IfSome result (λ c. IsOf arena.now c.lane.kit × (c.lane.kit.number ≡ client.lane.kit.number)) }
 {
-    let Client { mut lane, session, next } = client;
+    let Client {
+        mut lane,
+        session,
+        next,
+    } = client;
     let tag = Tag {
         session,
         call: next,
@@ -260,7 +283,11 @@ pub(crate) fn go_on(arena: &Arena, first: Client, second: Client) -> Option<(Lan
         session,
         next,
     } = first;
-    let Client { mut lane, session: other, .. } = second;
+    let Client {
+        mut lane,
+        session: other,
+        ..
+    } = second;
     let _gone = lane.give_pass(arena, other);
     let pass = from.give_pass(arena, session);
     lane.take_pass(arena, pass);

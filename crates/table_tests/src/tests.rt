@@ -281,8 +281,9 @@ fn a_read_says_that_its_sector_moved(rt: HostRuntime) -> Result<(), Fail> {
         values: &[22],
     };
     let mut into = [7; 64];
-    let (reader, first, then) =
-        moved(&arena, reader, 9, &mut into, &mut meanwhile).ok_or(AllocError)?;
+    let (reader, first, then) = moved(&arena, reader, 9, &mut into, &mut meanwhile).ok_or(
+        AllocError,
+    )?;
     assert_eq!(rt;
         (first, then, value_of(&into)),
         (0xC000_7EE1, 0xC000_0009, Some(7))
@@ -304,8 +305,14 @@ fn a_session_goes_from_lane_to_lane(rt: HostRuntime) -> Result<(), Fail> {
     assert_eq!(rt; (second.session, second.next), (0, 2));
     let second = LaneEnd::Idle(second.lane);
     let closed = close(alloc, arena, LaneEnd::Idle(first), second)?;
-    assert_eq!(rt; (calls_of(&closed, 0), calls_of(&closed, 1)), (Some(1), Some(1)));
-    assert_eq!(rt; (closed.logs[0][0].tag.call, closed.logs[1][0].tag.call), (0, 1));
+    assert_eq!(rt;
+        (calls_of(&closed, 0), calls_of(&closed, 1)),
+        (Some(1), Some(1))
+    );
+    assert_eq!(rt;
+        (closed.logs[0][0].tag.call, closed.logs[1][0].tag.call),
+        (0, 1)
+    );
     Ok(())
 }
 
