@@ -109,8 +109,8 @@ are_own table k x lanes is f i d lt =
     let at = (f.each i lane (at_index lanes i lane lt (get_or_default lanes i d lane lt))).at in
     (at.0, at.1 ∙ is)
 
--- and hold no pass
-pub are_free : (table : TableId) (k : Key) (lanes : List Lane) → AreFresh table k lanes → All (λ l. held_in l.kit ≡ []) lanes
+-- and have no pass and have made none
+pub are_free : (table : TableId) (k : Key) (lanes : List Lane) → AreFresh table k lanes → All (λ l. (held_in l.kit ≡ []) × (l.kit.made ≡ 0)) lanes
 are_free table k lanes f i d lt =
     let lane = slice_index_or lanes i d in
-    ap (λ (o : Owned). o.held) (f.each i lane (at_index lanes i lane lt (get_or_default lanes i d lane lt))).owned
+    let is = f.each i lane (at_index lanes i lane lt (get_or_default lanes i d lane lt)) in (ap (λ (o : Owned). o.held) is.owned, is.made)

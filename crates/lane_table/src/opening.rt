@@ -42,7 +42,7 @@ fn arena_of(
     ensures shape { IfOk result (λ r. (r.0.shape ≡ shape) × (words_of r.0.table.shared.key ≡ words.now) × (r.0.table.shared.key.lanes.value ≡ states.now)) }
     ensures lanes { IfOk result (λ r. AreFresh (arena_id r.0) r.0.table.shared.key r.1.items) }
     ensures own { IfOk result (λ r. All (λ l. IsOf r.0 l.kit) r.1.items) }
-    ensures free { IfOk result (λ r. All (λ l. held_in l.kit ≡ []) r.1.items) }
+    ensures free { IfOk result (λ r. All (λ l. (held_in l.kit ≡ []) × (l.kit.made ≡ 0)) r.1.items) }
 {
     let key = Key {
         shape,
@@ -57,7 +57,8 @@ fn arena_of(
 
 impl Arena {
     /// An opened arena on words that its lanes share, and its lanes in the order of their numbers,
-    /// each with its seat and without a pass. The only refusal is out of memory.
+    /// each with its seat. No lane has a pass, and none has made one. The only refusal is out of
+    /// memory.
     ///
     /// Condition: `open_arena` returned this state.
     pub fn of(alloc: Global, state: ArenaState) -> Result<(Arena, Vec<Lane>), AllocError>
@@ -65,7 +66,7 @@ impl Arena {
         ensures arena { IfOk result (λ r. IsMadeOf state r.0) }
         ensures lanes { IfOk result (λ r. AreFresh (arena_id r.0) r.0.table.shared.key r.1.items) }
         ensures own { IfOk result (λ r. All (λ l. IsOf r.0 l.kit) r.1.items) }
-        ensures free { IfOk result (λ r. All (λ l. held_in l.kit ≡ []) r.1.items) }
+        ensures free { IfOk result (λ r. All (λ l. (held_in l.kit ≡ []) × (l.kit.made ≡ 0)) r.1.items) }
     {
         let shape = Shape::of(&state.info.layout);
         arena_of(alloc, shape, &state.words, &state.lanes)

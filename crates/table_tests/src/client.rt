@@ -1,5 +1,5 @@
 //! A session and the lane that makes its calls: the lane holds the session's pass, and each call that is answered has the next number.
-ghost use Rattle.std.specs.Prelude.{◌≡◌, ◌<◌, [], true, length, IfSome};
+ghost use Rattle.std.specs.Prelude.{◌≡◌, ◌<◌, [], ◌∷◌, true, length, IfSome};
 ghost use Rattle.lane_table.specs.Kits.{arena_id, held_in, IsOf};
 ghost use Rattle.lane_table.specs.Law.{may_enter, new_pass};
 
@@ -268,6 +268,30 @@ pub(crate) fn read_again(
         }
     }
     None
+}
+
+/// A read that is cut after so many steps.
+pub(crate) fn cut_read(arena: &Arena, client: Client, sector: u32, steps: u64) -> Option<Stopped>
+    requires width { arena.now.shape.width ≡ 64 }
+    requires lane { IsOf arena.now client.lane.kit }
+    requires sector { sector < arena.now.shape.sectors }
+    ensures { IfSome result (λ s. IsOf arena.now s.kit × (s.kit.number ≡ client.lane.kit.number)) }
+{
+    let Client {
+        mut lane,
+        session,
+        next,
+    } = client;
+    let tag = Tag {
+        session,
+        call: next,
+    };
+    lane.reserve(1).ok()?;
+    lane.set_fuse(Some(steps));
+    match lane.try_read(arena, tag, sector, &mut [0; 64]) {
+        ReadOutcome::Cut(stopped) => Some(stopped),
+        _ => None,
+    }
 }
 
 /// The first lane's session goes on in the second lane, whose own pass goes.

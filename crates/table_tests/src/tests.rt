@@ -6,14 +6,15 @@ ghost use Rattle.arena_open.specs.Moves.{IsOpenState};
 ghost use Rattle.lane_table.specs.Kits.{arena_id, held_in, kit_in, IsOf};
 ghost use Rattle.table_tests.specs.declared.client.Client.{Client as Client_at};
 
-use crate::client::{Client, begin, commit, cut, go_on, moved, read, read_again, refused, stage};
+use crate::client::{
+    Client, begin, commit, cut, cut_read, go_on, moved, read, read_again, refused, stage,
+};
 use crate::words::{new_words, parent, value_of};
 use arena_layout::plan;
 use arena_open::{ArenaState, CellKind, open_arena};
 use cut_words::{CutWords, Fuse, WordSpace};
-use lane_table::{Arena, Closed, Lane, LaneEnd, Pause, ReadOutcome, StageOutcome};
+use lane_table::{Arena, Closed, Lane, LaneEnd, Pause, StageOutcome};
 use map_table::entry_in;
-use nvd_words::Tag;
 use std::alloc::{AllocError, Global};
 use std::test::Fail;
 use std::thread;
@@ -42,6 +43,20 @@ fn opened(alloc: Global, words: Vec<u64>) -> Result<ArenaState, Fail>
     Ok(state)
 }
 
+/// Takes the last one of an arena's lanes.
+fn last_of(arena: &Arena, lanes: &mut Vec<Lane>) -> Result<Lane, AllocError>
+    requires own { All (λ l. IsOf arena.now l.kit) lanes.old.items }
+    requires free { All (λ l. (held_in l.kit ≡ []) × (l.kit.made ≡ 0)) lanes.old.items }
+    ensures lane { IfOk result (λ l. IsOf arena.now l.kit × (held_in l.kit ≡ []) × (l.kit.made ≡ 0)) }
+    ensures own { All (λ l. IsOf arena.now l.kit) lanes.new.items }
+    ensures free { All (λ l. (held_in l.kit ≡ []) × (l.kit.made ≡ 0)) lanes.new.items }
+{
+    match lanes.pop() {
+        Some(lane) => Ok(lane),
+        None => Err(AllocError),
+    }
+}
+
 /// A new arena and its two lanes, each with the pass of a session.
 fn new_pair(alloc: Global) -> Result<(Arena, Client, Client), Fail>
     ensures arena { IfOk result (λ r. (r.0.shape.width ≡ 64) × (r.0.shape.lanes ≡ 2) × (11 < r.0.shape.sectors)) }
@@ -54,12 +69,15 @@ fn new_pair(alloc: Global) -> Result<(Arena, Client, Client), Fail>
         return Err(AllocError)?;
     }
     let (arena, mut lanes) = Arena::of(alloc, state)?;
-    let (Some(second), Some(mut first)) = (lanes.pop(), lanes.pop()) else {
+    let second = last_of(&arena, &mut lanes)?;
+    let mut first = last_of(&arena, &mut lanes)?;
+    if first.number() != 0 || second.number() != 1 {
         return Err(AllocError)?;
-    };
-    let passes = (first.pass(&arena), first.pass(&arena));
-    let first = begin(&arena, first, passes.0);
-    let second = begin(&arena, second, passes.1);
+    }
+    let own = first.pass(&arena);
+    let other = first.pass(&arena);
+    let first = begin(&arena, first, own);
+    let second = begin(&arena, second, other);
     Ok((arena, first, second))
 }
 
@@ -127,11 +145,12 @@ fn close(alloc: Global, arena: Arena, first: LaneEnd, second: LaneEnd) -> Result
 
 /// How many calls a lane's log has.
 fn calls_of(closed: &Closed, lane: usize) -> Option<usize> {
-    if lane < closed.logs.len() {
-        Some(closed.logs[lane].len())
-    } else {
-        None
-    }
+    Some(closed.logs.get(lane)?.len())
+}
+
+/// The number that the first call of a lane has in its session.
+fn first_call(closed: &Closed, lane: usize) -> Option<u32> {
+    Some(closed.logs.get(lane)?.first()?.tag.call)
 }
 
 /// The map entry of a sector in the words of such an arena.
@@ -227,16 +246,7 @@ fn a_write_finds_the_reader_of_its_block(rt: HostRuntime) -> Result<(), Fail> {
     let alloc = rt.alloc();
     let (arena, first, second) = new_pair(alloc)?;
     let second = write(&arena, second, 11).ok_or(AllocError)?;
-    let mut reader = first.lane;
-    reader.reserve(1)?;
-    reader.set_fuse(Some(2));
-    let tag = Tag {
-        session: 0,
-        call: 0,
-    };
-    let ReadOutcome::Cut(_) = reader.try_read(&arena, tag, 9, &mut [0; 64]) else {
-        return Err(AllocError)?;
-    };
+    let _reader = cut_read(&arena, first, 9, 2).ok_or(AllocError)?;
     let second = write(&arena, second, 22).ok_or(AllocError)?;
     let mut writer = second.lane;
     writer.reserve(1)?;
@@ -310,8 +320,8 @@ fn a_session_goes_from_lane_to_lane(rt: HostRuntime) -> Result<(), Fail> {
         (Some(1), Some(1))
     );
     assert_eq!(rt;
-        (closed.logs[0][0].tag.call, closed.logs[1][0].tag.call),
-        (0, 1)
+        (first_call(&closed, 0), first_call(&closed, 1)),
+        (Some(0), Some(1))
     );
     Ok(())
 }

@@ -1,6 +1,6 @@
-use Rattle.std.proofs.Common.{◌≡◌}
+use Rattle.std.proofs.Common.{◌≡◌, length}
 use Rattle.lane_table.specs.Kits.{IsOf}
 use Rattle.table_tests.proofs.tests.read_rising.Given as goal
 
 abbrev pub invariant-loop : goal.invariant-loop
-invariant-loop l = IsOf l.arena l.lane.kit × (l.lane.kit.number ≡ l.initial.lane.kit.number)
+invariant-loop l = IsOf l.arena l.client.lane.kit × (l.client.lane.kit.number ≡ l.initial.client.lane.kit.number) × (length l.into ≡ 64)
