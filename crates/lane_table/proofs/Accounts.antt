@@ -2,11 +2,9 @@
 -- it has what the lanes' logs and the sessions' passes have.
 use Rattle.std.proofs.Common.{◌≡◌, ℕ, ◌<◌, ◌≤◌, ◌≢◌, inl, inr, zero, suc, Bool, true, false, List, [], ◌∷◌, ◌++◌, length, drop, refl, sym, ap, ◌∙◌, subst, arith}
 use lib.ListN.{get_elem?}
-use mathlib.Core.Option.{some}
 use Rattle.arena_open.specs.declared.cell.Cell.{Cell}
 use Rattle.arena_open.specs.declared.cell.Cell.TheVariants as cell
 use Rattle.lane_core.specs.declared.history.Entry.{Entry}
-use Rattle.lane_core.specs.declared.lane.Lane.{Lane}
 use Rattle.lane_core.specs.declared.shape.Shape.{Shape}
 use Rattle.lane_core.specs.Finished.{IsAccount}
 use Rattle.lane_core.specs.History.{cell_of, end_of, listed, of_lane, of_session, IsLegal}
@@ -16,10 +14,9 @@ use Rattle.lane_core.specs.Places.{geometry}
 use Rattle.lane_core.proofs.Finishing.{heads, none_last}
 use Rattle.lane_core.proofs.Past.{append_none}
 use Rattle.lane_core.proofs.Put.{never, same_or_not}
-use Rattle.lane_table.specs.declared.table.Owned.{Owned}
 use Rattle.lane_table.specs.declared.table.PassPart.{PassPart}
 use Rattle.lane_table.specs.declared.table.View.{View}
-use Rattle.lane_table.specs.Law.{Home, Loose, On, Covers, Passes, IsLoose, IsHeld, unlogged}
+use Rattle.lane_table.specs.Law.{On, Covers, Passes, IsLoose, IsHeld, unlogged}
 use Rattle.lane_table.proofs.Dropping.{drop_both}
 use Rattle.lane_table.proofs.Passes.{on_apart, loose_apart, drop_all, drop_most, of_session-one, of_session-none, of_session-nothing}
 

@@ -1,5 +1,5 @@
 -- What the words tell once each lane was handed in.
-use Rattle.std.proofs.Common.{◌≡◌, ℕ, zero, suc, ◌+◌, ◌/◌, ◌<◌, true, List, [], ◌∷◌, ◌++◌, length, map, refl, arith, sym, ap, ◌∙◌, subst, slice_index, get_or-take, get_or-drop, take, drop}
+use Rattle.std.proofs.Common.{◌≡◌, ℕ, zero, suc, ◌+◌, ◌/◌, ◌<◌, true, List, [], ◌∷◌, ◌++◌, length, map, arith, sym, ap, ◌∙◌, subst, slice_index, get_or-take, get_or-drop, take, drop}
 use mathlib.Core.Option.{some, some-injective, some-ne-none}
 use lib.ListN.{get_elem?}
 use Rattle.atomic_table.specs.Table.{Final, Seen, Me}

@@ -21,7 +21,6 @@ use Rattle.lane_core.proofs.Places.{shows_stored, in_table}
 use Rattle.lane_table.specs.declared.table.Count.{Count}
 use Rattle.lane_table.specs.declared.table.Owned.{Owned}
 use Rattle.lane_table.specs.declared.table.View.{View}
-use Rattle.lane_core.specs.declared.history.Entry.{Entry}
 use Rattle.lane_table.specs.declared.table.PassPart.{PassPart}
 use Rattle.lane_table.specs.Law.{Holds, Seats, Passes, own, owned, owned_by, with_by}
 use Rattle.lane_table.proofs.Passes.{Effect, passes_put, quiet}

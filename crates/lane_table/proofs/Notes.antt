@@ -1,20 +1,16 @@
 -- What a call leaves in the pass that its lane holds.
-use Rattle.std.proofs.Common.{◌≡◌, ℕ, ◌<◌, ◌⊎◌, inl, inr, zero, suc, List, [], ◌∷◌, map, refl, sym, ap, ◌∙◌, subst}
+use Rattle.std.proofs.Common.{◌≡◌, ℕ, ◌⊎◌, inl, inr, zero, suc, List, map, refl, sym, ap, ◌∙◌, subst}
 use Rattle.atomic_table.specs.Table.{Me}
 use Rattle.arena_open.specs.declared.cell.CellKind.{CellKind}
 use Rattle.lane_core.specs.declared.history.Act.TheVariants as act
 use Rattle.lane_core.specs.declared.history.Entry.{Entry}
 use Rattle.lane_core.specs.declared.lane.Lane.{Lane as Lane_now}
 use Rattle.lane_core.specs.Machine.{read, wrote}
-use Rattle.lane_table.specs.declared.lanes.Lane.{Lane}
-use Rattle.lane_table.specs.declared.lanes.Staged.{Staged}
 use Rattle.lane_table.specs.declared.table.Call.{Call}
 use Rattle.lane_table.specs.declared.table.PassPart.{PassPart}
 use Rattle.lane_table.specs.declared.table.View.{View}
 use Rattle.lane_table.specs.Committed.{way}
-use Rattle.lane_table.specs.Kits.{held_in}
 use Rattle.lane_table.specs.Law.{noted}
-use Rattle.lane_table.specs.Outcomes.{written_as, read_as}
 use Rattle.lane_table.specs.Reads.{calling, cell_of_kind}
 use Rattle.lane_table.proofs.Logs.{joining}
 

@@ -1,5 +1,5 @@
 -- A pass is made, given away by a lane, and taken by a lane.
-use Rattle.std.proofs.Common.{◌≡◌, ℕ, ◌+◌, ◌<◌, ◌≤◌, ◌≢◌, ◌==◌, if◌then◌else◌, inl, inr, zero, suc, Bool, true, false, List, [], ◌∷◌, ◌++◌, length, drop, refl, sym, ap, ◌∙◌, subst, slice_set, arith}
+use Rattle.std.proofs.Common.{◌≡◌, ℕ, ◌+◌, ◌<◌, ◌≤◌, ◌≢◌, ◌==◌, if◌then◌else◌, inl, inr, zero, suc, true, false, List, [], ◌∷◌, ◌++◌, length, drop, refl, sym, ap, ◌∙◌, subst, slice_set, arith}
 use lib.ListN.{get_elem?}
 use mathlib.Core.Option.{some, some-injective, some-ne-none}
 use Rattle.atomic_table.specs.Table.{Splits, Joins}
@@ -8,7 +8,7 @@ use Rattle.arena_open.specs.declared.cell.Cell.{Cell}
 use Rattle.lane_core.specs.declared.history.Entry.{Entry}
 use Rattle.lane_core.specs.declared.lane.Lane.{Lane}
 use Rattle.lane_core.specs.declared.shape.Shape.{Shape}
-use Rattle.lane_core.specs.History.{of_lane, of_session}
+use Rattle.lane_core.specs.History.{of_session}
 use Rattle.lane_core.specs.Invariant.{is_reading}
 use Rattle.lane_core.specs.Machine.{State}
 use Rattle.lane_core.proofs.Past.{append_none}
@@ -20,7 +20,7 @@ use Rattle.lane_table.specs.declared.table.PassPart.{PassPart}
 use Rattle.lane_table.specs.declared.table.View.{View}
 use Rattle.lane_table.specs.declared.arena.Arena.{Arena}
 use Rattle.lane_table.specs.declared.session_pass.Pass.{Pass}
-use Rattle.lane_table.specs.Law.{Seats, Passes, Home, Loose, On, Covers, covers_by, IsLoose, IsHeld, AreHeld, IsOpenHeld, rising, unlogged, own, owned, owned_by, spent, keeper, pass_seat, unmade_from, new_pass, later, next_pass, left_to_make, made_pass, pass_of, without_pass, given_pass, with_pass, others, holds_pass, pass_now, steps_of, entries_of}
+use Rattle.lane_table.specs.Law.{Seats, Passes, Home, Loose, On, covers_by, IsLoose, IsHeld, AreHeld, rising, unlogged, own, owned, owned_by, spent, pass_seat, unmade_from, new_pass, later, next_pass, left_to_make, made_pass, pass_of, without_pass, given_pass, with_pass, others, holds_pass, pass_now, steps_of, entries_of}
 use Rattle.lane_table.proofs.Moves.{rule, mine_of, seats_put, all_logged, Stands}
 use Rattle.lane_table.proofs.Passes.{on_apart, loose_apart, drop_all, of_session-nothing, only}
 use Rattle.lane_table.proofs.Splits.{at_end, seats_alike, seats_more, seats_spent, told_of}

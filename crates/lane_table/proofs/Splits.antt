@@ -1,6 +1,6 @@
 -- Lanes and passes go from seat to seat: a seat is split off, a seat is joined in, and a seat comes
 -- with no lane.
-use Rattle.std.proofs.Common.{◌≡◌, ℕ, ◌+◌, ◌<◌, ◌≢◌, ◌⊎◌, ◌≤◌, ◌==◌, if◌then◌else◌, inl, inr, true, false, Bool, List, [], ◌∷◌, ◌++◌, length, zero, suc, refl, sym, ap, ◌∙◌, subst, slice_set, arith}
+use Rattle.std.proofs.Common.{◌≡◌, ℕ, ◌+◌, ◌<◌, ◌≢◌, ◌⊎◌, ◌==◌, if◌then◌else◌, inl, inr, true, false, Bool, List, [], ◌∷◌, ◌++◌, length, zero, suc, refl, sym, ap, ◌∙◌, subst, slice_set, arith}
 use lib.ListN.{get_elem?}
 use mathlib.Core.Option.{some, some-injective, some-ne-none}
 use Rattle.atomic_table.specs.Table.{Splits, Joins, Enters, Me}
@@ -13,7 +13,7 @@ use Rattle.lane_table.specs.declared.table.Owned.{Owned}
 use Rattle.lane_core.specs.declared.history.Entry.{Entry}
 use Rattle.lane_core.specs.Machine.{State}
 use Rattle.lane_table.specs.declared.table.PassPart.{PassPart}
-use Rattle.lane_table.specs.Law.{Seats, Passes, Home, Loose, On, Covers, Tells, own, owned, owned_by, seated, spent, gathered}
+use Rattle.lane_table.specs.Law.{Seats, Passes, Home, Loose, On, Tells, own, owned, owned_by, seated, spent, gathered}
 use Rattle.lane_table.proofs.Moves.{rule}
 
 -- an element of a list with one more at its end

@@ -1,4 +1,3 @@
-use Rattle.std.proofs.Common.{ap, sym, ◌∙◌}
 use Rattle.lane_table.specs.Law.{opening_of, words_of, others}
 use Rattle.lane_table.proofs.PassMoves.{makes_pass, some_words}
 use Rattle.lane_table.proofs.session_pass.make_pass.Goals as goal

@@ -1,7 +1,7 @@
 use Rattle.std.proofs.Common.{ap}
 use Rattle.lane_core.specs.Invariant.{is_reading}
 use Rattle.lane_table.specs.Law.{opening_of, words_of}
-use Rattle.lane_table.proofs.PassMoves.{gives_pass, some_words, holds_one, given_now}
+use Rattle.lane_table.proofs.PassMoves.{gives_pass, some_words, holds_one}
 use Rattle.lane_table.proofs.lanes.Lane.give_pass.Goals as goal
 
 pub split_seat-seat-requires : goal.split_seat-seat-requires
