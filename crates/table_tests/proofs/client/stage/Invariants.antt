@@ -1,4 +1,4 @@
-use Rattle.std.proofs.Common.{◌≡◌, ◌<◌, length, true}
+use Rattle.std.proofs.Common.{◌≡◌, ◌<◌, true}
 use Rattle.lane_table.specs.Kits.{IsOf, held_in, spare_in}
 use Rattle.lane_table.specs.Law.{may_enter}
 use Rattle.table_tests.proofs.client.stage.Given as goal
