@@ -6,7 +6,8 @@ fields of ACPI 6.5, section 5.2.25, without the program.
 usage: make_blank.py DIRECTORY [--modules N] [--size BYTES] [--labels BYTES]
 
 N is 1 to 64 (default 2). --size is the contents of each module: a multiple of 4,096, at most 512 MiB in all modules together
-(default 1 MiB). --labels is the label area of each module: a multiple of 256 from 1,024 to 1 MiB (default 128 KiB).
+(default 1 MiB). --labels is the label area of each module: a multiple of 256 from 1,024 to 1 MiB (default 128 KiB). Sizes may end with K,
+M or G, as 64K. The files are holes, so they take no room until something is written.
 """
 import argparse
 import os
@@ -14,8 +15,10 @@ import struct
 import sys
 
 sys.dont_write_bytecode = True
-sys.path.insert(0, os.path.dirname(os.path.abspath(__file__)))
+HERE = os.path.dirname(os.path.realpath(__file__))
+sys.path[:0] = [HERE, os.path.join(os.path.dirname(HERE), "lib")]
 from make_small import PERSISTENT_MEMORY  # noqa: E402
+from units import size_word  # noqa: E402
 
 LINE = 4096
 LIMIT = 512 << 20
@@ -41,8 +44,8 @@ def main():
     words = argparse.ArgumentParser(description="Makes an image set of modules that nothing was written to yet.")
     words.add_argument("directory")
     words.add_argument("--modules", type=int, default=2, metavar="N")
-    words.add_argument("--size", type=int, default=1 << 20, metavar="BYTES")
-    words.add_argument("--labels", type=int, default=128 << 10, metavar="BYTES")
+    words.add_argument("--size", type=size_word, default=1 << 20, metavar="BYTES")
+    words.add_argument("--labels", type=size_word, default=128 << 10, metavar="BYTES")
     asked = words.parse_args()
     if not 1 <= asked.modules <= 64:
         words.error(f"--modules {asked.modules}: a set has 1 to 64 modules")
