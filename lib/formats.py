@@ -4,11 +4,94 @@ Each structure stands here once. The samples, the tests, the figures of bench/ a
 """
 import os
 import struct
+import uuid
 
 # the multiple of every size of contents, and the most bytes of contents that a set may have
 PAGE, LIMIT = 4096, 512 << 20
+PERSISTENT_MEMORY = uuid.UUID("66f0d379-b4f3-4074-ac43-0d3318b78cdb")
+BTT_2_0 = uuid.UUID("18633bfc-1735-4217-8ac9-17239282d3f8")
+NO_ABSTRACTION = uuid.UUID(int=0)
+# the types of the firmware table's structures
 RANGE, MAPPING, INTERLEAVE, CONTROL = 0, 1, 2, 4
-MAPPING_FORM = "<HHIHHHHQQQHHHH"
+MAPPING_FORM, CONTROL_FORM = "<HHIHHHHQQQHHHH", "<HHHHHHHHHBBHHIHH"
+VENDOR = 0x1234
+
+
+def fletcher64(data):
+    """The checksum of index blocks, labels and info blocks, and of a set cookie."""
+    low = high = 0
+    for (word,) in struct.iter_unpack("<I", data):
+        low = (low + word) & 0xFFFFFFFF
+        high = (high + low) & 0xFFFFFFFF
+    return high << 32 | low
+
+
+# ---- label areas
+
+
+def index_block(side, seq, size, slots, free):
+    """An index block; `free` has the numbers of the free slots."""
+    place, other = (0, size) if side == 0 else (size, 0)
+    bits = bytearray(size - 72)
+    for slot in free:
+        bits[slot // 8] |= 1 << slot % 8
+    block = bytearray(b"NAMESPACE_INDEX\0" + bytes(3) + bytes([1]))
+    block += struct.pack("<IQQQQIHHQ", seq, place, size, other, 2 * size, slots, 1, 2, 0)
+    block += bits
+    block[64:72] = struct.pack("<Q", fletcher64(bytes(block)))
+    return bytes(block)
+
+
+def label(namespace, name, slot, raw, dpa=0, flags=0, count=1, position=0, cookie=0, lba=512,
+          kind=PERSISTENT_MEMORY, abstraction=NO_ABSTRACTION, align=0):
+    body = bytearray(namespace.bytes + name.ljust(64, b"\0"))
+    body += struct.pack("<IHHQQQQIB3x", flags, count, position, cookie, lba, dpa, raw, slot, align)
+    body += kind.bytes_le + abstraction.bytes_le + bytes(88)
+    body += struct.pack("<Q", fletcher64(bytes(body) + bytes(8)))
+    return bytes(body)
+
+
+# ---- the firmware's table
+
+
+def table(structures, maker=(b"NVDSMP", b"SMALLSET"), creator=b"NVDM"):
+    """A firmware's table of these structures, with its Length and Checksum."""
+    return checked(struct.pack("<4sIBB6s8sI4sI4x", b"NFIT", 0, 1, 0, *maker, 1, creator, 1) + b"".join(structures))
+
+
+def checked(text):
+    """A table with its Length and Checksum."""
+    text = bytearray(text)
+    text[4:8] = struct.pack("<I", len(text))
+    text[9] = 0
+    text[9] = -sum(text) & 0xFF
+    return bytes(text)
+
+
+def memory_range(index, length, base=1 << 32, flags=0, attribute=0):
+    """A range of persistent memory (System Physical Address Range)."""
+    return struct.pack("<HHHHII16sQQQ", RANGE, 56, index, flags, 0, 0, PERSISTENT_MEMORY.bytes_le, base, length, attribute)
+
+
+def mapping(handle, index, control, size, offset=0, start=0, interleave=0, ways=1, identity=0):
+    """A module's part of the range with this index (NVDIMM Region Mapping)."""
+    return struct.pack(MAPPING_FORM, MAPPING, 48, handle, identity, 0, index, control, size, offset, start, interleave, ways, 0, 0)
+
+
+def interleave(offsets, line, index=1):
+    """An interleave structure: the offsets of the lines, in lines."""
+    return struct.pack("<HHHHII", INTERLEAVE, 16 + 4 * len(offsets), index, 0, len(offsets), line) + struct.pack(f"<{len(offsets)}I", *offsets)
+
+
+def control(index, serial, vendor=VENDOR, device=0, revision=0, length=32):
+    """A module's control region, whose serial number and vendor go into the set cookie."""
+    text = struct.pack(CONTROL_FORM, CONTROL, length, index, vendor, device, revision, 0, 0, 0, 0, 0, 0, 0, serial, 0x301, 0)
+    return text.ljust(length, b"\0")
+
+
+def cookie_of(parts):
+    """The set cookie of label version 1.2: of each module its region offset, serial number and vendor, in the order of offsets."""
+    return fletcher64(b"".join(struct.pack("<QIHHB31x", offset, serial, vendor, 0, 0) for offset, serial, vendor in parts))
 
 
 def unpacked_mapping(text):

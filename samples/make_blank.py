@@ -11,33 +11,23 @@ M or G, as 64K. The files are holes, so they take no room until something is wri
 """
 import argparse
 import os
-import struct
 import sys
 
 sys.dont_write_bytecode = True
 HERE = os.path.dirname(os.path.realpath(__file__))
-sys.path[:0] = [HERE, os.path.join(os.path.dirname(HERE), "lib")]
-from make_small import PERSISTENT_MEMORY  # noqa: E402
+sys.path.insert(0, os.path.join(os.path.dirname(HERE), "lib"))
+from formats import LIMIT, control, interleave, mapping, memory_range, table  # noqa: E402
 from units import size_word  # noqa: E402
 
 LINE = 4096
-LIMIT = 512 << 20
 
 
 def nfit(modules, size):
     """One range over all modules, in alternating lines; a single module has no interleave structure."""
-    interleave = 1 if modules > 1 else 0
-    table = bytearray(struct.pack("<4sIBB6s8sI4sI4x", b"NFIT", 0, 1, 0, b"NVDSMP", b"BLANKSET", 1, b"NVDM", 1))
-    table += struct.pack("<HHHHII16sQQQ", 0, 56, 1, 0, 0, 0, PERSISTENT_MEMORY.bytes_le, 1 << 32, modules * size, 0)
-    for m in range(modules):
-        table += struct.pack("<HHIHHHHQQQHHHH", 1, 48, m + 1, m, 0, 1, m + 1, size, LINE * m, 0, interleave, modules, 0, 0)
-    if interleave:
-        table += struct.pack("<HHHHIII", 2, 20, 1, 0, 1, LINE, 0)
-    for m in range(modules):
-        table += struct.pack("<HHHHHHHHHBBHHIHH", 4, 32, m + 1, 0x1234, 0, 0, 0, 0, 0, 0, 0, 0, 0, m + 1, 0x301, 0)
-    table[4:8] = struct.pack("<I", len(table))
-    table[9] = -sum(table) & 0xFF
-    return bytes(table)
+    structures = [memory_range(1, modules * size)]
+    structures += [mapping(m + 1, 1, m + 1, size, offset=LINE * m, interleave=int(modules > 1), ways=modules, identity=m) for m in range(modules)]
+    structures += [interleave([0], LINE)] if modules > 1 else []
+    return table([*structures, *(control(m + 1, m + 1) for m in range(modules))], (b"NVDSMP", b"BLANKSET"))
 
 
 def main():
