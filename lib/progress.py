@@ -13,7 +13,7 @@ class Progress:
     def __init__(self, what):
         self.what, self.start, self.shown = what, time.monotonic(), 0.0
         self.is_quiet = bool(os.environ.get("NVD_QUIET"))
-        self.on_terminal = sys.stderr.isatty() and os.environ.get("TERM") != "dumb"
+        self.on_terminal = sys.stderr.isatty() and os.environ.get("TERM") != "dumb" and not self.is_quiet
 
     def __enter__(self):
         return self

@@ -26,9 +26,22 @@ def status_of(child):
 
 def run(program, words, script=None):
     """The status of a run of the program with nvd's own streams; signals to nvd are passed on to it."""
-    child = started(program, words, [(0, script)] if script is not None else [])
+    watch = None
+    if os.isatty(2):
+        from watched import watcher
+
+        watch = watcher(words)
+    descriptors = [(0, script)] if script is not None else []
+    if watch and watch.takes_text:
+        watch.reader, writer = os.pipe()
+        descriptors.append((1, writer))
+    child = started(program, words, descriptors)
+    if watch and watch.takes_text:
+        os.close(writer)
     before = {it: signal.signal(it, lambda number, _: os.kill(child, number)) for it in PASSED_ON if signal.getsignal(it) is not signal.SIG_IGN}
     try:
+        if watch:
+            watch.until_end(child)
         return status_of(child)
     finally:
         for number, handler in before.items():
