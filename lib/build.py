@@ -73,12 +73,13 @@ def release():
 def unpacked(folder, due):
     """Unpacks the release's program into a folder, if that may be written; None if not. Its checksum must be the one that is due."""
     import gzip
+    import zlib
     from hashlib import sha256
 
     try:
         with gzip.open(os.path.join(RELEASE, "nvdimm_shell.gz")) as file:
             data = file.read()
-    except (OSError, EOFError) as fault:
+    except (OSError, EOFError, zlib.error) as fault:
         say(f"release/nvdimm_shell.gz can't be unpacked ({fault}): restore it (git checkout release)")
         raise Ended(127) from None
     if sha256(data).hexdigest() != due:
@@ -264,12 +265,12 @@ def chosen():
         raise Ended(1)
     if builds.is_proved():
         return PROVED, IS_PROVED
+    path = builds.released() if wanted != "proved" else None
+    if path:
+        return path, IS_RELEASED
     if wanted == "kept":
         say(f"there is no proved build of these sources at {PROVED}: NVD_BUILD=proved makes one")
         raise Ended(127)
-    path = builds.released() if not wanted else None
-    if path:
-        return path, IS_RELEASED
     if not wanted and builds.is_unproved():
         return UNPROVED, IS_UNPROVED
     if not builds.has_sources:

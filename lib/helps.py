@@ -51,6 +51,7 @@ def overview():
     lines += ["  nvd demo             makes a set in a temporary directory, cuts power, recovers, and shows each command",
               f"  nvd help COMMAND     the page of a command; also {OTHER_PAGES}",
               "  nvd --version        the commit, the kit and the build",
+              "  nvd --program        the path of the program, for scripts that run it without nvd",
               "  nvd --commands       the table of the commands and their options, for scripts"]
     return "\n".join(lines) + "\n"
 

@@ -151,6 +151,13 @@ def own(words):
         from places import text_of
 
         return text_of(TABLE)
+    if first == "--program":
+        path, what = build.chosen()
+        if path is None:
+            say("this kit leaves no program to keep, so there is no path")
+            raise Ended(127)
+        tell(f"the program is {what}")
+        return f"{path}\n"
     if first == "--mark":
         build.mark()
         return ""
