@@ -129,3 +129,29 @@ def table_of(folder):
             return file.read()
     except OSError:
         return b""
+
+
+# ---- whole tables
+
+
+def blank_table(sizes):
+    """One range over all modules, which take turns every 4,096 bytes; a single module has no interleave structure."""
+    count, size = len(sizes), sizes[0]
+    structures = [memory_range(1, count * size)]
+    structures += [mapping(m + 1, 1, m + 1, size, offset=PAGE * m, interleave=int(count > 1), ways=count, identity=m) for m in range(count)]
+    structures += [interleave([0], PAGE)] if count > 1 else []
+    return table([*structures, *(control(m + 1, m + 1) for m in range(count))], (b"NVDSMP", b"BLANKSET"))
+
+
+QEMU_VENDOR, QEMU_SERIAL = 0x8086, 0x123456
+
+
+def qemu_table(sizes):
+    """QEMU's table (hw/acpi/nvdimm.c): for each slot a range, its mapping and its control region."""
+    structures, base = [], 1 << 32
+    for slot, size in enumerate(sizes):
+        index = 2 * (slot + 1)
+        structures += [memory_range(index, size, base, flags=3, attribute=0x8008), mapping(slot + 1, index, index + 1, size),
+                       control(index + 1, QEMU_SERIAL + slot, QEMU_VENDOR, device=1, revision=1, length=80)]
+        base += size
+    return table(structures, (b"BOCHS ", b"BXPC    "), b"BXPC")

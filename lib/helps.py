@@ -21,6 +21,9 @@ WORDS = {
     "replay": "IN OUT replay UUID|NAME [--evict S] <SCHEDULE",
     "serve": "IN OUT serve [--workers N] [--evict S] <SCRIPT",
     "load": "IN OUT load SEED --uuid UUID|NAME [--sessions N] [--calls N] [--workers N]",
+    "map": "map IN >FILE",
+    "diff": "diff A B",
+    "make": "make OUT [--modules N] [--size B] [--labels B] [--qemu] [NAME:SIZE[:raw|sector[:L]][@REGION] ..]",
     "sweep": "sweep [--every K] [--keep DIR] [--run CMD] IN COMMAND ..",
 }
 OTHER_PAGES = "FAULTS, OUTPUT, FROM_NDCTL, INTEROP and nvd"
@@ -28,7 +31,7 @@ OTHER_PAGES = "FAULTS, OUTPUT, FROM_NDCTL, INTEROP and nvd"
 
 def names():
     """The names of all commands, nvd's own behind those of the program."""
-    own = [*commands(), "free", "sweep"]
+    own = [*commands(), "free", "map", "diff", "make", "sweep"]
     return own + [it for it in WORDS if it not in own]
 
 

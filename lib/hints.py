@@ -51,7 +51,9 @@ def bad_size(run, size):
         return
     asked_for = options_of(run)
     number, makes_sectors, sector = int(asked_for["region"]), asked_for["mode"] == "sector", int(asked_for.get("sector", 512))
-    region = next(fields for kind, fields in records(run, "nfit") if kind == "region" and fields["region"] == number)
+    region = next((fields for kind, fields in records(run, "nfit") if kind == "region" and fields["region"] == number and "fault" not in fields), None)
+    if region is None:
+        return
     ways, unit = len(region["modules"]), region["unit"]
     step, most = unit * ways, free_in(run, number)
     if makes_sectors and sector not in SECTORS:

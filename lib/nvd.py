@@ -2,7 +2,8 @@
 
 nvd chooses the program (build.py), completes the words (words.py), runs it with nvd's own streams (runs.py), and after a fault says what to do
 (explain.py, from the tables of docs/commands/FAULTS.md). Standard input, standard output and the exit status are the program's own. What nvd
-does itself has a module each: pages (helps.py), JSON (answers.py), free space (space.py) and the sweep (sweep.py).
+does itself has a module each: pages (helps.py), JSON (answers.py), free space (space.py), the
+picture (picture.py), differences (differences.py), new sets (making.py) and the sweep (sweep.py).
 """
 import os
 import sys
@@ -19,8 +20,8 @@ import runs  # noqa: E402
 from places import TOP, Ended, say, tell  # noqa: E402
 
 JSON = "--json"
-# the words that stand first and begin a command of nvd's own
-OWN = ("sweep",)
+# the words that stand first and begin a command of nvd's own, and the module that does it
+OWN = {"sweep": "sweep", "map": "picture", "diff": "differences", "make": "making"}
 
 
 class Asked(Ended):
@@ -49,6 +50,10 @@ class Program:
         if status:
             raise Asked(explain.Run(self.path, [folder, "-", *words], status, True), text)
         return records_of(text)
+
+    def finished(self, words):
+        """The status of a run with nvd's own streams, once nvd has said what a fault means."""
+        return finished(self, words, False)
 
     def records_or_none(self, folder, *words):
         try:
@@ -91,16 +96,21 @@ def is_plain(words):
     return all(kind_of(words[2], name) != "UUID" or is_uuid(value) for name, value, _, _ in got)
 
 
+def begins_own(words):
+    """Whether words are a command of nvd's own, and no set of that name with one of the program's commands."""
+    return words[:1] and words[0] in OWN and not (os.path.isdir(words[0]) and words[2:3] and words[2] in helps.WORDS)
+
+
 def perform(words):
     """Runs the program with these words, and says what a fault means: the status."""
     was_there = len(words) > 1 and os.path.lexists(words[1])
     path, what = build.chosen()
     tell(f"runs {what}")
     program = Program(path)
-    if words[:1] == ["sweep"]:
-        from sweep import main
+    if begins_own(words):
+        from importlib import import_module
 
-        return main(program, words[1:])
+        return import_module(OWN[words[0]]).main(program, words[1:])
     if JSON in words or words[2:3] == ["free"]:
         from answers import answer
 

@@ -16,18 +16,9 @@ import sys
 sys.dont_write_bytecode = True
 HERE = os.path.dirname(os.path.realpath(__file__))
 sys.path.insert(0, os.path.join(os.path.dirname(HERE), "lib"))
-from formats import LIMIT, control, interleave, mapping, memory_range, table  # noqa: E402
+from formats import LIMIT, PAGE as LINE, blank_table  # noqa: E402
 from units import size_word  # noqa: E402
 
-LINE = 4096
-
-
-def nfit(modules, size):
-    """One range over all modules, in alternating lines; a single module has no interleave structure."""
-    structures = [memory_range(1, modules * size)]
-    structures += [mapping(m + 1, 1, m + 1, size, offset=LINE * m, interleave=int(modules > 1), ways=modules, identity=m) for m in range(modules)]
-    structures += [interleave([0], LINE)] if modules > 1 else []
-    return table([*structures, *(control(m + 1, m + 1) for m in range(modules))], (b"NVDSMP", b"BLANKSET"))
 
 
 def main():
@@ -50,7 +41,7 @@ def main():
     except OSError as fault:
         words.error(f"{asked.directory} can't be made ({fault.strerror}): name another directory")
     with open(os.path.join(asked.directory, "nfit.bin"), "wb") as file:
-        file.write(nfit(asked.modules, asked.size))
+        file.write(blank_table([asked.size] * asked.modules))
     sizes = {"complete": 0}
     for m in range(asked.modules):
         sizes |= {f"labels-{m}.bin": asked.labels, f"contents-{m}.bin": asked.size}
