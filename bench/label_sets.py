@@ -1,13 +1,12 @@
 """Image sets of 64 modules, each with a label area of 1 MiB and 4,000 labels, for the measurements of this folder."""
 import os
 import random
-import struct
 import sys
 import uuid
 
 sys.dont_write_bytecode = True
-sys.path.insert(0, os.path.join(os.path.dirname(os.path.abspath(__file__)), "..", "samples"))
-from make_small import PERSISTENT_MEMORY, fletcher64, index_block, interleave_cookie, label  # noqa: E402
+sys.path.insert(0, os.path.join(os.path.dirname(os.path.abspath(__file__)), "..", "lib"))
+from formats import VENDOR, control, cookie_of, index_block, interleave, label, mapping, memory_range, table  # noqa: E402
 
 MODULES, LABELS, BLOCK, SLOTS, UNIT = 64, 4000, 768, 4090, 4096
 # The contents of a set have at most 512 MiB, so half of the labels lie past the end of their module.
@@ -15,24 +14,17 @@ SPAN = LABELS // 2 * UNIT
 
 
 def cookie_of_all():
-    return fletcher64(b"".join(struct.pack("<QIHHB31x", UNIT * m, m + 1, 0x1234, 0, 0) for m in range(MODULES)))
+    return cookie_of([(UNIT * m, m + 1, VENDOR) for m in range(MODULES)])
 
 
 def nfit(shared):
     ranges = [MODULES * SPAN] if shared else [SPAN] * MODULES
-    table = bytearray(struct.pack("<4sIBB6s8sI4sI4x", b"NFIT", 0, 1, 0, b"NVDBCH", b"LISTSETS", 1, b"NVDM", 1))
-    for i, size in enumerate(ranges):
-        table += struct.pack("<HHHHII16sQQQ", 0, 56, i + 1, 0, 0, 0, PERSISTENT_MEMORY.bytes_le, (i + 1) << 32, size, 0)
+    structures = [memory_range(i + 1, size, (i + 1) << 32) for i, size in enumerate(ranges)]
     for m in range(MODULES):
-        place = (1, UNIT * m, 1, MODULES) if shared else (m + 1, 0, 0, 1)
-        table += struct.pack("<HHIHHHHQQQHHHH", 1, 48, m + 1, m, 0, place[0], m + 1, SPAN, place[1], 0, place[2], place[3], 0, 0)
-    if shared:
-        table += struct.pack("<HHHHIII", 2, 20, 1, 0, 1, UNIT, 0)
-    for m in range(MODULES):
-        table += struct.pack("<HHHHHHHHHBBHHIHH", 4, 32, m + 1, 0x1234, 0, 0, 0, 0, 0, 0, 0, 0, 0, m + 1, 0x301, 0)
-    table[4:8] = struct.pack("<I", len(table))
-    table[9] = -sum(table) & 0xFF
-    return bytes(table)
+        index, offset, way, ways = (1, UNIT * m, 1, MODULES) if shared else (m + 1, 0, 0, 1)
+        structures.append(mapping(m + 1, index, m + 1, SPAN, offset, 0, way, ways, m))
+    structures += [interleave([0], UNIT)] if shared else []
+    return table([*structures, *(control(m + 1, m + 1) for m in range(MODULES))], (b"NVDBCH", b"LISTSETS"))
 
 
 def make(folder, shared, free=0, blank=()):
@@ -53,7 +45,7 @@ def make(folder, shared, free=0, blank=()):
             if shared:
                 place = {"count": MODULES, "position": m, "cookie": cookie}
             else:
-                place = {"cookie": interleave_cookie(m + 1)}
+                place = {"cookie": cookie_of([(0, m + 1, VENDOR)])}
             who = own[slot if shared else m * LABELS + slot]
             unit = slot if slot < SPAN // UNIT - free else slot + free
             area += label(who, b"namespace %d" % slot, slot, UNIT, dpa=UNIT * unit, **place)

@@ -6,7 +6,8 @@
 proved
 python3 - "$work" "$program" <<'PY'
 import os, sys, uuid
-from make_small import index_block, label, nfit
+from formats import index_block, label
+from make_small import nfit
 from rows import median, row
 
 work, program = sys.argv[1:]

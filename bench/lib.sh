@@ -11,7 +11,7 @@ trap 'exit 130' INT
 trap 'exit 143' TERM
 # shellcheck source=lib/memory.sh
 . "$top/lib/memory.sh"
-export PYTHONDONTWRITEBYTECODE=1 PYTHONPATH="$top/bench:$top/samples"
+export PYTHONDONTWRITEBYTECODE=1 PYTHONPATH="$top/bench:$top/samples:$top/lib"
 
 # skip REASON: prints why the script can't run here, and ends it
 skip() {

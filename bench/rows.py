@@ -5,7 +5,9 @@ import subprocess
 import sys
 import tempfile
 import time
-import uuid
+
+sys.path.insert(0, os.path.join(os.path.dirname(os.path.abspath(__file__)), "..", "lib"))
+from formats import control, mapping, memory_range, table  # noqa: E402
 
 TIME = "/usr/bin/time"
 if not os.path.exists(TIME):
@@ -47,13 +49,7 @@ def median(words, runs, check=lambda text: True, status=0, script=None):
 
 def one_region(size):
     """A firmware's table of one region of one module (ACPI 6.5, section 5.2.25)."""
-    persistent = uuid.UUID("66f0d379-b4f3-4074-ac43-0d3318b78cdb").bytes_le
-    body = struct.pack("<HHHHII16sQQQ", 0, 56, 1, 0, 0, 0, persistent, 1 << 32, size, 0)
-    body += struct.pack("<HHIHHHHQQQHHHH", 1, 48, 1, 0, 0, 1, 1, size, 0, 0, 0, 1, 0, 0)
-    body += struct.pack("<HHH26x", 4, 32, 1)
-    head = bytearray(struct.pack("<4sIBB30x", b"NFIT", 40 + len(body), 1, 0))
-    head[9] = -(sum(head) + sum(body)) & 0xFF
-    return bytes(head) + body
+    return table([memory_range(1, size), mapping(1, 1, 1, size), control(1, 1)], (b"NVDBCH", b"ONE     "))
 
 
 def one_module(folder, size, word_each=None, filled=False):

@@ -83,15 +83,22 @@ _nvd() {
     COMPREPLY=()
     case $COMP_CWORD in
     1)
-        _nvd_words 'demo help sweep' "$current"
+        _nvd_words 'demo diff help make map sweep' "$current"
         _nvd_directories "$current"
         compopt -o filenames 2>/dev/null || true
         return
         ;;
     2)
         if [ "$set" = help ]; then
-            _nvd_words "$(_nvd_table '1 { print $1 }') free sweep FAULTS OUTPUT FROM_NDCTL" "$current"
-        elif [ "$set" != demo ]; then
+            _nvd_words "$(_nvd_table '1 { print $1 }') free map diff make sweep FAULTS OUTPUT FROM_NDCTL" "$current"
+        elif [ "$set" = map ] || [ "$set" = diff ]; then
+            _nvd_directories "$current"
+            compopt -o filenames 2>/dev/null || true
+        elif [ "$set" = sweep ]; then
+            _nvd_words '--every --keep --run' "$current"
+            _nvd_directories "$current"
+            compopt -o filenames 2>/dev/null || true
+        elif [ "$set" != demo ] && [ "$set" != make ]; then
             _nvd_words - "$current"
             _nvd_directories "$current"
             compopt -o filenames 2>/dev/null || true
@@ -99,6 +106,11 @@ _nvd() {
         return
         ;;
     3)
+        if [ "$set" = diff ]; then
+            _nvd_directories "$current"
+            compopt -o filenames 2>/dev/null || true
+            return
+        fi
         # a command that writes has an OUT, one that prints has `-`
         case ${COMP_WORDS[2]} in
         -) _nvd_words "$(_nvd_table '$6 == "no" { print $1 }') free" "$current" ;;

@@ -5,7 +5,6 @@ usage: lib/commands.py --check   (ends with `N passed, M failed`: whether the fi
        lib/commands.py --write   (makes it anew)
 """
 import os
-import re
 import sys
 
 LIB = os.path.dirname(os.path.abspath(__file__))
@@ -26,10 +25,15 @@ class Command:
         self.writes, self.script = writes == "yes", script == "yes"
 
 
+ROWS = {}
+
+
 def commands():
-    with open(TABLE, encoding="utf-8") as file:
-        rows = [Command(line.split()) for line in file if not line.startswith("#")]
-    return {it.name: it for it in rows}
+    """The commands by their names, read once."""
+    if not ROWS:
+        with open(TABLE, encoding="utf-8") as file:
+            ROWS.update((it.name, it) for it in (Command(line.split()) for line in file if not line.startswith("#")))
+    return ROWS
 
 
 def source(*path):
@@ -39,6 +43,8 @@ def source(*path):
 
 def cases(text, name):
     """What a definition by cases says of each constructor; a case for all others stands under `_`."""
+    import re
+
     found = {}
     for case, value in re.findall(rf"(?m)^{name} (?:leaves )?\(?(?:command\.)?(\w+)[^=\n]*= (.*)$", text):
         found.setdefault(case if case[0].isupper() else "_", value)
@@ -47,6 +53,8 @@ def cases(text, name):
 
 def arguments_in(text):
     """The places, the options that must be given and the others, by the command's kind."""
+    import re
+
     forms = {name: (word, form) for name, word, form in re.findall(r'const (\w+): Argument = Argument \{\s*name: "([\w-]+)",\s*form: Form::(\w+),', text)}
     for kind, names in re.findall(r"CommandKind::(\w+) => &\[([^\]]*)\]", text):
         said = [forms[it] for it in re.findall(r"\w+", names)]
@@ -66,6 +74,8 @@ def contents_of(copies, loads, sectors):
 
 def made():
     """The table as the sources have it."""
+    import re
+
     table, run = source("shell_run", "src", "commands.rt"), source("shell_run", "specs", "Run.antt")
     arguments = dict(arguments_in(table))
     variants = re.findall(r"(?m)^    (\w+)(?:\(.*\))?,$", re.search(r"pub enum CommandLine \{(.*?)\n\}", source("shell_run", "src", "words.rt"), re.S)[1])

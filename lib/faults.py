@@ -1,13 +1,12 @@
-"""What a text on a fault means and what to do, from the tables of docs/commands/FAULTS.md.
-
-usage: faults.py FILE      (the text on standard input; prints a line for each row that applies)
-"""
+"""What a text on a fault means and what to do, from the tables of docs/commands/FAULTS.md."""
 import re
-import sys
+
+# A table with one of these heads has the ends of the texts that begin so; the others have whole texts.
+FAMILIES = {"FAULT of a region": r"image region (?P<REGION>\S+) ", "FAULT": r"image arena (?P<ARENA>\S+) (?P<K>\S+) "}
 
 
 def rows_of(page):
-    """The rows of all tables that have a column of meanings: the texts, the meaning, and what to do."""
+    """The rows of all tables that have a column of meanings: the texts, the meaning, what to do, and the head of the table."""
     head = []
     for line in page.splitlines():
         if not line.startswith("|"):
@@ -20,7 +19,7 @@ def rows_of(page):
             row = dict(zip(head, cells))
             meaning = row.get("means") or row.get("the first rule that the labels break")
             if meaning:
-                yield re.findall(r"`([^`]+)`", cells[0]), meaning, row.get("what to do", "")
+                yield re.findall(r"`([^`]+)`", cells[0]), meaning, row.get("what to do", ""), head[0]
 
 
 def pattern_of(text):
@@ -42,32 +41,11 @@ def filled(sentence, found):
 
 
 def explained(text, page):
-    """What the rows say of a text: of the whole of it, and of its end if the row is of a family of faults."""
-    out, whole = [], None
-    rows = list(rows_of(page))
-    for texts, meaning, remedy in rows:
+    """What the rows say of a text: of the whole of it, or of its end if that is a fault of a region or an arena."""
+    out = []
+    for texts, meaning, remedy, head in rows_of(page):
         for form in texts:
-            found = re.fullmatch(pattern_of(form), text)
-            if found and not whole:
-                whole = found
+            found = re.fullmatch(FAMILIES.get(head, "") + pattern_of(form), text)
+            if found:
                 out.append((filled(meaning, found), filled(remedy, found)))
-    if whole and "REST" not in whole.groupdict():
-        return out
-    for texts, meaning, remedy in rows:
-        for form in texts:
-            found = re.fullmatch(f"image (?:region|arena) .*?{pattern_of(form)}", text)
-            if found and "REST" not in found.groupdict():
-                return [*out, (filled(meaning, found), filled(remedy, found))]
     return out
-
-
-def main():
-    with open(sys.argv[1], encoding="utf-8") as file:
-        page = file.read()
-    text = sys.stdin.read().rstrip("\n")
-    for meaning, remedy in explained(text, page):
-        print(f"nvd: {text}: {meaning}" + (f". To do: {remedy}" if remedy else ""))
-
-
-if __name__ == "__main__":
-    main()

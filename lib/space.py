@@ -1,23 +1,10 @@
 """The free space of each region of an image set."""
-import os
-import struct
+from formats import mappings_of, table_of
 
 
 def starts_of(folder):
-    """The first byte of each mapping on its module, by the index of its range and its device handle (ACPI 6.5, section 5.2.25.3)."""
-    with open(os.path.join(folder, "nfit.bin"), "rb") as file:
-        table = file.read()
-    found, at = {}, 40
-    while at + 4 <= len(table):
-        kind, length = struct.unpack_from("<HH", table, at)
-        if length < 4:
-            break
-        if kind == 1 and at + 48 <= len(table):
-            handle, = struct.unpack_from("<I", table, at + 4)
-            index, = struct.unpack_from("<H", table, at + 12)
-            found[index, handle] = struct.unpack_from("<Q", table, at + 32)[0]
-        at += length
-    return found
+    """The first byte of each mapping on its module, by the index of its range and its device handle."""
+    return {(it["index"], it["handle"]): it["start"] for it in mappings_of(table_of(folder))}
 
 
 def holes(span, unit, used):

@@ -2,10 +2,12 @@
 import re
 
 from commands import commands
+from helps import near
+from units import bytes_of
 
 UUID = re.compile(r"(?:urn:uuid:)?[0-9a-fA-F]{8}(?:-[0-9a-fA-F]{4}){3}-[0-9a-fA-F]{12}|\{[0-9a-fA-F]{8}(?:-[0-9a-fA-F]{4}){3}-[0-9a-fA-F]{12}\}|[0-9a-fA-F]{32}")
-UNITS = {"K": 1 << 10, "M": 1 << 20, "G": 1 << 30}
 MOST = (1 << 64) - 1
+SOME_UUID = "00000000-0000-4000-8000-000000000000"
 # All calls of a load are so many at most; each session opens and closes the namespace, too.
 MOST_CALLS = 65536
 # A place is shown by its name in capitals, but for these.
@@ -30,12 +32,6 @@ def is_uuid(text):
     return bool(UUID.fullmatch(text))
 
 
-def bytes_of(text):
-    """A size in plain bytes: 16K is 16384. None if it is no size with a unit."""
-    found = re.fullmatch(r"(0|[1-9]\d*)([KMGkmg])(?:i?[Bb])?", text)
-    return int(found.group(1)) * UNITS[found.group(2).upper()] if found else None
-
-
 def taken(command, words):
     """The places and options that words give: (at, name, value, index of the value); a fault is what stops it, or None."""
     places, options = COMMANDS[command]
@@ -52,8 +48,8 @@ def taken(command, words):
         else:
             name, has_value, value = word.partition("=")
             if name not in options:
-                known = " ".join(options) or "none"
-                return got, f"'{command}' has no option '{name}': its options are {known}"
+                known, meant = " ".join(options) or "none", near(name, options)
+                return got, f"'{command}' has no option '{name}'{meant}" + (f" Its options are {known}" if meant else f": its options are {known}")
             if any(it[0] == name for it in got):
                 return got, f"'{name}' is given twice"
             if options[name] == "flag" and has_value:
@@ -76,13 +72,13 @@ def kind_of(command, name):
     return dict(places).get(name) or options[name]
 
 
-def fault_of_value(command, name, value):
-    """What is wrong with a value, and the remedy; None if nothing is."""
+def fault_of_value(command, name, value, ask=None):
+    """What is wrong with a value, and the remedy; None if nothing is. ask(COMMAND) gives the records of a command."""
     kind = kind_of(command, name)
     if kind in ("text", "flag"):
         return None
     if kind == "UUID":
-        return None if is_uuid(value) else f"'{value}' is no UUID, and no namespace alone has this name: 'nvd IN - list' shows both"
+        return None if is_uuid(value) else fault_of_name(value, names_in(ask("list")) if ask and command != "create" else {})
     if kind == "value":
         if re.fullmatch(r"fill:[0-9a-fA-F]{2}|hex:(?:[0-9a-fA-F]{2})*", value):
             return None
@@ -106,21 +102,31 @@ def fault_of_value(command, name, value):
     return f"'{name} {value}': {value or 'nothing'} is no number; give decimal digits{units}"
 
 
-def fault_of(command, words):
-    """What is wrong with the words behind a command's name, the first thing; None if nothing is."""
+def fault_of_name(value, known):
+    """What is wrong with a word that is no UUID, None if it is one namespace's name; `known` has the UUIDs of each name."""
+    if len(known.get(value, [])) == 1:
+        return None
+    if len(known.get(value, [])) > 1:
+        return f"{len(known[value])} namespaces have the name '{value}': give one of the UUIDs {' '.join(known[value])}"
+    meant = near(value, known) or ("" if "-" not in value else near(value, [it for uuids in known.values() for it in uuids]))
+    return f"'{value}' is no UUID, and no namespace alone has this name{meant}" + (" 'nvd IN - list' shows both" if meant else ": 'nvd IN - list' shows both")
+
+
+def fault_of(command, words, ask=None):
+    """What is wrong with the words behind a command's name, the first thing; None if nothing is. ask(COMMAND) gives the records of a command.
+    A word that is neither a UUID nor a name comes last, since only a set can tell that."""
     got, fault = taken(command, words)
-    for name, value, _, _ in got:
-        wrong = fault_of_value(command, name, value)
-        if wrong:
-            return wrong
-    if fault:
-        return fault
+    wrong = [(kind_of(command, name) == "UUID", fault_of_value(command, name, value, ask)) for name, value, _, _ in got]
+    plain = [it for is_name, it in wrong if it and not is_name]
+    if plain or fault:
+        return plain[0] if plain else fault
     names = [it[0] for it in got]
     places, _ = COMMANDS[command]
     for name in [*(it[0] for it in places), *(f"--{it}" for it in TABLE[command].needed)]:
         if name not in names:
             return f"{name} is missing"
-    return fault_of_load({name: value for name, value, _, _ in got}) if command == "load" else None
+    together = fault_of_load({name: value for name, value, _, _ in got}) if command == "load" else None
+    return together or next((it for _, it in wrong if it), None)
 
 
 def fault_of_load(given):
@@ -140,22 +146,23 @@ def names_in(records):
 
 
 def completed(command, words, ask, draw, note):
-    """The words with names as UUIDs, sizes in bytes and, for create, what wasn't given. ask(COMMAND) gives the records of a command."""
+    """The words with names as UUIDs, sizes in bytes and, for create, what wasn't given. ask(COMMAND) gives the records of a command.
+    If another word is wrong, nothing is asked: the program says of the words as they stand that they aren't a command line."""
     got, fault = taken(command, words)
     out = list(words)
     for name, value, at, joined in got:
-        new = None
-        if command != "create" and kind_of(command, name) == "UUID" and not is_uuid(value):
-            uuids = names_in(ask("list")).get(value, [])
-            if len(uuids) > 1:
-                note(f"{len(uuids)} namespaces have the name '{value}': give one of the UUIDs {' '.join(uuids)}")
-            new = uuids[0] if len(uuids) == 1 else None
-        elif name == "--size":
-            size = bytes_of(value)
-            new = str(size) if size is not None else None
-        if new is not None:
-            out[at] = f"{name}={new}" if joined else new
-    if command != "create" or fault:
+        size = bytes_of(value) if name == "--size" else None
+        if size is not None:
+            out[at] = f"{name}={size}" if joined else str(size)
+    is_create = command == "create"
+    by_name = [it for it in got if not is_create and kind_of(command, it[0]) == "UUID" and not is_uuid(it[1])]
+    if not by_name and not is_create or fault or fault_without(command, out, by_name):
+        return out
+    for name, value, at, joined in by_name:
+        uuids = names_in(ask("list")).get(value, [])
+        if len(uuids) == 1:
+            out[at] = f"{name}={uuids[0]}" if joined else uuids[0]
+    if not is_create:
         return out
     names = [it[0] for it in got]
     if "--mode" not in names:
@@ -172,3 +179,14 @@ def completed(command, words, ask, draw, note):
         if not fault_of(command, out):
             note(f"--uuid isn't given: the new namespace's UUID is {uuid}")
     return out
+
+
+def fault_without(command, words, by_name):
+    """What is wrong with the words but for those that are names; for create, but for what isn't given."""
+    plain = list(words)
+    for name, _, at, joined in by_name:
+        plain[at] = f"{name}={SOME_UUID}" if joined else SOME_UUID
+    if command == "create":
+        given = [it[0] for it in taken(command, words)[0]]
+        plain += [it for name, value in (("--uuid", SOME_UUID), ("--mode", "raw"), ("--region", "0")) if name not in given for it in (name, value)]
+    return fault_of(command, plain)

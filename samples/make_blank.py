@@ -6,43 +6,27 @@ fields of ACPI 6.5, section 5.2.25, without the program.
 usage: make_blank.py DIRECTORY [--modules N] [--size BYTES] [--labels BYTES]
 
 N is 1 to 64 (default 2). --size is the contents of each module: a multiple of 4,096, at most 512 MiB in all modules together
-(default 1 MiB). --labels is the label area of each module: a multiple of 256 from 1,024 to 1 MiB (default 128 KiB).
+(default 1 MiB). --labels is the label area of each module: a multiple of 256 from 1,024 to 1 MiB (default 128 KiB). Sizes may end with K,
+M or G, as 64K. The files are holes, so they take no room until something is written.
 """
 import argparse
 import os
-import struct
 import sys
 
 sys.dont_write_bytecode = True
-sys.path.insert(0, os.path.dirname(os.path.abspath(__file__)))
-from make_small import PERSISTENT_MEMORY  # noqa: E402
+HERE = os.path.dirname(os.path.realpath(__file__))
+sys.path.insert(0, os.path.join(os.path.dirname(HERE), "lib"))
+from formats import LIMIT, PAGE as LINE, blank_table  # noqa: E402
+from units import size_word  # noqa: E402
 
-LINE = 4096
-LIMIT = 512 << 20
-
-
-def nfit(modules, size):
-    """One range over all modules, in alternating lines; a single module has no interleave structure."""
-    interleave = 1 if modules > 1 else 0
-    table = bytearray(struct.pack("<4sIBB6s8sI4sI4x", b"NFIT", 0, 1, 0, b"NVDSMP", b"BLANKSET", 1, b"NVDM", 1))
-    table += struct.pack("<HHHHII16sQQQ", 0, 56, 1, 0, 0, 0, PERSISTENT_MEMORY.bytes_le, 1 << 32, modules * size, 0)
-    for m in range(modules):
-        table += struct.pack("<HHIHHHHQQQHHHH", 1, 48, m + 1, m, 0, 1, m + 1, size, LINE * m, 0, interleave, modules, 0, 0)
-    if interleave:
-        table += struct.pack("<HHHHIII", 2, 20, 1, 0, 1, LINE, 0)
-    for m in range(modules):
-        table += struct.pack("<HHHHHHHHHBBHHIHH", 4, 32, m + 1, 0x1234, 0, 0, 0, 0, 0, 0, 0, 0, 0, m + 1, 0x301, 0)
-    table[4:8] = struct.pack("<I", len(table))
-    table[9] = -sum(table) & 0xFF
-    return bytes(table)
 
 
 def main():
     words = argparse.ArgumentParser(description="Makes an image set of modules that nothing was written to yet.")
     words.add_argument("directory")
     words.add_argument("--modules", type=int, default=2, metavar="N")
-    words.add_argument("--size", type=int, default=1 << 20, metavar="BYTES")
-    words.add_argument("--labels", type=int, default=128 << 10, metavar="BYTES")
+    words.add_argument("--size", type=size_word, default=1 << 20, metavar="BYTES")
+    words.add_argument("--labels", type=size_word, default=128 << 10, metavar="BYTES")
     asked = words.parse_args()
     if not 1 <= asked.modules <= 64:
         words.error(f"--modules {asked.modules}: a set has 1 to 64 modules")
@@ -57,7 +41,7 @@ def main():
     except OSError as fault:
         words.error(f"{asked.directory} can't be made ({fault.strerror}): name another directory")
     with open(os.path.join(asked.directory, "nfit.bin"), "wb") as file:
-        file.write(nfit(asked.modules, asked.size))
+        file.write(blank_table([asked.size] * asked.modules))
     sizes = {"complete": 0}
     for m in range(asked.modules):
         sizes |= {f"labels-{m}.bin": asked.labels, f"contents-{m}.bin": asked.size}

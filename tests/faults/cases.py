@@ -48,8 +48,10 @@ def refused(text, files, words, hint=None):
 
 def usage():
     yield whole(), ["-"], 2, "usage", "nvd IN OUT COMMAND"
-    for words in (["-", "lsit"], ["-", "--help", "list"]):
-        yield whole(), words, 2, "usage", "they are labels"
+    for words, hint in ((["-", "lsit"], "there is no command 'lsit': did you mean 'list'?"), (["-", "--hlep", "list"], "they are labels"), (["-", "LIST"], "they are labels")):
+        yield whole(), words, 2, "usage", hint
+    for words, hint in ((["OUT", "rename", str(FIRST)], "NAME is missing"), ([*INIT, "--evct", "1"], "did you mean '--evict'?")):
+        yield whole(), words, 2, "usage", hint
     for words in (["-", "labels"], ["-", "labels", "64"], ["-", "labels", "007"], ["-", "nfit", "x"], create("--mode", "fsdax"), [*CREATE[:-4], *CREATE[-2:]],
                   ["OUT", "serve", "--workers", "0"], LOAD[:-2], [*LOAD, "--sessions", "1024", "--calls", "63"],
                   ["OUT", "delete", "no-uuid"], [*DELETE, "--cut", "-1"], [*DELETE, "--cut", "1", "--cut", "2"], [*INIT, "--force"]):
@@ -74,6 +76,22 @@ def tables():
         yield image(f"nfit {text}", pair(nfit=nfit), NFIT)
 
 
+def asked_first():
+    """A name in place of a UUID, or a region that isn't given: what the question ends with is the end of the command."""
+    named = ["OUT", "create", "--name", "c", "--size", "8192"]
+    for words in (["-", "info", "a"], ["-", "read", "a", "0"], ["-", "export", "a"], ["OUT", "delete", "a"], ["OUT", "rename", "a", "b"], ["OUT", "load", "7", "--uuid", "a"], named):
+        yield image("mark Missing", None, words, "isn't there: name the directory")
+        yield image("mark Missing", without("complete"), words, "no file 'complete'")
+        yield image("contents 0 Size 100", {**whole(), "contents-0.bin": 100}, words)
+        yield {**whole(), "contents-0.bin": None}, words, 5, "read fault", "no regular file"
+    overlapping = pair(area([part(0), part(0, SECOND, 1)]), area([part(1)]))
+    yield image(f"labels Overlap {FIRST} {SECOND}", overlapping, ["OUT", "delete", "a"])
+    for words in (["-", "info", "nobody"], ["OUT", "delete", "A"]):
+        yield whole(), words, 2, "usage", "is no UUID, and no namespace alone has this name"
+    # the words are told first
+    yield None, ["-", "info", "a", "x"], 2, "usage", "'x' is one word too many"
+
+
 def objects():
     """Objects that are missing or outside their limits."""
     yield image("mark Missing", without("complete"), LIST, "no file 'complete'")
@@ -82,9 +100,11 @@ def objects():
     yield from tables()
     yield image("labels 0 Size 1000", pair(labels0=bytes(1000)), LIST)
     yield image("contents 1 Missing", without("contents-1.bin"), LIST)
-    yield image("contents 0 Size 100", {**whole(), "contents-0.bin": 100}, LIST)
-    yield image("contents 0 Size 4096", {**whole(), "contents-0.bin": 4096}, LIST)
-    yield image(f"contents 1 Size {300 << 20}", {**whole(), "contents-0.bin": 300 << 20, "contents-1.bin": 300 << 20}, LIST)
+    yield image("contents 0 Size 100", {**whole(), "contents-0.bin": 100}, LIST, f"is cut off: by the firmware's table module 0 has at least {SIZE} (64K) bytes, so {SIZE - 100} bytes")
+    yield image("contents 0 Size 4096", {**whole(), "contents-0.bin": 4096}, LIST, f"is cut off: by the firmware's table module 0 has at least {SIZE} (64K) bytes, so {SIZE - 4096} bytes")
+    yield image(f"contents 1 Size {SIZE + 5}", {**whole(), "contents-1.bin": SIZE + 5}, LIST, "has 5 bytes more than a multiple of 4096")
+    yield image(f"contents 1 Size {300 << 20}", {**whole(), "contents-0.bin": 300 << 20, "contents-1.bin": 300 << 20}, LIST, "the modules up to 1 have 629145600 (600M) bytes together")
+    yield image("labels 1 Size 4000", {**whole(), "labels-1.bin": whole()["labels-1.bin"][:4000]}, LIST, "is cut off: its index block counts 14 slots, so the area has at least 4096 (4K) bytes, and 96 are missing")
     yield image("badranges 0 Size 15", {**whole(), "badranges-0.bin": bytes(15)}, LIST)
     yield {**whole(), "contents-0.bin": None}, LIST, 5, "read fault", "no regular file"
 
@@ -103,6 +123,15 @@ def areas():
         yield pair(labels0=area([bad])), LABELS, 0, f"bad 0 {text}", None
 
 
+# how what a fault of a region means begins; the numbers of a case are always the same
+REGION_MEANS = {"Ways": "a mapping says 3 ways", "Twice": "module 0 has two mappings", "Offsets": "modules 0 and 1 have", "Line": "module 0's mapping lacks",
+                "Share": "the lines of a mapping have 12288 bytes", "Size": "the mappings' sizes differ", "Cover": "line 0 of the region"}
+# and a fault of an arena
+ARENA_MEANS = {"Info Signature": "there is no info block", "Info Checksum": "a byte of the info block", "Info Version": "the arena has version 3.0", "Info Parent": "the arena says that it belongs",
+               "Info ErrorState": "its writer marked the arena", "Info Layout": "the info block breaks the layout in", "Flog 0": "", "Block Range": f"the map names block {INNER},",
+               "Block Twice": "map and lanes name block 1 twice"}
+
+
 def regions():
     """Regions that aren't interleave sets, and namespaces that overlap."""
     for text, nfit in (
@@ -116,7 +145,7 @@ def regions():
         files = {**pair(nfit=nfit), "contents-0.bin": 2 * SIZE}
         yield files, NFIT, 0, f"fault {text}", None
         for words in (LIST, CREATE, SERVE, LOAD):
-            yield image(f"region 0 {text}", files, words)
+            yield image(f"region 0 {text}", files, words, f"nvd: image region 0 {text}: {REGION_MEANS[text.split()[0]]}")
     for words in (LIST, SERVE, LOAD):
         yield image(f"labels Overlap {FIRST} {SECOND}", pair(area([part(0), part(0, SECOND, 1)]), area([part(1)])), words)
 
@@ -152,9 +181,7 @@ def refusals():
     for text, files, words in (
             ("BadName 64", whole(), create("--name", long)), ("BadName 64", whole(), [*RENAME[:-1], long]),
             ("NoRegion 7", whole(), create("--region", "7")), ("ModuleLabels 0", blank(), CREATE),
-            ("Exists", whole(), create("--uuid", str(FIRST))), ("BadSize 0", whole(), create("--size", "0")),
-            ("BadSize 4096", whole(), create("--size", "4096")),
-            ("BadSize 8192", whole(), create("--mode", "sector")), (f"NoSpace {SIZE}", whole(), create("--size", str(2 * SIZE))),
+            ("Exists", whole(), create("--uuid", str(FIRST))), (f"NoSpace {SIZE}", whole(), create("--size", str(2 * SIZE))),
             ("NoSlot 0", full, CREATE), ("NoSlot 0", full, RENAME), ("NoSlot 0", full, DELETE),
             ("NoSuch", pair(), DELETE), ("NoSuch", pair(), RENAME), ("NoSuch", pair(), INFO), ("NoSuch", pair(), READ), ("NoSuch", pair(), WRITE), ("NoSuch", pair(), REPLAY), ("NoSuch", pair(), EXPORT), ("NoSuch", pair(), IMPORT), ("NoSuch", pair(), LOAD),
             ("NotComplete", half, DELETE), ("NotComplete", half, RENAME), ("NotComplete", half, INFO), ("NotComplete", half, READ), ("NotComplete", half, WRITE), ("NotComplete", half, REPLAY), ("NotComplete", half, EXPORT), ("NotComplete", half, IMPORT), ("NotComplete", half, LOAD),
@@ -166,6 +193,17 @@ def refusals():
             ("Arenas 2", chain(), REPLAY)):
         yield refused(text, files, words)
     yield refused(f"Length 0 {OUTER * 4096}", sectors(), IMPORT, f"the namespace, which has {OUTER * 4096};")
+    # the set has 57344 bytes of each module free at one offset
+    for size, words, hint in (
+            (0, create("--size", "0"), "--size 0 is no positive multiple of 8192 (8K) bytes, which is the unit of region 0, 4096, times its 2 modules"),
+            (0, create("--size", "0"), "the nearest that fits is 8192 (8K) bytes"),
+            (4096, create("--size", "4096"), "the nearest that fits is 8192 (8K) bytes"),
+            (12289, create("--size", "12289"), "the nearest that fit are 8192 (8K) and 16384 (16K) bytes"),
+            (300000, create("--size", "300000"), "the nearest that fits is 114688 (112K) bytes"),
+            (8192, create("--mode", "sector"), "--size 8192 is below the least size of an arena, 16777216 (16M) bytes"),
+            (8192, create("--mode", "sector"), "no size fits into region 0: 114688 bytes are free there at one offset"),
+            (8192, [*create("--mode", "sector"), "--sector", "100"], "sectors of 100 bytes aren't made: --sector is one of 512, 520,")):
+        yield refused(f"BadSize {size}", whole(), words, hint)
 
 
 def session(*lines):
@@ -213,15 +251,17 @@ def arenas():
             ("ErrorState", {"flags": 1}), ("Layout Sector", {"sector": 100}), ("Layout Inner", {"block": 4100}), ("Layout Free", {"lanes": 257}),
             ("Layout Blocks", {"inner": INNER + 1}), ("Layout Areas", {"info": 8192}), ("Layout Size", {"backup": 4096 + (16 << 20)}),
             ("Layout Next", {"next": 4096})):
-        yield image(f"arena {FIRST} 0 Info {text}", sectors(info(**fields)), INFO)
+        means = ARENA_MEANS[" ".join(["Info", text.split()[0]])]
+        yield image(f"arena {FIRST} 0 Info {text}", sectors(info(**fields)), INFO, f"nvd: image arena {FIRST} 0 Info {text}: {means}")
     for text, other in (
             ("Flog 0 Padding", {"halves": {0: group(OUTER, OUTER, 1, b"x" + bytes(31))}}), ("Flog 0 Sequences 0 0", {"halves": {0: group(OUTER, OUTER, 0)}}),
             (f"Flog 0 Range {INNER}", {"halves": {0: group(INNER, INNER, 1)}}), (f"Block Range {INNER}", {"entries": {0: 1 << 31 | INNER}}),
             ("Block Twice 1", {"entries": {0: 1 << 31 | 1}})):
-        yield image(f"arena {FIRST} 0 {text}", sectors(**other), INFO)
+        means = ARENA_MEANS[" ".join(text.split()[:2])]
+        yield image(f"arena {FIRST} 0 {text}", sectors(**other), INFO, f"nvd: image arena {FIRST} 0 {text}: {means}")
     broken = sectors(info(signature=bytes(16)))
     yield image(f"arena {FIRST} 0 Info Signature", broken, LOAD)
-    yield *image(f"arena {FIRST} 0 Info Signature", broken, SERVE, "'nvd IN - info UUID' says which"), session(f"open {SECOND}", f"open {FIRST}")
+    yield *image(f"arena {FIRST} 0 Info Signature", broken, SERVE, "there is no info block: the arena was never formatted"), session(f"open {SECOND}", f"open {FIRST}")
 
 
 def scripts():
@@ -246,5 +286,5 @@ def scripts():
 
 
 def cases():
-    for some in (usage, objects, areas, regions, statuses, refusals, replies, arenas):
+    for some in (usage, asked_first, objects, areas, regions, statuses, refusals, replies, arenas):
         yield from some()

@@ -5,43 +5,34 @@ import sys
 import uuid
 
 TOP = os.path.dirname(os.path.dirname(os.path.dirname(os.path.abspath(__file__))))
-sys.path.insert(0, os.path.join(TOP, "samples"))
-from make_small import BTT_2_0, PERSISTENT_MEMORY, fletcher64, index_block, label  # noqa: E402
+sys.path.insert(0, os.path.join(TOP, "lib"))
+import formats  # noqa: E402
+from formats import BTT_2_0, VENDOR, checked, cookie_of, fletcher64, index_block, label  # noqa: E402, F401
 
 SIZE, LINE, SLOTS, BLOCK = 65536, 4096, 14, 256
 FIRST, SECOND = uuid.UUID("11111111-1111-4111-8111-111111111111"), uuid.UUID("22222222-2222-4222-8222-222222222222")
 THIRD = uuid.UUID("33333333-3333-4333-8333-333333333333")
 
 
-def checked(table):
-    """A firmware's table with its Length and Checksum."""
-    table = bytearray(table)
-    table[4:8] = struct.pack("<I", len(table))
-    table[9] = 0
-    table[9] = -sum(table) & 0xFF
-    return bytes(table)
-
-
 def spa(index=1, length=2 * SIZE, base=1 << 32):
-    return struct.pack("<HHHHII16sQQQ", 0, 56, index, 0, 0, 0, PERSISTENT_MEMORY.bytes_le, base, length, 0)
+    return formats.memory_range(index, length, base)
 
 
 def mapping(module, region=1, control=None, size=SIZE, offset=None, start=0, lines=1, ways=2):
     offset = LINE * module if offset is None else offset
-    control = module + 1 if control is None else control
-    return struct.pack("<HHIHHHHQQQHHHH", 1, 48, module + 1, module, 0, region, control, size, offset, start, lines, ways, 0, 0)
+    return formats.mapping(module + 1, region, module + 1 if control is None else control, size, offset, start, lines, ways, module)
 
 
 def interleave(offsets=(0,), line=LINE, index=1):
-    return struct.pack("<HHHHII", 2, 16 + 4 * len(offsets), index, 0, len(offsets), line) + struct.pack(f"<{len(offsets)}I", *offsets)
+    return formats.interleave(offsets, line, index)
 
 
 def control(module):
-    return struct.pack("<HHHHHHHHHBBHHIHH", 4, 32, module + 1, 0x1234, 0, 0, 0, 0, 0, 0, 0, 0, 0, module + 1, 0x301, 0)
+    return formats.control(module + 1, module + 1)
 
 
 def table(*structures):
-    return checked(struct.pack("<4sIBB6s8sI4sI4x", b"NFIT", 0, 1, 0, b"NVDTST", b"FAULTSET", 1, b"NVDM", 1) + b"".join(structures))
+    return formats.table(structures, (b"NVDTST", b"FAULTSET"))
 
 
 def two(*structures):
@@ -50,7 +41,7 @@ def two(*structures):
 
 
 def cookie(modules=2, line=LINE):
-    return fletcher64(b"".join(struct.pack("<QIHHB31x", line * m, m + 1, 0x1234, 0, 0) for m in range(modules)))
+    return cookie_of([(line * m, m + 1, VENDOR) for m in range(modules)])
 
 
 def area(labels=(), used=None):

@@ -17,6 +17,10 @@ import shutil
 import subprocess
 import sys
 
+sys.dont_write_bytecode = True
+sys.path.insert(1, os.path.dirname(os.path.dirname(os.path.abspath(__file__))))
+from harness import lines_of  # noqa: E402
+
 BEFORE = "11111111-1111-4111-8111-111111111111"
 MADE = "22222222-2222-4222-8222-222222222222"
 MIB = 1 << 20
@@ -55,8 +59,7 @@ def block_of(size, sector, sectors, blocks, lanes):
 def main():
     program, blank, work = sys.argv[1:]
 
-    def report(what, got, want):
-        print(f"ok {what}" if got == want else f"differs {what}: {got!r}, and it has to be {want!r}")
+    report = lines_of("")
 
     def place(name):
         return name if name == "-" else os.path.join(work, name)

@@ -11,6 +11,10 @@ import shutil
 import subprocess
 import sys
 
+sys.dont_write_bytecode = True
+sys.path.insert(1, os.path.dirname(os.path.dirname(os.path.abspath(__file__))))
+from harness import lines_of  # noqa: E402
+
 MADE = "33333333-3333-4333-8333-333333333333"
 
 
@@ -19,8 +23,7 @@ def main():
     os.mkdir(work)
     count = 0
 
-    def report(what, got, want):
-        print(f"ok {name} {what}" if got == want else f"differs {name} {what}: {got!r}, and it has to be {want!r}")
+    report = lines_of(name)
 
     def run(source, out, *words):
         done = subprocess.run([program, source, out, *words], capture_output=True, text=True, check=False)

@@ -18,6 +18,10 @@ import re
 import sys
 import uuid
 
+sys.dont_write_bytecode = True
+sys.path.insert(1, os.path.dirname(os.path.dirname(os.path.abspath(__file__))))
+from harness import lines_of  # noqa: E402
+
 MODES = {uuid.UUID(int=0): "raw", uuid.UUID("18633bfc-1735-4217-8ac9-17239282d3f8"): "sector",
          uuid.UUID("8aed63a2-29a2-4c66-8b12-f05d15d3922a"): "sector1"}
 # what sysfs calls the use of a namespace
@@ -93,8 +97,7 @@ def namespaces_in(truth):
 def main():
     name, truth, work = sys.argv[1:]
 
-    def report(what, got, want):
-        print(f"ok {name} {what}" if got == want else f"differs {name} {what}: {got!r}, and Linux: {want!r}")
+    report = lines_of(name, "Linux")
 
     current = labels_in(truth)[1]
     for command, wanted in [("nfit", "0"), ("list", "0"), ("labels", "0" if current else "3")]:

@@ -14,6 +14,10 @@ import shutil
 import subprocess
 import sys
 
+sys.dont_write_bytecode = True
+sys.path.insert(1, os.path.dirname(os.path.dirname(os.path.abspath(__file__))))
+from harness import lines_of  # noqa: E402
+
 
 def main():
     name, truth, folder, program, out = sys.argv[1:]
@@ -21,8 +25,7 @@ def main():
     if not os.path.exists(path):
         return
 
-    def report(what, got, want):
-        print(f"ok {name} {what}" if got == want else f"differs {name} {what}: {got!r}, and Linux: {want!r}")
+    report = lines_of(name, "Linux")
 
     def run(*words):
         return ran(folder, "-", *words)

@@ -14,6 +14,10 @@ import re
 import subprocess
 import sys
 
+sys.dont_write_bytecode = True
+sys.path.insert(1, os.path.dirname(os.path.dirname(os.path.abspath(__file__))))
+from harness import lines_of  # noqa: E402
+
 
 def value_of(text, size):
     """The bytes that a line `ok VALUE` says."""
@@ -30,8 +34,7 @@ def main():
     if not os.path.exists(path):
         return
 
-    def report(what, got, want):
-        print(f"ok {name} {what}" if got == want else f"differs {name} {what}: {got!r}, and Linux: {want!r}")
+    report = lines_of(name, "Linux")
 
     def run(*words):
         done = subprocess.run([program, folder, "-", *words], capture_output=True, text=True, check=False)

@@ -15,6 +15,10 @@ import sys
 
 from sectors import value_of
 
+sys.dont_write_bytecode = True
+sys.path.insert(1, os.path.dirname(os.path.dirname(os.path.abspath(__file__))))
+from harness import lines_of  # noqa: E402
+
 
 def files_of(folder):
     files = {}
@@ -31,8 +35,7 @@ def main():
     if not os.path.exists(path):
         return
 
-    def report(what, got, want):
-        print(f"ok {name} {what}" if got == want else f"differs {name} {what}: {got!r}, and it has to be {want!r}")
+    report = lines_of(name)
 
     def run(source, *words):
         done = subprocess.run([program, source, *words], capture_output=True, text=True, check=False)

@@ -3,7 +3,7 @@ import os
 import shutil
 
 from account import Events, Known, replies_of, said_of_cuts, said_of_sectors, said_of_session
-from make_small import fletcher64
+from formats import fletcher64
 from program import Sectors, listing, made_set, run, shape_of
 from scripts import load_script, race_script, with_cuts
 
