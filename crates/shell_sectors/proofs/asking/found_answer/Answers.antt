@@ -58,7 +58,7 @@ returns-in-Ok-Ok-clause-told g c =
 
 pub returns-in-Ok-Err-clause-told : goal.returns-in-Ok-Err-clause-told
 returns-in-Ok-Err-clause-told g c =
-    kept _ c.arena_answer.result c.reported-in-Ok-Err.result c.reported-in-Ok-Err.ensures.same
+    kept _ c.arena_answer.result c.reported.result c.reported.ensures.same
     (if_both _ _ _ c.arena_answer.result
     (λ answer says finding contents shown.
     says

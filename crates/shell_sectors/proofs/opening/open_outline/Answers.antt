@@ -24,6 +24,6 @@ pub returns-in_ok-report-in-Err : goal.returns-in_ok-report-in-Err
 returns-in_ok-report-in-Err c = (
   c.in-Err.fault,
   (λ contents. fault_found c.args.outline contents c.in_ok-areas.areas c.in_ok-areas.ensures c.in-Err.fault
-    (c.in-Err.ensures (λ e. c.in_ok-report-in-Err.ensures.finding (let same : c.in-Err.fault ≡ _ = cc in same)))),
+      (c.in-Err.ensures (λ e. c.in_ok-report-in-Err.ensures.finding (let same : c.in-Err.fault ≡ _ = cc in same)))),
   c.in_ok-report-in-Err.ensures.text,
 )
