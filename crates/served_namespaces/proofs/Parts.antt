@@ -11,16 +11,13 @@ use Rattle.arena_open.specs.declared.refused.OpenRefused.{OpenRefused}
 use Rattle.arena_open.specs.declared.state.ArenaState.{ArenaState}
 use Rattle.arena_open.specs.Chain.{found_again}
 use Rattle.arena_open.specs.Moves.{IsOpenState, move_writes, moves_made, state_of}
-use Rattle.arena_open.specs.Reading.{cell_at, opening}
+use Rattle.arena_open.specs.Reading.{opening}
 use Rattle.arena_open.specs.Writes.{written_over}
 use Rattle.arena_open.proofs.Joined.{take_part}
 use Rattle.arena_open.proofs.Own.{Lies, lies, opening_same}
-use Rattle.lane_core.specs.declared.shape.Shape.{Shape}
-use Rattle.lane_core.specs.Held.{Held}
-use Rattle.lane_core.specs.Reopening.{IsFoundAgain, MaySurvive, first_cells}
 use Rattle.sector_namespaces.proofs.Chains.{Walk}
 use Rattle.served_namespaces.specs.Putting.{put_parts, total_of}
-use Rattle.served_namespaces.specs.Serving.{ArenaCut, SectorsSurvive}
+use Rattle.served_namespaces.specs.Serving.{ArenaFits, IsOpenedFrom}
 
 -- ---- the words that are put
 
@@ -101,27 +98,25 @@ begins_with at (part ∷ parts) words has =
 
 -- ---- one arena
 
--- each arena has words that a cut may have left
-abbrev pub AreCuts : List ArenaState → List (List ℕ) → Type 0
-AreCuts [] parts = parts ≡ []
-AreCuts (state ∷ states) [] = ⊥
-AreCuts (state ∷ states) (part ∷ parts) = ((held : Held) × ArenaCut state held part) × AreCuts states parts
+-- each arena has words that may stand in its place
+abbrev pub EachFits : List ArenaState → List (List ℕ) → Type 0
+EachFits [] parts = parts ≡ []
+EachFits (state ∷ states) [] = ⊥
+EachFits (state ∷ states) (part ∷ parts) = ArenaFits state part × EachFits states parts
 
 abbrev pub AreOpenStates : List ArenaState → Type 0
 AreOpenStates [] = Unit {0}
 AreOpenStates (state ∷ states) = IsOpenState state × AreOpenStates states
 
-abbrev pub AllSurvive : List ArenaState → List ArenaState → List (List ℕ) → Type 0
-AllSurvive [] news parts = Unit {0}
-AllSurvive (state ∷ states) [] parts = ⊥
-AllSurvive (state ∷ states) (new ∷ news) [] = ⊥
-AllSurvive (state ∷ states) (new ∷ news) (part ∷ parts) = SectorsSurvive state new part × AllSurvive states news parts
-
-same_opened : (a b : Opened) → ◌≡◌ {A = Result Opened OpenRefused} (Ok a) (Ok b) → a ≡ b
-same_opened a b e = cc
+-- each arena is what opening finds in its words
+abbrev pub AreOpenedFrom : List ArenaState → List ArenaState → List (List ℕ) → Type 0
+AreOpenedFrom [] news parts = Unit {0}
+AreOpenedFrom (state ∷ states) [] parts = ⊥
+AreOpenedFrom (state ∷ states) (new ∷ news) [] = ⊥
+AreOpenedFrom (state ∷ states) (new ∷ news) (part ∷ parts) = IsOpenedFrom state part new × AreOpenedFrom states news parts
 
 module _ (was now parent : List ℕ) (long : length now ≡ length was) (at : ℕ) (state : ArenaState) (is_open : IsOpenState state) (opened : Opened) (opens : opening (drop at was) parent ≡ Ok opened)
-    (is : found_again state ≡ state_of (drop at was) opened) (inside : at ≤ length was) (part : List ℕ) (there : take (length part) (drop at now) ≡ part) (held : Held) (cut : ArenaCut state held part) where
+    (is : found_again state ≡ state_of (drop at was) opened) (inside : at ≤ length was) (part : List ℕ) (there : take (length part) (drop at now) ≡ part) (fits : ArenaFits state part) where
   none : opened.moves ≡ []
   none = nil_from_length opened.moves (sym (ap (λ (s : ArenaState). moves_made s) is))
 
@@ -134,7 +129,7 @@ module _ (was now parent : List ℕ) (long : length now ≡ length was) (at : �
   info_is = ap (λ (s : ArenaState). s.info) is
 
   pub part_long : length part ≡ opened.info.layout.size / 8
-  part_long = cut.size ∙ is_open.count ∙ ap (λ (i : Info). i.layout.size / 8) info_is
+  part_long = fits.size ∙ is_open.count ∙ ap (λ (i : Info). i.layout.size / 8) info_is
 
   state_long : length state.words ≡ opened.info.layout.size / 8
   state_long = is_open.count ∙ ap (λ (i : Info). i.layout.size / 8) info_is
@@ -155,28 +150,31 @@ module _ (was now parent : List ℕ) (long : length now ≡ length was) (at : �
       (omega (arith, length-append state.words behind, length-drop (at + length part) now, length-drop at was, long, state_long, part_long, l.inside))
       (sym own ∙ sym (take_at state.words behind (opened.info.layout.size / 8) state_long))
 
-  pub again : (h : Held) → ArenaCut state h part → IsFoundAgain state h (part ++ behind) parent
-  again h c = c.reopens.opens behind parent opened old
+  pub again : (found : Opened) × (opening (part ++ behind) parent ≡ Ok found) × (found.info ≡ state.info)
+  again = fits.opens behind parent opened old
 
   abbrev pub arena : Opened
-  arena = (again held cut).arena
+  arena = again.0
 
-  pub arena_opens : opening (drop at now) parent ≡ Ok (again held cut).arena
-  arena_opens = ap (λ (ws : List ℕ). opening ws parent) parted ∙ (again held cut).opens
+  pub arena_opens : opening (drop at now) parent ≡ Ok again.0
+  arena_opens = ap (λ (ws : List ℕ). opening ws parent) parted ∙ again.1
 
-  pub arena_info : (again held cut).arena.info ≡ opened.info
-  arena_info = (again held cut).info ∙ info_is
+  pub arena_info : again.0.info ≡ opened.info
+  arena_info = again.2 ∙ info_is
 
-  pub new_info : (again held cut).arena.info ≡ state.info
-  new_info = (again held cut).info
+  pub new_info : again.0.info ≡ state.info
+  new_info = again.2
 
-  pub survives : SectorsSurvive state (state_of (drop at now) (again held cut).arena) part
-  survives h c sector lt =
-      let f : IsFoundAgain state h (part ++ behind) parent = again h c in
-      let same : f.arena ≡ (again held cut).arena = same_opened f.arena (again held cut).arena (sym f.opens ∙ (again held cut).opens) in
-      let within : sector < h.shape.sectors = subst (λ (x : Shape). sector < x.sectors) (sym c.shape) lt in
-      subst (λ (o : Opened). MaySurvive (first_cells state) h sector (cell_at o.info.layout (state_of (drop at now) o).words sector)) same
-      (subst (λ (ws : List ℕ). MaySurvive (first_cells state) h sector (cell_at f.arena.info.layout (state_of ws f.arena).words sector)) (sym parted) (f.contents sector within))
+  pub opened_from : IsOpenedFrom state part (state_of (drop at now) again.0)
+  opened_from = record {
+    behind = behind;
+    parent = parent;
+    before = opened;
+    opened = old;
+    found = again.0;
+    opens = again.1;
+    is = ap (λ (ws : List ℕ). state_of ws again.0) parted;
+  }
 
 -- ---- all of them
 
@@ -185,53 +183,53 @@ pub record WalksNow (now parent : List ℕ) (at : ℕ) (states : List ArenaState
   pub news : List ArenaState
   pub walk : Walk now parent at news
   pub infos : map (λ (s : ArenaState). s.info) news ≡ map (λ (s : ArenaState). s.info) states
-  pub sectors : AllSurvive states news parts
+  pub arenas : AreOpenedFrom states news parts
 
 nothing_left : (states : List ArenaState) → map found_again states ≡ [] → states ≡ []
 nothing_left [] e = refl
 nothing_left (state ∷ states) e = absurd (let f = e in cc)
 
 pub walks_now : (was now parent : List ℕ) → length now ≡ length was → (at : ℕ) (states : List ArenaState) (parts : List (List ℕ)) → Walk was parent at (map found_again states) → AreOpenStates states
-    → AreCuts states parts → HasParts now at parts → WalksNow now parent at states parts
+    → EachFits states parts → HasParts now at parts → WalksNow now parent at states parts
 walks_now was now parent long at [] parts w are_open cuts has = absurd w
 walks_now was now parent long at (state ∷ states) [] w are_open cuts has = absurd cuts
 walks_now was now parent long at (state ∷ states) (part ∷ parts) w are_open cuts has =
-    let next : (arena was now parent long at state are_open.0 w.0 w.1 w.2 w.3 part has.0 cuts.0.0 cuts.0.1).info.next ≡ w.0.info.next =
-    ap (λ (i : Info). i.next) (arena_info was now parent long at state are_open.0 w.0 w.1 w.2 w.3 part has.0 cuts.0.0 cuts.0.1) in
+    let next : (arena was now parent long at state are_open.0 w.0 w.1 w.2 w.3 part has.0 cuts.0).info.next ≡ w.0.info.next =
+    ap (λ (i : Info). i.next) (arena_info was now parent long at state are_open.0 w.0 w.1 w.2 w.3 part has.0 cuts.0) in
     let l : Lies (length was) at w.0 = lies was parent at w.0 w.3 w.1 in
     elim w.4 [
       | inl last ↦
           let none : states ≡ [] = nothing_left states last.1 in
           record {
-            news = state_of (drop at now) (arena was now parent long at state are_open.0 w.0 w.1 w.2 w.3 part has.0 cuts.0.0 cuts.0.1) ∷ [];
+            news = state_of (drop at now) (arena was now parent long at state are_open.0 w.0 w.1 w.2 w.3 part has.0 cuts.0) ∷ [];
             walk = (
-              arena was now parent long at state are_open.0 w.0 w.1 w.2 w.3 part has.0 cuts.0.0 cuts.0.1,
-              arena_opens was now parent long at state are_open.0 w.0 w.1 w.2 w.3 part has.0 cuts.0.0 cuts.0.1,
+              arena was now parent long at state are_open.0 w.0 w.1 w.2 w.3 part has.0 cuts.0,
+              arena_opens was now parent long at state are_open.0 w.0 w.1 w.2 w.3 part has.0 cuts.0,
               refl,
               omega (arith, w.3, long),
               inl (next ∙ last.0, refl),
             );
-            infos = (λ i. new_info was now parent long at state are_open.0 w.0 w.1 w.2 w.3 part has.0 cuts.0.0 cuts.0.1 i ∷ map (λ (s : ArenaState). s.info) (sym none i));
-            sectors = (
-              survives was now parent long at state are_open.0 w.0 w.1 w.2 w.3 part has.0 cuts.0.0 cuts.0.1,
-              subst (λ (ss : List ArenaState). AllSurvive ss [] parts) (sym none) tt,
+            infos = (λ i. new_info was now parent long at state are_open.0 w.0 w.1 w.2 w.3 part has.0 cuts.0 i ∷ map (λ (s : ArenaState). s.info) (sym none i));
+            arenas = (
+              opened_from was now parent long at state are_open.0 w.0 w.1 w.2 w.3 part has.0 cuts.0,
+              subst (λ (ss : List ArenaState). AreOpenedFrom ss [] parts) (sym none) tt,
             );
           }
       | inr more ↦
           let size : at + length part ≡ at + w.0.info.next / 8 =
-          omega (arith, part_long was now parent long at state are_open.0 w.0 w.1 w.2 w.3 part has.0 cuts.0.0 cuts.0.1, l.next_is more.0) in
+          omega (arith, part_long was now parent long at state are_open.0 w.0 w.1 w.2 w.3 part has.0 cuts.0, l.next_is more.0) in
           let rest : WalksNow now parent (at + w.0.info.next / 8) states parts =
           walks_now was now parent long (at + w.0.info.next / 8) states parts more.1 are_open.1 cuts.1 (subst (λ (p : ℕ). HasParts now p parts) size has.1) in
           record {
-            news = state_of (drop at now) (arena was now parent long at state are_open.0 w.0 w.1 w.2 w.3 part has.0 cuts.0.0 cuts.0.1) ∷ rest.news;
+            news = state_of (drop at now) (arena was now parent long at state are_open.0 w.0 w.1 w.2 w.3 part has.0 cuts.0) ∷ rest.news;
             walk = (
-              arena was now parent long at state are_open.0 w.0 w.1 w.2 w.3 part has.0 cuts.0.0 cuts.0.1,
-              arena_opens was now parent long at state are_open.0 w.0 w.1 w.2 w.3 part has.0 cuts.0.0 cuts.0.1,
+              arena was now parent long at state are_open.0 w.0 w.1 w.2 w.3 part has.0 cuts.0,
+              arena_opens was now parent long at state are_open.0 w.0 w.1 w.2 w.3 part has.0 cuts.0,
               refl,
               omega (arith, w.3, long),
               inr ((λ e. more.0 (sym next ∙ e)), subst (λ (n : ℕ). Walk now parent (at + n / 8) rest.news) (sym next) rest.walk),
             );
-            infos = (λ i. new_info was now parent long at state are_open.0 w.0 w.1 w.2 w.3 part has.0 cuts.0.0 cuts.0.1 i ∷ rest.infos i);
-            sectors = (survives was now parent long at state are_open.0 w.0 w.1 w.2 w.3 part has.0 cuts.0.0 cuts.0.1, rest.sectors);
+            infos = (λ i. new_info was now parent long at state are_open.0 w.0 w.1 w.2 w.3 part has.0 cuts.0 i ∷ rest.infos i);
+            arenas = (opened_from was now parent long at state are_open.0 w.0 w.1 w.2 w.3 part has.0 cuts.0, rest.arenas);
           }
     ]

@@ -13,7 +13,6 @@ use Rattle.arena_open.specs.Chain.{found_again}
 use Rattle.arena_open.specs.Moves.{IsOpenState}
 use Rattle.arena_open.specs.Writes.{IsSettled}
 use Rattle.arena_open.proofs.Own.{Lies, lies}
-use Rattle.lane_core.specs.Held.{Held}
 use Rattle.power_cut.specs.Namespace.{beside_of, words_of}
 use Rattle.namespace_areas.specs.Finding.{LiesInSet, set_at}
 use Rattle.sector_namespaces.specs.Creation.{AreSettled}
@@ -25,11 +24,11 @@ use Rattle.served_namespaces.specs.declared.places.FoundNamespace.{FoundNamespac
 use Rattle.served_namespaces.specs.declared.places.OpenedNamespace.{OpenedNamespace}
 use Rattle.served_namespaces.specs.Places.{ShareNoAddress, KeepsBeside, PlaceBytes, arena_words, place_in, words_at}
 use Rattle.served_namespaces.specs.Putting.{put_parts, total_of}
-use Rattle.served_namespaces.specs.Serving.{AreLeft, ArenasCut, ArenaCut, BeginsWith, IsHeld, IsLeft, SectorsSurvive}
+use Rattle.served_namespaces.specs.Serving.{AreLeft, ArenaFits, ArenasFit, BeginsWith, IsHeld, IsLeft, IsOpenedFrom}
 use Rattle.served_namespaces.specs.Steps.{IsReady}
 use Rattle.served_namespaces.proofs.Apart.{counts, others_stay, settled_now, usable_same}
 use Rattle.served_namespaces.proofs.Arenas.{again_words, all_inside, words_cons}
-use Rattle.served_namespaces.proofs.Parts.{AllSurvive, AreCuts, AreOpenStates, WalksNow, begins_with, has_parts, parts_behind, parts_length, total_cons, walks_now}
+use Rattle.served_namespaces.proofs.Parts.{AreOpenedFrom, AreOpenStates, EachFits, WalksNow, begins_with, has_parts, parts_behind, parts_length, total_cons, walks_now}
 use Rattle.served_namespaces.proofs.Steps.{got_below, got_contains, got_item, keeps_beside, place_of}
 
 -- ---- one namespace
@@ -38,35 +37,35 @@ pub open_states : (states : List ArenaState) → All IsOpenState states → AreO
 open_states [] all = tt
 open_states (state ∷ states) all = (All-head IsOpenState state states all, open_states states (All-tail IsOpenState state states all))
 
-abbrev CutAt : List ArenaState → List (List ℕ) → Type 0
-CutAt states parts = (k : ℕ) (state : ArenaState) (words : List ℕ) → slice_get states k ≡ Some state → slice_get parts k ≡ Some words → (held : Held) × ArenaCut state held words
+abbrev FitAt : List ArenaState → List (List ℕ) → Type 0
+FitAt states parts = (k : ℕ) (state : ArenaState) (words : List ℕ) → slice_get states k ≡ Some state → slice_get parts k ≡ Some words → ArenaFits state words
 
-pub are_cuts : (states : List ArenaState) (parts : List (List ℕ)) → length parts ≡ length states → CutAt states parts → AreCuts states parts
-are_cuts [] [] count each = refl
-are_cuts [] (part ∷ parts) count each = absurd (omega (arith, count))
-are_cuts (state ∷ states) [] count each = absurd (omega (arith, count))
-are_cuts (state ∷ states) (part ∷ parts) count each = (each 0 state part refl refl, are_cuts states parts (omega (arith, count)) (λ k s w at_s at_w. each (suc k) s w at_s at_w))
+pub each_fits : (states : List ArenaState) (parts : List (List ℕ)) → length parts ≡ length states → FitAt states parts → EachFits states parts
+each_fits [] [] count each = refl
+each_fits [] (part ∷ parts) count each = absurd (omega (arith, count))
+each_fits (state ∷ states) [] count each = absurd (omega (arith, count))
+each_fits (state ∷ states) (part ∷ parts) count each = (each 0 state part refl refl, each_fits states parts (omega (arith, count)) (λ k s w at_s at_w. each (suc k) s w at_s at_w))
 
-pub parts_total : (states : List ArenaState) (parts : List (List ℕ)) → AreOpenStates states → AreCuts states parts → total_of parts ≡ arena_words states
+pub parts_total : (states : List ArenaState) (parts : List (List ℕ)) → AreOpenStates states → EachFits states parts → total_of parts ≡ arena_words states
 parts_total [] parts are_open cuts = ap total_of cuts
 parts_total (state ∷ states) [] are_open cuts = absurd cuts
 parts_total (state ∷ states) (part ∷ parts) are_open cuts =
-    omega (arith, total_cons part parts, words_cons state states, cuts.0.1.size, are_open.0.count, parts_total states parts are_open.1 cuts.1)
+    omega (arith, total_cons part parts, words_cons state states, cuts.0.size, are_open.0.count, parts_total states parts are_open.1 cuts.1)
 
-pub by_place : (states news : List ArenaState) (parts : List (List ℕ)) → AllSurvive states news parts → (k : ℕ) (state new : ArenaState) (words : List ℕ) → slice_get states k ≡ Some state → slice_get news k ≡ Some new
-    → slice_get parts k ≡ Some words → SectorsSurvive state new words
+pub by_place : (states news : List ArenaState) (parts : List (List ℕ)) → AreOpenedFrom states news parts → (k : ℕ) (state new : ArenaState) (words : List ℕ) → slice_get states k ≡ Some state → slice_get news k ≡ Some new
+    → slice_get parts k ≡ Some words → IsOpenedFrom state words new
 by_place [] news parts all k state new words at_s at_n at_w = absurd (none-some state at_s)
 by_place (s ∷ ss) [] parts all k state new words at_s at_n at_w = absurd all
 by_place (s ∷ ss) (n ∷ ns) [] all k state new words at_s at_n at_w = absurd all
 by_place (s ∷ ss) (n ∷ ns) (p ∷ ps) all zero state new words at_s at_n at_w =
-    subst (λ (x : ArenaState). SectorsSurvive x new words) (same_Some s state at_s) (subst (λ (x : ArenaState). SectorsSurvive s x words) (same_Some n new at_n) (subst (λ (x : List ℕ). SectorsSurvive s n x) (same_Some p words at_w) all.0))
+    subst (λ (x : ArenaState). IsOpenedFrom x words new) (same_Some s state at_s) (subst (λ (x : ArenaState). IsOpenedFrom s words x) (same_Some n new at_n) (subst (λ (x : List ℕ). IsOpenedFrom s x n) (same_Some p words at_w) all.0))
 by_place (s ∷ ss) (n ∷ ns) (p ∷ ps) all (suc k) state new words at_s at_n at_w = by_place ss ns ps all.1 k state new words at_s at_n at_w
 
 some_in : (words parent : List ℕ) (states : List ArenaState) → Walk words parent 0 states → length words ≢ 0
 some_in words parent [] w e = w
 some_in words parent (state ∷ states) w e = let l : Lies (length words) 0 w.0 = lies words parent 0 w.0 w.3 w.1 in omega (arith, l.large, l.inside, e)
 
-module _ (sets : List (List Mapping)) (rows : List Words) (o : OpenedNamespace) (parts : List (List ℕ)) (held : IsHeld sets rows o) (cut : ArenasCut o parts) where
+module _ (sets : List (List Mapping)) (rows : List Words) (o : OpenedNamespace) (parts : List (List ℕ)) (held : IsHeld sets rows o) (cut : ArenasFit o parts) where
   abbrev was : List ℕ
   was = words_at sets o.place.found rows
 
@@ -76,8 +75,8 @@ module _ (sets : List (List Mapping)) (rows : List Words) (o : OpenedNamespace) 
   opens : AreOpenStates o.states
   opens = open_states o.states held.are_open.each
 
-  cuts : AreCuts o.states parts
-  cuts = are_cuts o.states parts cut.count cut.each
+  cuts : EachFits o.states parts
+  cuts = each_fits o.states parts cut.count cut.each
 
   total : total_of parts ≡ arena_words o.states
   total = parts_total o.states parts opens cuts
@@ -109,7 +108,7 @@ module _ (sets : List (List Mapping)) (rows : List Words) (o : OpenedNamespace) 
           ∙ some_words (put_parts 0 parts (words_at sets o.place.found rows)) o.place.uuid (some_in (put_parts 0 parts (words_at sets o.place.found rows)) o.place.uuid walks.news walks.walk)
           ∙ back (length (put_parts 0 parts (words_at sets o.place.found rows))) (put_parts 0 parts (words_at sets o.place.found rows)) o.place.uuid 0 0 walks.news walks.walk (omega arith);
       infos = walks.infos;
-      sectors = by_place o.states walks.news parts walks.sectors;
+      arenas = by_place o.states walks.news parts walks.arenas;
       words = begins;
     }
 
@@ -165,7 +164,7 @@ pub record Next (sets : List (List Mapping)) (opened : List OpenedNamespace) (wo
   pub at : slice_get opened i ≡ Some o
   pub is : o.place ≡ place
   pub held : IsHeld sets rows o
-  pub cut : ArenasCut o parts
+  pub cut : ArenasFit o parts
   pub there : slice_get words i ≡ Some parts
 
 pub next_of : (sets : List (List Mapping)) (loaded : List Words) (places : List FoundNamespace) (opened : List OpenedNamespace) (words : List (List (List ℕ))) (first rows : List Words) (i : ℕ) (place : FoundNamespace)
@@ -174,11 +173,11 @@ pub next_of : (sets : List (List Mapping)) (loaded : List Words) (places : List 
 next_of sets loaded places opened words first rows i place parts ready so_far lt is parts_are =
     let count : length opened ≡ length places = sym (length-map opened place_of) ∙ ap length ready.places_are in
     let o = item_at opened i (omega (arith, lt, count)) in
-    let below : i < length words = omega (arith, lt, count, ready.cut.count) in
+    let below : i < length words = omega (arith, lt, count, ready.fit.count) in
     let there : slice_get words i ≡ Some parts = got_item words i parts below (parts_are below) in
     let same : o.0.place ≡ place =
     same_Some o.0.place place (sym (place_at opened i o.0 o.1) ∙ ap (λ ps. slice_get ps i) ready.places_are ∙ got_item places i place lt is) in
-    record { o = o.0; at = o.1; is = same; held = so_far.held i o.0 (omega arith) o.1; cut = ready.cut.each i o.0 parts o.1 there; there = there }
+    record { o = o.0; at = o.1; is = same; held = so_far.held i o.0 (omega arith) o.1; cut = ready.fit.each i o.0 parts o.1 there; there = there }
 
 -- what the next one asks of its set and its words
 pub record CanPut (sets : List (List Mapping)) (rows : List Words) (place : FoundNamespace) (parts : List (List ℕ)) : Type 0 where
@@ -219,7 +218,7 @@ module _ (sets : List (List Mapping)) (sound : PlaceBytes sets) (loaded : List W
         news = l.news;
         opens = ap (λ (ws : List ℕ). opened_view ws o.place.uuid) (stay k o (λ e. omega (arith, lt, e)) at_o there) ∙ l.opens;
         infos = l.infos;
-        sectors = l.sectors;
+        arenas = l.arenas;
         words = ap (take (arena_words o.states)) (stay k o (λ e. omega (arith, lt, e)) at_o there) ∙ l.words;
       }
 

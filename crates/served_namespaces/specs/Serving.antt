@@ -1,13 +1,13 @@
 -- Namespaces whose arenas are opened, over the words of all modules, and what putting their arenas back makes of these words.
-use Rattle.std.specs.Prelude.{◌≡◌, ℕ, ◌<◌, List, flat_map, length, map, slice_get, take, Contains, Some, Ok}
+use Rattle.std.specs.Prelude.{◌≡◌, ℕ, ◌++◌, List, flat_map, length, map, slice_get, take, Contains, Some, Ok}
 use Rattle.cut_words.specs.Words.{Words}
 use Rattle.nfit_reader.specs.declared.table.Mapping.{Mapping}
+use Rattle.arena_open.specs.declared.opened.Opened.{Opened}
 use Rattle.arena_open.specs.declared.state.ArenaState.{ArenaState}
 use Rattle.arena_open.specs.Chain.{found_again}
 use Rattle.arena_open.specs.ChainCells.{AreOpen}
-use Rattle.lane_core.specs.Arenas.{shape_in}
-use Rattle.lane_core.specs.Held.{Held}
-use Rattle.lane_core.specs.Reopening.{MaySurvive, Reopens, first_cells}
+use Rattle.arena_open.specs.Moves.{state_of}
+use Rattle.arena_open.specs.Reading.{opening}
 use Rattle.namespace_areas.specs.declared.found.Found.{Found}
 use Rattle.namespace_areas.specs.Finding.{LiesInSet}
 use Rattle.sector_namespaces.specs.Creation.{AreSettled}
@@ -37,25 +37,31 @@ pub record AreServing (sets : List (List Mapping)) (loaded : List Words) (opened
 
 -- ---- what is put back
 
--- These may be the words of an arena after a power cut of a core that held this, and that began with the arena.
-pub record ArenaCut (state : ArenaState) (held : Held) (words : List ℕ) : Type 0 where
-  pub shape : held.shape ≡ shape_in state
+-- These words may stand in the place of an arena's. Wherever the arena's own words opened, they open as an arena with the same info.
+pub record ArenaFits (state : ArenaState) (words : List ℕ) : Type 0 where
   pub size : length words ≡ length state.words
-  pub reopens : Reopens state held words
+  pub opens : (behind parent : List ℕ) (arena : Opened) → opening (state.words ++ behind) parent ≡ Ok arena → (found : Opened) × (opening (words ++ behind) parent ≡ Ok found) × (found.info ≡ state.info)
 
 -- each arena of a namespace has such words
-pub record ArenasCut (o : OpenedNamespace) (parts : List (List ℕ)) : Type 0 where
+pub record ArenasFit (o : OpenedNamespace) (parts : List (List ℕ)) : Type 0 where
   pub count : length parts ≡ length o.states
-  pub each : (k : ℕ) (state : ArenaState) (words : List ℕ) → slice_get o.states k ≡ Some state → slice_get parts k ≡ Some words → (held : Held) × ArenaCut state held words
+  pub each : (k : ℕ) (state : ArenaState) (words : List ℕ) → slice_get o.states k ≡ Some state → slice_get parts k ≡ Some words → ArenaFits state words
 
 -- so has each arena of each namespace
-pub record AreCut (opened : List OpenedNamespace) (words : List (List (List ℕ))) : Type 0 where
+pub record AllFit (opened : List OpenedNamespace) (words : List (List (List ℕ))) : Type 0 where
   pub count : length words ≡ length opened
-  pub each : (k : ℕ) (o : OpenedNamespace) (parts : List (List ℕ)) → slice_get opened k ≡ Some o → slice_get words k ≡ Some parts → ArenasCut o parts
+  pub each : (k : ℕ) (o : OpenedNamespace) (parts : List (List ℕ)) → slice_get opened k ≡ Some o → slice_get words k ≡ Some parts → ArenasFit o parts
 
--- whatever a core held of which the cut left these words: each sector has a cell that may survive
-abbrev pub SectorsSurvive : ArenaState → ArenaState → List ℕ → Type 0
-SectorsSurvive state new words = (held : Held) → ArenaCut state held words → (sector : ℕ) → sector < state.info.layout.external → MaySurvive (first_cells state) held sector (first_cells new sector)
+-- This arena is what opening finds in the words, in a place in which the arena's own words opened. So whatever is promised of the words
+-- wherever those opened is true of this arena.
+pub record IsOpenedFrom (state : ArenaState) (words : List ℕ) (new : ArenaState) : Type 0 where
+  pub behind : List ℕ
+  pub parent : List ℕ
+  pub before : Opened
+  pub opened : opening (state.words ++ behind) parent ≡ Ok before
+  pub found : Opened
+  pub opens : opening (words ++ behind) parent ≡ Ok found
+  pub is : new ≡ state_of (words ++ behind) found
 
 -- the words of a namespace begin with these parts, one behind another: those of its arenas
 abbrev pub BeginsWith : List ℕ → List ArenaState → List (List ℕ) → Type 0
@@ -66,7 +72,7 @@ pub record IsLeft (sets : List (List Mapping)) (now : List Words) (o : OpenedNam
   pub news : List ArenaState
   pub opens : opened_view (words_at sets o.place.found now) o.place.uuid ≡ Ok news
   pub infos : map (λ (s : ArenaState). s.info) news ≡ map (λ (s : ArenaState). s.info) o.states
-  pub sectors : (k : ℕ) (state new : ArenaState) (words : List ℕ) → slice_get o.states k ≡ Some state → slice_get news k ≡ Some new → slice_get parts k ≡ Some words → SectorsSurvive state new words
+  pub arenas : (k : ℕ) (state new : ArenaState) (words : List ℕ) → slice_get o.states k ≡ Some state → slice_get news k ≡ Some new → slice_get parts k ≡ Some words → IsOpenedFrom state words new
   pub words : BeginsWith (words_at sets o.place.found now) o.states parts
 
 -- The words of all modules after the arenas of all these namespaces were put back.

@@ -17,7 +17,7 @@ use Rattle.served_namespaces.specs.declared.places.NotOpened.{NotOpened}
 use Rattle.served_namespaces.specs.declared.places.NotOpened.TheVariants.{Broken, OutOfMemory}
 use Rattle.served_namespaces.specs.declared.places.OpenedNamespace.{OpenedNamespace}
 use Rattle.served_namespaces.specs.Places.{ShareNoAddress, CanOpen, KeepsBehind, words_at}
-use Rattle.served_namespaces.specs.Serving.{AreCut, AreServing}
+use Rattle.served_namespaces.specs.Serving.{AllFit, AreServing}
 
 -- ---- finding
 
@@ -64,4 +64,4 @@ pub record Follows (sets : List (List Mapping)) (loaded : List Words) (place : F
 pub record IsReady (sets : List (List Mapping)) (loaded : List Words) (places : List FoundNamespace) (opened : List OpenedNamespace) (words : List (List (List ℕ))) (now : List Words) : Type 0 where
   pub places_are : map (λ (o : OpenedNamespace). o.place) opened ≡ places
   pub serving : AreServing sets loaded opened now
-  pub cut : AreCut opened words
+  pub fit : AllFit opened words

@@ -96,11 +96,11 @@ fn put_namespaces(
 /// Puts the words of all arenas of namespaces that are open back into the words of the modules.
 ///
 /// `places` are those with which `open_each` opened them, and `modules` the words that it returned. `words` has for each namespace, in
-/// order, the words of each of its arenas, in order: what a power cut of the arena's core may
-/// leave (`ArenaCut`).
+/// order, the words of each of its arenas, in order. They must open wherever the arena's own words
+/// did (`ArenaFits`); a power cut behind sessions leaves such words.
 ///
 /// Each namespace begins with these words, one arena behind another, and opens in its place as
-/// arenas with the same info. No word is pending, and no word that isn't an arena's has changed
+/// arenas with the same info, which are what opening finds in these words (`IsOpenedFrom`). No word is pending, and no word that isn't an arena's has changed
 /// since the words were loaded (`AreLeft`). The call takes a few bytes for each module; it fails only if memory runs out.
 pub fn put_each(
     alloc: Global,

@@ -14,7 +14,10 @@ pub record Flight : Type 0 where
 abbrev pub IsLeftBy : ℕ → Cell → Flight → Type 0
 IsLeftBy sector left flight = (flight.sector ≡ sector) × MayLeave flight.act left
 
--- each of so many sectors has its cell at the history's end, or what one call in flight may leave
+-- a cell that a sector may have then: the one at the history's end, or what one call in flight may leave
+abbrev pub MayRemain : Cells → List Entry → List Flight → ℕ → Cell → Type 0
+MayRemain first history flights sector left = (left ≡ end_of first history sector) ⊎ Any (IsLeftBy sector left) flights
+
+-- each of so many sectors has such a cell
 abbrev pub Survives : Cells → List Entry → List Flight → ℕ → Cells → Type 0
-Survives first history flights count left =
-    (sector : ℕ) → sector < count → (left sector ≡ end_of first history sector) ⊎ Any (IsLeftBy sector (left sector)) flights
+Survives first history flights count left = (sector : ℕ) → sector < count → MayRemain first history flights sector (left sector)

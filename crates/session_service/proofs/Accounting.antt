@@ -14,12 +14,18 @@ use Rattle.turn_callers.specs.declared.desk.Desk.{Desk}
 use Rattle.turn_callers.specs.declared.desk.Mine.{Mine}
 use Rattle.turn_callers.specs.Power.{mine_at}
 use Rattle.turn_callers.proofs.Any.{off_if_told, some_of}
+use Rattle.cut_words.specs.Words.{Words}
+use Rattle.arena_open.specs.declared.cell.Cell.{Cell}
 use Rattle.arena_open.specs.declared.state.ArenaState.{ArenaState}
+use Rattle.arena_open.specs.Moves.{state_of}
+use Rattle.arena_open.specs.Reading.{cell_at}
+use Rattle.lane_core.specs.declared.history.Entry.{Entry as HistoryEntry}
 use Rattle.lane_core.specs.declared.in_call.InCall.{InCall}
 use Rattle.lane_core.specs.declared.machine.Core.{Core}
+use Rattle.lane_core.specs.declared.shape.Shape.{Shape as CoreShape}
 use Rattle.lane_core.specs.Held.{held_by}
 use Rattle.lane_core.specs.History.{Cells, IsLegal}
-use Rattle.lane_core.specs.Reopening.{first_cells}
+use Rattle.lane_core.specs.Reopening.{MaySurvive, Reopens, first_cells}
 use Rattle.lane_core.specs.Sessions.{CoreSurvives, answered_in, calls_in}
 use Rattle.lane_core.proofs.Flying.{survivors_are_calls}
 use Rattle.namespace_areas.specs.declared.area.Area.{Area}
@@ -40,6 +46,7 @@ use Rattle.session_account.specs.Sectors.{InHistory}
 use Rattle.session_account.specs.Parts as parts
 use Rattle.session_account.specs.Parts.{AreClosed, Calls, IsOfCut, PowerPart, RegistryPart, registry_part, ToldOfOne}
 use Rattle.session_account.specs.Serving.{Serving, Shape, IsArena, no_serving}
+use Rattle.session_account.specs.Survival.{MayRemain}
 use Rattle.session_account.specs.Words.{AreasHold}
 use Rattle.session_account.proofs.Following.{accounts_follow, either}
 use Rattle.session_account.proofs.Surviving.{survival_follows}
@@ -50,14 +57,15 @@ use Rattle.session_service.specs.declared.ending.Ran.{Ran}
 use Rattle.session_service.specs.declared.namespaces.ServedNamespace.{ServedNamespace}
 use Rattle.session_service.specs.declared.runner.Runner.{Runner}
 use Rattle.session_service.specs.declared.service.Service.{Service}
-use Rattle.session_service.specs.Closed.{AreShared, IsShared, KnowAll, PartsAreKnown}
+use Rattle.session_service.specs.Closed.{AreEndsOf, AreShared, IsEndOf, IsShared, KnowAll, PartsAreKnown}
 use Rattle.session_service.specs.Made.{IsMade, states_in}
 use Rattle.session_service.specs.Namespaces.{arenas_in, core_at, serving_of, servings_of, shape_by}
-use Rattle.session_service.specs.Ran.{HasServed, IsRunCore, histories_of, history_in, in_row, journal_of, replies_of}
+use Rattle.session_service.specs.Ran.{HasServed, IsRunArena, in_row, journal_of, replies_of}
 use Rattle.session_service.specs.Runners.{AreEnded, IsDone, calls_by, power_by, stands_by, who_by, who_if}
 use Rattle.session_service.specs.Seated.{IsQuiet, KeepAllButCores}
 use Rattle.session_service.specs.Services.{all_of, arena_at, arena_of, arenas_of, locks_of, orders_of, power_of}
 use Rattle.session_service.proofs.Cores.{behind, core_there}
+use Rattle.session_service.proofs.Ends.{ends_there}
 
 -- ---- the cores of one row
 
@@ -69,9 +77,9 @@ get_there (x ∷ xs) (suc i) h = get_there xs i (omega (arith, h))
 heads : {x y : ℕ} {xs ys : List ℕ} → x ∷ xs ≡ y ∷ ys → (x ≡ y) × (xs ≡ ys)
 heads e = (cc, cc)
 
--- core k of a namespace
-pub row_at : {Z : Type 0} (all : List Serving) (vs : List (Vec Core Z)) (place k : ℕ) → map (λ c. length c.items) vs ≡ map (λ s. length s.arenas) all → IsArena all place k
-    → (core : Core) × (slice_get (items_at vs place) k ≡ Some core) × ((d : Core) → get_or (in_row vs) (core_at all place k) d ≡ core)
+-- arena k of a namespace
+pub row_at : {X Z : Type 0} (all : List Serving) (vs : List (Vec X Z)) (place k : ℕ) → map (λ c. length c.items) vs ≡ map (λ s. length s.arenas) all → IsArena all place k
+    → (x : X) × (slice_get (items_at vs place) k ≡ Some x) × ((d : X) → get_or (in_row vs) (core_at all place k) d ≡ x)
 row_at [] vs place k counts h = absurd (omega (arith, h))
 row_at (s ∷ all) [] place k counts h = absurd (cc)
 row_at (s ∷ all) (v ∷ vs) zero k counts h =
@@ -84,14 +92,14 @@ row_at (s ∷ all) (v ∷ vs) (suc place) k counts h =
     (r.0, r.1, λ d. ap (λ (n : ℕ). get_or (v.items ++ in_row vs) (n + core_at all place k) d) (sym e.0) ∙ behind v.items (in_row vs) (core_at all place k) d ∙ r.2 d)
 
 -- as many as arenas
-pub counts_at : {Z : Type 0} (all : List Serving) (vs : List (Vec Core Z)) (place : ℕ) → map (λ c. length c.items) vs ≡ map (λ s. length s.arenas) all → length (items_at vs place) ≡ length (get_or all place no_serving).arenas
+pub counts_at : {X Z : Type 0} (all : List Serving) (vs : List (Vec X Z)) (place : ℕ) → map (λ c. length c.items) vs ≡ map (λ s. length s.arenas) all → length (items_at vs place) ≡ length (get_or all place no_serving).arenas
 counts_at [] [] place e = refl
 counts_at [] (v ∷ vs) place e = absurd (cc)
 counts_at (s ∷ all) [] place e = absurd (cc)
 counts_at (s ∷ all) (v ∷ vs) zero e = (heads e).0
 counts_at (s ∷ all) (v ∷ vs) (suc place) e = counts_at all vs place (heads e).1
 
-pub same_count : {Z : Type 0} (all : List Serving) (vs : List (Vec Core Z)) → map (λ c. length c.items) vs ≡ map (λ s. length s.arenas) all → length vs ≡ length all
+pub same_count : {X Z : Type 0} (all : List Serving) (vs : List (Vec X Z)) → map (λ c. length c.items) vs ≡ map (λ s. length s.arenas) all → length vs ≡ length all
 same_count all vs e = let l = ap (λ (ns : List ℕ). length ns) e in let a = length-map vs (λ c. length c.items) in let b = length-map all (λ (s : Serving). length s.arenas) in omega (arith, l, a, b)
 
 pub served_count : (served : List ServedNamespace) (place : ℕ) (n : ServedNamespace) → place < length served → length (get_or (servings_of served) place no_serving).arenas ≡ length (get_or served place n).arenas.items
@@ -131,13 +139,33 @@ none_over count (c ∷ cs) none = (inside (either c.tag.session count), none_ove
     inside (inl lt) = lt
     inside (inr over) = absurd (kept (c.tag.session == c.tag.session) (calls_of c.tag.session cs) (eq-eqb c.tag.session c.tag.session refl) (none c.tag.session over))
 
+-- the history of a core, without reads that weren't answered
+abbrev history_in : Option Core → List HistoryEntry
+history_in None = []
+history_in (Some core) = answered_in core.lanes.items core.history.entries
+
 -- the lanes that are in calls
-abbrev pub calls_in_core : Option Core → List InCall
+abbrev calls_in_core : Option Core → List InCall
 calls_in_core None = []
 calls_in_core (Some core) = calls_in (held_by core)
 
-abbrev pub lanes_of : {Z : Type 0} → List (Vec Core Z) → Calls
-lanes_of vs place k = calls_in_core (slice_get (items_at vs place) k)
+-- ---- the words after a power cut
+
+-- cells that one account allows are those that another does
+pub reopens_weaker : (state : ArenaState) (May Might : ℕ → Cell → Type 0) → ((cells : Cells) → ((t : ℕ) → t < state.info.layout.external → May t (cells t)) → (t : ℕ) → t < state.info.layout.external → Might t (cells t))
+    → (left : List ℕ) → Reopens state May left → Reopens state Might left
+reopens_weaker state May Might weaker left r = record {
+  size = r.size;
+  fixed = r.fixed;
+  opens = λ behind parent arena opens.
+      let f = r.opens behind parent arena opens in
+      record {
+        arena = f.arena;
+        opens = f.opens;
+        info = f.info;
+        contents = weaker (λ t. cell_at f.arena.info.layout (state_of (left ++ behind) f.arena).words t) f.contents;
+      };
+}
 
 -- ---- the switch
 
@@ -237,7 +265,7 @@ many_cores registry served_all script service made =
 
 module _ (registry : Registered) (served_all : List ServedNamespace) (script : Script) (service : Service) (made : IsMade registry served_all script service) (rs rs' : List Runner) (count : length rs ≡ length script.sessions) (ended : AreEnded service script rs) (lasted : All (λ r. r.refused ≡ false) rs)
     (same : length rs' ≡ length rs) (rest : KeepAllButCores rs rs') (row : List Core) (shared : AreShared (length script.sessions) (arenas_of service) row) (row_count : length row ≡ length service.turns.items) (known : PartsAreKnown (locks_of service) (arenas_of service) rs row)
-    (ran : Ran) (in_row_is : in_row ran.cores.items ≡ row) (counts : map (λ c. length c.items) ran.cores.items ≡ map (λ s. length s.arenas) (all_of service)) (replies_is : ran.replies.items ≡ map (λ r. r.replies) rs')
+    (ends : List Words) (are_ends : AreEndsOf row ends) (ran : Ran) (in_row_is : in_row ran.arenas.items ≡ ends) (counts : map (λ c. length c.items) ran.arenas.items ≡ map (λ s. length s.arenas) (all_of service)) (replies_is : ran.replies.items ≡ map (λ r. r.replies) rs')
     (owns : All (λ p. KnowsOwn ran.registry p) (map (λ r. r.orders) rs')) (strangers : (q : ℕ) → length script.sessions ≤ q → own_entries q (journal_of ran) ≡ [])
     (desk : Desk) (desk_knows : All (λ p. PassKnows desk p) (map (λ r. r.session.caller.switch) rs'))
     (desk_strangers : (q : ℕ) → length script.sessions ≤ q → mine_at desk.stopped.items desk.told.items q ≡ mine_at (first_of service.switch.turn).stopped.items (first_of service.switch.turn).told.items q) where
@@ -254,10 +282,10 @@ module _ (registry : Registered) (served_all : List ServedNamespace) (script : S
   all_replies = replies_of ran.replies.items
 
   abbrev histories : Histories
-  histories = histories_of ran.cores.items
+  histories place k = history_in (slice_get row (core_at all place k))
 
   abbrev lanes : Calls
-  lanes = lanes_of ran.cores.items
+  lanes place k = calls_in_core (slice_get row (core_at all place k))
 
   abbrev power : ℕ → PowerPart
   power = powers desk (first_of service.switch.turn) n made.power_first desk_strangers journal
@@ -270,10 +298,8 @@ module _ (registry : Registered) (served_all : List ServedNamespace) (script : S
       let m = length-map service.turns.items (λ t. arena_of t) in omega (arith, t, s, l, m, row_count)
 
   -- core k of a namespace
-  at : (place k : ℕ) → IsArena all place k → (core : Core) × (slice_get (items_at ran.cores.items place) k ≡ Some core) × ((d : Core) → get_or row (core_at all place k) d ≡ core)
-  at place k is =
-      let x = row_at all ran.cores.items place k counts is in
-      (x.0, x.1, λ d. ap (λ (cs : List Core). get_or cs (core_at all place k) d) (sym in_row_is) ∙ x.2 d)
+  at : (place k : ℕ) → IsArena all place k → (core : Core) × (slice_get row (core_at all place k) ≡ Some core) × ((d : Core) → get_or row (core_at all place k) d ≡ core)
+  at place k is = get_there row (core_at all place k) (near place k is)
 
   share : (place k : ℕ) (is : IsArena all place k) → IsShared n (arena_at (arenas_of service) (core_at all place k)) (at place k is).0
   share place k is = let x = at place k is in subst (λ (c : Core). IsShared n (arena_at (arenas_of service) (core_at all place k)) c) (x.2 x.0) (shared (core_at all place k) x.0 (near place k is))
@@ -336,39 +362,69 @@ module _ (registry : Registered) (served_all : List ServedNamespace) (script : S
   its_accounts : Accounts all script all_replies journal histories
   its_accounts = accounts_follow all script all_replies journal ran.registry.room histories lanes power len closed each
 
-  run_core : (place k : ℕ) (is : IsArena all place k) → IsRunCore (arena_at (arenas_of service) (core_at all place k)) (histories place k) (flights_on all place k script all_replies histories) (at place k is).0
-  run_core place k is =
+  -- the arena of a core
+  abbrev its_state : ℕ → ℕ → ArenaState
+  its_state place k = arena_at (arenas_of service) (core_at all place k)
+
+  -- what a power cut leaves of a core survives by the account
+  survives : (place k : ℕ) (is : IsArena all place k) (cells : Cells) → ((t : ℕ) → t < (its_state place k).info.layout.external → MaySurvive (first_cells (its_state place k)) (held_by (at place k is).0) t (cells t))
+      → (t : ℕ) → t < (its_state place k).info.layout.external → MayRemain (first_cells (its_state place k)) (histories place k) (flights_on all place k script all_replies histories) t (cells t)
+  survives place k is cells may t lt =
       let x = at place k is in
       let s = share place k is in
-      let state = arena_at (arenas_of service) (core_at all place k) in
+      let state = its_state place k in
+      let external : x.0.shape.sectors ≡ state.info.layout.external = ap (λ (y : CoreShape). y.sectors) s.of_arena.shape in
+      survival_follows all script all_replies journal ran.registry.room histories lanes power len closed each place k is (first_cells state) cells x.0.shape.sectors
+      (subst (λ (o : Option Core). CoreSurvives (first_cells state) (history_in o) (calls_in_core o) x.0.shape.sectors cells) (sym x.1)
+      (λ u below. elim (survivors_are_calls (first_cells state) (held_by x.0) cells (λ v inside. may v (omega (arith, inside, external))) u below) [
+        | inl e ↦ inl (e ∙ ap (λ (f : Cells). f u) (sym s.same_end))
+        | inr a ↦ inr a
+      ]))
+      t (omega (arith, lt, external))
+
+  run_arena : (place k : ℕ) (is : IsArena all place k) (words : Words) → IsEndOf (at place k is).0 words
+      → IsRunArena (its_state place k) (histories place k) (flights_on all place k script all_replies histories) words
+  run_arena place k is words end =
+      let x = at place k is in
+      let s = share place k is in
+      let state = its_state place k in
       let history : histories place k ≡ answered_in (held_by x.0).lanes (held_by x.0).entries = ap history_in x.1 in
       record {
-        of_arena = s.of_arena;
         legal = subst (λ h. IsLegal (first_cells state) h) (sym history) s.legal;
-        survives = λ left may. survival_follows all script all_replies journal ran.registry.room histories lanes power len closed each place k is (first_cells state) left x.0.shape.sectors
-            (subst (λ (o : Option Core). CoreSurvives (first_cells state) (history_in o) (calls_in_core o) x.0.shape.sectors left) (sym x.1)
-            (λ t lt. elim (survivors_are_calls (first_cells state) (held_by x.0) left may t lt) [
-              | inl e ↦ inl (e ∙ ap (λ (f : Cells). f t) (sym s.same_end))
-              | inr a ↦ inr a
-            ]));
+        at_cut = record {
+          differ = end.differ;
+          due = λ left is_left.
+              reopens_weaker state (MaySurvive (first_cells state) (held_by x.0)) (MayRemain (first_cells state) (histories place k) (flights_on all place k script all_replies histories)) (survives place k is) left
+              (end.reopens state left s.of_arena is_left);
+        };
       }
 
-  pub its_cores : (place k : ℕ) (d : ServedNamespace) (state : ArenaState) (core : Core) → place < length served_all → k < length (get_or served_all place d).arenas.items
-      → IsRunCore (get_or (get_or served_all place d).arenas.items k state) (histories place k) (flights_on (servings_of served_all) place k script all_replies histories) (get_or (items_at ran.cores.items place) k core)
-  its_cores place k d state core h g =
+  -- its words stand at its place
+  words_at : (place k : ℕ) (is : IsArena all place k) → (words : Words) × (slice_get (items_at ran.arenas.items place) k ≡ Some words) × IsEndOf (at place k is).0 words
+  words_at place k is =
+      let x = at place k is in
+      let r = row_at all ran.arenas.items place k counts is in
+      let e = ends_there row ends (core_at all place k) x.0 are_ends x.1 in
+      let same : e.0 ≡ r.0 = sym (get_of ends (core_at all place k) e.0 e.0 e.1) ∙ ap (λ (ws : List Words). get_or ws (core_at all place k) e.0) (sym in_row_is) ∙ r.2 e.0 in
+      (r.0, r.1, subst (λ (w : Words). IsEndOf x.0 w) same e.2)
+
+  pub its_arenas : (place k : ℕ) (d : ServedNamespace) (state : ArenaState) (words : Words) → place < length served_all → k < length (get_or served_all place d).arenas.items
+      → IsRunArena (get_or (get_or served_all place d).arenas.items k state) (histories place k) (flights_on (servings_of served_all) place k script all_replies histories) (get_or (items_at ran.arenas.items place) k words)
+  its_arenas place k d state words h g =
       let there' = served_count served_all place d h in
       let is : IsArena all place k = subst (λ (a : List Serving). IsArena a place k) (sym made.all) (omega (arith, there', g)) in
-      let x = at place k is in
+      let w = words_at place k is in
       let arena : arena_at (arenas_of service) (core_at all place k) ≡ get_or (get_or served_all place d).arenas.items k state =
       ap (λ (ss : List ArenaState). arena_at ss (core_at all place k)) made.arenas ∙ ap (λ (a : List Serving). arena_at (states_in served_all) (core_at a place k)) made.all ∙ state_at served_all place k d _ state h g in
-      subst (λ (a : List Serving). IsRunCore (get_or (get_or served_all place d).arenas.items k state) (histories place k) (flights_on a place k script all_replies histories) (get_or (items_at ran.cores.items place) k core)) made.all
-      (subst (λ (c : Core). IsRunCore (get_or (get_or served_all place d).arenas.items k state) (histories place k) (flights_on all place k script all_replies histories) c) (sym (get_of (items_at ran.cores.items place) k x.0 core x.1))
-      (subst (λ (a : ArenaState). IsRunCore a (histories place k) (flights_on all place k script all_replies histories) x.0) arena (run_core place k is)))
+      subst (λ (a : List Serving). IsRunArena (get_or (get_or served_all place d).arenas.items k state) (histories place k) (flights_on a place k script all_replies histories) (get_or (items_at ran.arenas.items place) k words)) made.all
+      (subst (λ (x : Words). IsRunArena (get_or (get_or served_all place d).arenas.items k state) (histories place k) (flights_on all place k script all_replies histories) x) (sym (get_of (items_at ran.arenas.items place) k w.0 words w.1))
+      (subst (λ (a : ArenaState). IsRunArena a (histories place k) (flights_on all place k script all_replies histories) w.0) arena (run_arena place k is w.0 w.2)))
 
   pub has_served : (ran.registry.sets ≡ registry.sets) × AreKept registry.opening ran.registry.areas ran.registry.stopped → IsJournal registry.sets (opening_of registry) script.labelcut journal → (ran.registry.stopped ≡ false → AreLeft registry.sets (opening_of registry) script.labelcut journal (areas_seen ran.registry.areas))
       → (ran.registry.stopped ≡ true → (rows : List (Option (List ℕ))) → AreasLeft ran.registry.areas rows → AreLeft registry.sets (opening_of registry) script.labelcut journal (areas_shown rows))
       → (AreHeld registry.opening → AreasHold registry.sets (opening_of registry) (rows_of registry.opening) script.labelcut journal (map words_of ran.registry.areas)) → HasServed registry served_all script ran
   has_served kept commands on off words = record {
+    histories = histories;
     sets = kept.0;
     areas = subst (λ (o : List Area). AreKept o ran.registry.areas ran.registry.stopped) made.areas kept.1;
     commands = commands;
@@ -376,9 +432,9 @@ module _ (registry : Registered) (served_all : List ServedNamespace) (script : S
     off = off;
     words = words;
     accounts = subst (λ (a : List Serving). Accounts a script all_replies journal histories) made.all its_accounts;
-    places = let c = same_count all ran.cores.items counts in let e = ap (λ (a : List Serving). length a) made.all in let l = length-map served_all serving_of in omega (arith, c, e, l);
-    counts = λ place d h. counts_at all ran.cores.items place counts ∙ ap (λ (a : List Serving). length (get_or a place no_serving).arenas) made.all ∙ served_count served_all place d h;
-    cores = its_cores;
+    places = let c = same_count all ran.arenas.items counts in let e = ap (λ (a : List Serving). length a) made.all in let l = length-map served_all serving_of in omega (arith, c, e, l);
+    counts = λ place d h. counts_at all ran.arenas.items place counts ∙ ap (λ (a : List Serving). length (get_or a place no_serving).arenas) made.all ∙ served_count served_all place d h;
+    arenas = its_arenas;
   }
 
 -- what a slice of a whole list leaves there

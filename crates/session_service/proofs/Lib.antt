@@ -7,4 +7,5 @@ pub mod Sending
 pub mod Locks
 pub mod Accounting
 pub mod Making
+pub mod Ends
 pub mod Splitting

@@ -2,11 +2,12 @@
 use Rattle.std.specs.Prelude.{◌≡◌, ℕ, ◌<◌, ◌≤◌, List, [], ◌∷◌, ◌++◌, length, slice_index_or}
 use Rattle.atomic_table.specs.Seated.{TableId}
 use Rattle.turn_lock.specs.declared.pass.TurnPass.{TurnPass}
+use Rattle.cut_words.specs.Words.{IsLeft, Words}
 use Rattle.arena_open.specs.declared.state.ArenaState.{ArenaState}
 use Rattle.lane_core.specs.declared.machine.Core.{Core}
 use Rattle.lane_core.specs.Held.{held_by}
 use Rattle.lane_core.specs.History.{IsLegal, end_of}
-use Rattle.lane_core.specs.Reopening.{IsCoreOf, first_cells}
+use Rattle.lane_core.specs.Reopening.{IsCoreOf, MaySurvive, Reopens, first_cells}
 use Rattle.lane_core.specs.Sessions.{answered_in}
 use Rattle.session_parts.specs.Parts.{core_part, part}
 use Rattle.sector_service.specs.contracts.served.ServedCoreParted.TheImpl.{ghosts}
@@ -14,6 +15,7 @@ use Rattle.sector_service.specs.declared.served.ServedPart.{ServedPart}
 use Rattle.sector_service.specs.Rows.{Know, Parts}
 use Rattle.sector_service.specs.Served.{Served, part_at, served}
 use Rattle.session_service.specs.declared.runner.Runner.{Runner}
+use Rattle.session_service.specs.Ends.{PendingDiffer}
 use Rattle.session_service.specs.Services.{arena_at}
 
 -- ---- giving passes back
@@ -47,3 +49,16 @@ abbrev pub PartsAreKnown : List TableId → List ArenaState → List Runner → 
 PartsAreKnown locks arenas rs cores =
     (q : ℕ) (d : Runner) (parts : Parts) (j : ℕ) (e : Core) → q < length rs → Know locks q parts (slice_index_or rs q d).session.passes.items → j < length locks
     → part_at (served (arena_at arenas j) (slice_index_or cores j e)) q ≡ parts j
+
+-- ---- their words
+
+-- The words of a core in which no session makes a step any more. Whatever a power cut leaves of them opens as its arena, with cells that
+-- may survive.
+pub record IsEndOf (core : Core) (words : Words) : Type 0 where
+  pub differ : PendingDiffer words
+  pub reopens : (state : ArenaState) (left : List ℕ) → IsCoreOf state core → IsLeft words left → Reopens state (MaySurvive (first_cells state) (held_by core)) left
+
+abbrev pub AreEndsOf : List Core → List Words → Type 0
+AreEndsOf [] ends = ends ≡ []
+AreEndsOf (core ∷ cores) [] = ⊥
+AreEndsOf (core ∷ cores) (words ∷ ends) = IsEndOf core words × AreEndsOf cores ends

@@ -3,5 +3,6 @@ pub mod Services
 pub mod Seated
 pub mod Made
 pub mod Runners
+pub mod Ends
 pub mod Closed
 pub mod Ran

@@ -11,6 +11,7 @@ ghost use Rattle.session_service.specs.Runners.{AreEnded};
 ghost use Rattle.session_service.specs.Seated.{KeepAllButCores};
 ghost use Rattle.session_service.specs.Services.{IsNewCore, arena_of};
 
+use crate::arena_end::{ArenaEnd, ends_of};
 use crate::closing::close_cores;
 use crate::namespaces::NamespaceCores;
 use crate::runner::Runner;
@@ -29,8 +30,8 @@ use turn_lock::{Turn, TurnPass};
 #[derive(Drop)]
 pub struct Ran {
     pub registry: Registry,
-    /// By namespace, in the order in which they were given, and then by arena.
-    pub cores: Vec<Vec<Core>>,
+    /// The words of each arena, by namespace in the order in which they were given, and then by arena.
+    pub arenas: Vec<Vec<ArenaEnd>>,
     /// By session, in the order of its calls.
     pub replies: Vec<Vec<Reply>>,
 }
@@ -79,24 +80,24 @@ fn hand_in(alloc: Global, runners: Vec<Runner>) -> Result<HandedIn, AllocError>
     })
 }
 
-// The cores of each namespace, out of those of all.
+// The arenas of each namespace, out of those of all.
 fn split(
     alloc: Global,
     places: &[NamespaceCores],
-    row: Vec<Core>,
-) -> Result<Vec<Vec<Core>>, AllocError>
+    row: Vec<ArenaEnd>,
+) -> Result<Vec<Vec<ArenaEnd>>, AllocError>
     requires { length (arenas_in (servings_at places.now)) ≡ length row.items }
-    ensures cores { IfOk result (λ v. in_row v.items ≡ row.items) }
+    ensures arenas { IfOk result (λ v. in_row v.items ≡ row.items) }
     ensures counts { IfOk result (λ v. map (λ c. length c.items) v.items ≡ map (λ s. length s.arenas) (servings_at places.now)) }
 {
-    let mut cores = Vec::new(alloc);
+    let mut arenas = Vec::new(alloc);
     let mut rest = row;
     for place in places {
         let behind = rest.split_off(place.arenas.len())?;
-        cores.push(rest)?;
+        arenas.push(rest)?;
         rest = behind;
     }
-    Ok(cores)
+    Ok(arenas)
 }
 
 // The cores, and the sessions without their passes of them.
@@ -117,14 +118,15 @@ fn closed(
     Ok((cores, runners))
 }
 
-/// Closes all locks, and hands back the registry and the cores. The one refusal is out of memory,
+/// Closes all locks, and hands back the registry and the arenas' words. The one refusal is out of memory,
 /// also if it ran out in a session or in an order.
 ///
 /// Each session's replies belong to its own entries in the registry's journal and in the arenas'
 /// histories, in order, and power was cut only if a session's own steps or those on labels ended
 /// (`accounts`). The journal is one run of its commands on the registry as it was handed over,
 /// and gives its label areas and their words (`commands`, `on`, `off`, `words`). Each history is
-/// legal; after a crash a core is as at its end, or as a write in flight would make it (`cores`).
+/// legal. After a crash an arena opens in its place, each sector as at the history's end or as a
+/// call in flight would make it (`arenas`).
 ///
 /// Conditions: `of_namespaces` made the locks, and each session has run (`run_sessions`).
 pub fn close(
@@ -148,10 +150,11 @@ pub fn close(
         switch,
         ..
     } = service;
-    let (row, runners) = closed(alloc, turns, runners)?;
+    let (cores, runners) = closed(alloc, turns, runners)?;
+    let row = ends_of(alloc, cores)?;
     let handed = hand_in(alloc, runners)?;
     let places = places.as_slice();
-    let cores = split(alloc, places, row)?;
+    let arenas = split(alloc, places, row)?;
     let HandedIn {
         orders,
         switches,
@@ -161,7 +164,7 @@ pub fn close(
     let _power = switch.turn.close(switches);
     Ok(Ran {
         registry,
-        cores,
+        arenas,
         replies,
     })
 }

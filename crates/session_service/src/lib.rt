@@ -29,8 +29,10 @@
 //! | [`of_namespaces`] | the locks are made, and each session is ready | `IsMade` of `specs/Made.antt`, `AreRunnersReady` |
 //! | [`run_sessions`] | each session has come to its end, whatever the threads did | `AreEnded` of `specs/Runners.antt` |
 //! | [`close`] | the accounts hold, the journal and the histories are legal, and they say what a power cut leaves | `HasServed` of `specs/Ran.antt` |
+//! | [`ArenaEnd::leave`] | power is cut: the chooser is asked for exactly the words that have two values | `IsAtCut` of `specs/Ends.antt` |
 #![tactic(auto)]
 
+mod arena_end;
 mod closing;
 mod ending;
 mod finding;
@@ -42,6 +44,7 @@ mod running;
 mod seats;
 mod service;
 
+pub use arena_end::ArenaEnd;
 pub use ending::{Ran, close};
 pub use namespaces::ServedNamespace;
 pub use runner::Runner;

@@ -7,8 +7,6 @@ use Rattle.arena_open.specs.declared.opened.Opened.{Opened}
 use Rattle.arena_open.specs.declared.state.ArenaState.{ArenaState}
 use Rattle.arena_open.specs.Moves.{IsOpenState, state_of}
 use Rattle.arena_open.specs.Reading.{opening}
-use Rattle.lane_core.specs.declared.shape.Shape.{Shape}
-use Rattle.lane_core.specs.Arenas.{shape_in}
 use Rattle.lane_core.specs.Reopening.{IsFoundAgain, MaySurvive, Reopens, first_cells}
 use Rattle.lane_core.specs.Rows.{words_in}
 use Rattle.lane_replay.specs.Asking.{ReplaysStand}
@@ -35,15 +33,14 @@ module _ (n : Namespace) (uuid was : List ℕ) (state : ArenaState) (k : AreKept
   pub put_fits : 0 + length left ≤ length (words_of n).kept
   put_fits = fits (words_of n).kept (state ∷ []) 0 state (λ d. refl) there is_open left size uuid k.found
 
-  module _ (leaves : ℕ → List (Option Words) → List (Option (List ℕ)) → Type 0) (schedule : Schedule) (r : Reopens state (held_at_end state schedule.lines) left)
-      (shape : (held_at_end state schedule.lines).shape ≡ shape_in state) where
+  module _ (leaves : ℕ → List (Option Words) → List (Option (List ℕ)) → Type 0) (schedule : Schedule) (r : Reopens state (MaySurvive (first_cells state) (held_at_end state schedule.lines)) left) where
     abbrev behind : List ℕ
     behind = behind_of (words_of n).kept (state ∷ []) 0 state (λ d. refl) there is_open left size uuid k.found
 
     old : (o : Opened) × (opening (state.words ++ behind) uuid ≡ Ok o)
     old = opened_there (words_of n).kept (state ∷ []) 0 state (λ d. refl) there is_open left size uuid k.found
 
-    f : IsFoundAgain state (held_at_end state schedule.lines) (left ++ behind) uuid
+    f : IsFoundAgain state (MaySurvive (first_cells state) (held_at_end state schedule.lines)) (left ++ behind) uuid
     f = r.opens behind uuid old.0 old.1
 
     abbrev new : ArenaState
@@ -53,7 +50,7 @@ module _ (n : Namespace) (uuid was : List ℕ) (state : ArenaState) (k : AreKept
     opens law = opens_now (words_of n).kept (state ∷ []) 0 state (λ d. refl) there is_open left size uuid k.found f.arena f.opens f.info law
 
     sectors : (sector : ℕ) → sector < state.info.layout.external → MaySurvive (first_cells state) (held_at_end state schedule.lines) sector (first_cells new sector)
-    sectors sector lt = f.contents sector (subst (λ (x : Shape). sector < x.sectors) (sym shape) lt)
+    sectors sector lt = f.contents sector lt
 
     -- the words that were kept are those behind the arena
     left_long : 0 + length left ≡ state.info.layout.size / 8

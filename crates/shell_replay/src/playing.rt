@@ -2,7 +2,7 @@
 ghost use Rattle.std.specs.Prelude.{◌≡◌, ◌<◌, ◌^◌, [], ◌∷◌, Some, IfOk, length};
 ghost use Rattle.arena_open.specs.Moves.{IsOpenState};
 ghost use Rattle.lane_core.specs.Arenas.{shape_in};
-ghost use Rattle.lane_core.specs.Reopening.{Reopens};
+ghost use Rattle.lane_core.specs.Reopening.{MaySurvive, Reopens, first_cells};
 ghost use Rattle.lane_core.specs.Rows.{words_in};
 ghost use Rattle.lane_core.specs.Schedules.{opened_held};
 ghost use Rattle.lane_replay.specs.Playing.{replay_text};
@@ -37,7 +37,7 @@ pub(crate) fn play_and_cut<C: Chooser>(
     requires few { length schedule.now.lines < 2 ^ 32 }
     ensures text { IfOk result (λ ended. ended.text.items ≡ replay_text (opened_held state) schedule.now.lines) }
     ensures cut { IfOk result (λ ended. LeavesBy C.begins C.picks choose.old schedule.now.seed (Some (words_in (held_at_end state schedule.now.lines).row) ∷ []) (Some ended.left.items ∷ [])) }
-    ensures reopens { IfOk result (λ ended. Reopens state (held_at_end state schedule.now.lines) ended.left.items) }
+    ensures reopens { IfOk result (λ ended. Reopens state (MaySurvive (first_cells state) (held_at_end state schedule.now.lines)) ended.left.items) }
     ensures shape { IfOk result (λ _. (held_at_end state schedule.now.lines).shape ≡ shape_in state) }
     ensures size { IfOk result (λ ended. length ended.left.items ≡ length state.words) }
 {

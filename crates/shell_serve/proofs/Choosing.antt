@@ -5,9 +5,7 @@ use Rattle.std.specs.Option.{option_map}
 use Rattle.cut_words.specs.Leaving.{LeavesFrom}
 use Rattle.cut_words.specs.Words.{Words, settled}
 use Rattle.nfit_reader.specs.declared.table.Mapping.{Mapping}
-use Rattle.lane_core.specs.declared.machine.Core.{Core}
-use Rattle.lane_core.specs.Rows.{words_in}
-use Rattle.power_cut.specs.Left.{Each, InTurn, IsLeftOf, LeavesOption}
+use Rattle.power_cut.specs.Left.{Each, InTurn, IsLeftOf, LeavesOption, LeavesWords}
 use Rattle.namespace_areas.specs.Seen.{areas_shown}
 use Rattle.namespace_map.specs.Areas.{Area}
 use Rattle.served_namespaces.specs.declared.places.OpenedNamespace.{OpenedNamespace}
@@ -15,7 +13,7 @@ use Rattle.session_account.specs.Account.{Histories}
 use Rattle.session_account.specs.Survival.{Flight}
 use Rattle.shell_changes.specs.Remains.{LeavesBy}
 use Rattle.shell_sectors.specs.Saving.{LeavesOn}
-use Rattle.shell_serve.specs.Chosen.{ArenasChosen, IsChosen, LeavesCore, LeavesCores, LeavesTo, core_words, words_left}
+use Rattle.shell_serve.specs.Chosen.{ArenasChosen, IsChosen, LeavesArenas, LeavesTo, all_words, words_left}
 
 in_turn_both : {C X Y : Type 0} (leaves : X → Y → C → C → Type 0) (xs vs : List X) (ys ws : List Y) (a b c : C) → InTurn leaves xs ys a b → InTurn leaves vs ws b c → InTurn leaves (xs ++ vs) (ys ++ ws) a c
 in_turn_both leaves [] vs ys ws a b c (none, same) more = subst (λ zs. InTurn leaves vs (zs ++ ws) a c) (sym none) (subst (λ s. InTurn leaves vs ws s c) same more)
@@ -31,19 +29,19 @@ in_turn_more leaves parts left new part one a b c pushed done here =
 -- ---- arenas, and label areas behind them
 
 module _ {C : Type 0} (picks : C → ℕ → Bool → C → Type 0) where
-  own_in_turn : (cores : List Core) (parts : List (List ℕ)) (a b : C) → InTurn (LeavesCore picks) cores parts a b
-      → InTurn (LeavesOption picks) (map (λ (core : Core). Some (words_in core.row)) cores) (map (λ (part : List ℕ). Some part) parts) a b
+  own_in_turn : (arenas : List Words) (parts : List (List ℕ)) (a b : C) → InTurn (LeavesWords picks) arenas parts a b
+      → InTurn (LeavesOption picks) (map (λ (own : Words). Some own) arenas) (map (λ (part : List ℕ). Some part) parts) a b
   own_in_turn [] parts a b (none, same) = (ap (map (λ (part : List ℕ). Some part)) none, same)
-  own_in_turn (core ∷ cores) parts a b (first, rest, between, is, here, more) =
-      (Some first, map (λ (part : List ℕ). Some part) rest, between, ap (map (λ (part : List ℕ). Some part)) is, (first, refl, here), own_in_turn cores rest between b more)
+  own_in_turn (arena ∷ arenas) parts a b (first, rest, between, is, here, more) =
+      (Some first, map (λ (part : List ℕ). Some part) rest, between, ap (map (λ (part : List ℕ). Some part)) is, (first, refl, here), own_in_turn arenas rest between b more)
 
-  pub cores_in_turn : (cores : List (Vec Core Global)) (parts : List (List (List ℕ))) (a b : C) → InTurn (LeavesCores picks) cores parts a b
-      → InTurn (LeavesOption picks) (core_words (map (λ (own : Vec Core Global). own.items) cores)) (words_left parts) a b
-  cores_in_turn [] parts a b (none, same) = (ap words_left none, same)
-  cores_in_turn (own ∷ cores) parts a b (first, rest, between, is, here, more) =
-      subst (λ (ps : List (List (List ℕ))). InTurn (LeavesOption picks) (core_words (map (λ (v : Vec Core Global). v.items) (own ∷ cores))) (words_left ps) a b) (sym is)
-      (in_turn_both (LeavesOption picks) (map (λ (core : Core). Some (words_in core.row)) own.items) (core_words (map (λ (v : Vec Core Global). v.items) cores)) (map (λ (part : List ℕ). Some part) first) (words_left rest) a between b
-      (own_in_turn own.items first a between here) (cores_in_turn cores rest between b more))
+  pub all_in_turn : (arenas : List (Vec Words Global)) (parts : List (List (List ℕ))) (a b : C) → InTurn (LeavesArenas picks) arenas parts a b
+      → InTurn (LeavesOption picks) (all_words (map (λ (own : Vec Words Global). own.items) arenas)) (words_left parts) a b
+  all_in_turn [] parts a b (none, same) = (ap words_left none, same)
+  all_in_turn (own ∷ arenas) parts a b (first, rest, between, is, here, more) =
+      subst (λ (ps : List (List (List ℕ))). InTurn (LeavesOption picks) (all_words (map (λ (v : Vec Words Global). v.items) (own ∷ arenas))) (words_left ps) a b) (sym is)
+      (in_turn_both (LeavesOption picks) (map (λ (w : Words). Some w) own.items) (all_words (map (λ (v : Vec Words Global). v.items) arenas)) (map (λ (part : List ℕ). Some part) first) (words_left rest) a between b
+      (own_in_turn own.items first a between here) (all_in_turn arenas rest between b more))
 
   pub joined : (begins : C → ℕ → C → Type 0) (choose between : C) (seed : ℕ) (words pending : List (Option Words)) (left labels : List (Option (List ℕ))) → LeavesTo begins picks choose seed between words left
       → LeavesOn picks between pending labels → LeavesBy begins picks choose seed (words ++ pending) (left ++ labels)
@@ -60,12 +58,12 @@ all_chosen leaves first behind join Hold IsDue sets opened histories flights now
   hold = hold;
   due = due;
   arenas = record {
-    cores = arenas.cores;
+    words = arenas.words;
     parts = arenas.parts;
-    cores_count = arenas.cores_count;
+    words_count = arenas.words_count;
     parts_count = arenas.parts_count;
     each = arenas.each;
-    chosen = join (core_words arenas.cores) pending (words_left arenas.parts) labels arenas.chosen own;
+    chosen = join (all_words arenas.words) pending (words_left arenas.parts) labels arenas.chosen own;
   };
 }
 

@@ -70,9 +70,9 @@ empty_serves begins picks choose seed begun begin text sets loaded labels areas 
           hold = refl;
           due = λ rows left. ap areas_shown (all_kept labels rows left) ∙ same;
           arenas = record {
-            cores = [];
+            words = [];
             parts = [];
-            cores_count = refl;
+            words_count = refl;
             parts_count = refl;
             each = λ place d h. absurd (omega (arith, h));
             chosen = (begun, begun, begin, settled_in_turn picks labels begun);

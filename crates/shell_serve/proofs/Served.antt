@@ -1,21 +1,21 @@
--- From what sessions come to on cores to the set after the cut.
-use Rattle.std.proofs.Common.{◌≡◌, ℕ, ◌<◌, ◌^◌, Bool, true, false, List, [], ◌∷◌, length, map, get_or, Option, Some, refl, sym, ap, ◌∙◌, subst, Global, arith}
+-- From what sessions come to on arenas to the set after the cut.
+use Rattle.std.proofs.Common.{◌≡◌, ℕ, ◌<◌, ◌^◌, Bool, true, false, List, [], ◌∷◌, ◌++◌, length, map, get_or, Option, Some, Result, Ok, refl, sym, ap, ◌∙◌, subst, Global, arith}
 use Rattle.std.specs.Prelude.{All, Contains, Vec, slice_get, slice_index_or}
 use Rattle.std.proofs.lemmas.List.{length-map}
 use Rattle.std.proofs.lemmas.Option.{get_or_from_slice_get, slice_get-get_or, slice_get_within}
 use Rattle.turn_lock.specs.Rows.{items_at}
-use Rattle.cut_words.specs.Words.{Words, settled}
+use Rattle.cut_words.specs.Words.{IsLeft, Words, settled}
 use Rattle.cut_words.specs.WordBytes.{words_in}
 use Rattle.nfit_reader.specs.declared.table.Mapping.{Mapping}
 use Rattle.arena_layout.specs.declared.info.Info.{Info}
+use Rattle.arena_open.specs.declared.cell.Cell.{Cell}
+use Rattle.arena_open.specs.declared.opened.Opened.{Opened}
+use Rattle.arena_open.specs.declared.refused.OpenRefused.{OpenRefused}
 use Rattle.arena_open.specs.declared.state.ArenaState.{ArenaState}
-use Rattle.arena_open.specs.Moves.{IsOpenState}
-use Rattle.label_codec.specs.declared.mode.Mode.TheVariants as mode
-use Rattle.lane_core.specs.declared.machine.Core.{Core}
-use Rattle.lane_core.specs.declared.shape.Shape.{Shape}
-use Rattle.lane_core.specs.Held.{held_by}
-use Rattle.lane_core.specs.Machines.{IsSomeCore}
-use Rattle.lane_core.specs.Reopening.{first_cells}
+use Rattle.arena_open.specs.Moves.{IsOpenState, state_of}
+use Rattle.arena_open.specs.Reading.{cell_at}
+use Rattle.lane_core.specs.History.{IsLegal}
+use Rattle.lane_core.specs.Reopening.{Reopens, first_cells}
 use Rattle.power_cut.specs.Left.{Each}
 use Rattle.image_set.specs.Load.{ImageSet}
 use Rattle.image_set.proofs.Kept.{each_length}
@@ -31,22 +31,22 @@ use Rattle.served_namespaces.specs.declared.places.FoundNamespace.{FoundNamespac
 use Rattle.served_namespaces.specs.declared.places.OpenedNamespace.{OpenedNamespace}
 use Rattle.served_namespaces.specs.declared.places.OpenedSet.{OpenedSet}
 use Rattle.served_namespaces.specs.Places.{words_at}
-use Rattle.served_namespaces.specs.Serving.{AreCut, AreServing, ArenaCut}
+use Rattle.served_namespaces.specs.Serving.{AllFit, AreServing, ArenaFits, IsOpenedFrom}
 use Rattle.served_namespaces.specs.Serving as put
 use Rattle.served_namespaces.specs.Steps.{IsReady}
 use Rattle.session_account.specs.Account.{Accounts, flights_on}
 use Rattle.session_account.specs.Journal.{AreLeft, IsJournal}
 use Rattle.session_account.specs.Serving.{Serving}
-use Rattle.session_account.specs.Survival.{Survives}
+use Rattle.session_account.specs.Survival.{Flight, MayRemain}
 use Rattle.session_account.specs.Words.{AreasHold}
 use Rattle.session_script.specs.declared.script.Script.{Script}
 use Rattle.session_service.specs.declared.ending.Ran.{Ran}
 use Rattle.session_service.specs.declared.namespaces.ServedNamespace.{ServedNamespace}
 use Rattle.session_service.specs.Namespaces as service
-use Rattle.session_service.specs.Ran.{HasServed, IsRunCore, histories_of, history_in, journal_of, replies_of}
+use Rattle.session_service.specs.Ran.{HasServed, IsRunArena, journal_of, replies_of}
 use Rattle.shell_sectors.specs.declared.finding.Unchanged.{Unchanged}
-use Rattle.shell_serve.specs.Answering.{AreSame, IsCutOf, IsOpen, IsServed}
-use Rattle.shell_serve.specs.Chosen.{ArenasAtCut, ArenasChosen, IsCoreAtCut, core_words, words_left}
+use Rattle.shell_serve.specs.Answering.{AreSame, IsOpen, IsServed}
+use Rattle.shell_serve.specs.Chosen.{ArenasAtCut, ArenasChosen, all_words, words_left}
 use Rattle.shell_serve.specs.Serving.{AreLegal, ArenasSurvive, servings_of, unclaimed}
 use Rattle.shell_serve.proofs.Lists.{each_back, items_mapped, items_there, same_at}
 
@@ -86,118 +86,87 @@ opened_all namespaces served same each k d lt =
     let (o, at_o, is) = same_at (λ (n : ServedNamespace). n.arenas.items) (λ (x : OpenedNamespace). x.states) served namespaces k (get_or served k d) (sym same.arenas) at in
     subst (λ (states : List ArenaState). All IsOpenState states) is (each o (k, slice_get_within namespaces k o at_o, get_or_from_slice_get namespaces k o o at_o))
 
--- ---- cores
+-- ---- arenas
 
--- what stands for an arena that isn't there
-abbrev no_state : ArenaState
-no_state = record {
-  info = record {
-    uuid = [];
-    parent = [];
-    flags = 0;
-    major = 0;
-    minor = 0;
-    next = 0;
-    layout = record { size = 0; sector = 0; inner = 0; external = 0; internal = 0; lanes = 0; data_off = 0; map_off = 0; flog_off = 0; info_off = 0 };
-  };
-  words = [];
-  lanes = [];
-  made = 0;
-}
-
-abbrev items_of : Vec Core Global → List Core
+abbrev items_of : Vec Words Global → List Words
 items_of own = own.items
 
+same_opened : (a b : Opened) → ◌≡◌ {A = Result Opened OpenRefused} (Ok a) (Ok b) → a ≡ b
+same_opened a b e = cc
+
+-- words that reopen may stand in the place of an arena's
+fits : (state : ArenaState) (May : ℕ → Cell → Type 0) (part : List ℕ) → Reopens state May part → ArenaFits state part
+fits state May part r = record { size = r.size; opens = λ behind parent arena opens. let f = r.opens behind parent arena opens in (f.arena, f.opens, f.info) }
+
+-- what opens from them has the cells that are promised
+sectors_left : (state new : ArenaState) (May : ℕ → Cell → Type 0) (part : List ℕ) → Reopens state May part → IsOpenedFrom state part new → (sector : ℕ) → sector < state.info.layout.external → May sector (first_cells new sector)
+sectors_left state new May part r from sector lt =
+    let f = r.opens from.behind from.parent from.before from.opened in
+    let same : f.arena ≡ from.found = same_opened f.arena from.found (sym f.opens ∙ from.opens) in
+    subst (λ (a : ArenaState). May sector (first_cells a sector)) (sym from.is)
+    (subst (λ (o : Opened). May sector (cell_at o.info.layout (state_of (part ++ from.behind) o).words sector)) same (f.contents sector lt))
+
 module _ (namespaces : List OpenedNamespace) (served : List ServedNamespace) (same : AreSame namespaces served) (registry : Registered) (script : Script) (ran : Ran) (has : HasServed registry served script ran) where
-  -- the core of an arena
-  core_there : (place k : ℕ) (o : OpenedNamespace) (state : ArenaState) → slice_get namespaces place ≡ Some o → slice_get o.states k ≡ Some state → (own : _) → slice_get ran.cores.items place ≡ Some own
-      → (core : Core) → slice_get own.items k ≡ Some core
-      → IsRunCore state (histories_of ran.cores.items place k) (flights_on (service.servings_of served) place k script (replies_of ran.replies.items) (histories_of ran.cores.items)) core
-  core_there place k o state at_o at_state own at_own core at_core =
+  abbrev flights : ℕ → ℕ → List Flight
+  flights place k = flights_on (servings_of namespaces) place k script (replies_of ran.replies.items) has.histories
+
+  -- the words of an arena
+  arena_there : (place k : ℕ) (o : OpenedNamespace) (state : ArenaState) → slice_get namespaces place ≡ Some o → slice_get o.states k ≡ Some state → (own : Vec Words Global) → slice_get ran.arenas.items place ≡ Some own
+      → (words : Words) → slice_get own.items k ≡ Some words → IsRunArena state (has.histories place k) (flights place k) words
+  arena_there place k o state at_o at_state own at_own words at_words =
       let (n, at_n, arenas) = same_there namespaces served place o same at_o in
       let n_is : slice_index_or served place n ≡ n = get_or_from_slice_get served place n n at_n in
       let states_is : (slice_index_or served place n).arenas.items ≡ o.states = ap (λ (x : ServedNamespace). x.arenas.items) n_is ∙ arenas in
       let inside : k < length (slice_index_or served place n).arenas.items = subst (λ (states : List ArenaState). k < length states) (sym states_is) (slice_get_within o.states k state at_state) in
-      let run = has.cores place k n state core (slice_get_within served place n at_n) inside in
+      let run = has.arenas place k n state words (slice_get_within served place n at_n) inside in
       let state_is : slice_index_or (slice_index_or served place n).arenas.items k state ≡ state = ap (λ (states : List ArenaState). slice_index_or states k state) states_is ∙ get_or_from_slice_get o.states k state state at_state in
-      let core_is : slice_index_or (items_at ran.cores.items place) k core ≡ core = ap (λ (cs : List Core). slice_index_or cs k core) (items_there ran.cores.items place own at_own) ∙ get_or_from_slice_get own.items k core core at_core in
-      subst (λ (s : ArenaState). IsRunCore s (histories_of ran.cores.items place k) (flights_on (service.servings_of served) place k script (replies_of ran.replies.items) (histories_of ran.cores.items)) core) state_is
-      (subst (λ (c : Core). IsRunCore (slice_index_or (slice_index_or served place n).arenas.items k state) (histories_of ran.cores.items place k)
-      (flights_on (service.servings_of served) place k script (replies_of ran.replies.items) (histories_of ran.cores.items)) c) core_is run)
+      let words_is : slice_index_or (items_at ran.arenas.items place) k words ≡ words = ap (λ (ws : List Words). slice_index_or ws k words) (items_there ran.arenas.items place own at_own) ∙ get_or_from_slice_get own.items k words words at_words in
+      subst (λ (all : List Serving). IsRunArena state (has.histories place k) (flights_on all place k script (replies_of ran.replies.items) has.histories) words) (same_servings namespaces served same)
+      (subst (λ (s : ArenaState). IsRunArena s (has.histories place k) (flights_on (service.servings_of served) place k script (replies_of ran.replies.items) has.histories) words) state_is
+      (subst (λ (w : Words). IsRunArena (slice_index_or (slice_index_or served place n).arenas.items k state) (has.histories place k)
+      (flights_on (service.servings_of served) place k script (replies_of ran.replies.items) has.histories) w) words_is run))
 
-  -- it is the arena's when power is cut
-  core_at_cut : (place k : ℕ) (o : OpenedNamespace) (state : ArenaState) → slice_get namespaces place ≡ Some o → slice_get o.states k ≡ Some state → (own : Vec Core Global) → slice_get ran.cores.items place ≡ Some own
-      → (core : Core) → slice_get own.items k ≡ Some core
-      → IsCoreAtCut state (histories_of ran.cores.items place k) (flights_on (servings_of namespaces) place k script (replies_of ran.replies.items) (histories_of ran.cores.items)) core
-  core_at_cut place k o state at_o at_state own at_own core at_core =
-      let run = core_there place k o state at_o at_state own at_own core at_core in
-      record {
-        arena = run.of_arena;
-        calls = ap history_in (sym (ap (λ (cs : List Core). slice_get cs k) (items_there ran.cores.items place own at_own) ∙ at_core));
-        in_flight = λ left may.
-            subst (λ (all : List Serving). Survives (first_cells state) (histories_of ran.cores.items place k) (flights_on all place k script (replies_of ran.replies.items) (histories_of ran.cores.items)) core.shape.sectors left)
-            (same_servings namespaces served same) (run.survives left may);
-      }
-
-  -- each namespace has as many cores as arenas
-  core_count : (place : ℕ) (o : OpenedNamespace) → slice_get namespaces place ≡ Some o → (own : _) → slice_get ran.cores.items place ≡ Some own → length own.items ≡ length o.states
-  core_count place o at_o own at_own =
+  -- each namespace has the words of as many arenas as it has
+  arena_count : (place : ℕ) (o : OpenedNamespace) → slice_get namespaces place ≡ Some o → (own : Vec Words Global) → slice_get ran.arenas.items place ≡ Some own → length own.items ≡ length o.states
+  arena_count place o at_o own at_own =
       let (n, at_n, arenas) = same_there namespaces served place o same at_o in
-      ap (λ (cs : List Core). length cs) (sym (items_there ran.cores.items place own at_own)) ∙ has.counts place n (slice_get_within served place n at_n)
+      ap (λ (ws : List Words). length ws) (sym (items_there ran.arenas.items place own at_own)) ∙ has.counts place n (slice_get_within served place n at_n)
       ∙ ap (λ (x : ServedNamespace). length x.arenas.items) (get_or_from_slice_get served place n n at_n) ∙ ap (λ (states : List ArenaState). length states) arenas
 
-  -- power may be cut at each core
-  pub cores_shown : All (λ own. All IsSomeCore own.items) ran.cores.items
-  cores_shown place d lt k e inside =
-      let own = get_or ran.cores.items place d in
-      let at_own : slice_get ran.cores.items place ≡ Some own = slice_get-get_or ran.cores.items place d lt in
-      let lt_o : place < length namespaces = omega (arith, lt, has.places, same_count namespaces served same) in
-      let blank : OpenedNamespace = record { place = record { uuid = []; found = record { region = 0; offset = 0; raw = 0; mode = mode.Raw } }; states = [] } in
-      let o = get_or namespaces place blank in
-      let at_o : slice_get namespaces place ≡ Some o = slice_get-get_or namespaces place blank lt_o in
-      let core = get_or own.items k e in
-      let at_core : slice_get own.items k ≡ Some core = slice_get-get_or own.items k e inside in
-      let count = core_count place o at_o own at_own in
-      let state = get_or o.states k no_state in
-      let at_state : slice_get o.states k ≡ Some state = slice_get-get_or o.states k no_state (omega (arith, inside, count)) in
-      let run = core_there place k o state at_o at_state own at_own core at_core in
-      (first_cells state, run.of_arena.shows)
-
-  module _ (words : List (List (List ℕ))) (cut : Each (λ own parts. Each IsCutOf own.items parts) ran.cores.items words) where
+  module _ (words : List (List (List ℕ))) (cut : Each (λ own parts. Each IsLeft own.items parts) ran.arenas.items words) where
     part_there : (place k : ℕ) (o : OpenedNamespace) (state : ArenaState) (parts : List (List ℕ)) (part : List ℕ) → slice_get namespaces place ≡ Some o → slice_get o.states k ≡ Some state → slice_get words place ≡ Some parts
-        → slice_get parts k ≡ Some part
-        → (core : Core) × IsRunCore state (histories_of ran.cores.items place k) (flights_on (service.servings_of served) place k script (replies_of ran.replies.items) (histories_of ran.cores.items)) core × ArenaCut state (held_by core) part
+        → slice_get parts k ≡ Some part → IsLegal (first_cells state) (has.histories place k) × Reopens state (MayRemain (first_cells state) (has.histories place k) (flights place k)) part
     part_there place k o state parts part at_o at_state at_parts at_part =
-        let (own, at_own, each) = each_back (λ own ps. Each IsCutOf own.items ps) ran.cores.items words place parts cut at_parts in
-        let (core, at_core, is) = each_back IsCutOf own.items parts k part each at_part in
-        let run = core_there place k o state at_o at_state own at_own core at_core in
-        (core, run, is state run.of_arena)
+        let (own, at_own, each) = each_back (λ own ps. Each IsLeft own.items ps) ran.arenas.items words place parts cut at_parts in
+        let (arena, at_arena, is) = each_back IsLeft own.items parts k part each at_part in
+        let run = arena_there place k o state at_o at_state own at_own arena at_arena in
+        (run.legal, run.at_cut.due part is)
 
     -- the words of all arenas may be put back
-    pub are_cut : AreCut namespaces words
-    are_cut = record {
-      count = each_length (λ own ps. Each IsCutOf own.items ps) ran.cores.items words cut ∙ has.places ∙ same_count namespaces served same;
+    pub all_fit : AllFit namespaces words
+    all_fit = record {
+      count = each_length (λ own ps. Each IsLeft own.items ps) ran.arenas.items words cut ∙ has.places ∙ same_count namespaces served same;
       each = λ place o parts at_o at_parts.
-          let (own, at_own, each) = each_back (λ own ps. Each IsCutOf own.items ps) ran.cores.items words place parts cut at_parts in
+          let (own, at_own, each) = each_back (λ own ps. Each IsLeft own.items ps) ran.arenas.items words place parts cut at_parts in
           record {
-            count = each_length IsCutOf own.items parts each ∙ core_count place o at_o own at_own;
-            each = λ k state part at_state at_part. let (core, run, is) = part_there place k o state parts part at_o at_state at_parts at_part in (held_by core, is);
+            count = each_length IsLeft own.items parts each ∙ arena_count place o at_o own at_own;
+            each = λ k state part at_state at_part.
+                fits state (MayRemain (first_cells state) (has.histories place k) (flights place k)) part (part_there place k o state parts part at_o at_state at_parts at_part).1;
           };
     }
 
     module _ (sets : List (List Mapping)) (loaded now : List Words) (left : put.AreLeft sets loaded namespaces words now) where
       -- the sectors of a namespace survive
       pub survives : (place : ℕ) (d : OpenedNamespace) → place < length namespaces
-          → ArenasSurvive (slice_index_or namespaces place d) (words_at sets (slice_index_or namespaces place d).place.found now) (histories_of ran.cores.items place)
-          (λ k. flights_on (servings_of namespaces) place k script (replies_of ran.replies.items) (histories_of ran.cores.items))
+          → ArenasSurvive (slice_index_or namespaces place d) (words_at sets (slice_index_or namespaces place d).place.found now) (has.histories place) (flights place)
       survives place d lt =
           let o = slice_index_or namespaces place d in
           let at_o : slice_get namespaces place ≡ Some o = slice_get-get_or namespaces place d lt in
-          let lt_words : place < length words = omega (arith, lt, are_cut.count) in
+          let lt_words : place < length words = omega (arith, lt, all_fit.count) in
           let parts = get_or words place [] in
           let at_parts : slice_get words place ≡ Some parts = slice_get-get_or words place [] lt_words in
           let is = left.each place o parts at_o at_parts in
-          let counted = are_cut.each place o parts at_o at_parts in
+          let counted = all_fit.each place o parts at_o at_parts in
           let news_count : length is.news ≡ length o.states =
           sym (length-map is.news (λ (s : ArenaState). s.info)) ∙ ap (λ (infos : List Info). length infos) is.infos ∙ length-map o.states (λ (s : ArenaState). s.info) in
           record {
@@ -211,53 +180,46 @@ module _ (namespaces : List OpenedNamespace) (served : List ServedNamespace) (sa
                 let at_new : slice_get is.news k ≡ Some new = slice_get-get_or is.news k e (omega (arith, inside, news_count)) in
                 let part = get_or parts k [] in
                 let at_part : slice_get parts k ≡ Some part = slice_get-get_or parts k [] (omega (arith, inside, counted.count)) in
-                let (core, run, cut_is) = part_there place k o state parts part at_o at_state at_parts at_part in
-                let sectors : core.shape.sectors ≡ state.info.layout.external = ap (λ (x : Shape). x.sectors) run.of_arena.shape in
-                subst (λ (all : List Serving). Survives (first_cells state) (histories_of ran.cores.items place k)
-                (flights_on all place k script (replies_of ran.replies.items) (histories_of ran.cores.items)) state.info.layout.external (first_cells new)) (same_servings namespaces served same)
-                (subst (λ (n : ℕ). Survives (first_cells state) (histories_of ran.cores.items place k)
-                (flights_on (service.servings_of served) place k script (replies_of ran.replies.items) (histories_of ran.cores.items)) n (first_cells new)) sectors
-                (run.survives (first_cells new)
-                (λ t below. is.sectors k state new part at_state at_new at_part (held_by core) cut_is t (subst (λ (n : ℕ). t < n) sectors below))));
+                sectors_left state new (MayRemain (first_cells state) (has.histories place k) (flights place k)) part (part_there place k o state parts part at_o at_state at_parts at_part).1
+                (is.arenas k state new part at_state at_new at_part);
           }
 
       -- each history is legal
-      pub legal : (place : ℕ) (d : OpenedNamespace) → place < length namespaces → AreLegal (slice_index_or namespaces place d).states (histories_of ran.cores.items place)
+      pub legal : (place : ℕ) (d : OpenedNamespace) → place < length namespaces → AreLegal (slice_index_or namespaces place d).states (has.histories place)
       legal place d lt k e inside =
           let o = slice_index_or namespaces place d in
           let at_o : slice_get namespaces place ≡ Some o = slice_get-get_or namespaces place d lt in
-          let lt_words : place < length words = omega (arith, lt, are_cut.count) in
+          let lt_words : place < length words = omega (arith, lt, all_fit.count) in
           let parts = get_or words place [] in
           let at_parts : slice_get words place ≡ Some parts = slice_get-get_or words place [] lt_words in
-          let counted = are_cut.each place o parts at_o at_parts in
+          let counted = all_fit.each place o parts at_o at_parts in
           let at_state : slice_get o.states k ≡ Some (slice_index_or o.states k e) = slice_get-get_or o.states k e inside in
           let at_part : slice_get parts k ≡ Some (get_or parts k []) = slice_get-get_or parts k [] (omega (arith, inside, counted.count)) in
-          (part_there place k o (slice_index_or o.states k e) parts (get_or parts k []) at_o at_state at_parts at_part).1.legal
+          (part_there place k o (slice_index_or o.states k e) parts (get_or parts k []) at_o at_state at_parts at_part).0
 
-      -- the cores and what is left of them
-      pub arenas_chosen : (leaves : List (Option Words) → List (Option (List ℕ)) → Type 0) → leaves (core_words (map items_of ran.cores.items)) (words_left words)
-          → ArenasChosen leaves sets namespaces (histories_of ran.cores.items) (λ place k. flights_on (servings_of namespaces) place k script (replies_of ran.replies.items) (histories_of ran.cores.items)) now
+      -- the words of the arenas and what is left of them
+      pub arenas_chosen : (leaves : List (Option Words) → List (Option (List ℕ)) → Type 0) → leaves (all_words (map items_of ran.arenas.items)) (words_left words)
+          → ArenasChosen leaves sets namespaces has.histories flights now
       arenas_chosen leaves chosen = record {
-        cores = map items_of ran.cores.items;
+        words = map items_of ran.arenas.items;
         parts = words;
-        cores_count = length-map ran.cores.items items_of ∙ has.places ∙ same_count namespaces served same;
-        parts_count = are_cut.count;
+        words_count = length-map ran.arenas.items items_of ∙ has.places ∙ same_count namespaces served same;
+        parts_count = all_fit.count;
         each = λ place d lt.
             let o = slice_index_or namespaces place d in
             let at_o : slice_get namespaces place ≡ Some o = slice_get-get_or namespaces place d lt in
-            let lt_words : place < length words = omega (arith, lt, are_cut.count) in
+            let lt_words : place < length words = omega (arith, lt, all_fit.count) in
             let parts = get_or words place [] in
             let at_parts : slice_get words place ≡ Some parts = slice_get-get_or words place [] lt_words in
-            let (own, at_own, cuts) = each_back (λ own ps. Each IsCutOf own.items ps) ran.cores.items words place parts cut at_parts in
-            let counted = core_count place o at_o own at_own in
-            subst (λ (cores : List Core). ArenasAtCut o (words_at sets o.place.found now) (histories_of ran.cores.items place)
-            (λ k. flights_on (servings_of namespaces) place k script (replies_of ran.replies.items) (histories_of ran.cores.items)) cores parts) (sym (items_mapped ran.cores.items place own at_own))
+            let (own, at_own, cuts) = each_back (λ own ps. Each IsLeft own.items ps) ran.arenas.items words place parts cut at_parts in
+            let counted = arena_count place o at_o own at_own in
+            subst (λ (ws : List Words). ArenasAtCut o (words_at sets o.place.found now) (has.histories place) (flights place) ws parts) (sym (items_mapped ran.arenas.items place own at_own))
             (record {
-              cores_count = counted;
-              parts_count = (are_cut.each place o parts at_o at_parts).count;
-              each = λ k e core inside.
-                  core_at_cut place k o (slice_index_or o.states k e) at_o (slice_get-get_or o.states k e inside) own at_own (slice_index_or own.items k core) (slice_get-get_or own.items k core (omega (arith, inside, counted)));
-              words = (left.each place o parts at_o at_parts).words;
+              words_count = counted;
+              parts_count = (all_fit.each place o parts at_o at_parts).count;
+              each = λ k e arena inside.
+                  (arena_there place k o (slice_index_or o.states k e) at_o (slice_get-get_or o.states k e inside) own at_own (slice_index_or own.items k arena) (slice_get-get_or own.items k arena (omega (arith, inside, counted)))).at_cut;
+              begins = (left.each place o parts at_o at_parts).words;
             });
         chosen = chosen;
       }
@@ -283,13 +245,13 @@ module _ (namespaces : List OpenedNamespace) (served : List ServedNamespace) (sa
 -- ---- all of it
 
 module _ (loaded : ImageSet) (rest : Unchanged) (set : OpenedSet) (is : IsOpen loaded rest set) (served : List ServedNamespace) (same : AreSame set.namespaces served) (script : Script) (ran : Ran) (has : HasServed rest.registry served script ran)
-    (words : List (List (List ℕ))) (cut : Each (λ own parts. Each IsCutOf own.items parts) ran.cores.items words) where
+    (words : List (List (List ℕ))) (cut : Each (λ own parts. Each IsLeft own.items parts) ran.arenas.items words) where
   -- the words may be put back
   pub is_ready : (places : List FoundNamespace) (sets : List (List Mapping)) → places ≡ map (λ (o : OpenedNamespace). o.place) set.namespaces → sets ≡ ran.registry.sets → IsReady sets (rows_of loaded.contents) places set.namespaces words set.modules.items
   is_ready places sets are held = record {
     places_are = sym are;
     serving = subst (λ (s : List (List Mapping)). AreServing s (rows_of loaded.contents) set.namespaces set.modules.items) (sym (held ∙ has.sets)) is.serving;
-    cut = are_cut set.namespaces served same rest.registry script ran has words cut;
+    fit = all_fit set.namespaces served same rest.registry script ran has words cut;
   }
 
   counted : (now : List Words) → map (λ (w : Words). length w.kept) now ≡ map (λ (w : Words). length w.kept) (rows_of loaded.contents) → length now ≡ length loaded.contents
@@ -297,7 +259,7 @@ module _ (loaded : ImageSet) (rest : Unchanged) (set : OpenedSet) (is : IsOpen l
       sym (length-map now (λ (w : Words). length w.kept)) ∙ ap (λ (ns : List ℕ). length ns) sizes ∙ length-map (rows_of loaded.contents) (λ (w : Words). length w.kept)
       ∙ length-map loaded.contents (λ (bytes : List ℕ). settled (words_in bytes))
 
-  pub is_served : (leaves : List (Option Words) → List (Option (List ℕ)) → Type 0) → leaves (core_words (map items_of ran.cores.items)) (words_left words) → (now : Vec Words Global) (sets : List (List Mapping)) → sets ≡ ran.registry.sets
+  pub is_served : (leaves : List (Option Words) → List (Option (List ℕ)) → Type 0) → leaves (all_words (map items_of ran.arenas.items)) (words_left words) → (now : Vec Words Global) (sets : List (List Mapping)) → sets ≡ ran.registry.sets
       → put.AreLeft sets (rows_of loaded.contents) set.namespaces words now.items
       → IsServed leaves loaded rest.registry.sets (areas_seen rest.registry.areas) (label_rows rest.registry.areas) set.namespaces script
       (record { replies = ran.replies; rest = record { registry = ran.registry; nfit_bytes = rest.nfit_bytes; bad = rest.bad }; modules = now })
@@ -306,10 +268,10 @@ module _ (loaded : ImageSet) (rest : Unchanged) (set : OpenedSet) (is : IsOpen l
       let r = is.recovered in
       record {
         journal = journal_of ran;
-        histories = histories_of ran.cores.items;
+        histories = has.histories;
         commands = subst (λ (xs : List Area). IsJournal rest.registry.sets (unclaimed (areas_seen xs)) script.labelcut (journal_of ran)) r.opening has.commands;
         legal = legal set.namespaces served same rest.registry script ran has words cut rest.registry.sets (rows_of loaded.contents) now.items here;
-        accounts = subst (λ (all : List Serving). Accounts all script (replies_of ran.replies.items) (journal_of ran) (histories_of ran.cores.items)) (same_servings set.namespaces served same) has.accounts;
+        accounts = subst (λ (all : List Serving). Accounts all script (replies_of ran.replies.items) (journal_of ran) has.histories) (same_servings set.namespaces served same) has.accounts;
         labels = labels_left set.namespaces served same rest.registry script ran has r.opening r.held;
         hold = labels_hold set.namespaces served same rest.registry script ran has r.opening r.held;
         survive = survives set.namespaces served same rest.registry script ran has words cut rest.registry.sets (rows_of loaded.contents) now.items here;

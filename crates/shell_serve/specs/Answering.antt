@@ -2,10 +2,6 @@
 use Rattle.std.specs.Prelude.{◌≡◌, ℕ, ◌<◌, List, length, map, slice_index_or, Option, Ok, Err}
 use Rattle.cut_words.specs.Words.{Words}
 use Rattle.nfit_reader.specs.declared.table.Mapping.{Mapping}
-use Rattle.arena_open.specs.declared.state.ArenaState.{ArenaState}
-use Rattle.lane_core.specs.declared.machine.Core.{Core}
-use Rattle.lane_core.specs.Held.{held_by}
-use Rattle.lane_core.specs.Reopening.{IsCoreOf}
 use Rattle.namespace_areas.specs.Seen.{AreLeft as AreasLeft, areas_shown, words_of}
 use Rattle.namespace_areas.specs.Steps.{Rows}
 use Rattle.namespace_map.specs.Areas.{Area as SeenArea}
@@ -20,7 +16,7 @@ use Rattle.served_namespaces.specs.declared.places.NotOpened.{NotOpened}
 use Rattle.served_namespaces.specs.declared.places.NotOpened.TheVariants.{Broken, OutOfMemory}
 use Rattle.served_namespaces.specs.Opening.{Broken as ABroken, opened_each}
 use Rattle.served_namespaces.specs.Places.{KeepsBeside, words_at}
-use Rattle.served_namespaces.specs.Serving.{AreServing, ArenaCut}
+use Rattle.served_namespaces.specs.Serving.{AreServing}
 use Rattle.session_account.specs.Account.{Accounts, Histories, flights_on}
 use Rattle.session_account.specs.Journal.{AreLeft, IsJournal}
 use Rattle.session_account.specs.Words.{AreasHold}
@@ -66,10 +62,6 @@ pub record AreSame (namespaces : List OpenedNamespace) (served : List ServedName
   pub arenas : map (λ (n : ServedNamespace). n.arenas.items) served ≡ map (λ (o : OpenedNamespace). o.states) namespaces
 
 -- ---- after them
-
--- these words may be left of a core by a power cut
-abbrev pub IsCutOf : Core → List ℕ → Type 0
-IsCutOf core words = (state : ArenaState) → IsCoreOf state core → ArenaCut state (held_by core) words
 
 -- What sessions have come to on namespaces that are open, in place of what was loaded. `leaves` says what their words may be after the cut.
 pub record IsServed (leaves : List (Option Words) → List (Option (List ℕ)) → Type 0) (loaded : ImageSet) (sets : List (List Mapping)) (areas : List (Option SeenArea)) (words : Rows) (namespaces : List OpenedNamespace) (script : Script) (served : Served) : Type 0 where

@@ -93,7 +93,7 @@ fn run_all<R: Threads + Wait + Sync, G: Gate>(
 /// Runs the sessions of a script on namespaces that are open. When all have ended, power is cut, and the arenas' words after
 /// it are put back.
 ///
-/// The chooser is begun once, and asked for each pending word of the arenas, in order. The call fails only if memory runs out,
+/// The chooser is begun once, and asked for each word of the arenas that has two values, in order. The call fails only if memory runs out,
 /// here or in a session.
 pub(crate) fn serve_opened<R: Threads + Wait + Sync, C: Chooser, G: Gate>(
     waiting: &Waiting<R, G>,
@@ -130,11 +130,11 @@ pub(crate) fn serve_opened<R: Threads + Wait + Sync, C: Chooser, G: Gate>(
     )?;
     let Ran {
         registry,
-        cores,
+        arenas,
         replies,
     } = ran;
     choose.begin(running.seed);
-    let words = cut_all(alloc, cores, choose)?;
+    let words = cut_all(alloc, arenas, choose)?;
     let modules = put_each(alloc, registry.sets(), &places, &words, modules)?;
     Ok(Served {
         replies,

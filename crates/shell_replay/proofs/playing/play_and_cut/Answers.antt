@@ -1,7 +1,7 @@
 use Rattle.std.proofs.Common.{◌∙◌, sym, ap, subst}
 use Rattle.lane_core.specs.declared.shape.Shape.{Shape}
 use Rattle.lane_core.specs.Held.{Held, held_by}
-use Rattle.lane_core.specs.Reopening.{Reopens}
+use Rattle.lane_core.specs.Reopening.{MaySurvive, Reopens, first_cells}
 use Rattle.lane_replay.specs.Playing.{replay_text, replayed}
 use Rattle.shell_replay.specs.Replay.{held_at_end}
 use Rattle.shell_replay.proofs.Fresh.{fresh_held, left_alone}
@@ -20,7 +20,7 @@ returns-clause-cut g c =
 pub returns-clause-reopens : goal.returns-clause-reopens
 returns-clause-reopens g c =
     let end = c.in_ok-text.ensures.held ∙ (λ i. (replayed (fresh_held c.args.state c.in_ok-core.core c.in_ok-core.ensures.fresh i) c.args.schedule.now.lines).held) in
-    subst (λ (h : Held). Reopens c.args.state h c.cut-left.result.items) end (c.cut-left.ensures.reopens c.args.state (c.play.ensures.arena c.args.state c.in_ok-core.ensures.arena))
+    subst (λ (h : Held). Reopens c.args.state (MaySurvive (first_cells c.args.state) h) c.cut-left.result.items) end (c.cut-left.ensures.reopens c.args.state (c.play.ensures.arena c.args.state c.in_ok-core.ensures.arena))
 
 pub returns-clause-shape : goal.returns-clause-shape
 returns-clause-shape g c =

@@ -27,6 +27,6 @@ returns g c = λ uuid was k. (
   refl,
   c.in_ok-ended.ensures.text,
   is_replayed c.args.space uuid was c.args.state k c.in_ok-ended.ended.left.items c.in_ok-ended.ensures.size (LeavesBy g.C.Chooser.begins g.C.Chooser.picks c.args.choose.now) c.args.schedule.now
-      c.in_ok-ended.ensures.reopens c.in_ok-ended.ensures.shape c.one_arena_changes.ensures c.replays_stand.ensures c.in_ok-ended.ensures.cut c.put_arena-modules.result.items
+      c.in_ok-ended.ensures.reopens c.one_arena_changes.ensures c.replays_stand.ensures c.in_ok-ended.ensures.cut c.put_arena-modules.result.items
       (subst (λ (words : List ℕ). words_of (moved_to c.args.space c.put_arena-modules.result.items) ≡ settled (put_at (words_of c.args.space).kept 0 words)) c.deref.ensures.value c.put_arena-modules.ensures.put) c.put_arena-modules.ensures.beside,
 )
