@@ -1,9 +1,6 @@
 pub mod Lengths
 pub mod Loaded
-pub mod Outlined
 pub mod SavedImport
 pub mod RawImport
-pub mod HeldArenas
-pub mod HeldBytes
 pub mod SectorsImport
 pub mod Causes

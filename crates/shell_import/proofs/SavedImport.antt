@@ -33,8 +33,9 @@ use Rattle.shell_reports.specs.declared.status.Ending.TheVariants as ending
 use Rattle.shell_reports.specs.Cut.{done_text}
 use Rattle.shell_sectors.specs.Found.{SavesNamespace, with_contents}
 use Rattle.shell_sectors.specs.Found.{place_of as namespace_at}
-use Rattle.shell_import.specs.Beginning.{HaveSizes, IsOpenOutline, Patches, SavesPatched, patch_of}
-use Rattle.shell_import.proofs.Outlined.{whole_rows}
+use Rattle.shell_sectors.specs.Opening.{HaveSizes, IsOpenOutline}
+use Rattle.shell_import.specs.Beginning.{Patches, SavesPatched, patch_of}
+use Rattle.shell_sectors.proofs.Outlined.{whole_rows}
 
 labels_back : (labels : List (Option Words)) → map (option_map bytes_of) (map (option_map (λ w. w.kept)) labels) ≡ map (option_map bytes_kept) labels
 labels_back [] = refl

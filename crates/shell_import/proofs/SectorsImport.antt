@@ -33,10 +33,11 @@ use Rattle.shell_reports.specs.Cut.{done_text}
 use Rattle.shell_reports.specs.Faults.{refused_outcome}
 use Rattle.shell_sectors.specs.Found.{SavesNamespace}
 use Rattle.shell_sectors.specs.Write.{length_refusal, length_text}
-use Rattle.shell_import.specs.Beginning.{HaveSizes, IsOpenOutline, Patches, SavesPatched, patch_of}
+use Rattle.shell_sectors.specs.Opening.{HaveSizes, IsOpenOutline}
+use Rattle.shell_import.specs.Beginning.{Patches, SavesPatched, patch_of}
 use Rattle.shell_import.specs.Import.{ImportComes, OnMode}
 use Rattle.shell_import.proofs.Loaded.{placed_comes}
-use Rattle.shell_import.proofs.Outlined.{whole_rows}
+use Rattle.shell_sectors.proofs.Outlined.{whole_rows}
 use Rattle.std.specs.Prelude.{sum_by}
 use Rattle.arena_open.specs.declared.state.ArenaState.{ArenaState}
 use Rattle.arena_open.specs.declared.chain_refused.ChainRefused.{ChainRefused}
@@ -65,7 +66,9 @@ use Rattle.power_cut.proofs.Spread.{length_range}
 use Rattle.shell_sectors.specs.Write.{length_text}
 use Rattle.shell_import.specs.declared.sectors.SectorImport.{SectorImport}
 use Rattle.shell_import.specs.Beginning.{Fills, ImportsFrom, IsSectorImport}
-use Rattle.shell_import.specs.Unloaded.{Reveals}
+use Rattle.namespace_words.proofs.HeldBytes.{contents_long}
+use Rattle.shell_sectors.proofs.Asked.{found_few, found_pages}
+use Rattle.namespace_words.specs.Source.{Reveals}
 use Rattle.shell_import.proofs.Lengths.{misfit, no_misfit, same_length}
 use Rattle.shell_import.proofs.RawImport.{place_is}
 use Rattle.shell_import.proofs.SavedImport.{saves, sizes_saved}
@@ -151,27 +154,10 @@ module _ (outline : Outline) (registry : Registered) (rest : OutlineRest) (o : I
 
 -- ---- as the bytes are put in
 
--- whole units are whole pages
-pub pages_of : (unit raw ways : ℕ) → unit % 4096 ≡ 0 → raw % unit ≡ 0 → ways * raw % 4096 ≡ 0
-pages_of unit raw ways pages units =
-    let unit_is : unit ≡ 4096 * (unit / 4096) = omega (arith, pages) in
-    let raw_is : raw ≡ raw / unit * unit = omega (arith, div-add-mod' raw unit, units) in
-    let raw_pages : raw ≡ raw / unit * (unit / 4096) * 4096 = raw_is ∙ ap (λ (u : ℕ). raw / unit * u) unit_is ∙ omega arith in
-    let product : ways * raw ≡ ways * (raw / unit * (unit / 4096)) * 4096 + 0 = ap (λ (r : ℕ). ways * r) raw_pages ∙ omega arith in
-    ap (λ (n : ℕ). n % 4096) product ∙ mod-mul-add (ways * (raw / unit * (unit / 4096))) 4096 0 (omega arith)
-
--- an answer that is kept if memory lasts
-pub kept_memory : {E F : Type 0} (P : Answer → Type 0) (answer : Result Answer E) (result : Result Answer F) → IfOk result (λ x. answer ≡ Ok x) → IfOk answer P → IfOk result P
-kept_memory {E} {F} P answer (Ok x) same holds = subst (λ (r : Result Answer E). IfOk r P) same holds
-kept_memory {E} {F} P answer (Err e) same holds = tt
-
 -- of three facts of a result another one follows
 pub three : {E : Type 0} (P Q R S : Answer → Type 0) (result : Result Answer E) → ((answer : Answer) → P answer → Q answer → R answer → S answer) → IfOk result P → IfOk result Q → IfOk result R → IfOk result S
 three P Q R S (Ok answer) more p q r = more answer p q r
 three P Q R S (Err e) more p q r = tt
-
-length_contents : (source : Images) (count : ℕ) → length (contents_in source count) ≡ count
-length_contents source count = length_range (λ m. bytes_in source (object.Contents m)) count
 
 module _ (uuid bytes : List ℕ) (outline : Outline) (s : SectorImport) (it : IsSectorImport uuid bytes outline s) where
   abbrev parts : IsOpenOutline outline it.registry s.rest
@@ -181,15 +167,11 @@ module _ (uuid bytes : List ℕ) (outline : Outline) (s : SectorImport) (it : Is
   sizes_are = ap (λ (r : OutlineRest). r.sizes) parts.rest_is
 
   pub whole_pages : length s.set * s.found.raw % 4096 ≡ 0
-  whole_pages =
-      subst (λ (ms : List Mapping). length ms * s.found.raw % 4096 ≡ 0) (sym it.set)
-      (pages_of (unit_of (set_at it.registry.sets s.found.region)) s.found.raw (length (set_at it.registry.sets s.found.region)) (parts.pages s.found.region it.placed.lies.region) it.placed.lies.to)
+  whole_pages = found_pages outline it.registry s.rest parts s.found it.placed.lies s.set it.set
 
   -- a set has few modules, each with few bytes
   pub few_bytes : length s.set < 2 ^ 16 → length s.set * s.found.raw ≤ 2 ^ 55
-  few_bytes ways =
-      let raw : s.found.raw ≤ 536870912 = omega (arith, parts.spans s.found.region it.placed.lies.region, it.placed.lies.inside) in
-      omega (arith, mul-le (length s.set) s.found.raw 65536 536870912 (omega (arith, ways)) raw)
+  few_bytes ways = found_few outline it.registry s.rest parts s.found it.placed.lies s.set it.set ways
 
   pub areas_whole : AreWhole (map area_words s.areas.items)
   areas_whole =
@@ -211,7 +193,7 @@ module _ (uuid bytes : List ℕ) (outline : Outline) (s : SectorImport) (it : Is
     reveals = record {
       source = source;
       told = told;
-      are = ap (contents_in source) (sym (length_contents source (length outline.sizes)));
+      are = ap (contents_in source) (sym (contents_long source (length outline.sizes)));
       reach = reached;
     }
 

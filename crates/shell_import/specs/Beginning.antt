@@ -39,42 +39,14 @@ use Rattle.shell_reports.specs.Causes.{fault_in}
 use Rattle.shell_reports.specs.Cut.{done_text}
 use Rattle.shell_reports.specs.Faults.{refused_outcome}
 use Rattle.shell_reports.specs.List.{labels_in_set}
+use Rattle.shell_sectors.specs.Opening.{HaveSizes, IsOpenOutline}
 use Rattle.shell_sectors.specs.Write.{length_refusal}
 use Rattle.shell_import.specs.declared.beginning.Begun.{Begun}
 use Rattle.shell_import.specs.declared.beginning.Begun.TheVariants as begun
 use Rattle.shell_import.specs.declared.sectors.SectorImport.{SectorImport}
 use Rattle.shell_import.specs.Import.{ImportComes}
 
--- ---- contents that aren't in memory
-
--- contents have these sizes
-abbrev pub HaveSizes : List ℕ → List (List ℕ) → Type 0
-HaveSizes sizes contents = map (λ row. length row) contents ≡ sizes
-
--- an outline besides its decoded table and its label areas
-abbrev pub rest_of : Outline → OutlineRest
-rest_of outline = record { nfit_bytes = outline.nfit_bytes; sizes = outline.sizes; bad = outline.bad }
-
--- All parts of an outline whose labels are read. None of it depends on the contents.
-pub record IsOpenOutline (outline : Outline) (registry : Registered) (rest : OutlineRest) : Type 0 where
-  pub none : (contents : List (List ℕ)) → fault_in (image_set_with outline contents) ≡ None
-  pub running : registry.stopped ≡ false
-  pub held : AreHeld registry.areas
-  pub sets : registry.sets ≡ sets_of outline.nfit
-  pub entry : (uuid : List ℕ) (contents : List (List ℕ)) → lookup uuid (namespaces_in (state_of registry)).entries ≡ entry_at (sets_of outline.nfit) (labels_in_set (image_set_with outline contents)) uuid
-  -- no word of a label area is pending
-  pub labels : map words_of registry.areas ≡ outline.labels
-  pub settled : AreWhole outline.labels
-  pub rest_is : rest ≡ rest_of outline
-  pub is_rest : IsOutlineRest rest
-  pub count : length registry.areas ≡ length rest.sizes
-  pub sizes : AreWholeSizes rest.sizes
-  -- the unit of each set is whole pages
-  pub pages : (region : ℕ) → region < length registry.sets → unit_of (set_at registry.sets region) % 4096 ≡ 0
-  -- no mapping is larger than all contents together may be: 512 MiB
-  pub spans : (region : ℕ) → region < length registry.sets → span_of (set_at registry.sets region) ≤ 536870912
-  -- contents of these sizes hold the mappings of all sets
-  pub reach : (contents : List (List ℕ)) → HaveSizes outline.sizes contents → (region : ℕ) → region < length registry.sets → ReachEnds (set_at registry.sets region) (rows_of contents)
+-- ---- the namespace
 
 -- A complete namespace that was found by these labels.
 pub record IsPlacedOn (outline : Outline) (uuid : List ℕ) (found : Found) (registry : Registered) (rest : OutlineRest) : Type 0 where

@@ -1,4 +1,3 @@
 pub mod Import
 pub mod Causes
 pub mod Beginning
-pub mod Unloaded

@@ -7,20 +7,22 @@ ghost use Rattle.namespace_areas.specs.Finding.{LiesInSet, set_at};
 ghost use Rattle.namespace_areas.specs.Opening.{AreWhole};
 ghost use Rattle.namespace_areas.specs.Seen.{words_of};
 ghost use Rattle.shell_changes.specs.Saved.{AreWholeSizes};
-ghost use Rattle.shell_import.specs.Beginning.{Begins, IsOpenOutline, IsPlacedOn, PutsRaw, SavesPatched};
+ghost use Rattle.shell_sectors.specs.Opening.{IsOpenOutline};
+ghost use Rattle.shell_import.specs.Beginning.{Begins, IsPlacedOn, PutsRaw, SavesPatched};
 
 use crate::import::length_answer;
 use crate::sectors::SectorImport;
 use image_set::{Outline, OutlineRest};
 use interleave::InterleaveSet;
-use namespace_areas::{Area, Found, into_words, open_areas};
+use namespace_areas::{Area, Found, into_words};
 use namespace_bytes::{NamespacePatch, NewBytes};
 use namespace_ops::Registry;
 use nvd_media::ListChooser;
 use nvd_words::Items;
 use shell_changes::{Answer, Left, SavedSet, without_set};
 use shell_export::{find_place, is_sector};
-use shell_reports::{done_answer, op_refused_answer, open_fault_answer};
+use shell_reports::{done_answer, op_refused_answer};
+use shell_sectors::{OutlineOpened, open_outline};
 use std::alloc::{AllocError, Global};
 use uuid::Uuid;
 
@@ -157,24 +159,9 @@ pub(crate) fn begin_import(
     requires loadable { IsLoadable outline }
     ensures { IfOk result (Begins uuid.now bytes.items outline) }
 {
-    let Outline {
-        nfit,
-        nfit_bytes,
-        labels,
-        sizes,
-        bad,
-    } = outline;
-    let rest = OutlineRest {
-        nfit_bytes,
-        sizes,
-        bad,
-    };
-    let areas = open_areas(alloc, labels)?;
-    match Registry::open_all(alloc, nfit, areas) {
-        Ok(registry) => begin_named(alloc, uuid, registry, rest, bytes),
-        Err(fault) => {
-            let report = open_fault_answer(alloc, fault)?;
-            Ok(Begun::Done(without_set(report)))
-        }
+    let opened = open_outline(alloc, outline)?;
+    match opened {
+        OutlineOpened::Done(registry, rest) => begin_named(alloc, uuid, registry, rest, bytes),
+        OutlineOpened::Not(report) => Ok(Begun::Done(without_set(report))),
     }
 }

@@ -21,7 +21,7 @@
 //! | the same on a set whose contents are in the source | `ImportsFrom` of `specs/Beginning.antt` |
 //! | how it begins, by the labels | `Begins`, `IsSectorImport` of `specs/Beginning.antt` |
 //! | what the arenas make of it | `Fills` of `specs/Beginning.antt` |
-//! | what is read from a source | `Reveals`, `bytes_by` of `specs/Unloaded.antt` |
+//! | what is read from a source | `Reveals`, `bytes_by` of `namespace_words` |
 //! | the words of a raw namespace | `ImportsWords` of `specs/Import.antt` |
 //! | the words of one of sectors | `HasContents` of `namespace_bytes` |
 //!
@@ -30,9 +30,7 @@
 #![tactic(auto)]
 
 mod beginning;
-mod extent;
 mod import;
 mod sectors;
-mod unloaded;
 
 pub use import::import_answer;

@@ -13,12 +13,12 @@ ghost use Rattle.shell_import.specs.Beginning.{Fills, ImportsFrom, IsSectorImpor
 
 use crate::beginning::patched_answer;
 use crate::import::length_answer;
-use crate::unloaded::read_arenas_from;
 use arena_open::ChainRefused;
 use image_set::OutlineRest;
 use interleave::InterleaveSet;
 use namespace_areas::{Area, Found};
 use namespace_bytes::{ArenaAt, NamespacePatch, NewBytes, SectorBytes, size_of_all};
+use namespace_words::{ArenaRead, into_arenas, read_arenas_from};
 use nvd_media::{Failed, ImageSource};
 use nvd_words::Items;
 use shell_changes::{Answer, in_memory, without_set};
@@ -71,6 +71,16 @@ impl SectorImport {
         patched_answer(alloc, patch, rest, areas)
     }
 
+    /// Puts the bytes into the sectors of arenas that were read, if they have as many.
+    fn fill_read(self, alloc: Global, arenas: Items<ArenaRead>) -> Result<Answer, AllocError>
+        requires sized { AreSized arenas }
+        requires found { (outline : OutlineRead) × ((uuid : List ℕ) × ((bytes : List ℕ) × IsSectorImport uuid bytes outline self)) }
+        ensures { IfOk result (λ answer. (outline : OutlineRead) (uuid bytes : List ℕ) → IsSectorImport uuid bytes outline self → Fills uuid bytes outline self arenas answer) }
+    {
+        let arenas = into_arenas(alloc, arenas)?;
+        self.fill(alloc, arenas)
+    }
+
     /// Reads the arenas from the source, and puts the bytes into their sectors, if these have as many. It answers, of these, the
     /// first that holds: an arena violates the format; the lengths differ; `ok`.
     pub(crate) fn answer<S: ImageSource>(
@@ -95,7 +105,7 @@ impl SectorImport {
             self.found.raw,
             uuid,
         ) {
-            Ok(Ok(arenas)) => in_memory(self.fill(alloc, arenas)),
+            Ok(Ok(arenas)) => in_memory(self.fill_read(alloc, arenas)),
             Ok(Err(refused)) => in_memory(unopened(alloc, uuid, refused)),
             Err(Failed) => Err(RunStop::ReadFault),
         }

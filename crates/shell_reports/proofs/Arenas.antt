@@ -91,16 +91,3 @@ module _ (loaded : Loaded) (uuid : List ℕ) (areas : List Area) (shown : map sh
   due_fault fault e =
       ap due_of labels_are
       ∙ ap (λ (o : Option OpenFault). unless_fault o (due (sets_of loaded.nfit) (entry_at (sets_of loaded.nfit) (labels_of areas) uuid))) (fault_is loaded.nfit areas fault e)
-
-module _ (loaded : Loaded) (uuid : List ℕ) (areas : List Area) (shown : map shown_in areas ≡ map shown_by (map (option_map bytes_kept) loaded.labels)) (f : List ArenaState → Outcome) where
-  abbrev arenas_due : List (List Mapping) → Option NamespaceEntry → Outcome
-  arenas_due sets entry = on_found uuid f sets (map bytes_kept loaded.contents) (found_of sets entry)
-
-  pub on_open : AreHeld areas → (registry : Registered) → Ok registry ≡ registry_opening loaded.nfit areas
-      → on_found uuid f registry.sets (map bytes_kept loaded.contents) (found_of registry.sets (lookup uuid (namespaces_in (state_of registry)).entries)) ≡ on_sectors f (image_set_in loaded) uuid
-  unfolding on_sectors image_set_in
-  on_open held registry e = due_open loaded uuid areas shown arenas_due held registry e
-
-  pub on_fault : (fault : OpenFault) → Err fault ≡ registry_opening loaded.nfit areas → on_sectors f (image_set_in loaded) uuid ≡ open_outcome fault
-  unfolding on_sectors image_set_in
-  on_fault fault e = due_fault loaded uuid areas shown arenas_due fault e

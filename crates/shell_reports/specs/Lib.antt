@@ -8,5 +8,4 @@ pub mod Nfit
 pub mod List
 pub mod Faults
 pub mod Sectors
-pub mod Asked
 pub mod Causes

@@ -31,13 +31,14 @@
 //!
 //! # Sectors
 //!
-//! The commands of `nvdimm_shell` that read the sectors of a namespace: `info` and `read`.
+//! The commands that read the sectors of a namespace, `info` and `read`, are those of crate `shell_sectors`. What they print is
+//! defined here:
 //!
 //! ```text
-//! loaded set ──► sets and labels ──► namespace ──► all of its arenas ──► info: a line for each
-//!                    │                   │                │          └─► read: one sector, or Range
-//!                image region ..     refused NoSuch   image arena UUID K FAULT
-//!                image labels ..     refused ..
+//! set ──► sets and labels ──► namespace ──► all of its arenas ──► info: a line for each
+//!               │                  │                │          └─► read: one sector, or Range
+//!           image region ..    refused NoSuch   image arena UUID K FAULT
+//!           image labels ..    refused ..
 //! ```
 //!
 //! Both share the definition `on_sectors` of `specs/Sectors.antt`: the order of faults and
@@ -47,28 +48,23 @@
 //! memory, and no image set is written. All are this project's rules over UEFI 2.10, chapter 6.
 #![tactic(auto)]
 
-mod info;
 mod labels;
 mod list;
 mod load_faults;
 mod nfit;
-mod opening;
 mod outcome;
 mod power;
-mod read;
 mod refusals;
 mod sector_faults;
 mod status;
 mod texts;
 
-pub use info::info_answer;
 pub use labels::{fault_answer, labels_answer, missing_answer};
 pub use list::{list_answer, open_fault_answer};
 pub use load_faults::load_answer;
 pub use nfit::{nfit_answer, set_fault_text};
 pub use outcome::{Report, done_answer, image_answer, printed_answer, usage_answer};
 pub use power::{Power, cut_line, fuse_of, steps_of};
-pub use read::read_answer;
 pub use refusals::{op_refused_answer, range_answer, refusal_text, refused_answer};
 pub use sector_faults::arena_answer;
 pub use status::{Ending, RunStop, Status};

@@ -35,7 +35,7 @@ use Rattle.shell_run.specs.declared.words.CommandLine.{CommandLine}
 use Rattle.shell_run.specs.declared.words.CommandLine.TheVariants.{Labels, Nfit, Init, Change, Info, Read, Write, Replay as AskReplay, Export, Import, Serve, Load}
 use Rattle.shell_run.specs.declared.words.CommandLine.TheVariants as command
 use Rattle.shell_run.specs.Printed.{Exports, IsReported, IsUnloaded}
-use Rattle.shell_run.specs.Run.{Comes, ComesTold, IsDue, LoadedComes, OnImages, OnLoaded, OnScript, copies, copies_by, copies_found, needs_contents, reads_script}
+use Rattle.shell_run.specs.Run.{Comes, ComesTold, IsDue, LoadedComes, OnImages, OnLoaded, OnScript, OnSource, copies, copies_by, copies_found, needs_contents, reads_script}
 use Rattle.shell_run.specs.Scripts.{bytes_in, script_in, script_outcome}
 use Rattle.shell_run.specs.Words.{command_of}
 
@@ -99,6 +99,16 @@ module _ (leaves : ℕ → List (Option Words) → List (Option (List ℕ)) → 
   pub outlined_by : {E : Type 0} (outline : Outline) (r : Result Answer E) → IfOk r (λ answer. (contents : List (List ℕ)) → LoadedComes leaves like (image_set_with outline contents) (outcome_with answer contents))
       → IfOk r (λ answer. (contents : List (List ℕ)) → LoadedComes leaves command (image_set_with outline contents) (outcome_with answer contents))
   outlined_by outline r comes = subst (λ (c : CommandLine). IfOk r (λ answer. (contents : List (List ℕ)) → LoadedComes leaves c (image_set_with outline contents) (outcome_with answer contents))) (sym is) comes
+
+  -- whatever the contents are, so with those of the source
+  pub source_by : {E F : Type 0} (held : Option Images) (outline : Outline) (r : Result Answer E) (a : Result Answer F) → IfOk a (λ answer. r ≡ Ok answer)
+      → IfOk r (λ answer. (contents : List (List ℕ)) → LoadedComes leaves like (image_set_with outline contents) (outcome_with answer contents)) → IfOk a (OnSource (LoadedComes leaves command) held outline)
+  source_by held outline r a same comes =
+      if_same (OnSource (LoadedComes leaves command) held outline) a r same
+      (if_more _ (OnSource (LoadedComes leaves command) held outline) r (λ answer all source told. all (contents_in source (length outline.sizes))) (outlined_by outline r comes))
+
+  pub source_of : {E : Type 0} (held : Option Images) (outline : Outline) (r : Result Answer E) → IfOk r (OnSource (LoadedComes leaves like) held outline) → IfOk r (OnSource (LoadedComes leaves command) held outline)
+  source_of held outline r comes = subst (λ (c : CommandLine). IfOk r (OnSource (LoadedComes leaves c) held outline)) (sym is) comes
 
   pub loaded_by : {E : Type 0} (loaded : ImageSet) (r : Result Answer E) → IfOk r (λ answer. LoadedComes leaves like loaded (whole_outcome answer)) → IfOk r (λ answer. LoadedComes leaves command loaded (whole_outcome answer))
   loaded_by loaded r comes = subst (λ (c : CommandLine). IfOk r (λ answer. LoadedComes leaves c loaded (whole_outcome answer))) (sym is) comes

@@ -1,5 +1,5 @@
 -- What a run does, seen from outside.
-use Rattle.std.specs.Prelude.{◌≡◌, ⊤, ◌⊎◌, ℕ, Bool, true, false, not, IsTrue, IsSome, List, ◌++◌, Option, Some, None, Result, Ok, Err, MatchOption, codes, take}
+use Rattle.std.specs.Prelude.{◌≡◌, ⊤, ◌⊎◌, ℕ, Bool, true, false, not, IsTrue, IsSome, List, ◌++◌, Option, Some, None, Result, Ok, Err, MatchOption, codes, length, take}
 use Rattle.std.specs.Option.{ForSome}
 use Rattle.std.specs.Io.KnownBytes.{Keeps, Appends}
 use Rattle.nvd_media.specs.Images.{Images, Becomes, IsUnfinished}
@@ -7,6 +7,8 @@ use Rattle.nvd_media.specs.Images.{Keeps as StillTells}
 use Rattle.cut_words.specs.Words.{Words}
 use Rattle.image_set.specs.declared.fault.LoadFault.{LoadFault}
 use Rattle.image_set.specs.Load.{ImageSet, loading}
+use Rattle.image_set.specs.declared.outline.Outline.{Outline}
+use Rattle.image_set.specs.Outline.{contents_in, image_set_with}
 use Rattle.shell_reports.specs.declared.status.Status.{Status}
 use Rattle.shell_reports.specs.declared.status.Status.TheVariants as status
 use Rattle.shell_run.specs.declared.words.CommandLine.{CommandLine}
@@ -18,6 +20,8 @@ use Rattle.shell_reports.specs.LoadFaults.{load_outcome}
 use Rattle.shell_reports.specs.Labels.{labels_outcome}
 use Rattle.shell_reports.specs.Nfit.{nfit_outcome}
 use Rattle.shell_reports.specs.Saved.{Saves}
+use Rattle.shell_changes.specs.declared.answer.Answer.{Answer}
+use Rattle.shell_changes.specs.Answers.{outcome_with}
 use Rattle.shell_changes.specs.Init.{InitComes}
 use Rattle.shell_changes.specs.Saved.{Stores}
 use Rattle.shell_changes.specs.Namespaces.{ChangeComes}
@@ -62,6 +66,11 @@ OnLoaded comes (Err fault) outcome = outcome ≡ load_outcome fault
 -- by the images, as far as they are told: the whole set is loaded
 abbrev pub OnImages : (ImageSet → Outcome → Type 0) → Option Images → Outcome → Type 0
 OnImages comes held outcome = ForSome held (λ set. OnLoaded comes (loading set) outcome)
+
+-- an answer on a set that was loaded without its contents: they are those that the source has, as far as it reveals them
+abbrev pub OnSource : (ImageSet → Outcome → Type 0) → Option Images → Outline → Answer → Type 0
+OnSource comes held outline answer = ForSome held (λ source.
+    comes (image_set_with outline (contents_in source (length outline.sizes))) (outcome_with answer (contents_in source (length outline.sizes))))
 
 -- by the script that is read, or by why none is
 abbrev pub OnScript : {A : Type 0} → (A → Outcome → Type 0) → Result A ScriptRefused → Outcome → Type 0
@@ -132,15 +141,15 @@ copies (Import uuid) = true
 copies (Serve running) = false
 copies (Load l workers) = false
 
--- whether a command works on the contents of modules, so that they are loaded
+-- whether a command has the contents of modules in memory, so that they are loaded; the others read from the source what they need of them
 abbrev pub needs_contents : CommandLine → Bool
 needs_contents (Labels m) = false
 needs_contents Nfit = false
 needs_contents command.List = false
 needs_contents (Init m power) = false
 needs_contents (Change c power) = makes_sectors c
-needs_contents (Info uuid) = true
-needs_contents (Read uuid sector) = true
+needs_contents (Info uuid) = false
+needs_contents (Read uuid sector) = false
 needs_contents (Write uuid sector value) = true
 needs_contents (Replay uuid seed) = true
 needs_contents (Export uuid zeros) = true

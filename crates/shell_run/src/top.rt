@@ -4,7 +4,7 @@ ghost use Rattle.std.specs.Io.KnownBytes.{Appends};
 ghost use Rattle.nvd_media.specs.Causes.{LeavesOutside, Rose};
 ghost use Rattle.nvd_media.specs.Images.{Images, Becomes, IsEmptySet, IsUnfinished, Keeps};
 ghost use Rattle.image_set.specs.Load.{image_set_in};
-ghost use Rattle.image_set.specs.Outline.{IsOutlined, image_set_with};
+ghost use Rattle.image_set.specs.Outline.{HasContents, IsLoadable, IsOutlined, image_set_with};
 ghost use Rattle.image_set.specs.Sound.{IsSound};
 ghost use Rattle.shell_reports.specs.Labels.{labels_outcome};
 ghost use Rattle.shell_reports.specs.List.{list_outcome};
@@ -22,7 +22,7 @@ ghost use Rattle.session_script.specs.Names.{ScriptHasText};
 ghost use Rattle.shell_serve.specs.Load.{LoadComes};
 ghost use Rattle.shell_serve.specs.Serve.{ServeComes};
 ghost use Rattle.shell_run.specs.Scripts.{script_outcome};
-ghost use Rattle.shell_run.specs.Run.{AppendsPart, ComesTold, Ends, Holds, IsAnswered, IsDue, IsPlain, LeavesScript, LoadedComes, OnImages, copies, copies_by, needs_contents, reads_script};
+ghost use Rattle.shell_run.specs.Run.{AppendsPart, ComesTold, Ends, Holds, IsAnswered, IsDue, IsPlain, LeavesScript, LoadedComes, OnImages, OnSource, copies, copies_by, needs_contents, reads_script};
 ghost use Rattle.shell_run.specs.Printed.{EndsPrinting, Exports, HoldsPrinted, IsMisused, IsReported, IsUnloaded};
 ghost use Rattle.shell_run.specs.Words.{HasGoodValues};
 
@@ -42,10 +42,10 @@ use shell_export::export_answer;
 use shell_import::import_answer;
 use shell_replay::{Schedule, replay_answer};
 use shell_reports::{
-    Ending, Report, RunStop, Status, info_answer, labels_answer, list_answer, load_answer,
-    nfit_answer, read_answer, usage_answer,
+    Ending, Report, RunStop, Status, labels_answer, list_answer, load_answer, nfit_answer,
+    usage_answer,
 };
-use shell_sectors::write_answer;
+use shell_sectors::{info_answer, read_answer, write_answer};
 use shell_serve::{Load, Running, serve_answer};
 use std::alloc::{AllocError, Global};
 use std::sync::Wait;
@@ -93,32 +93,52 @@ fn list_found(alloc: Global, outline: Outline) -> Result<Answer, AllocError>
     Ok(without_set(report))
 }
 
-/// The answer of `info`.
-fn arenas_found(alloc: Global, uuid: &Uuid, loaded: Loaded) -> Result<Answer, AllocError>
-    requires { IsSound loaded }
-    ensures comes { IfOk result (λ answer. whole_outcome answer ≡ info_outcome uuid.now (image_set_in loaded)) }
+/// The answer of `info`, whose arenas are read from the source.
+fn arenas_found<S: ImageSource>(
+    alloc: Global,
+    uuid: &Uuid,
+    outline: Outline,
+    images: &mut S,
+) -> Result<Answer, RunStop>
+    requires sound { IsOutlined outline }
+    requires loadable { IsLoadable outline }
+    requires there { ForSome (S.held images.old) (HasContents outline.sizes) }
+    ensures comes { IfOk result (OnSource (λ loaded outcome. outcome ≡ info_outcome uuid.now loaded) (S.held images.old) outline) }
     ensures saved { IfOk result (λ answer. answer.saved ≡ None) }
+    ensures same { S.held images.new ≡ S.held images.old }
+    ensures failed { result ≡ Err RunStop.ReadFault → Rose (S.faults images.old) (S.faults images.new) }
+    ensures later { S.faults images.old ≤ S.faults images.new }
 {
-    let report = info_answer(alloc, uuid, loaded)?;
-    Ok(without_set(report))
+    match info_answer(alloc, uuid, outline, images) {
+        Ok(report) => Ok(without_set(report)),
+        Err(stop) => Err(stop),
+    }
 }
 
-/// The answer of `read`.
-fn sector_found(
+/// The answer of `read`, whose arenas and sector are read from the source.
+fn sector_found<S: ImageSource>(
     alloc: Global,
     uuid: &Uuid,
     sector: u64,
-    loaded: Loaded,
-) -> Result<Answer, AllocError>
-    requires { IsSound loaded }
-    ensures comes { IfOk result (λ answer. whole_outcome answer ≡ read_outcome uuid.now sector (image_set_in loaded)) }
+    outline: Outline,
+    images: &mut S,
+) -> Result<Answer, RunStop>
+    requires sound { IsOutlined outline }
+    requires loadable { IsLoadable outline }
+    requires there { ForSome (S.held images.old) (HasContents outline.sizes) }
+    ensures comes { IfOk result (OnSource (λ loaded outcome. outcome ≡ read_outcome uuid.now sector loaded) (S.held images.old) outline) }
     ensures saved { IfOk result (λ answer. answer.saved ≡ None) }
+    ensures same { S.held images.new ≡ S.held images.old }
+    ensures failed { result ≡ Err RunStop.ReadFault → Rose (S.faults images.old) (S.faults images.new) }
+    ensures later { S.faults images.old ≤ S.faults images.new }
 {
-    let report = read_answer(alloc, uuid, sector, loaded)?;
-    Ok(without_set(report))
+    match read_answer(alloc, uuid, sector, outline, images) {
+        Ok(report) => Ok(without_set(report)),
+        Err(stop) => Err(stop),
+    }
 }
 
-/// Whether a command works on the contents of modules.
+/// Whether a command has the contents of modules in memory.
 fn needs_contents(command: &CommandLine) -> bool
     ensures { result ≡ needs_contents command.now }
 {
@@ -128,8 +148,8 @@ fn needs_contents(command: &CommandLine) -> bool
         CommandLine::List => false,
         CommandLine::Init(_, _) => false,
         CommandLine::Change(change, _) => makes_sectors(change),
-        CommandLine::Info(_) => true,
-        CommandLine::Read(_, _) => true,
+        CommandLine::Info(_) => false,
+        CommandLine::Read(_, _) => false,
         CommandLine::Write(_, _, _) => true,
         CommandLine::Replay(_, _) => true,
         CommandLine::Export(_, _) => true,
@@ -160,31 +180,40 @@ fn reads_script(command: &CommandLine) -> bool
     }
 }
 
-/// What a command without a script comes to on the set that it loads but for its contents.
-fn outlined_answer<C: Chooser>(
+/// What a command without a script comes to on the set that it loads but for its contents. What it needs of these it reads from
+/// the source.
+fn outlined_answer<S: ImageSource, C: Chooser>(
     alloc: Global,
     command: CommandLine,
     outline: Outline,
+    images: &mut S,
     choose: &mut C,
-) -> Result<Answer, AllocError>
+) -> Result<Answer, RunStop>
     requires sound { IsOutlined outline }
+    requires loadable { IsLoadable outline }
+    requires there { ForSome (S.held images.old) (HasContents outline.sizes) }
     requires name { HasGoodValues command }
     requires outlined { needs_contents command ≡ false }
     requires plain { IsPlain command }
-    ensures comes { IfOk result (λ answer. (contents : List (List ℕ)) → LoadedComes (LeavesBy C.begins C.picks choose.old) command (image_set_with outline contents) (outcome_with answer contents)) }
+    ensures comes { IfOk result (OnSource (LoadedComes (LeavesBy C.begins C.picks choose.old) command) (S.held images.old) outline) }
     ensures sizes { IfOk result (HasSizes outline.sizes) }
     ensures copying { IfOk result (λ answer. IsTrue (copies_contents answer.saved) → IsTrue (copies command)) }
+    ensures same { S.held images.new ≡ S.held images.old }
+    ensures failed { result ≡ Err RunStop.ReadFault → Rose (S.faults images.old) (S.faults images.new) }
+    ensures later { S.faults images.old ≤ S.faults images.new }
 {
     match command {
-        CommandLine::Labels(module) => labels_found(alloc, module, &outline),
-        CommandLine::Nfit => table_found(alloc, &outline),
-        CommandLine::List => list_found(alloc, outline),
-        CommandLine::Init(module, power) => init_answer(alloc, module, power, outline, choose),
-        CommandLine::Change(change, power) => {
-            change_answer(alloc, &change, power, SetRead::Outline(outline), choose)
+        CommandLine::Labels(module) => in_memory(labels_found(alloc, module, &outline)),
+        CommandLine::Nfit => in_memory(table_found(alloc, &outline)),
+        CommandLine::List => in_memory(list_found(alloc, outline)),
+        CommandLine::Init(module, power) => {
+            in_memory(init_answer(alloc, module, power, outline, choose))
         }
-        CommandLine::Info(_) => unreachable!(),
-        CommandLine::Read(_, _) => unreachable!(),
+        CommandLine::Change(change, power) => {
+            in_memory(change_answer(alloc, &change, power, SetRead::Outline(outline), choose))
+        }
+        CommandLine::Info(uuid) => arenas_found(alloc, &uuid, outline, images),
+        CommandLine::Read(uuid, sector) => sector_found(alloc, &uuid, sector, outline, images),
         CommandLine::Write(_, _, _) => unreachable!(),
         CommandLine::Replay(_, _) => unreachable!(),
         CommandLine::Export(_, _) => unreachable!(),
@@ -236,8 +265,8 @@ fn loaded_answer<R: Threads + Wait + Sync, C: Chooser, G: Gate>(
         CommandLine::Change(change, power) => {
             change_answer(alloc, &change, power, SetRead::Whole(loaded), choose)
         }
-        CommandLine::Info(uuid) => arenas_found(alloc, &uuid, loaded),
-        CommandLine::Read(uuid, sector) => sector_found(alloc, &uuid, sector, loaded),
+        CommandLine::Info(_) => unreachable!(),
+        CommandLine::Read(_, _) => unreachable!(),
         CommandLine::Write(uuid, sector, value) => write_answer(
             alloc, &uuid, sector, value, loaded,
         ),
@@ -284,7 +313,7 @@ fn perform_outlined<S: ImageSource, C: Chooser>(
     ensures later { S.faults images.old ≤ S.faults images.new }
 {
     match load_outline(alloc, images) {
-        Ok(outline) => in_memory(outlined_answer(alloc, command, outline, choose)),
+        Ok(outline) => outlined_answer(alloc, command, outline, images, choose),
         Err(fault) => unloaded(alloc, fault),
     }
 }

@@ -6,3 +6,5 @@ pub mod Saves
 pub mod Answered
 pub mod Loaded
 pub mod Causes
+pub mod Outlined
+pub mod Asked

@@ -6,3 +6,5 @@ pub mod Write
 pub mod Causes
 pub mod Changed
 pub mod Answering
+pub mod Opening
+pub mod Asked

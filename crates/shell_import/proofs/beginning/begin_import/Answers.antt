@@ -1,39 +1,19 @@
-use Rattle.std.proofs.Common.{◌≡◌, ◌∙◌, length, ap, arith}
-use Rattle.std.proofs.lemmas.List.{length-map}
-use Rattle.namespace_areas.specs.Opening.{opened_as}
+use Rattle.std.proofs.Common.{◌∙◌, subst}
 use Rattle.shell_reports.proofs.More.{if_more}
-use Rattle.shell_reports.proofs.Opened.{are_whole}
+use Rattle.shell_sectors.specs.Opening.{IsFaulty, IsOpenOutline, OpensOutline}
 use Rattle.shell_import.specs.Beginning.{Begins}
 use Rattle.shell_import.proofs.RawImport.{faulty}
-use Rattle.shell_import.proofs.Outlined.{fault_found, held, open_outline}
 use Rattle.shell_import.proofs.beginning.begin_import.Goals as goal
 
-pub open_areas-requires : goal.open_areas-requires
-open_areas-requires c = are_whole c.args.outline.labels c.requires.sound.areas
-
-pub open_all-requires-clause-table : goal.open_all-requires-clause-table
-open_all-requires-clause-table c = (c.args.outline.nfit_bytes, c.requires.sound.table)
-
-pub open_all-requires-clause-held : goal.open_all-requires-clause-held
-open_all-requires-clause-held c = held c.args.outline c.requires.sound c.requires.loadable c.in_ok-areas.areas c.in_ok-areas.ensures
-
-pub open_all-requires-clause-few : goal.open_all-requires-clause-few
-open_all-requires-clause-few c = omega (arith, ap length c.in_ok-areas.ensures, length-map c.args.outline.labels opened_as, c.requires.sound.labels, c.requires.sound.few)
-
 pub begin_named-requires : goal.begin_named-requires
-begin_named-requires c =
-    (c.args.outline, open_outline c.args.outline c.requires.sound c.requires.loadable c.in_ok-areas.areas c.in_ok-areas.ensures c.in-Ok.registry (c.in-Ok.ensures (λ e. cc)))
+begin_named-requires c = (c.args.outline, subst (OpensOutline c.args.outline) c.in-Done.is c.in_ok-opened.ensures)
 
-pub returns-in-Ok : goal.returns-in-Ok
-returns-in-Ok c =
-    if_more _ (Begins c.args.uuid.now c.args.bytes.items c.args.outline) c.begin_named.result
-    (λ begun begins. begins c.args.outline
-    (open_outline c.args.outline c.requires.sound c.requires.loadable c.in_ok-areas.areas c.in_ok-areas.ensures c.in-Ok.registry (c.in-Ok.ensures (λ e. cc))))
-    c.begin_named.ensures
+pub returns-in-Done : goal.returns-in-Done
+returns-in-Done c =
+    let o : IsOpenOutline c.args.outline c.in-Done.registry c.in-Done.rest = subst (OpensOutline c.args.outline) c.in-Done.is c.in_ok-opened.ensures in
+    if_more _ (Begins c.args.uuid.now c.args.bytes.items c.args.outline) c.begin_named.result (λ begun begins. begins c.args.outline o) c.begin_named.ensures
 
-pub returns-in_ok-report-in-Err : goal.returns-in_ok-report-in-Err
-returns-in_ok-report-in-Err c =
-    faulty c.args.outline c.args.uuid.now c.args.bytes.items c.in-Err.fault _
-    (λ contents. fault_found c.args.outline contents c.in_ok-areas.areas c.in_ok-areas.ensures c.in-Err.fault
-    (c.in-Err.ensures (λ e. c.in_ok-report-in-Err.ensures.finding (let same : c.in-Err.fault ≡ _ = cc in same))))
-    c.without_set.ensures.saved (λ contents. c.without_set.ensures.same contents ∙ c.in_ok-report-in-Err.ensures.text)
+pub returns-in-Not : goal.returns-in-Not
+returns-in-Not c =
+    let it : IsFaulty c.args.outline c.in-Not.report = subst (OpensOutline c.args.outline) c.in-Not.is c.in_ok-opened.ensures in
+    faulty c.args.outline c.args.uuid.now c.args.bytes.items it.0 _ it.1 c.without_set.ensures.saved (λ contents. c.without_set.ensures.same contents ∙ it.2)

@@ -5,7 +5,8 @@ use Rattle.namespace_map.specs.declared.refused.OpRefused.{OpRefused}
 use Rattle.image_set.specs.declared.outline.Outline.{Outline}
 use Rattle.shell_export.proofs.Unplaced.{unplaced_uncut}
 use Rattle.shell_reports.proofs.More.{if_more}
-use Rattle.shell_import.specs.Beginning.{IsOpenOutline, IsPlacedOn}
+use Rattle.shell_sectors.specs.Opening.{IsOpenOutline}
+use Rattle.shell_import.specs.Beginning.{IsPlacedOn}
 use Rattle.shell_import.proofs.RawImport.{unplaced}
 use Rattle.shell_import.proofs.beginning.begin_named.Goals as goal
 

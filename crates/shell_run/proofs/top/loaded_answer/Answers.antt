@@ -5,7 +5,7 @@ use Rattle.shell_changes.specs.Remains.{LeavesBy}
 use Rattle.shell_changes.specs.Saved.{copies_contents}
 use Rattle.shell_changes.proofs.Remains.{copies_none}
 use Rattle.image_set.specs.Load.{image_set_in}
-use Rattle.shell_run.specs.declared.words.CommandLine.TheVariants.{Change, Info, Load, Read, Write}
+use Rattle.shell_run.specs.declared.words.CommandLine.TheVariants.{Change, Load, Write}
 use Rattle.shell_changes.specs.Answers.{whole_outcome}
 use Rattle.shell_run.specs.Run.{LoadedComes, needs_contents, reads_script, streams}
 use Rattle.shell_run.specs.Words.{HasGoodValues}
@@ -32,25 +32,21 @@ unreachable-requires-in-Init g c =
     let both = sym c.requires.whole ∙ ap needs_contents c.in-Init.is in
     (let e = both in cc)
 
+pub unreachable-requires-in-Info : goal.unreachable-requires-in-Info
+unreachable-requires-in-Info g c =
+    let both = sym c.requires.whole ∙ ap needs_contents c.in-Info.is in
+    (let e = both in cc)
+
+pub unreachable-requires-in-Read : goal.unreachable-requires-in-Read
+unreachable-requires-in-Read g c =
+    let both = sym c.requires.whole ∙ ap needs_contents c.in-Read.is in
+    (let e = both in cc)
+
 pub returns-in-Change-clause-comes : goal.returns-in-Change-clause-comes
 returns-in-Change-clause-comes g c =
     let leaves = LeavesBy g.C.Chooser.begins g.C.Chooser.picks c.args.choose.now in
     loaded_by leaves c.args.command (Change c.in-Change.change c.in-Change.power) c.in-Change.is (image_set_in c.args.loaded) c.change_answer.result
     (if_more _ (λ (answer : Answer). LoadedComes leaves (Change c.in-Change.change c.in-Change.power) (image_set_in c.args.loaded) (whole_outcome answer)) c.change_answer.result (λ answer comes. comes []) c.change_answer.ensures.comes)
-
-pub returns-in-Info-clause-comes : goal.returns-in-Info-clause-comes
-returns-in-Info-clause-comes g c =
-    loaded_by (LeavesBy g.C.Chooser.begins g.C.Chooser.picks c.args.choose.now) c.args.command (Info c.in-Info.uuid) c.in-Info.is (image_set_in c.args.loaded) c.arenas_found.result c.arenas_found.ensures.comes
-
-pub returns-in-Info-clause-whole : goal.returns-in-Info-clause-whole
-returns-in-Info-clause-whole g c = if_more _ (λ (answer : Answer). copies_contents answer.saved ≡ false) c.arenas_found.result (λ answer none. copies_none answer none) c.arenas_found.ensures.saved
-
-pub returns-in-Read-clause-comes : goal.returns-in-Read-clause-comes
-returns-in-Read-clause-comes g c =
-    loaded_by (LeavesBy g.C.Chooser.begins g.C.Chooser.picks c.args.choose.now) c.args.command (Read c.in-Read.uuid c.in-Read.sector) c.in-Read.is (image_set_in c.args.loaded) c.sector_found.result c.sector_found.ensures.comes
-
-pub returns-in-Read-clause-whole : goal.returns-in-Read-clause-whole
-returns-in-Read-clause-whole g c = if_more _ (λ (answer : Answer). copies_contents answer.saved ≡ false) c.sector_found.result (λ answer none. copies_none answer none) c.sector_found.ensures.saved
 
 pub returns-in-Write-clause-comes : goal.returns-in-Write-clause-comes
 returns-in-Write-clause-comes g c =

@@ -1,5 +1,6 @@
-use Rattle.std.proofs.Common.{◌∙◌, []}
+use Rattle.std.proofs.Common.{◌∙◌, length}
+use Rattle.image_set.specs.Outline.{contents_in}
 use Rattle.shell_run.proofs.top.sector_found.Goals as goal
 
-pub returns-clause-comes : goal.returns-clause-comes
-returns-clause-comes c = c.without_set.ensures.same [] ∙ c.in_ok-report.ensures
+pub returns-in-Ok-clause-comes : goal.returns-in-Ok-clause-comes
+returns-in-Ok-clause-comes g c = λ source told. c.without_set.ensures.same (contents_in source (length c.args.outline.sizes)) ∙ c.in-Ok.ensures.told source told

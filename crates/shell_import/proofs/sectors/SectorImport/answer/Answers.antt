@@ -8,7 +8,8 @@ use Rattle.power_cut.specs.Namespace.{over, words_of}
 use Rattle.sector_namespaces.specs.View.{rows_of}
 use Rattle.shell_import.specs.Beginning.{ImportsFrom, IsSectorImport}
 use Rattle.shell_reports.proofs.More.{if_more}
-use Rattle.shell_import.proofs.SectorsImport.{few_bytes, imports_filled, imports_refused, kept_memory, reached, three, whole_pages}
+use Rattle.shell_sectors.proofs.Asked.{kept}
+use Rattle.shell_import.proofs.SectorsImport.{few_bytes, imports_filled, imports_refused, reached, three, whole_pages}
 use Rattle.shell_import.proofs.sectors.SectorImport.answer.Goals as goal
 
 pub read_arenas_from-requires-clause-pages : goal.read_arenas_from-requires-clause-pages
@@ -29,18 +30,18 @@ read_arenas_from-requires-clause-there g c = λ source told. (
 pub returns-in-Ok-Ok-clause-imports : goal.returns-in-Ok-Ok-clause-imports
 returns-in-Ok-Ok-clause-imports g c =
     let held = g.S.ImageSource.held c.args.images.now in
-    kept_memory (λ answer. (outline : Outline) (bytes : List ℕ) → IsSectorImport c.args.uuid.now bytes outline c.args.self → ImportsFrom held c.args.uuid.now bytes outline answer) c.fill.result c.in_memory.result c.in_memory.ensures.same
-    (if_more _ _ c.fill.result
+    kept (λ answer. (outline : Outline) (bytes : List ℕ) → IsSectorImport c.args.uuid.now bytes outline c.args.self → ImportsFrom held c.args.uuid.now bytes outline answer) c.fill_read.result c.in_memory.result c.in_memory.ensures.same
+    (if_more _ _ c.fill_read.result
     (λ answer fills outline bytes it.
     imports_filled c.args.uuid.now bytes outline c.args.self it answer c.in-Ok-Ok.arenas held (fills outline c.args.uuid.now bytes it) c.requires.there
     (λ contents shown. subst (λ r. IfOk r (AreAll (words_of (over c.args.self.set c.args.self.found.offset c.args.self.found.raw (rows_of contents))).kept c.args.uuid.now)) c.in-Ok-Ok.field-0-is (c.in-Ok-Ok.ensures.all contents shown))
     (λ contents shown. subst (λ r. IfOk r (HaveMapsOfBytes (bytes_by_place c.args.self.set c.args.self.found.offset c.args.self.found.raw contents))) c.in-Ok-Ok.field-0-is (c.in-Ok-Ok.ensures.bytes contents shown)))
-    c.fill.ensures)
+    c.fill_read.ensures)
 
 pub returns-in-Ok-Err-clause-imports : goal.returns-in-Ok-Err-clause-imports
 returns-in-Ok-Err-clause-imports g c =
     let held = g.S.ImageSource.held c.args.images.now in
-    kept_memory (λ answer. (outline : Outline) (bytes : List ℕ) → IsSectorImport c.args.uuid.now bytes outline c.args.self → ImportsFrom held c.args.uuid.now bytes outline answer) c.unopened.result c.in_memory-in-Ok-Err.result c.in_memory-in-Ok-Err.ensures.same
+    kept (λ answer. (outline : Outline) (bytes : List ℕ) → IsSectorImport c.args.uuid.now bytes outline c.args.self → ImportsFrom held c.args.uuid.now bytes outline answer) c.unopened.result c.in_memory-in-Ok-Err.result c.in_memory-in-Ok-Err.ensures.same
     (three _ _ _ _ c.unopened.result
     (λ answer says nothing finding outline bytes it.
     imports_refused c.args.uuid.now bytes outline c.args.self it answer held c.in-Ok-Err.refused nothing says c.requires.there

@@ -1,0 +1,3 @@
+pub mod HeldArenas
+pub mod HeldBytes
+pub mod HeldCells
