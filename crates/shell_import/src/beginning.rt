@@ -159,7 +159,8 @@ pub(crate) fn begin_import(
     requires loadable { IsLoadable outline }
     ensures { IfOk result (Begins uuid.now bytes.items outline) }
 {
-    match open_outline(alloc, outline)? {
+    let opened = open_outline(alloc, outline)?;
+    match opened {
         OutlineOpened::Done(registry, rest) => begin_named(alloc, uuid, registry, rest, bytes),
         OutlineOpened::Not(report) => Ok(Begun::Done(without_set(report))),
     }
