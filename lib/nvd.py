@@ -14,7 +14,6 @@ if not os.access(HERE, os.W_OK) and not os.path.isdir(os.path.join(HERE, "__pyca
     # where nothing can be written, Python keeps what it compiles in the user's folder
     sys.pycache_prefix = os.path.join(os.environ.get("XDG_CACHE_HOME") or os.path.expanduser("~/.cache"), "nvd", "python")
 import build  # noqa: E402
-import explain  # noqa: E402
 import helps  # noqa: E402
 import runs  # noqa: E402
 from places import TOP, Ended, say, tell  # noqa: E402
@@ -48,6 +47,8 @@ class Program:
 
         status, text = self.run([folder, "-", *words])
         if status:
+            import explain
+
             raise Asked(explain.Run(self.path, [folder, "-", *words], status, True), text)
         return records_of(text)
 
@@ -84,11 +85,14 @@ def is_plain(words):
         return True
     if words[2] == "free":
         return False
-    from words import COMMANDS, is_uuid, kind_of, taken
+    from commands import commands
+
+    row = commands().get(words[2])
+    if not row or row.name != "create" and "uuid" not in row.places + row.needed:
+        return True
+    from words import is_uuid, kind_of, taken
     from units import bytes_of
 
-    if words[2] not in COMMANDS:
-        return True
     got, fault = taken(words[2], words[3:])
     given = [it[0] for it in got]
     if words[2] == "create":
@@ -137,9 +141,13 @@ def finished(program, words, was_there):
     else:
         status, _ = by_rt(words)
     if status:
+        import explain
+
         run = explain.Run(program.path, words, status, was_there, script, lambda it: program.records_or_none(words[0], it))
         explain.after(run)
-    if status != 2:
+    if row and not row.writes and words[1] != "-" and status != 2:
+        import explain
+
         explain.ignored(words)
     return status
 
@@ -197,6 +205,8 @@ def ended(words):
     except Asked as it:
         sys.stdout.write(it.text)
         sys.stdout.flush()
+        import explain
+
         explain.after(it.run)
         return it.status
     except Ended as it:

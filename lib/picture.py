@@ -64,7 +64,7 @@ class Drawing:
 
     def svg(self, label):
         body = "\n".join(self.items)
-        return f'<svg viewBox="0 0 {WIDTH} {self.height + 4}" role="img" aria-label="{escape(label)}">{PATTERNS}\n{body}\n</svg>'
+        return f'<svg viewBox="0 0 {WIDTH} {self.height + 4}" role="img" aria-label="{escape(label)}">\n{body}\n</svg>'
 
 
 class Picture:
@@ -82,6 +82,7 @@ class Picture:
         name = os.path.basename(os.path.abspath(self.known.folder))
         yield "<!DOCTYPE html>"
         yield f'<html lang="en"><head><meta charset="utf-8"><meta name="viewport" content="width=device-width"><title>Image set {escape(name)}</title><style>{STYLE}</style></head><body>'
+        yield f'<svg style="position:absolute;width:0;height:0" aria-hidden="true">{PATTERNS}</svg>'
         yield f"<h1>Image set {escape(name)}</h1>"
         yield (f"<p>{counted(self.known.modules, 'module')}, {counted(self.known.regions, 'region')}, {counted(self.known.namespaces, 'namespace')}. Bars are to scale from left to right; "
                "a part that would be too thin to see is drawn a little wider. Hold the pointer on a part to read its bytes.</p>")
@@ -99,9 +100,9 @@ class Picture:
         yield "<p>"
         for it in self.known.namespaces:
             colour, _, pattern = self.looks[it["uuid"]]
-            yield f'<span style="white-space:nowrap;margin-right:1.2em"><svg class="key" viewBox="0 0 16 16">{PATTERNS}<rect width="16" height="16" fill="{colour}"/>'
+            yield f'<span style="white-space:nowrap;margin-right:1.2em"><svg class="key" viewBox="0 0 16 16"><rect width="16" height="16" fill="{colour}"/>'
             yield (f'<rect width="16" height="16" fill="url(#{pattern})"/>' if pattern else "") + f"</svg>{escape(shown_name(it) or '(no name)')}</span>"
-        yield f'<span style="white-space:nowrap"><svg class="key" viewBox="0 0 16 16">{PATTERNS}<rect width="16" height="16" fill="url(#free)"/></svg>free</span></p>'
+        yield f'<span style="white-space:nowrap"><svg class="key" viewBox="0 0 16 16"><rect width="16" height="16" fill="url(#free)"/></svg>free</span></p>'
 
     def modules(self):
         drawing = Drawing()

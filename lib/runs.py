@@ -1,6 +1,11 @@
 """Runs the program: as the user's own run, or to ask it something."""
 import os
-import signal
+
+try:
+    # the same calls without the names of all signals, which take longer to make than all else that a run needs
+    import _signal as signal
+except ImportError:
+    import signal
 
 PASSED_ON = (signal.SIGINT, signal.SIGTERM, signal.SIGHUP, signal.SIGQUIT)
 # `replay` and `serve` read no longer script than this

@@ -63,7 +63,7 @@ if ! command -v python3 >/dev/null 2>&1; then
 fi
 cd "$work"
 if ! NVD_BUILD=kept "$top/nvd" "$top/samples/small" - nfit >said 2>noted && grep -q 'no proved build' noted; then
-    echo 'There is no proved build of these sources. The first step compiles them unproved, about a minute, unless that was done before.'
+    echo 'There is no proved build of these sources. The first step compiles them unproved, a minute or more, unless that was done before.'
 fi
 
 first=11111111-1111-4111-8111-111111111111
