@@ -12,7 +12,7 @@ TABLE = os.path.join(LIB, "commands.txt")
 HEAD = """\
 # The program's commands, made from crates/shell_run by lib/commands.py --write. `-` stands for none; places are in their order.
 # command, places, options that must be given, options that may be, those without a value, whether it writes an image set, whether it reads a
-# script, and what it does with the contents of modules: it leaves them unread, loads them, or copies them as it saves
+# script, and what it does with the contents of modules: it loads none, loads all, or copies them as it saves
 """
 
 
@@ -68,7 +68,7 @@ def holds(value, sector):
 
 def contents_of(copies, loads, sectors):
     """What a command does with contents, by the two definitions; `sectors` says whether it may make sectors."""
-    ways = {"copied" if holds(copies, it) else "loaded" if holds(loads, it) else "unread" for it in ([False, True] if sectors else [False])}
+    ways = {"copied" if holds(copies, it) else "loaded" if holds(loads, it) else "unloaded" for it in ([False, True] if sectors else [False])}
     return "|".join(sorted(ways))
 
 
