@@ -188,6 +188,8 @@ def main(words):
     text = own(words)
     if text is None:
         return perform(words)
+    if sys.stdout is None:
+        raise OSError("standard output is closed")
     sys.stdout.write(text)
     return 0
 
