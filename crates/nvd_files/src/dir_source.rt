@@ -1,5 +1,5 @@
 //! Reads an image set from a directory.
-ghost use Rattle.std.specs.Prelude.{◌≡◌, ◌≤◌, None};
+ghost use Rattle.std.specs.Prelude.{◌≡◌, ◌<◌, ◌≤◌, None, IfOk, vec_len};
 ghost use Rattle.nvd_media.specs.Causes.{Rose};
 
 use crate::paths::file_path;
@@ -31,6 +31,9 @@ fn stamp_of(metadata: &Metadata) -> io::Result<Stamp> {
     })
 }
 
+/// How many files a source keeps open: the contents of as many modules as a set can have.
+const FILES: usize = 64;
+
 /// An object's file, open for reading.
 #[derive(Drop)]
 struct Opened {
@@ -44,17 +47,17 @@ struct Opened {
 /// else that the system refuses, a link to a missing target, a file that isn't regular, one that
 /// ends too early, and one whose length or time of change differs from the first look.
 ///
-/// An object is opened when it is first read; further reads use that descriptor, until another
-/// object is read. So a file that is replaced meanwhile is read from its old bytes alone, or is a
-/// failure.
+/// An object is opened when it is first read, and further reads use that descriptor. Of more than 64
+/// objects the one that was opened first is closed. So a file that is replaced meanwhile is read
+/// from its old bytes alone, or is a failure.
 #[derive(Drop)]
 pub struct DirSource<'a, R: Files<File = File> + AllocGlobal> {
     rt: &'a R,
     directory: &'a str,
     /// Each object's stamp at the first look.
     seen: Vec<(Object, Stamp)>,
-    /// The object that was read last.
-    opened: Option<Opened>,
+    /// The files that are open, in the order in which they were opened.
+    opened: Vec<Opened>,
     faults: u64,
 }
 
@@ -65,7 +68,7 @@ impl<'a, R: Files<File = File> + AllocGlobal> DirSource<'a, R> {
             rt,
             directory,
             seen: Vec::new(rt.alloc()),
-            opened: None,
+            opened: Vec::new(rt.alloc()),
             faults: 0,
         }
     }
@@ -124,25 +127,32 @@ impl<'a, R: Files<File = File> + AllocGlobal> DirSource<'a, R> {
         Ok(Opened { object, file })
     }
 
-    /// Returns the file of an object, and opens it if another object was read last. No file stays
-    /// open in `self`.
-    fn take_opened(&mut self, object: Object) -> io::Result<Opened>
-        ensures { self.new.faults ≡ self.old.faults }
+    /// Returns where an object's file stands among the open ones, and opens it if it isn't there.
+    fn place_of(&mut self, object: Object) -> io::Result<usize>
+        ensures faults { self.new.faults ≡ self.old.faults }
+        ensures there { IfOk result (λ k. k < vec_len self.new.opened) }
     {
-        match self.opened.take() {
-            Some(opened) if opened.object == object => Ok(opened),
-            _ => self.open(object),
+        for k in 0..self.opened.len() {
+            if self.opened[k].object == object {
+                return Ok(k);
+            }
         }
+        let opened = self.open(object)?;
+        if self.opened.len() >= FILES {
+            self.opened.remove(0);
+        }
+        let place = self.opened.len();
+        self.opened.push(opened)?;
+        Ok(place)
     }
 
     fn fill(&mut self, object: Object, at: u64, into: &mut [u8]) -> io::Result<()>
         ensures { self.new.faults ≡ self.old.faults }
     {
-        let opened = self.take_opened(object)?;
-        opened.file.read_exact_at(into, at)?;
-        self.look(object, &opened.file.metadata()?)?;
-        self.opened = Some(opened);
-        Ok(())
+        let place = self.place_of(object)?;
+        self.opened[place].file.read_exact_at(into, at)?;
+        let metadata = self.opened[place].file.metadata()?;
+        self.look(object, &metadata)
     }
 
     fn fail(&mut self) -> Failed
