@@ -268,13 +268,13 @@ def chosen():
     path = builds.released() if wanted != "proved" else None
     if path:
         return path, IS_RELEASED
-    if wanted == "kept":
-        say(f"there is no proved build of these sources at {PROVED}: NVD_BUILD=proved makes one")
-        raise Ended(127)
     if not wanted and builds.is_unproved():
         return UNPROVED, IS_UNPROVED
     if not builds.has_sources:
         say(f"there are neither sources here nor a release of them: {NVD} needs one of both")
+        raise Ended(127)
+    if wanted == "kept":
+        say(f"there is no proved build of these sources at {PROVED}: NVD_BUILD=proved makes one")
         raise Ended(127)
     if not has_rt():
         say("there is no proved build of these sources, and no command rt to make one: put the Rattle kit on PATH")
