@@ -16,8 +16,11 @@ _nvd_table() {
 _nvd_options() {
     local options option
     case $1 in
-    labels | nfit | list | free | info) options='--json' ;;
+    free) options='--json' ;;
     *) options=$(_nvd_table "\$1 == \"$1\" { print \$3 \",\" \$4 \",\" \$5 }" | tr , '\n' | sed '/^-$/d; s/^/--/') ;;
+    esac
+    case $1 in
+    labels | nfit | list | info | read | init | create | delete | rename | write | export) options="$options --json" ;;
     esac
     for option in $options; do
         case " ${COMP_WORDS[*]:0:COMP_CWORD} " in
@@ -90,7 +93,7 @@ _nvd() {
         ;;
     2)
         if [ "$set" = help ]; then
-            _nvd_words "$(_nvd_table '1 { print $1 }') free map diff make sweep FAULTS OUTPUT FROM_NDCTL" "$current"
+            _nvd_words "$(_nvd_table '1 { print $1 }') free map diff make sweep FAULTS OUTPUT JSON FROM_NDCTL" "$current"
         elif [ "$set" = map ] || [ "$set" = diff ]; then
             _nvd_directories "$current"
             compopt -o filenames 2>/dev/null || true
@@ -131,7 +134,7 @@ _nvd() {
     *)
         places=$(_nvd_table "\$1 == \"$command\" { print \$2 }")
         flags=$(_nvd_table "\$1 == \"$command\" { print \$5 }")
-        case ${places%%,*},$(_nvd_place "$flags"),$current in
+        case ${places%%,*},$(_nvd_place "$flags,json"),$current in
         *,*,-*) _nvd_words "$(_nvd_options "$command")" "$current" ;;
         module,0,*) _nvd_words "$(_nvd_modules "$set")" "$current" ;;
         uuid,0,*) _nvd_words "$(_nvd_uuids "$set")" "$current" ;;

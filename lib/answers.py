@@ -1,14 +1,22 @@
-"""The commands with --json, and `free`."""
+"""The commands with --json, and `free`. The page JSON says what each document has."""
 import json
+import os
+import sys
+import uuid
 
-from explain import ignored
+import explain
+import runs
 from faults import explained
 from places import FAULTS, Ended, say, text_of
 from space import free_of
-from texts import NoLine, document_of
-from words import completed
+from texts import NoLine, document_of, done_of, value_of_sector
+from words import completed, taken
 
-WITH_JSON = ("labels", "nfit", "list", "info")
+# what only prints lines; what says that it is done; and what prints bytes, so that its document goes to standard error
+PRINTING, DOING, EXPORT = ("labels", "nfit", "list", "info", "read"), ("init", "create", "delete", "rename", "write"), "export"
+WITH_JSON = (*PRINTING, *DOING, EXPORT)
+# what a document of a fault explains; of the others nvd says on standard error what to do
+WITH_MEANING = (3, 4)
 
 
 def answer(program, words):
@@ -16,49 +24,120 @@ def answer(program, words):
     if plain[2:3] != ["free"]:
         status = as_json(program, plain)
         if status != 2:
-            ignored(plain)
+            explain.ignored(plain)
         return status
     if len(plain) == 3:
-        ignored(plain)
-        return free(program, plain[0], "--json" in words)
+        explain.ignored(plain)
+        return free(program, plain[0]) if "--json" not in words else free_as_json(program, plain[0])
     say("nvd IN - free [--json] has no other words")
     return 2
 
 
-def fault_as_json(status, text):
-    out = {"status": status, "text": text.rstrip("\n")}
-    rows = explained(out["text"], text_of(FAULTS) or "")
-    print(json.dumps({**out, "meanings": [{"means": means, "to_do": remedy} for means, remedy in rows]}, indent=2, ensure_ascii=False))
+def shown(document, file=None):
+    print(json.dumps(document, indent=2, ensure_ascii=False), file=file or sys.stdout)
+
+
+def fault_as_json(status, text, file=None):
+    text = text.rstrip("\n")
+    rows = explained(text, text_of(FAULTS) or "")
+    shown({"status": status, "text": text, "meanings": [{"means": means, "to_do": remedy} for means, remedy in rows]}, file)
     return status
+
+
+def faulty(ended, file=None):
+    """The document of a fault of a command that another one needs."""
+    if not hasattr(ended, "text"):
+        raise ended
+    return fault_as_json(ended.status, ended.text, file)
 
 
 def as_json(program, words):
     command = words[2] if len(words) > 2 else ""
     if command not in WITH_JSON:
-        say(f"--json is for {', '.join(WITH_JSON[:-1])} and {WITH_JSON[-1]}, and not for '{command}'")
+        say(f"--json is for {', '.join(WITH_JSON[:-1])}, {WITH_JSON[-1]} and free, and not for '{command}'")
         return 2
     try:
-        rest = completed(command, words[3:], lambda it: program.records(words[0], it), None, say)
-        status, text = program.run([words[0], "-", command, *rest])
+        rest = completed(command, words[3:], lambda it: program.records(words[0], it), lambda: str(uuid.uuid4()), say)
+        if command == EXPORT:
+            return export(program, [*words[:3], *rest])
+        plain = [words[0], words[1] if command in DOING else "-", command, *rest]
+        was_there = os.path.lexists(plain[1])
+        status, text = program.run(plain)
     except Ended as it:
-        if not hasattr(it, "text"):
-            raise
-        status, text = it.status, it.text
-    if status:
+        return faulty(it, sys.stderr if command == EXPORT else None)
+    if status not in (0, 8):
         fault_as_json(status, text)
+        if status not in WITH_MEANING:
+            explain.after(explain.Run(program.path, plain, status, was_there))
         return status
     try:
-        print(json.dumps(document_of(command, text), indent=2, ensure_ascii=False))
+        shown(document(program, plain, text))
     except NoLine as line:
         say(f"a line isn't in the grammar of 'nvd help OUTPUT': {line}")
         return 1
+    return status
+
+
+def document(program, words, text):
+    """What a command that is done or was cut says."""
+    _, sink, command, *rest = words
+    if command == "read":
+        return {"sector": int(of_word(command, rest, "SECTOR")), **value_of_sector(text)}
+    if command not in DOING:
+        return document_of(command, text)
+    done = done_of(text)
+    if command == "create" and done["result"] == "ok":
+        found = namespace(program, sink, of_word(command, rest, "--uuid"))
+        return {**done, "namespace": found}
+    return done
+
+
+def of_word(command, words, name):
+    """The value of a place or an option, which is there."""
+    return next(value for found, value, _, _ in taken(command, words)[0] if found == name)
+
+
+def namespace(program, folder, text):
+    """A namespace as `list` has it, and its arenas if it has sectors."""
+    status, listed = program.run([folder, "-", "list"])
+    wanted = str(uuid.UUID(text))
+    found = next((it for it in document_of("list", listed if not status else "")["namespaces"] if it["uuid"] == wanted), None)
+    if not found or found["mode"] != "sector":
+        return found and {**found, "arenas": []}
+    status, said = program.run([folder, "-", "info", wanted])
+    return {**found, **document_of("info", said if not status else "")}
+
+
+def export(program, words):
+    """Prints the bytes as ever, and the document on standard error."""
+    status = runs.run(program.path, words) if program.path else program.run(words)[0]
+    if status:
+        run = explain.Run(program.path, words, status, True)
+        fault_as_json(status, run.text() if status in WITH_MEANING else {2: "usage", 5: "read fault"}.get(status, ""), sys.stderr)
+        if status not in WITH_MEANING:
+            explain.after(run)
+        return status
+    found = namespace(program, words[0], of_word(EXPORT, words[3:], "UUID"))
+    arenas = found["arenas"]
+    sectors = sum(it["sectors"] for it in arenas)
+    sector = arenas[0]["sector"] if arenas else None
+    shown({"namespace": found, "sector": sector, "sectors": sectors if arenas else None, "bytes": sectors * sector if arenas else found["size"]}, sys.stderr)
     return 0
 
 
-def free(program, folder, wants_json):
-    found = list(free_of(folder, program.records(folder, "nfit"), program.records(folder, "list")))
-    if wants_json:
-        print(json.dumps({"regions": found}, indent=2))
-    for it in [] if wants_json else found:
+def regions(program, folder):
+    return list(free_of(folder, program.records(folder, "nfit"), program.records(folder, "list")))
+
+
+def free(program, folder):
+    for it in regions(program, folder):
         print(f"free {it['region']} available {it['available']} largest {it['largest']} pieces {it['pieces']}")
+    return 0
+
+
+def free_as_json(program, folder):
+    try:
+        shown({"regions": regions(program, folder)})
+    except Ended as it:
+        return faulty(it)
     return 0

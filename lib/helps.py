@@ -9,14 +9,14 @@ WORDS = {
     "nfit": "IN - nfit [--json]",
     "list": "IN - list [--json]",
     "free": "IN - free [--json]",
-    "init": "IN OUT init MODULE [--cut N] [--evict S]",
-    "create": "IN OUT create --name T --size B [--uuid U] [--region R] [--mode raw|sector] [--sector L] [--lanes W] [--cut N] [--evict S]",
-    "delete": "IN OUT delete UUID|NAME [--cut N] [--evict S]",
-    "rename": "IN OUT rename UUID|NAME NEW-NAME [--cut N] [--evict S]",
+    "init": "IN OUT init MODULE [--cut N] [--evict S] [--json]",
+    "create": "IN OUT create --name T --size B [--uuid U] [--region R] [--mode raw|sector] [--sector L] [--lanes W] [--cut N] [--evict S] [--json]",
+    "delete": "IN OUT delete UUID|NAME [--cut N] [--evict S] [--json]",
+    "rename": "IN OUT rename UUID|NAME NEW-NAME [--cut N] [--evict S] [--json]",
     "info": "IN - info UUID|NAME [--json]",
-    "read": "IN - read UUID|NAME SECTOR",
-    "write": "IN OUT write UUID|NAME SECTOR VALUE",
-    "export": "IN - export UUID|NAME [--bad-as-zeros] >FILE",
+    "read": "IN - read UUID|NAME SECTOR [--json]",
+    "write": "IN OUT write UUID|NAME SECTOR VALUE [--json]",
+    "export": "IN - export UUID|NAME [--bad-as-zeros] [--json] >FILE",
     "import": "IN OUT import UUID|NAME <FILE",
     "replay": "IN OUT replay UUID|NAME [--evict S] <SCHEDULE",
     "serve": "IN OUT serve [--workers N] [--evict S] <SCRIPT",
@@ -26,7 +26,7 @@ WORDS = {
     "make": "make OUT [--modules N] [--size B] [--labels B] [--qemu] [NAME:SIZE[:raw|sector[:L]][@REGION] ..]",
     "sweep": "sweep [--every K] [--keep DIR] [--run CMD] IN COMMAND ..",
 }
-OTHER_PAGES = "FAULTS, OUTPUT, FROM_NDCTL, INTEROP and nvd"
+OTHER_PAGES = "FAULTS, OUTPUT, JSON, FROM_NDCTL, INTEROP and nvd"
 
 
 def names():

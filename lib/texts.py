@@ -91,3 +91,20 @@ def document_of(command, text):
         else:
             out[places[kind]].append({**fields, "extents": []} if kind == "ns" else fields)
     return out
+
+
+def value_of_sector(text):
+    """What the one line of a read says: that the sector is bad, the byte that fills it, or all its bytes, as hexadecimal digits."""
+    (kind, fields), = records_of(text) or [(None, {})]
+    found = re.fullmatch(r"bad|ok (fill|hex):(.*)", fields.get("reply", ""))
+    if kind != "reply" or not found:
+        raise NoLine(text.rstrip("\n"))
+    return {"bad": False, found.group(1): found.group(2)} if found.group(1) else {"bad": True}
+
+
+def done_of(text):
+    """What the one line of a command that writes says: that it is done, or after how many steps power was cut."""
+    found = re.fullmatch(r"ok\n|cut (\d+)\n", text)
+    if not found:
+        raise NoLine(text.rstrip("\n"))
+    return {"result": "cut", "steps": int(found.group(1))} if found.group(1) else {"result": "ok"}
