@@ -125,6 +125,22 @@ IsPlain command = (reads_script command ≡ false) × (streams command ≡ false
 abbrev pub IsAnswered : CommandLine → Type 0
 IsAnswered command = HasGoodValues command × (streams command ≡ false)
 
+-- whether a command starts sessions, which may wait for one another; no other command waits
+abbrev pub has_sessions : CommandLine → Bool
+has_sessions (Labels m) = false
+has_sessions Nfit = false
+has_sessions command.List = false
+has_sessions (Init m power) = false
+has_sessions (Change c power) = false
+has_sessions (Info uuid) = false
+has_sessions (Read uuid sector) = false
+has_sessions (Write uuid sector value) = false
+has_sessions (Replay uuid seed) = false
+has_sessions (Export uuid zeros) = false
+has_sessions (Import uuid) = false
+has_sessions (Serve running) = true
+has_sessions (Load l workers) = true
+
 -- whether a command copies contents as it saves, so that reading may fail then
 abbrev pub copies : CommandLine → Bool
 copies (Labels m) = false

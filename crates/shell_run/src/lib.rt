@@ -13,6 +13,10 @@
 //!
 //! [`run`] does the work, so its contract says all of it; `nvdimm_shell` gives it directories and the standard streams.
 //!
+//! Sessions may wait for one another, so `run` has the bound `Wait`, under which a body that never returns meets any clause. Only `serve`
+//! and `load` start sessions ([`has_sessions`]). All other commands go through [`carry_out`], which has the same clauses without that bound: so
+//! each of them returns.
+//!
 //! A command is an entry of the table in `specs/Commands.antt`, a case of `Comes` in `specs/Run.antt`, and a handler that
 //! makes an answer from the set that was loaded, without a source or a sink. A command with a script reads it to its end
 //! before anything is loaded (`OnScript`); its handler gets what was read. `export` alone gets the text sink (`streams`), since its
@@ -26,8 +30,10 @@
 mod commands;
 mod laws;
 mod scripts;
+mod sessions;
 mod top;
 mod words;
 
 pub use laws::{init_leaves_whole, status_is_due};
-pub use top::run;
+pub use top::{carry_out, has_sessions, run};
+pub use words::{CommandLine, command_from};

@@ -18,23 +18,18 @@ ghost use Rattle.shell_changes.specs.Remains.{LeavesBy};
 ghost use Rattle.shell_changes.specs.Saved.{AreSaved, HasContentsOf, Stores, copies_contents};
 ghost use Rattle.shell_import.specs.Import.{ImportComes};
 ghost use Rattle.shell_replay.specs.Replay.{ReplayComes};
-ghost use Rattle.session_script.specs.Names.{ScriptHasText};
-ghost use Rattle.shell_serve.specs.Load.{LoadComes};
-ghost use Rattle.shell_serve.specs.Serve.{ServeComes};
 ghost use Rattle.shell_run.specs.Scripts.{script_outcome};
-ghost use Rattle.shell_run.specs.Run.{AppendsPart, ComesTold, Ends, Holds, IsAnswered, IsDue, IsPlain, LeavesScript, LoadedComes, OnImages, OnSource, copies, copies_by, needs_contents, reads_script};
+ghost use Rattle.shell_run.specs.Run.{AppendsPart, ComesTold, Ends, Holds, IsAnswered, IsDue, IsPlain, LeavesScript, LoadedComes, OnImages, OnSource, copies, copies_by, has_sessions, needs_contents, reads_script};
 ghost use Rattle.shell_run.specs.Printed.{EndsPrinting, Exports, HoldsPrinted, IsMisused, IsReported, IsUnloaded};
 ghost use Rattle.shell_run.specs.Words.{HasGoodValues};
 
-use crate::scripts::{
-    ScriptRefused, ScriptStop, read_bytes, read_schedule, read_sessions, script_answer,
-};
+use crate::scripts::{ScriptRefused, ScriptStop, read_bytes, read_schedule, script_answer};
+use crate::sessions::{Tools, carry_out_any};
 use crate::words::{CommandLine, command_from};
 use command_words::WordsFault;
 use image_set::{CopyFault, LoadFault, Loaded, Outline, load, load_outline};
 use nvd_media::{Chooser, Gate, ImageSink, ImageSource, TextSink, TextSource};
 use sector_service::Waiting;
-use session_script::Script;
 use shell_changes::{
     Answer, SavedSet, SetRead, change_answer, in_memory, init_answer, makes_sectors, without_set,
 };
@@ -46,7 +41,6 @@ use shell_reports::{
     usage_answer,
 };
 use shell_sectors::{info_answer, read_answer, write_answer};
-use shell_serve::{Load, Running, serve_answer};
 use std::alloc::{AllocError, Global};
 use std::sync::Wait;
 use std::thread::Threads;
@@ -180,6 +174,27 @@ fn reads_script(command: &CommandLine) -> bool
     }
 }
 
+/// Whether a command starts sessions.
+pub fn has_sessions(command: &CommandLine) -> bool
+    ensures { result ≡ has_sessions command.now }
+{
+    match command {
+        CommandLine::Labels(_) => false,
+        CommandLine::Nfit => false,
+        CommandLine::List => false,
+        CommandLine::Init(_, _) => false,
+        CommandLine::Change(_, _) => false,
+        CommandLine::Info(_) => false,
+        CommandLine::Read(_, _) => false,
+        CommandLine::Write(_, _, _) => false,
+        CommandLine::Replay(_, _) => false,
+        CommandLine::Export(_, _) => false,
+        CommandLine::Import(_) => false,
+        CommandLine::Serve(_) => true,
+        CommandLine::Load(_, _) => true,
+    }
+}
+
 /// What a command without a script comes to on the set that it loads but for its contents. What it needs of these it reads from
 /// the source.
 fn outlined_answer<S: ImageSource, C: Chooser>(
@@ -223,28 +238,8 @@ fn outlined_answer<S: ImageSource, C: Chooser>(
     }
 }
 
-/// What `load` comes to on the set that it loads, in so many threads.
-fn load_found<R: Threads + Wait + Sync, C: Chooser, G: Gate>(
-    waiting: &Waiting<R, G>,
-    alloc: Global,
-    load: &Load,
-    workers: u32,
-    loaded: Loaded,
-    choose: &mut C,
-) -> Result<Answer, AllocError>
-    requires workers { 0 < workers }
-    requires some { 0 < load.now.sessions }
-    requires sound { IsSound loaded }
-    ensures comes { IfOk result (λ answer. LoadComes (LeavesBy C.begins C.picks choose.old 0) load.now (image_set_in loaded) (whole_outcome answer)) }
-    ensures whole { IfOk result (λ answer. copies_contents answer.saved ≡ false) }
-{
-    let running = Running { workers, seed: 0 };
-    shell_serve::load_answer(waiting, alloc, running, load, loaded, choose)
-}
-
 /// What a command without a script comes to on the set that it loads with its contents.
-fn loaded_answer<R: Threads + Wait + Sync, C: Chooser, G: Gate>(
-    waiting: &Waiting<R, G>,
+fn loaded_answer<C: Chooser>(
     alloc: Global,
     command: CommandLine,
     loaded: Loaded,
@@ -254,6 +249,7 @@ fn loaded_answer<R: Threads + Wait + Sync, C: Chooser, G: Gate>(
     requires name { HasGoodValues command }
     requires whole { needs_contents command ≡ true }
     requires plain { IsPlain command }
+    requires alone { has_sessions command ≡ false }
     ensures comes { IfOk result (λ answer. LoadedComes (LeavesBy C.begins C.picks choose.old) command (image_set_in loaded) (whole_outcome answer)) }
     ensures whole { IfOk result (λ answer. copies_contents answer.saved ≡ false) }
 {
@@ -274,14 +270,12 @@ fn loaded_answer<R: Threads + Wait + Sync, C: Chooser, G: Gate>(
         CommandLine::Export(_, _) => unreachable!(),
         CommandLine::Import(_) => unreachable!(),
         CommandLine::Serve(_) => unreachable!(),
-        CommandLine::Load(load, workers) => load_found(
-            waiting, alloc, &load, workers, loaded, choose,
-        ),
+        CommandLine::Load(_, _) => unreachable!(),
     }
 }
 
 /// The answer on a set that isn't loaded, or the stop if that is no finding about its objects.
-fn unloaded(alloc: Global, fault: LoadFault) -> Result<Answer, RunStop>
+pub(crate) fn unloaded(alloc: Global, fault: LoadFault) -> Result<Answer, RunStop>
     ensures text { IfOk result (λ answer. (contents : List (List ℕ)) → outcome_with answer contents ≡ load_outcome fault) }
     ensures saved { IfOk result (λ answer. answer.saved ≡ None) }
     ensures source { IfOk result (λ _. fault ≢ LoadFault.ReadFault) }
@@ -319,8 +313,7 @@ fn perform_outlined<S: ImageSource, C: Chooser>(
 }
 
 /// What a command without a script comes to that needs contents: the whole set is loaded.
-fn perform_whole<R: Threads + Wait + Sync, S: ImageSource, C: Chooser, G: Gate>(
-    waiting: &Waiting<R, G>,
+fn perform_whole<S: ImageSource, C: Chooser>(
     alloc: Global,
     command: CommandLine,
     images: &mut S,
@@ -329,6 +322,7 @@ fn perform_whole<R: Threads + Wait + Sync, S: ImageSource, C: Chooser, G: Gate>(
     requires name { HasGoodValues command }
     requires whole { needs_contents command ≡ true }
     requires plain { IsPlain command }
+    requires alone { has_sessions command ≡ false }
     ensures told { IfOk result (λ answer. (outcome : Outcome) → ComesFrom (S.held images.old) answer outcome → OnImages (LoadedComes (LeavesBy C.begins C.picks choose.old) command) (S.held images.old) outcome) }
     ensures whole { IfOk result (λ answer. copies_contents answer.saved ≡ false) }
     ensures same { S.held images.new ≡ S.held images.old }
@@ -336,7 +330,7 @@ fn perform_whole<R: Threads + Wait + Sync, S: ImageSource, C: Chooser, G: Gate>(
     ensures later { S.faults images.old ≤ S.faults images.new }
 {
     match load(alloc, images) {
-        Ok(loaded) => in_memory(loaded_answer(waiting, alloc, command, loaded, choose)),
+        Ok(loaded) => in_memory(loaded_answer(alloc, command, loaded, choose)),
         Err(why) => unloaded(alloc, why),
     }
 }
@@ -363,7 +357,7 @@ fn replay_loaded<S: ImageSource, C: Chooser>(
 }
 
 /// The answer to a script that isn't taken.
-fn misread(alloc: Global, why: ScriptRefused) -> Result<Answer, RunStop>
+pub(crate) fn misread(alloc: Global, why: ScriptRefused) -> Result<Answer, RunStop>
     ensures text { IfOk result (λ answer. (contents : List (List ℕ)) → outcome_with answer contents ≡ script_outcome why) }
     ensures saved { IfOk result (λ answer. answer.saved ≡ None) }
     ensures memory { result ≢ Err RunStop.ReadFault }
@@ -440,55 +434,8 @@ fn perform_import<S: ImageSource, T: TextSource, C: Chooser>(
     }
 }
 
-/// What `serve` comes to once its script is read: the whole set is loaded.
-fn serve_loaded<R: Threads + Wait + Sync, S: ImageSource, C: Chooser, G: Gate>(
-    waiting: &Waiting<R, G>,
-    alloc: Global,
-    running: Running,
-    script: &Script,
-    images: &mut S,
-    choose: &mut C,
-) -> Result<Answer, RunStop>
-    requires workers { 0 < running.workers }
-    requires text { ScriptHasText script.now }
-    ensures told { IfOk result (λ answer. (outcome : Outcome) → ComesFrom (S.held images.old) answer outcome → OnImages (ServeComes (LeavesBy C.begins C.picks choose.old running.seed) script.now) (S.held images.old) outcome) }
-    ensures whole { IfOk result (λ answer. copies_contents answer.saved ≡ false) }
-    ensures same { S.held images.new ≡ S.held images.old }
-    ensures failed { result ≡ Err RunStop.ReadFault → Rose (S.faults images.old) (S.faults images.new) }
-    ensures later { S.faults images.old ≤ S.faults images.new }
-{
-    match load(alloc, images) {
-        Ok(loaded) => in_memory(serve_answer(waiting, alloc, running, script, loaded, choose)),
-        Err(why) => unloaded(alloc, why),
-    }
-}
-
-/// What `serve` comes to: its script is read first.
-fn perform_serve<R: Threads + Wait + Sync, S: ImageSource, T: TextSource, C: Chooser, G: Gate>(
-    waiting: &Waiting<R, G>,
-    alloc: Global,
-    running: Running,
-    images: &mut S,
-    script: &mut T,
-    choose: &mut C,
-) -> Result<Answer, RunStop>
-    requires workers { 0 < running.workers }
-    ensures told { IfOk result (λ answer. (outcome : Outcome) → ComesFrom (S.held images.old) answer outcome → ComesTold (LeavesBy C.begins C.picks choose.old) (CommandLine.Serve running) (S.held images.old) (T.left script.old) outcome) }
-    ensures whole { IfOk result (λ answer. copies_contents answer.saved ≡ false) }
-    ensures same { S.held images.new ≡ S.held images.old }
-    ensures failed { result ≡ Err RunStop.ReadFault → Rose (S.faults images.old) (S.faults images.new) ⊎ Rose (T.faults script.old) (T.faults script.new) }
-    ensures later { S.faults images.old ≤ S.faults images.new }
-{
-    match read_sessions(alloc, script) {
-        Ok(lines) => serve_loaded(waiting, alloc, running, &lines, images, choose),
-        Err(ScriptStop::Refused(why)) => misread(alloc, why),
-        Err(ScriptStop::Stop(stop)) => Err(stop),
-    }
-}
-
-/// What a command with a script comes to.
-fn perform_scripted<R: Threads + Wait + Sync, S: ImageSource, T: TextSource, C: Chooser, G: Gate>(
-    waiting: &Waiting<R, G>,
+/// What a command with a script and without sessions comes to.
+fn perform_scripted<S: ImageSource, T: TextSource, C: Chooser>(
     alloc: Global,
     command: CommandLine,
     images: &mut S,
@@ -496,7 +443,7 @@ fn perform_scripted<R: Threads + Wait + Sync, S: ImageSource, T: TextSource, C: 
     choose: &mut C,
 ) -> Result<Answer, RunStop>
     requires scripted { reads_script command ≡ true }
-    requires good { HasGoodValues command }
+    requires alone { has_sessions command ≡ false }
     ensures told { IfOk result (λ answer. (outcome : Outcome) → ComesFrom (S.held images.old) answer outcome → ComesTold (LeavesBy C.begins C.picks choose.old) command (S.held images.old) (T.left script.old) outcome) }
     ensures copying { IfOk result (λ answer. IsTrue (copies_contents answer.saved) → IsTrue (copies command)) }
     ensures there { IfOk result (λ answer. HasContentsOf (S.held images.old) answer.saved) }
@@ -509,16 +456,12 @@ fn perform_scripted<R: Threads + Wait + Sync, S: ImageSource, T: TextSource, C: 
             alloc, uuid, seed, images, script, choose,
         ),
         CommandLine::Import(uuid) => perform_import(alloc, uuid, images, script, choose),
-        CommandLine::Serve(running) => perform_serve(
-            waiting, alloc, running, images, script, choose,
-        ),
         _ => unreachable!(),
     }
 }
 
 /// What a command without a script comes to.
-fn perform_plain<R: Threads + Wait + Sync, S: ImageSource, C: Chooser, G: Gate>(
-    waiting: &Waiting<R, G>,
+fn perform_plain<S: ImageSource, C: Chooser>(
     alloc: Global,
     command: CommandLine,
     images: &mut S,
@@ -526,6 +469,7 @@ fn perform_plain<R: Threads + Wait + Sync, S: ImageSource, C: Chooser, G: Gate>(
 ) -> Result<Answer, RunStop>
     requires name { HasGoodValues command }
     requires plain { IsPlain command }
+    requires alone { has_sessions command ≡ false }
     ensures told { IfOk result (λ answer. (outcome : Outcome) → ComesFrom (S.held images.old) answer outcome → OnImages (LoadedComes (LeavesBy C.begins C.picks choose.old) command) (S.held images.old) outcome) }
     ensures copying { IfOk result (λ answer. IsTrue (copies_contents answer.saved) → IsTrue (copies command)) }
     ensures there { IfOk result (λ answer. HasContentsOf (S.held images.old) answer.saved) }
@@ -534,15 +478,14 @@ fn perform_plain<R: Threads + Wait + Sync, S: ImageSource, C: Chooser, G: Gate>(
     ensures later { S.faults images.old ≤ S.faults images.new }
 {
     if needs_contents(&command) {
-        perform_whole(waiting, alloc, command, images, choose)
+        perform_whole(alloc, command, images, choose)
     } else {
         perform_outlined(alloc, command, images, choose)
     }
 }
 
-/// What a command comes to that makes an answer.
-fn perform<R: Threads + Wait + Sync, S: ImageSource, T: TextSource, C: Chooser, G: Gate>(
-    waiting: &Waiting<R, G>,
+/// What a command without sessions comes to that makes an answer.
+fn perform<S: ImageSource, T: TextSource, C: Chooser>(
     alloc: Global,
     command: CommandLine,
     images: &mut S,
@@ -550,6 +493,7 @@ fn perform<R: Threads + Wait + Sync, S: ImageSource, T: TextSource, C: Chooser, 
     choose: &mut C,
 ) -> Result<Answer, RunStop>
     requires asked { IsAnswered command }
+    requires alone { has_sessions command ≡ false }
     ensures told { IfOk result (λ answer. (outcome : Outcome) → ComesFrom (S.held images.old) answer outcome → ComesTold (LeavesBy C.begins C.picks choose.old) command (S.held images.old) (T.left script.old) outcome) }
     ensures copying { IfOk result (λ answer. IsTrue (copies_contents answer.saved) → IsTrue (copies command)) }
     ensures there { IfOk result (λ answer. HasContentsOf (S.held images.old) answer.saved) }
@@ -559,9 +503,9 @@ fn perform<R: Threads + Wait + Sync, S: ImageSource, T: TextSource, C: Chooser, 
     ensures later { S.faults images.old ≤ S.faults images.new }
 {
     if reads_script(&command) {
-        perform_scripted(waiting, alloc, command, images, script, choose)
+        perform_scripted(alloc, command, images, script, choose)
     } else {
-        perform_plain(waiting, alloc, command, images, choose)
+        perform_plain(alloc, command, images, choose)
     }
 }
 
@@ -600,7 +544,7 @@ fn printed<O: TextSink>(ending: Ending, bytes: &[u8], text: &mut O) -> Status
 }
 
 /// Ends a run that has no answer.
-fn stopped<O: TextSink>(stop: RunStop, text: &mut O) -> Status
+pub(crate) fn stopped<O: TextSink>(stop: RunStop, text: &mut O) -> Status
     ensures memory { stop ≡ RunStop.OutOfMemory → (result ≡ Status.OutOfMemory) × (O.written text.new ≡ O.written text.old) }
     ensures read { stop ≡ RunStop.ReadFault → ((result ≡ Status.WriteFault) × AppendsPart (O.written text.old) (O.written text.new) (codes "read fault" ++ lf)) ⊎ ((result ≡ Status.ReadFault) × Appends (O.written text.old) (O.written text.new) (codes "read fault" ++ lf)) }
     ensures failed { result ≡ Status.WriteFault → Rose (O.faults text.old) (O.faults text.new) }
@@ -617,7 +561,7 @@ fn stopped<O: TextSink>(stop: RunStop, text: &mut O) -> Status
 /// Saves the image set of an answer, if it has one, and then prints its text. If the source fails as contents are
 /// copied the set isn't finished, and the text is `read fault`.
 #[tactic(auto, using(crate::proofs::Ending::endings))]
-fn conclude<S: ImageSource, K: ImageSink, O: TextSink>(
+pub(crate) fn conclude<S: ImageSource, K: ImageSink, O: TextSink>(
     alloc: Global,
     answer: Answer,
     images: &mut S,
@@ -645,24 +589,9 @@ fn conclude<S: ImageSource, K: ImageSink, O: TextSink>(
     }
 }
 
-/// Where threads and memory come from.
-#[derive(Drop)]
-struct Tools<'a, R: Threads + Wait + Sync, G: Gate> {
-    waiting: Waiting<'a, R, G>,
+/// Carries out a command without sessions that makes an answer: its image set, if it has one, is saved, and then its text is printed.
+fn answer<S: ImageSource, T: TextSource, K: ImageSink, O: TextSink, C: Chooser>(
     alloc: Global,
-}
-
-/// Carries out a command that makes an answer: its image set, if it has one, is saved, and then its text is printed.
-fn answer<
-    R: Threads + Wait + Sync,
-    S: ImageSource,
-    T: TextSource,
-    K: ImageSink,
-    O: TextSink,
-    C: Chooser,
-    G: Gate,
->(
-    tools: &Tools<R, G>,
     command: CommandLine,
     images: &mut S,
     script: &mut T,
@@ -672,6 +601,7 @@ fn answer<
 ) -> Status
     requires empty { ForSome (K.made out.old) IsEmptySet }
     requires asked { IsAnswered command }
+    requires alone { has_sessions command ≡ false }
     ensures ends { Ends (Rose (S.faults images.old) (S.faults images.new) ⊎ Rose (T.faults script.old) (T.faults script.new)) (copies command) (ComesTold (LeavesBy C.begins C.picks choose.old) command (S.held images.old) (T.left script.old))
         (K.made out.old) (K.made out.new) (O.written text.old) (O.written text.new) result }
     ensures stored { Holds (ComesTold (LeavesBy C.begins C.picks choose.old) command (S.held images.old) (T.left script.old)) (K.kept out.old) (K.kept out.new) (O.kept text.old) (O.kept text.new) result }
@@ -680,8 +610,8 @@ fn answer<
     ensures same { S.held images.new ≡ S.held images.old }
     ensures unread { reads_script command ≡ false → T.left script.new ≡ T.left script.old }
 {
-    match perform(&tools.waiting, tools.alloc, command, images, script, choose) {
-        Ok(answer) => conclude(tools.alloc, answer, images, out, text),
+    match perform(alloc, command, images, script, choose) {
+        Ok(answer) => conclude(alloc, answer, images, out, text),
         Err(stop) => stopped(stop, text),
     }
 }
@@ -735,17 +665,12 @@ fn export<S: ImageSource, O: TextSink>(
     }
 }
 
-/// Carries out a command.
-fn carry_out<
-    R: Threads + Wait + Sync,
-    S: ImageSource,
-    T: TextSource,
-    K: ImageSink,
-    O: TextSink,
-    C: Chooser,
-    G: Gate,
->(
-    tools: &Tools<R, G>,
+/// Carries out a command that starts no sessions, and returns its exit status. It waits for nobody: it always returns.
+///
+/// Its clauses are those of [`run`](crate::run), for a command in place of its words; [`command_from`](crate::command_from) makes
+/// one, with good values.
+pub fn carry_out<S: ImageSource, T: TextSource, K: ImageSink, O: TextSink, C: Chooser>(
+    alloc: Global,
     command: CommandLine,
     images: &mut S,
     script: &mut T,
@@ -755,6 +680,7 @@ fn carry_out<
 ) -> Status
     requires empty { ForSome (K.made out.old) IsEmptySet }
     requires name { HasGoodValues command }
+    requires alone { has_sessions command ≡ false }
     ensures ends { Ends (Rose (S.faults images.old) (S.faults images.new) ⊎ Rose (T.faults script.old) (T.faults script.new)) (copies command) (ComesTold (LeavesBy C.begins C.picks choose.old) command (S.held images.old) (T.left script.old))
         (K.made out.old) (K.made out.new) (O.written text.old) (O.written text.new) result }
     ensures stored { Holds (ComesTold (LeavesBy C.begins C.picks choose.old) command (S.held images.old) (T.left script.old)) (K.kept out.old) (K.kept out.new) (O.kept text.old) (O.kept text.new) result }
@@ -764,8 +690,8 @@ fn carry_out<
     ensures unread { reads_script command ≡ false → T.left script.new ≡ T.left script.old }
 {
     match command {
-        CommandLine::Export(uuid, zeros) => export(tools.alloc, &uuid, zeros, images, text),
-        _ => answer(tools, command, images, script, out, text, choose),
+        CommandLine::Export(uuid, zeros) => export(alloc, &uuid, zeros, images, text),
+        _ => answer(alloc, command, images, script, out, text, choose),
     }
 }
 
@@ -829,7 +755,7 @@ pub fn run<
         Ok(command) => {
             let waiting = Waiting { rt, gate };
             let tools = Tools { waiting, alloc };
-            carry_out(&tools, command, images, script, out, text, choose)
+            carry_out_any(&tools, command, images, script, out, text, choose)
         }
         Err(fault) => misused(alloc, fault, text),
     }

@@ -5,9 +5,9 @@ use Rattle.shell_changes.specs.Remains.{LeavesBy}
 use Rattle.shell_changes.specs.Saved.{copies_contents}
 use Rattle.shell_changes.proofs.Remains.{copies_none}
 use Rattle.image_set.specs.Load.{image_set_in}
-use Rattle.shell_run.specs.declared.words.CommandLine.TheVariants.{Change, Load, Write}
+use Rattle.shell_run.specs.declared.words.CommandLine.TheVariants.{Change, Write}
 use Rattle.shell_changes.specs.Answers.{whole_outcome}
-use Rattle.shell_run.specs.Run.{LoadedComes, needs_contents, reads_script, streams}
+use Rattle.shell_run.specs.Run.{LoadedComes, has_sessions, needs_contents, reads_script, streams}
 use Rattle.shell_run.specs.Words.{HasGoodValues}
 use Rattle.shell_run.proofs.Comes.{loaded_by}
 use Rattle.shell_run.proofs.top.loaded_answer.Goals as goal
@@ -73,12 +73,7 @@ unreachable-requires-in-Serve g c =
     let both = sym c.requires.plain.0 ∙ ap reads_script c.in-Serve.is in
     (let e = both in cc)
 
-pub load_found-requires-clause-workers : goal.load_found-requires-clause-workers
-load_found-requires-clause-workers g c = λ κs lives. (subst HasGoodValues c.in-Load.is c.requires.name).1
-
-pub load_found-requires-clause-some : goal.load_found-requires-clause-some
-load_found-requires-clause-some g c = λ κs lives. (subst HasGoodValues c.in-Load.is c.requires.name).0
-
-pub returns-in-Load-clause-comes : goal.returns-in-Load-clause-comes
-returns-in-Load-clause-comes g c =
-    loaded_by (LeavesBy g.C.Chooser.begins g.C.Chooser.picks c.args.choose.now) c.args.command (Load c.in-Load.load c.in-Load.workers) c.in-Load.is (image_set_in c.args.loaded) c.load_found.result c.load_found.ensures.comes
+pub unreachable-requires-in-Load : goal.unreachable-requires-in-Load
+unreachable-requires-in-Load g c =
+    let both = sym c.requires.alone ∙ ap has_sessions c.in-Load.is in
+    (let e = both in cc)

@@ -4,7 +4,7 @@ use Rattle.shell_run.proofs.Comes.{plain_due}
 use Rattle.shell_run.proofs.top.perform.Goals as goal
 
 pub perform_plain-requires-clause-plain : goal.perform_plain-requires-clause-plain
-perform_plain-requires-clause-plain g c = λ κs lives. (sym c.reads_script.ensures ∙ c.if-reads_script.false, c.requires.asked.1)
+perform_plain-requires-clause-plain g c = (sym c.reads_script.ensures ∙ c.if-reads_script.false, c.requires.asked.1)
 
 pub returns-else-reads_script-clause-told : goal.returns-else-reads_script-clause-told
 returns-else-reads_script-clause-told g c =

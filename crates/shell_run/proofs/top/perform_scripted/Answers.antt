@@ -22,13 +22,3 @@ returns-in-Replay-clause-there g c =
 pub returns-in-Import-clause-copying : goal.returns-in-Import-clause-copying
 returns-in-Import-clause-copying g c =
     subst (λ (command : CommandLine). IfOk c.perform_import.result (λ (answer : Answer). IsTrue (copies_contents answer.saved) → IsTrue (copies command))) (sym c.in-Import.is) c.perform_import.ensures.copying
-
-pub returns-in-Serve-clause-copying : goal.returns-in-Serve-clause-copying
-returns-in-Serve-clause-copying g c =
-    if_more _ (λ (answer : Answer). IsTrue (copies_contents answer.saved) → IsTrue (copies c.args.command)) c.perform_serve.result
-    (λ answer whole. none_copied answer.saved (IsTrue (copies c.args.command)) whole) c.perform_serve.ensures.whole
-
-pub returns-in-Serve-clause-there : goal.returns-in-Serve-clause-there
-returns-in-Serve-clause-there g c =
-    let held = g.S.ImageSource.held c.args.images.now in
-    if_more _ (λ (answer : Answer). HasContentsOf held answer.saved) c.perform_serve.result (λ answer whole. whole_there held answer.saved whole) c.perform_serve.ensures.whole

@@ -15,10 +15,10 @@ returns-in-Ok-clause-ends g c =
     let held = g.S.ImageSource.held c.args.images.now in
     let left = g.T.TextSource.left c.args.script.now in
     let command = c.in-Ok.command in
-    let rose = Rose (g.S.ImageSource.faults c.args.images.now) (g.S.ImageSource.faults c.carry_out.new.images) ⊎ Rose (g.T.TextSource.faults c.args.script.now) (g.T.TextSource.faults c.carry_out.new.script) in
-    ends_more rose rose (copies command) (copies_by words) (ComesTold leaves command held left) (IsDue leaves words held left) (g.K.ImageSink.made c.args.out.now) (g.K.ImageSink.made c.carry_out.new.out)
-    (g.O.TextSink.written c.args.text.now) (g.O.TextSink.written c.carry_out.new.text) c.carry_out.result (λ it. it) (command_copies words command c.in-Ok.ensures.command)
-    (λ outcome told. command_due leaves words held left outcome command c.in-Ok.ensures.command told) c.carry_out.ensures.ends
+    let rose = Rose (g.S.ImageSource.faults c.args.images.now) (g.S.ImageSource.faults c.carry_out_any.new.images) ⊎ Rose (g.T.TextSource.faults c.args.script.now) (g.T.TextSource.faults c.carry_out_any.new.script) in
+    ends_more rose rose (copies command) (copies_by words) (ComesTold leaves command held left) (IsDue leaves words held left) (g.K.ImageSink.made c.args.out.now) (g.K.ImageSink.made c.carry_out_any.new.out)
+    (g.O.TextSink.written c.args.text.now) (g.O.TextSink.written c.carry_out_any.new.text) c.carry_out_any.result (λ it. it) (command_copies words command c.in-Ok.ensures.command)
+    (λ outcome told. command_due leaves words held left outcome command c.in-Ok.ensures.command told) c.carry_out_any.ensures.ends
 
 pub returns-in-Ok-clause-stored : goal.returns-in-Ok-clause-stored
 returns-in-Ok-clause-stored g c =
@@ -27,8 +27,8 @@ returns-in-Ok-clause-stored g c =
     let held = g.S.ImageSource.held c.args.images.now in
     let left = g.T.TextSource.left c.args.script.now in
     let command = c.in-Ok.command in
-    holds_more (ComesTold leaves command held left) (IsDue leaves words held left) (g.K.ImageSink.kept c.args.out.now) (g.K.ImageSink.kept c.carry_out.new.out)
-    (g.O.TextSink.kept c.args.text.now) (g.O.TextSink.kept c.carry_out.new.text) c.carry_out.result (λ outcome told. command_due leaves words held left outcome command c.in-Ok.ensures.command told) c.carry_out.ensures.stored
+    holds_more (ComesTold leaves command held left) (IsDue leaves words held left) (g.K.ImageSink.kept c.args.out.now) (g.K.ImageSink.kept c.carry_out_any.new.out)
+    (g.O.TextSink.kept c.args.text.now) (g.O.TextSink.kept c.carry_out_any.new.text) c.carry_out_any.result (λ outcome told. command_due leaves words held left outcome command c.in-Ok.ensures.command told) c.carry_out_any.ensures.stored
 
 pub returns-in-Err-clause-ends : goal.returns-in-Err-clause-ends
 returns-in-Err-clause-ends g c =

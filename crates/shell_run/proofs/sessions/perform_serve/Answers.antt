@@ -2,7 +2,7 @@ use Rattle.shell_reports.proofs.More.{if_more}
 use Rattle.shell_changes.specs.Remains.{LeavesBy}
 use Rattle.shell_changes.proofs.Remains.{copies_none}
 use Rattle.shell_run.proofs.Comes.{misread_sessions_due, sessions_due}
-use Rattle.shell_run.proofs.top.perform_serve.Goals as goal
+use Rattle.shell_run.proofs.sessions.perform_serve.Goals as goal
 
 pub returns-in-Ok-clause-told : goal.returns-in-Ok-clause-told
 returns-in-Ok-clause-told g c =

@@ -6,7 +6,7 @@ use Rattle.shell_changes.specs.Saved.{copies_contents}
 use Rattle.shell_changes.proofs.Remains.{copies_none}
 use Rattle.shell_serve.specs.Serve.{ServeComes}
 use Rattle.shell_run.proofs.Comes.{IsTold, if_same, if_told, loaded_told, unloaded_told}
-use Rattle.shell_run.proofs.top.serve_loaded.Goals as goal
+use Rattle.shell_run.proofs.sessions.serve_loaded.Goals as goal
 
 pub returns-in-Ok-clause-told : goal.returns-in-Ok-clause-told
 returns-in-Ok-clause-told g c =
