@@ -148,5 +148,5 @@ module _ {g : Ghosts Now PoolPart} where
         → number_of (slice_index_or ps a p) ≡ number_of (slice_index_or ps b p')
     -- power is off only if some pass says that its caller stopped it and hadn't been told so
     pub stopped : (p : PowerOff) → off ≡ Some p → Any (HasPart (λ m. m.stop ≡ Some (record { off = p; told = false }))) ps
-    -- who was told was told what is so
+    -- a caller was told no other `PowerOff` than this
     pub told : All (HasPart (λ m. (p : PowerOff) → m.told ≡ Some p → off ≡ Some p)) ps

@@ -67,7 +67,7 @@ pub record IsPool (v : Now) : Type 0 where
   pub one : (q r i : ℕ) → Has (holder_at v.holders q).hand i → Has (holder_at v.holders r).hand i → q ≡ r
   -- power is off only if some caller said so that hadn't been told so
   pub by_one : (p : PowerOff) → v.off ≡ Some p → (q : ℕ) × ((holder_at v.holders q).stop ≡ Some (record { off = p; told = false }))
-  -- who was told was told what is so
+  -- a caller was told no other `PowerOff` than this
   pub told : (q : ℕ) (p : PowerOff) → (holder_at v.holders q).told ≡ Some p → v.off ≡ Some p
   pub stops : (q : ℕ) (s : Stop) → (holder_at v.holders q).stop ≡ Some s → v.off ≢ None
 

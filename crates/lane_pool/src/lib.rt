@@ -32,7 +32,7 @@
 //! | [`LanePool::stop`] | power is off, the set is kept as it was handed in, and the caller is told who was first | `Stops` of specs/Parts.antt |
 //! | [`LanePool::power`], [`is_off`] | a caller that was told that power is off, or switched it off, is never told that it is on | `Asks`, `IsOn` of specs/Parts.antt |
 //! | [`go_off`] | the caller switched power off, and was told so | `HasStopped`, `IsTold` of specs/Parts.antt |
-//! | [`LanePool::close`] | every set comes back, once, in order, ready or as the one caller knows it that handed it in; power is off only if some caller switched it off; and who was told was told what is so | `IsClosed` of specs/Parts.antt |
+//! | [`LanePool::close`] | every set comes back, once, in order, ready or as the one caller knows it that handed it in; power is off only if some caller switched it off; and a caller was told no other `PowerOff` than the one that is left | `IsClosed` of specs/Parts.antt |
 //!
 //! No clause says that a wait ends.
 #![tactic(auto)]

@@ -1,6 +1,8 @@
 //! Reads an image set from a directory.
-ghost use Rattle.std.specs.Prelude.{◌≡◌, ◌<◌, ◌≤◌, None, IfOk, vec_len};
+ghost use Rattle.std.specs.Prelude.{◌≡◌, ◌<◌, ◌≤◌, true, None, Some, IfOk, slice_get, vec_len};
 ghost use Rattle.nvd_media.specs.Causes.{Rose};
+ghost use Rattle.nvd_media.specs.Images.{is_object};
+ghost use Rattle.nvd_files.specs.Files.{IsFileOf};
 
 use crate::paths::file_path;
 use nvd_media::{Failed, ImageSource, Object};
@@ -48,8 +50,9 @@ struct Opened {
 /// ends too early, and one whose length or time of change differs from the first look.
 ///
 /// An object is opened when it is first read, and further reads use that descriptor. Of more than 64
-/// objects the one that was opened first is closed. So a file that is replaced meanwhile is read
-/// from its old bytes alone, or is a failure.
+/// objects the one that was opened first is closed, and all are if the next one can't be opened,
+/// since there may be too few descriptors. So a file that is replaced meanwhile is read from its old
+/// bytes alone, or is a failure.
 #[derive(Drop)]
 pub struct DirSource<'a, R: Files<File = File> + AllocGlobal> {
     rt: &'a R,
@@ -118,7 +121,8 @@ impl<'a, R: Files<File = File> + AllocGlobal> DirSource<'a, R> {
     /// checked before it is opened, and the open file again: only a FIFO that is put there between
     /// the two makes this wait.
     fn open(&mut self, object: Object) -> io::Result<Opened>
-        ensures { self.new.faults ≡ self.old.faults }
+        ensures faults { self.new.faults ≡ self.old.faults }
+        ensures of { IfOk result (λ opened. is_object opened.object object ≡ true) }
     {
         let path = self.path(object)?;
         self.look(object, &fs::metadata(self.rt, &path)?)?;
@@ -127,23 +131,37 @@ impl<'a, R: Files<File = File> + AllocGlobal> DirSource<'a, R> {
         Ok(Opened { object, file })
     }
 
-    /// Returns where an object's file stands among the open ones, and opens it if it isn't there.
-    fn place_of(&mut self, object: Object) -> io::Result<usize>
+    /// Opens an object's file as the last of the open ones, and returns its place.
+    fn add(&mut self, object: Object) -> io::Result<usize>
         ensures faults { self.new.faults ≡ self.old.faults }
-        ensures there { IfOk result (λ k. k < vec_len self.new.opened) }
+        ensures of { IfOk result (λ k. IsFileOf object self.new.opened.items k) }
     {
-        for k in 0..self.opened.len() {
-            if self.opened[k].object == object {
-                return Ok(k);
+        let opened = match self.open(object) {
+            Err(_) if !self.opened.is_empty() => {
+                self.opened.clear();
+                self.open(object)?
             }
-        }
-        let opened = self.open(object)?;
+            found => found?,
+        };
         if self.opened.len() >= FILES {
             self.opened.remove(0);
         }
         let place = self.opened.len();
         self.opened.push(opened)?;
         Ok(place)
+    }
+
+    /// Returns where an object's file stands among the open ones, and opens it if it isn't there.
+    fn place_of(&mut self, object: Object) -> io::Result<usize>
+        ensures faults { self.new.faults ≡ self.old.faults }
+        ensures of { IfOk result (λ k. IsFileOf object self.new.opened.items k) }
+    {
+        for k in 0..self.opened.len() {
+            if self.opened[k].object.is(object) {
+                return Ok(k);
+            }
+        }
+        self.add(object)
     }
 
     fn fill(&mut self, object: Object, at: u64, into: &mut [u8]) -> io::Result<()>
