@@ -1,5 +1,5 @@
 -- The words of a namespace after other words were put for each of its arenas.
-use Rattle.std.proofs.Common.{◌≡◌, ℕ, zero, suc, ◌+◌, ◌/◌, ◌<◌, ◌≤◌, List, [], ◌∷◌, ◌++◌, length, take, drop, get_or, map, Result, Ok, refl, sym, ap, ◌∙◌, subst, inl, inr, arith}
+use Rattle.std.proofs.Common.{◌≡◌, ℕ, zero, suc, ◌+◌, ◌/◌, ◌<◌, ◌≤◌, List, [], ◌∷◌, ◌++◌, length, take, drop, get_or, map, Ok, refl, sym, ap, ◌∙◌, subst, inl, inr, arith}
 use Rattle.std.proofs.lemmas.List.{drop-drop, drop-take, drop_at, length-append, length-drop, length-take-le, nil_from_length, take-append-drop, take-take, take_at}
 use Rattle.std.proofs.lemmas.List.Sums.{sum_by-cons}
 use Rattle.std.specs.Prelude.{flat_map}
@@ -7,7 +7,6 @@ use Rattle.cut_words.specs.WordBytes.{put_at}
 use Rattle.cut_words.proofs.Put.{length_put}
 use Rattle.arena_layout.specs.declared.info.Info.{Info}
 use Rattle.arena_open.specs.declared.opened.Opened.{Opened}
-use Rattle.arena_open.specs.declared.refused.OpenRefused.{OpenRefused}
 use Rattle.arena_open.specs.declared.state.ArenaState.{ArenaState}
 use Rattle.arena_open.specs.Chain.{found_again}
 use Rattle.arena_open.specs.Moves.{IsOpenState, move_writes, moves_made, state_of}

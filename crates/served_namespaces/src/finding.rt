@@ -1,5 +1,5 @@
 //! Sector namespaces are found by their UUIDs.
-ghost use Rattle.std.specs.Prelude.{◌≡◌, ◌++◌, ◌∷◌, [], false, IfOk};
+ghost use Rattle.std.specs.Prelude.{◌≡◌, ◌++◌, ◌∷◌, [], false, IfOk, OnOk};
 ghost use Rattle.std.specs.List.{All, cons_option};
 ghost use Rattle.namespace_areas.specs.Finding.{found_of};
 ghost use Rattle.namespace_laws.specs.Apart.{EntriesApart};
@@ -8,33 +8,45 @@ ghost use Rattle.namespace_ops.specs.Counted.{namespaces_in};
 ghost use Rattle.namespace_ops.specs.Registered.{state_of};
 ghost use Rattle.served_namespaces.specs.Opening.{firsts, found_as, found_each};
 ghost use Rattle.served_namespaces.specs.Places.{AreDifferent, AreDisjoint, CanOpen};
-ghost use Rattle.served_namespaces.specs.Steps.{added, is_among};
+ghost use Rattle.served_namespaces.specs.Steps.{added};
 
 use crate::places::FoundNamespace;
 use crate::sets::know_sets;
+use indexmap::IndexSet;
 use label_codec::Mode;
 use namespace_ops::Registry;
 use nvd_words::Items;
 use std::alloc::{AllocError, Global};
 use uuid::Uuid;
 
-/// Returns whether a UUID is among others.
-fn is_among(ones: &[Uuid], uuid: &Uuid) -> bool
-    ensures { result ≡ is_among ones.now uuid.now }
+/// Adds a UUID to others, if it isn't among them.
+fn add(ones: &mut IndexSet<Uuid>, uuid: &Uuid) -> Result<(), AllocError>
+    ensures { OnOk result (ones.new.keys ≡ added ones.old.keys uuid.now) }
 {
-    ones.iter().any(|one| *one == *uuid)
+    match ones.insert(*uuid) {
+        Ok(_) => Ok(()),
+        Err(_) => Err(AllocError),
+    }
 }
 
-/// Adds a UUID to others, if it isn't among them.
-fn add(ones: Vec<Uuid>, uuid: &Uuid) -> Result<Vec<Uuid>, AllocError>
-    ensures { IfOk result (λ now. now.items ≡ added ones.items uuid.now) }
+/// The set of these UUIDs, in order of their first places.
+fn set_of(alloc: Global, uuids: &[Uuid]) -> Result<IndexSet<Uuid>, AllocError>
+    ensures { IfOk result (λ ones. ones.keys ≡ firsts uuids.now) }
 {
-    if is_among(&ones, uuid) {
-        return Ok(ones);
+    let mut ones = IndexSet::new(alloc);
+    for uuid in uuids {
+        add(&mut ones, uuid)?;
     }
-    let mut ones = ones;
-    ones.push(*uuid)?;
     Ok(ones)
+}
+
+/// The UUIDs of a set, in their order.
+fn listed(alloc: Global, ones: &IndexSet<Uuid>) -> Result<Vec<Uuid>, AllocError>
+    ensures { IfOk result (λ list. list.items ≡ ones.now.keys) }
+{
+    let mut list = Vec::new(alloc);
+    list.extend_from_slice(ones.as_slice())?;
+    Ok(list)
 }
 
 /// Returns each of these UUIDs once, in order of its first place. The one error is out of
@@ -43,10 +55,8 @@ pub fn first_ones(alloc: Global, uuids: &[Uuid]) -> Result<Vec<Uuid>, AllocError
     ensures ones { IfOk result (λ ones. ones.items ≡ firsts uuids.now) }
     ensures different { IfOk result (λ ones. AreDifferent ones.items) }
 {
-    let mut ones = Vec::new(alloc);
-    for uuid in uuids {
-        ones = add(ones, uuid)?;
-    }
+    let set = set_of(alloc, uuids)?;
+    let ones = listed(alloc, &set)?;
     Ok(ones)
 }
 
