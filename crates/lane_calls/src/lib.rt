@@ -1,10 +1,18 @@
-//! What a session's call does on one lane, try after try, until it is answered, power is off, or the
-//! session's steps are spent.
+//! A session's calls on the sectors of arenas. A call takes a lane, tries until it is answered, power
+//! is off, or the session's steps are spent, and then gives the lane back.
 //!
-//! A lane that makes a session's call holds the session's pass (`lane_table`) and, as its fuse, the
-//! steps that the session may still make. A try can be refused: another lane reads the free block, has
-//! the map word's lock, or moved the sector meanwhile. Then the session asks whether power is off
-//! (`lane_pool`), and tries again if it isn't:
+//! All sessions share [`Sectors`]: the arenas, and a pool of sets that have one lane of each arena
+//! (`lane_pool`). A session has a pass of each arena (`lane_table`). The lane that makes its call holds
+//! the pass meanwhile and, as its fuse, the steps that the session may still make:
+//!
+//! ```text
+//!   take a set ── lend the lane the pass ── tries ─┬─ answered: pass and set go back
+//!                                                  └─ cut: the lane keeps the pass, and the pool,
+//!                                                     for which power is off then, the set
+//! ```
+//!
+//! A try can be refused: another lane reads the free block, has the map word's lock, or moved the
+//! sector meanwhile. Then the session asks whether power is off, and tries again if it isn't:
 //!
 //! ```text
 //!   idle ── stage ──► staged ── commit ──► idle, the write stands
@@ -12,6 +20,18 @@
 //!            │ ◄──────── on ───────┘ │ ◄────── on ──────┘
 //!            └──────────── off, or no step left: the lane stays as it is, with the pass
 //! ```
+//!
+//! What a whole call does:
+//!
+//! | call | promise | clause |
+//! |---|---|---|
+//! | [`write`], [`read`] | an answered call is one entry more of the session in that arena: the call's, with the words that were written or the cell that was read. Nothing else that the session knows of arenas changes | `done`, `Called` of specs/Calls.antt |
+//! | both | the steps that went off the session's are exactly those that lanes counted for it; for a write that was answered, at least those of one staging and one commit | `paid` and `enough` of `Called` |
+//! | both | a read that was cut left nothing; a write that was cut left nothing, is in flight, or stands | `cut`, `IsStopped` of specs/Calls.antt |
+//! | both | who was cut was told that power is off. It switched power off only if its steps were spent, and not if it had been told | `told`, `StopsWhenSpent` of specs/Calls.antt |
+//! | both | a session has each pass in hand, or the lane of its call that was cut has it, in the set that it handed to the pool, whose other lanes are idle | `Know` of specs/Sessions.antt |
+//!
+//! What it does on its lane:
 //!
 //! | call | promise | clause |
 //! |---|---|---|
@@ -24,14 +44,22 @@
 //! No clause says that a wait ends, nor that a try is ever not refused.
 #![tactic(auto)]
 
+mod beginning;
+mod calls;
+mod ending;
 mod on_lane;
+mod parts;
 mod reading;
+mod session;
 mod staging;
 mod waiting;
 mod writing;
 
+pub use calls::{Heard, Wrote, read, write};
 pub use on_lane::{WriteEnd, write_on_lane};
+pub use parts::ArenaPart;
 pub use reading::{Looked, read_until};
+pub use session::{Caller, Sectors, Session};
 pub use staging::{StagedOrNot, stage_until};
 pub use waiting::Waiting;
 pub use writing::{Committed, commit_until};
