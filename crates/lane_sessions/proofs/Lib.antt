@@ -1,0 +1,3 @@
+pub mod Along
+pub mod Laying
+pub mod Sessions
