@@ -1,3 +1,10 @@
 pub mod Along
 pub mod Laying
 pub mod Sessions
+pub mod Lists
+pub mod Carrying
+pub mod Calls
+pub mod Arena
+pub mod Columns
+pub mod Handing
+pub mod LastArena

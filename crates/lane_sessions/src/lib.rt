@@ -1,5 +1,9 @@
 //! The arenas of sessions over lanes: how they are made, and what is known when they are closed.
 //!
+//! No command runs on it yet: the sessions of `serve` and `load` still run on locked cores.
+//!
+//! # Making
+//!
 //! Each opened arena gets a table of its lanes (`lane_table`). Lane i of each arena goes into set i
 //! of the pool (`lane_pool`). There are no more sets than the arena with the fewest lanes has lanes;
 //! the lanes that no set has stay aside until the arenas are closed. Lane 0 of each arena makes a
@@ -21,11 +25,42 @@
 //! | the same | nobody did anything at the pool | `pool` |
 //! | the same | session q has its number, its steps and a pass of each arena; it knows that it did nothing there, has no set out, and may make as many calls as its limit says | `sessions`, `IsNewSession` of specs/Making.antt |
 //! | the same | each lane of a set has room for all calls of all sessions, so no call takes memory | the pool asks for it (`IsReady` of lane_pool's specs/Sets.antt) |
+//!
+//! # Closing
+//!
+//! Between two calls a session has its pass of each arena in hand, but for the arena in which its last
+//! call was cut: there the stopped lane has it. Closing takes every lane and every pass back. The lanes
+//! of an arena come from the sets of the pool, lane i from set i, and from those that were left aside.
+//! Lane 0 carries the passes that are in hand into the arena's `close` (`lane_table`):
+//!
+//! ```text
+//!   set 0    set 1    aside          session 0    session 1    session 2
+//!   lane 0   lane 1   lane 2         pass 0       pass 1       - (lane 1 has it)
+//!     ▲                                 │            │
+//!     └─────────────────────────────────┴────────────┘
+//! ```
+//!
+//! | promise of [`close_arena`], and for each arena of [`close_sectors`] | clause |
+//! |---|---|
+//! | one legal history has of each session exactly the entries that it knows, in order, each once | `IsArenaLeft`, fields `legal` and `own`, of specs/Left.antt |
+//! | the writes in flight are exactly those that the sessions know | `own` |
+//! | nothing is of another session | `none`, `flying` |
+//! | after a power cut, in which each word is the kept one or the seen one, the words open again; each sector has its cell at the history's end or that of a write in flight | `reopens` |
+//!
+//! [`close_sectors`] says besides that power is off only if a session switched it off that nobody had
+//! told so, and that what sessions were told of it is so (`IsOffBy` of specs/Ending.antt).
+//!
+//! No clause counts a session's steps: a closed arena doesn't tell them.
 #![tactic(auto)]
 
 mod arenas;
+mod closing;
+mod ending;
 mod making;
+mod places;
 mod rows;
 mod seating;
 
+pub use closing::close_arena;
+pub use ending::{Ended, close_sectors};
 pub use making::{Made, SessionLimits, make_sectors};
