@@ -71,7 +71,7 @@ pub record AreArenasLeft (sessions : ℕ) (states : List ArenaState) (parts : �
 abbrev pub KnowAll : Sectors → (ℕ → Parts) → List Session → Type 0
 KnowAll sectors parts sessions = (q : ℕ) (s : Session) → slice_get sessions q ≡ Some s → Know sectors q (parts q) s
 
--- Power is off only if a session switched it off that nobody had told so; and who was told was told what is so.
+-- Power is off only if a session switched it off that nobody had told so; and no session was told another `PowerOff` than this.
 pub record IsOffBy (sessions : List Session) (off : Option PowerOff) : Type 0 where
   pub by_one : (p : PowerOff) → off ≡ Some p → Any (λ s. HasPart (λ m. m.stop ≡ Some (record { off = p; told = false })) s.caller.pool) sessions
   pub told : All (λ s. HasPart (λ m. (p : PowerOff) → m.told ≡ Some p → off ≡ Some p) s.caller.pool) sessions

@@ -48,7 +48,7 @@
 //! | after a power cut, in which each word is the kept one or the seen one, the words open again; each sector has its cell at the history's end or that of a write in flight | `reopens` |
 //!
 //! [`close_sectors`] says besides that power is off only if a session switched it off that nobody had
-//! told so, and that what sessions were told of it is so (`IsOffBy` of specs/Ending.antt).
+//! told so, and that a session was told no other `PowerOff` than the one that is left (`IsOffBy` of specs/Ending.antt).
 //!
 //! No clause counts a session's steps: a closed arena doesn't tell them.
 #![tactic(auto)]
