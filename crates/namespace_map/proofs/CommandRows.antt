@@ -10,7 +10,7 @@ use Rattle.label_set.specs.declared.placed.SetStatus.TheVariants.{Complete, Unfi
 use Rattle.label_set.specs.declared.placed.Why.TheVariants.{Missing, Differs}
 use Rattle.label_set.specs.declared.placed.Field.TheVariants as field
 use Rattle.label_set.specs.Status.{status_of}
-use Rattle.namespace_map.specs.Namespaces.{NamespaceEntry, Namespaces, put_all, put}
+use Rattle.namespace_map.specs.Namespaces.{NamespaceEntry, Namespaces, lookup, put_all, put}
 use Rattle.namespace_map.specs.declared.commands.Make.TheVariants as make
 use Rattle.namespace_map.specs.declared.commands.Named.TheVariants as named
 use Rattle.namespace_map.specs.declared.commands.Command.{Command}
@@ -18,7 +18,7 @@ use Rattle.namespace_map.specs.declared.commands.Command.TheVariants as command
 use Rattle.namespace_map.specs.declared.refused.OpRefused.TheVariants.{NoSlot}
 use Rattle.namespace_map.specs.Areas.{Area, Change, steps_of_all, after_steps, all_changed}
 use Rattle.namespace_map.specs.Commands.{refusal_of, step, after_recovery, taken_from, given_to, unfinished_gone}
-use Rattle.namespace_map.specs.Changes.{namespaces_of, changes_of, recovered_areas, by_position, by_position_with}
+use Rattle.namespace_map.specs.Changes.{namespaces_of, changes_of, delete_changes, rename_changes, settled_first, recovered_areas, by_position, by_position_with}
 use Rattle.namespace_map.proofs.Asking.{create_with}
 
 abbrev pair_mapping : ℕ → ℕ → ℕ → Mapping
@@ -98,7 +98,12 @@ second_create = refl
 
 -- a rename with a crash after 200 steps, and recovered
 abbrev renaming : List Change
-renaming = changes_of (namespaces_of sets made) made (command.Rename u (named.Good (codes "b")))
+renaming = rename_changes u (named.Good (codes "b")) made
+
+-- it isn't pending, so nothing comes before these
+pub not_settled_first : settled_first made (lookup u (namespaces_of sets made).entries) ≡ []
+unfolding after_steps steps_of_all all_changed put_all put status_of first_fault checked by_position by_position_with taken_from given_to unfinished_gone
+not_settled_first = refl
 
 abbrev renamed_half : List (Option Area)
 renamed_half = after_steps made renaming 200 false
@@ -113,7 +118,7 @@ rename_recovered = refl
 
 -- a delete takes 392 steps
 abbrev deleting : List Change
-deleting = changes_of (namespaces_of sets made) made (command.Delete u)
+deleting = delete_changes u made
 
 pub delete_steps : steps_of_all made deleting ≡ 392
 unfolding after_steps steps_of_all all_changed put_all put status_of first_fault checked by_position by_position_with taken_from given_to unfinished_gone
@@ -243,13 +248,34 @@ pub pending_not_refused : refusal_of (namespaces_of sets half_renamed) (command.
 unfolding after_steps steps_of_all all_changed put_all put status_of first_fault checked by_position by_position_with taken_from given_to unfinished_gone
 pending_not_refused = refl
 
-pub pending_delete_cut : statuses (after_steps half_renamed deleting_pending 130 false) ≡ Incomplete (Differs field.Names) ∷ []
+-- it is settled first, by one change, under the name that the labels without UPDATING agree on
+pub pending_delete_settles : statuses (after_steps half_renamed deleting_pending 130 false) ≡ Complete a false ∷ []
 unfolding after_steps steps_of_all all_changed put_all put status_of first_fault checked by_position by_position_with taken_from given_to unfinished_gone
-pending_delete_cut = refl
+pending_delete_settles = refl
 
-pub pending_delete_recovered : statuses (recovered_areas sets (after_steps half_renamed deleting_pending 130 false)) ≡ Incomplete (Differs field.Names) ∷ []
+-- wherever the delete is cut, recovery leads to the namespace or to none
+abbrev pending_recovered : ℕ → List SetStatus
+pending_recovered steps = statuses (recovered_areas sets (after_steps half_renamed deleting_pending steps false))
+
+pub pending_settled : pending_recovered 130 ≡ Complete a false ∷ []
 unfolding after_steps steps_of_all all_changed put_all put status_of first_fault checked by_position by_position_with taken_from given_to unfinished_gone
-pending_delete_recovered = refl
+pending_settled = refl
+
+pub pending_one_marked : pending_recovered 260 ≡ Complete a false ∷ []
+unfolding after_steps steps_of_all all_changed put_all put status_of first_fault checked by_position by_position_with taken_from given_to unfinished_gone
+pending_one_marked = refl
+
+pub pending_both_marked : pending_recovered 390 ≡ Complete a false ∷ []
+unfolding after_steps steps_of_all all_changed put_all put status_of first_fault checked by_position by_position_with taken_from given_to unfinished_gone
+pending_both_marked = refl
+
+pub pending_one_removed : pending_recovered 456 ≡ []
+unfolding after_steps steps_of_all all_changed put_all put status_of first_fault checked by_position by_position_with taken_from given_to unfinished_gone
+pending_one_removed = refl
+
+pub pending_all_removed : pending_recovered 522 ≡ []
+unfolding after_steps steps_of_all all_changed put_all put status_of first_fault checked by_position by_position_with taken_from given_to unfinished_gone
+pending_all_removed = refl
 
 -- ---- recovery on a module without a free slot: the commands on entries and the label changes agree
 

@@ -9,14 +9,15 @@ use Rattle.label_codec.specs.Flags.{has_updating, updating, updated}
 use Rattle.label_codec.specs.Mode.{persistent_memory, no_abstraction, btt_2_0}
 use Rattle.label_area.specs.Area.{labels_in}
 use Rattle.label_set.specs.declared.placed.Placed.{Placed}
-use Rattle.namespace_map.specs.Namespaces.{NamespaceEntry, AreaSummary, Namespaces, placed_of, labels_with, entries_of}
+use Rattle.namespace_map.specs.Namespaces.{NamespaceEntry, AreaSummary, Namespaces, placed_of, labels_with, entries_of, lookup}
 use Rattle.namespace_map.specs.declared.commands.Make.{Make}
 use Rattle.namespace_map.specs.declared.commands.Make.TheVariants as make
 use Rattle.namespace_map.specs.declared.commands.CreateSpec.{CreateSpec}
+use Rattle.namespace_map.specs.declared.commands.Named.{Named}
 use Rattle.namespace_map.specs.declared.commands.Command.{Command}
 use Rattle.namespace_map.specs.declared.commands.Command.TheVariants as command
 use Rattle.namespace_map.specs.Areas.{Area, Change, free_in, slots_on, all_changed}
-use Rattle.namespace_map.specs.Commands.{no_area, set_of, share_of, new_offset, name_in, lba_for, is_complete, is_unfinished}
+use Rattle.namespace_map.specs.Commands.{no_area, set_of, share_of, new_offset, name_in, lba_for, is_complete, is_pending, is_unfinished}
 
 -- ---- the namespaces of areas
 
@@ -97,13 +98,42 @@ by_position (p ∷ ps) = by_position_with p (by_position ps)
 abbrev pub own_labels : List (Option Area) → List ℕ → List (ℕ × Label)
 own_labels areas uuid = map (λ p. (p.«module», p.label)) (by_position (labels_with uuid (placed_in_all areas)))
 
--- the changes of a command that isn't refused: in order of position, each label is put with UPDATING, and then without it, or
--- removed
+-- ---- settling
+
+-- a label with UPDATING on a module with a free slot
+abbrev pub is_unsettled : List (Option Area) → ℕ × Label → Bool
+is_unsettled areas p = has_updating p.1.flags && nat_le 1 (free_in (slots_on areas p.0))
+
+-- the unsettled labels of a complete entry are rewritten without UPDATING, under the entry's name
+abbrev pub settling_changes : List (Option Area) → NamespaceEntry → List Change
+settling_changes areas e =
+    if is_complete e.status then map (change_to (λ l. Some (with_name e.name (updated l)))) (filter (is_unsettled areas) (own_labels areas e.uuid)) else []
+
+-- a pending entry with two or more labels is settled before anything else is done to it: as long as some of its labels have UPDATING or
+-- another name, a crash in what follows could leave an entry that recovery can't judge
+abbrev pub settled_first : List (Option Area) → Option NamespaceEntry → List Change
+settled_first areas None = []
+settled_first areas (Some e) = if is_pending e.status && nat_le 2 (length e.parts) then settling_changes areas e else []
+
+-- these changes, and then those on the areas that they make
+abbrev pub then_on : List (Option Area) → List Change → (List (Option Area) → List Change) → List Change
+then_on areas first next = first ++ next (all_changed areas first)
+
+-- ---- commands
+
+-- in order of position, each label is put with UPDATING and then removed
+abbrev pub delete_changes : List ℕ → List (Option Area) → List Change
+delete_changes uuid areas = in_two (λ l. Some (updating l)) (λ l. None) (own_labels areas uuid)
+
+-- in order of position, each label is put with the name and UPDATING, and then with the name and without it
+abbrev pub rename_changes : List ℕ → Named → List (Option Area) → List Change
+rename_changes uuid name areas = in_two (λ l. Some (with_name (name_in name) (updating l))) (λ l. Some (with_name (name_in name) (updated l))) (own_labels areas uuid)
+
+-- the changes of a command that isn't refused; those of a create are in order of position too
 abbrev pub changes_of : Namespaces → List (Option Area) → Command → List Change
 changes_of ns areas (command.Create spec) = in_two (λ l. Some (updating l)) (λ l. Some (updated l)) (new_labels ns spec)
-changes_of ns areas (command.Delete uuid) = in_two (λ l. Some (updating l)) (λ l. None) (own_labels areas uuid)
-changes_of ns areas (command.Rename uuid name) =
-    in_two (λ l. Some (with_name (name_in name) (updating l))) (λ l. Some (with_name (name_in name) (updated l))) (own_labels areas uuid)
+changes_of ns areas (command.Delete uuid) = then_on areas (settled_first areas (lookup uuid ns.entries)) (delete_changes uuid)
+changes_of ns areas (command.Rename uuid name) = then_on areas (settled_first areas (lookup uuid ns.entries)) (rename_changes uuid name)
 changes_of ns areas (command.Claim uuid) = []
 changes_of ns areas (command.Unclaim uuid) = []
 
@@ -112,15 +142,6 @@ changes_of ns areas (command.Unclaim uuid) = []
 -- the labels of an unfinished entry are removed
 abbrev pub gone_changes : List (Option Area) → NamespaceEntry → List Change
 gone_changes areas e = if is_unfinished e.status then map (change_to (λ l. None)) (own_labels areas e.uuid) else []
-
--- a label with UPDATING on a module with a free slot
-abbrev pub is_unsettled : List (Option Area) → ℕ × Label → Bool
-is_unsettled areas p = has_updating p.1.flags && nat_le 1 (free_in (slots_on areas p.0))
-
--- those of a complete entry are rewritten without UPDATING, under the entry's name
-abbrev pub settling_changes : List (Option Area) → NamespaceEntry → List Change
-settling_changes areas e =
-    if is_complete e.status then map (change_to (λ l. Some (with_name e.name (updated l)))) (filter (is_unsettled areas) (own_labels areas e.uuid)) else []
 
 -- first the labels of each unfinished entry are removed, and then each complete one is settled
 abbrev pub recovery_changes : List (List Mapping) → List (Option Area) → List Change

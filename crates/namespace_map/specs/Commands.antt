@@ -41,6 +41,10 @@ abbrev pub is_complete : SetStatus → Bool
 is_complete (Complete name pending) = true
 is_complete status = false
 
+abbrev pub is_pending : SetStatus → Bool
+is_pending (Complete name pending) = pending
+is_pending status = false
+
 abbrev pub is_sector : Mode → Bool
 is_sector mode.Sector = true
 is_sector other = false

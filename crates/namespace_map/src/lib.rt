@@ -44,7 +44,9 @@
 //! A delete goes the other way: it sets UPDATING on each label, and then removes each. A rename
 //! writes the new name with UPDATING on each label, and then clears UPDATING. So recovery knows
 //! what to do: it removes what is **unfinished**, and settles what is **pending** under the name of
-//! its status (`after_recovery`, `recovery_changes`). On one module a single change suffices.
+//! its status (`after_recovery`, `recovery_changes`). On one module a single change suffices. A delete
+//! or rename of a pending entry with two or more labels settles it first: from labels that differ, a
+//! second crash could leave what no rule can judge.
 //!
 //! A command is defined twice: as a step on the map of entries, and as its list of changes.
 //! `namespace_laws` proves that both agree, and which states are possible after a crash in each
