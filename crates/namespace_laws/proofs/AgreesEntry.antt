@@ -14,7 +14,7 @@ use Rattle.namespace_map.specs.declared.commands.Named.{Named}
 use Rattle.namespace_map.specs.declared.commands.Command.TheVariants as command
 use Rattle.namespace_map.specs.Areas.{Area, Change, slots_of, slots_on, free_in, changed_areas, all_changed, replaced, slot_of}
 use Rattle.namespace_map.specs.Commands.{count_in, given_to, done, name_in, refusal_of, entry_modules, renamed, deleted_entry, renamed_entry}
-use Rattle.namespace_map.specs.Changes.{namespaces_of, changes_of, placed_in_all, change_to, in_two}
+use Rattle.namespace_map.specs.Changes.{namespaces_of, placed_in_all, change_to, in_two, delete_changes, rename_changes}
 use Rattle.label_codec.specs.Flags.{updated}
 use Rattle.namespace_map.proofs.Slots.{owned, remove_count}
 use Rattle.namespace_map.proofs.Areas.{proper_after as areas_proper_after, Proper, Fitting, moved, moved_all, sum_kept, slots_of_changed, area_of_other}
@@ -72,7 +72,7 @@ module _ (sets : List (List Mapping)) (areas : List (Option Area)) (uuid : List 
     -- ---- delete
 
     abbrev deleting : List Change
-    deleting = changes_of (namespaces_of sets areas) areas (command.Delete uuid)
+    deleting = delete_changes uuid areas
 
     record Deleted : Type 0 where
       empty : own_of uuid (all_changed areas deleting) ≡ []
@@ -149,7 +149,7 @@ module _ (sets : List (List Mapping)) (areas : List (Option Area)) (uuid : List 
       }
 
   pub delete_agrees : refusal_of (namespaces_of sets areas) (command.Delete uuid) ≡ None
-      → namespaces_of sets (all_changed areas (changes_of (namespaces_of sets areas) areas (command.Delete uuid))) ≡ done (namespaces_of sets areas) (command.Delete uuid)
+      → namespaces_of sets (all_changed areas (delete_changes uuid areas)) ≡ done (namespaces_of sets areas) (command.Delete uuid)
   delete_agrees good =
       ap (λ (es : List NamespaceEntry). record (namespaces_of sets (all_changed areas (deleting has.unlocked))) { entries = es })
       (entries_without sets areas uuid (deleting has.unlocked) (two_of uuid to_updating to_nothing keeps_updating keeps_nothing (own_ps has.unlocked) (of_uuid has.unlocked))
@@ -181,7 +181,7 @@ module _ (sets : List (List Mapping)) (areas : List (Option Area)) (uuid : List 
     fine = rename_good (namespaces_of sets areas) uuid name e is good
 
     abbrev renaming : List Change
-    renaming = changes_of (namespaces_of sets areas) areas (command.Rename uuid name)
+    renaming = rename_changes uuid name areas
 
     given : AllByRecursion (IsGiven uuid (lab fine.unlocked) areas) (own_ps fine.unlocked)
     given = st.given sets areas uuid e pending regions read is status fine.unlocked fine.room
@@ -230,7 +230,7 @@ module _ (sets : List (List Mapping)) (areas : List (Option Area)) (uuid : List 
         let a = sum_kept renaming uuid (lab fine.unlocked) areas (proper fine.unlocked) (two_fits uuid (lab fine.unlocked) areas (to_renamed new) (to_updated new) (keeps_renamed new) (keeps_updated new) (own_ps fine.unlocked) given) i in
         omega (arith, a, owns i)
 
-    pub rename_agrees : namespaces_of sets (all_changed areas (changes_of (namespaces_of sets areas) areas (command.Rename uuid name))) ≡ done (namespaces_of sets areas) (command.Rename uuid name)
+    pub rename_agrees : namespaces_of sets (all_changed areas (rename_changes uuid name areas)) ≡ done (namespaces_of sets areas) (command.Rename uuid name)
     rename_agrees = ap (λ (es : List NamespaceEntry). record (namespaces_of sets (all_changed areas renaming)) { entries = es })
         (entries_put sets areas uuid renaming (two_of uuid (to_renamed new) (to_updated new) (keeps_renamed new) (keeps_updated new) (own_ps fine.unlocked) (of_uuid fine.unlocked))
         (renamed e new) entry_uuid (st.settled_left sets areas uuid e pending regions read is status fine.unlocked (all_changed areas renaming) (length_kept renaming areas) new stands))

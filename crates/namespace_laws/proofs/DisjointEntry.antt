@@ -17,13 +17,13 @@ use Rattle.namespace_map.specs.declared.commands.Named.{Named}
 use Rattle.namespace_map.specs.declared.commands.Command.TheVariants as command
 use Rattle.namespace_map.specs.Areas.{Area, Change, all_changed, after_steps}
 use Rattle.namespace_map.specs.Commands.{refusal_of, name_in}
-use Rattle.namespace_map.specs.Changes.{namespaces_of, changes_of, placed_in_all, own_labels, change_to, in_two}
+use Rattle.namespace_map.specs.Changes.{namespaces_of, placed_in_all, change_to, in_two, delete_changes, rename_changes}
 use Rattle.namespace_map.specs.CommandLaws.{IsOf}
 use Rattle.namespace_map.proofs.Areas.{Proper, HasRoom, moved_all, moved_keeps, proper_after, all_of_front}
 use Rattle.namespace_map.proofs.Fronts.{cut_is_front, IsFront}
 use Rattle.namespace_map.proofs.Others.{cut_leaves_others}
 use Rattle.namespace_map.specs.Left.{AreRegions, LabelsAreRead}
-use Rattle.namespace_laws.specs.Apart.{AreApart, EntriesApart, KeepsApart, LeavesOthers}
+use Rattle.namespace_laws.specs.Apart.{AreApart, EntriesApart}
 use Rattle.namespace_laws.proofs.Whole.{AllLab, all_append, own_of, IsBy, slot_on, all_by}
 use Rattle.namespace_laws.proofs.Staged.{IsGiven, KeepsUuid, all_map}
 use Rattle.namespace_laws.proofs.Table.{IsLike, like_like, like_self, like_named, like_updating, like_updated}
@@ -33,11 +33,9 @@ use Rattle.namespace_laws.proofs.Rename.{to_renamed, to_updated, keeps_renamed, 
 use Rattle.namespace_laws.proofs.Shaped.{part_at, part_like, base_parts, in_filter, in_range, lies_there}
 use Rattle.namespace_laws.proofs.One.{delete_cut_one}
 use Rattle.namespace_laws.proofs.Standing as st
-use Rattle.namespace_laws.proofs.Proper.{lab_of}
 use Rattle.namespace_laws.proofs.EntryCut.{DeleteGood, delete_good, rename_good}
 use Rattle.namespace_laws.proofs.Final.{two_fits, two_of}
 use Rattle.namespace_laws.proofs.Disjoint.{keeps_apart, itself}
-use Rattle.namespace_laws.proofs.Refusals.{delete_found, rename_found}
 
 -- labels like the intended ones make some of their parts
 pub parts_like : (uuid : List ℕ) (base lab : ℕ → Option Label) (left : List (Option Area)) → Proper uuid lab left → AllLab (λ m l. (b : Label) × (base m ≡ Some b) × IsLike b l) lab → (count : ℕ) → length left ≡ count
@@ -150,9 +148,9 @@ module _ (sets : List (List Mapping)) (areas : List (Option Area)) (uuid : List 
     among left all x at = subst (λ (xs : List Part). AllByRecursion (Contains e.parts) xs) (sym (own_parts sets left uuid x at)) (subst (λ (base : List Part). AllByRecursion (Contains base) (map part_of (own_of uuid left))) base_is all)
 
   delete_parts : (has : DeleteGood (namespaces_of sets areas) e) (n : ℕ) (stays : Bool) (x : NamespaceEntry)
-      → lookup uuid (namespaces_of sets (after_steps areas (changes_of (namespaces_of sets areas) areas (command.Delete uuid)) n stays)).entries ≡ Some x → AllByRecursion (Contains e.parts) x.parts
+      → lookup uuid (namespaces_of sets (after_steps areas (delete_changes uuid areas) n stays)).entries ≡ Some x → AllByRecursion (Contains e.parts) x.parts
   delete_parts has n stays x at = elim (cases_lt 1 (length e.parts)) [
-    | inl many ↦ among has.unlocked (after_steps areas (changes_of (namespaces_of sets areas) areas (command.Delete uuid)) n stays)
+    | inl many ↦ among has.unlocked (after_steps areas (delete_changes uuid areas) n stays)
         (front_parts uuid (lab has.unlocked) areas (ps has.unlocked) to_updating to_nothing keeps_updating keeps_nothing like_marked like_gone (proper has.unlocked)
         (st.given sets areas uuid e pending regions read is status has.unlocked (rw (le-leb 2 (length e.parts) (omega arith)) at has.room)) (labels has.unlocked) n stays) x at
     | inr few ↦
@@ -161,63 +159,30 @@ module _ (sets : List (List Mapping)) (areas : List (Option Area)) (uuid : List 
         by (delete_cut_one uuid areas (lab has.unlocked) (ps has.unlocked) (proper has.unlocked) (st.only sets areas uuid e pending regions read is status has.unlocked) (labels has.unlocked) (omega (arith, some, count)) n stays)
   ]
     where
-      by : (after_steps areas (changes_of (namespaces_of sets areas) areas (command.Delete uuid)) n stays ≡ areas) ⊎ (own_of uuid (after_steps areas (changes_of (namespaces_of sets areas) areas (command.Delete uuid)) n stays) ≡ [])
+      by : (after_steps areas (delete_changes uuid areas) n stays ≡ areas) ⊎ (own_of uuid (after_steps areas (delete_changes uuid areas) n stays) ≡ [])
           → AllByRecursion (Contains e.parts) x.parts
       by (inl same) =
           subst (λ (y : NamespaceEntry). AllByRecursion (Contains e.parts) y.parts) (same_Some e x (sym is ∙ sym (ap (λ (left : List (Option Area)). lookup uuid (namespaces_of sets left).entries) same) ∙ at)) (itself e.parts)
       by (inr empty) =
-          absurd (none-some x (sym (lookup_entries sets (placed_in_all (after_steps areas (changes_of (namespaces_of sets areas) areas (command.Delete uuid)) n stays)) uuid
-          ∙ entries.entry_none sets (placed_in_all (after_steps areas (changes_of (namespaces_of sets areas) areas (command.Delete uuid)) n stays)) uuid empty) ∙ at))
+          absurd (none-some x (sym (lookup_entries sets (placed_in_all (after_steps areas (delete_changes uuid areas) n stays)) uuid
+          ∙ entries.entry_none sets (placed_in_all (after_steps areas (delete_changes uuid areas) n stays)) uuid empty) ∙ at))
 
-  delete_apart_of : refusal_of (namespaces_of sets areas) (command.Delete uuid) ≡ None → (n : ℕ) (stays : Bool)
-      → EntriesApart (namespaces_of sets (after_steps areas (changes_of (namespaces_of sets areas) areas (command.Delete uuid)) n stays))
+  pub delete_apart_of : refusal_of (namespaces_of sets areas) (command.Delete uuid) ≡ None → (n : ℕ) (stays : Bool)
+      → EntriesApart (namespaces_of sets (after_steps areas (delete_changes uuid areas) n stays))
   delete_apart_of good n stays =
       let has = delete_good (namespaces_of sets areas) uuid e is good in
-      keeps_apart sets areas (after_steps areas (changes_of (namespaces_of sets areas) areas (command.Delete uuid)) n stays) uuid e before
-      (λ v ne. cut_leaves_others sets areas uuid (changes_of (namespaces_of sets areas) areas (command.Delete uuid))
+      keeps_apart sets areas (after_steps areas (delete_changes uuid areas) n stays) uuid e before
+      (λ v ne. cut_leaves_others sets areas uuid (delete_changes uuid areas)
       (two_of uuid to_updating to_nothing keeps_updating keeps_nothing (ps has.unlocked) (of_uuid has.unlocked)) n stays v ne)
       (delete_parts has n stays) free
 
-  rename_apart_of : (name : Named) → refusal_of (namespaces_of sets areas) (command.Rename uuid name) ≡ None → (n : ℕ) (stays : Bool)
-      → EntriesApart (namespaces_of sets (after_steps areas (changes_of (namespaces_of sets areas) areas (command.Rename uuid name)) n stays))
+  pub rename_apart_of : (name : Named) → refusal_of (namespaces_of sets areas) (command.Rename uuid name) ≡ None → (n : ℕ) (stays : Bool)
+      → EntriesApart (namespaces_of sets (after_steps areas (rename_changes uuid name areas) n stays))
   rename_apart_of name good n stays =
       let fine = rename_good (namespaces_of sets areas) uuid name e is good in
-      keeps_apart sets areas (after_steps areas (changes_of (namespaces_of sets areas) areas (command.Rename uuid name)) n stays) uuid e before
-      (λ v ne. cut_leaves_others sets areas uuid (changes_of (namespaces_of sets areas) areas (command.Rename uuid name))
+      keeps_apart sets areas (after_steps areas (rename_changes uuid name areas) n stays) uuid e before
+      (λ v ne. cut_leaves_others sets areas uuid (rename_changes uuid name areas)
       (two_of uuid (to_renamed (name_in name)) (to_updated (name_in name)) (keeps_renamed (name_in name)) (keeps_updated (name_in name)) (ps fine.unlocked) (of_uuid fine.unlocked)) n stays v ne)
-      (among fine.unlocked (after_steps areas (changes_of (namespaces_of sets areas) areas (command.Rename uuid name)) n stays)
+      (among fine.unlocked (after_steps areas (rename_changes uuid name areas) n stays)
       (front_parts uuid (lab fine.unlocked) areas (ps fine.unlocked) (to_renamed (name_in name)) (to_updated (name_in name)) (keeps_renamed (name_in name)) (keeps_updated (name_in name)) (like_renamed (name_in name)) (like_ended (name_in name))
       (proper fine.unlocked) (st.given sets areas uuid e pending regions read is status fine.unlocked fine.room) (labels fine.unlocked) n stays)) free
-
-pub delete_others : (sets : List (List Mapping)) (areas : List (Option Area)) (uuid : List ℕ) → AreRegions sets → LabelsAreRead areas → refusal_of (namespaces_of sets areas) (command.Delete uuid) ≡ None
-    → LeavesOthers sets areas uuid (command.Delete uuid)
-delete_others sets areas uuid regions read good n stays v ne =
-    let f = delete_found sets areas uuid good in
-    let has = delete_good (namespaces_of sets areas) uuid f.entry f.is good in
-    let labels = st.labels sets areas uuid f.entry f.pending regions read f.is f.status has.unlocked in
-    let proper = st.proper sets areas uuid f.entry f.pending regions read f.is f.status has.unlocked in
-    cut_leaves_others sets areas uuid (changes_of (namespaces_of sets areas) areas (command.Delete uuid))
-    (two_of uuid to_updating to_nothing keeps_updating keeps_nothing (own_labels areas uuid)
-    (all_pass_to (λ p. lab_of uuid areas p.0 ≡ Some p.1) (λ p. p.1.uuid ≡ uuid) (λ p at. proper.named p.0 p.1 at) (own_labels areas uuid) labels)) n stays v ne
-
-pub rename_others : (sets : List (List Mapping)) (areas : List (Option Area)) (uuid : List ℕ) (name : Named) → AreRegions sets → LabelsAreRead areas → refusal_of (namespaces_of sets areas) (command.Rename uuid name) ≡ None
-    → LeavesOthers sets areas uuid (command.Rename uuid name)
-rename_others sets areas uuid name regions read good n stays v ne =
-    let f = rename_found sets areas uuid name good in
-    let has = rename_good (namespaces_of sets areas) uuid name f.entry f.is good in
-    let labels = st.labels sets areas uuid f.entry f.pending regions read f.is f.status has.unlocked in
-    let proper = st.proper sets areas uuid f.entry f.pending regions read f.is f.status has.unlocked in
-    cut_leaves_others sets areas uuid (changes_of (namespaces_of sets areas) areas (command.Rename uuid name))
-    (two_of uuid (to_renamed (name_in name)) (to_updated (name_in name)) (keeps_renamed (name_in name)) (keeps_updated (name_in name)) (own_labels areas uuid)
-    (all_pass_to (λ p. lab_of uuid areas p.0 ≡ Some p.1) (λ p. p.1.uuid ≡ uuid) (λ p at. proper.named p.0 p.1 at) (own_labels areas uuid) labels)) n stays v ne
-
-pub delete_apart : (sets : List (List Mapping)) (areas : List (Option Area)) (uuid : List ℕ) → AreRegions sets → LabelsAreRead areas → refusal_of (namespaces_of sets areas) (command.Delete uuid) ≡ None → KeepsApart sets areas (command.Delete uuid)
-delete_apart sets areas uuid regions read good before n stays =
-    let f = delete_found sets areas uuid good in
-    delete_apart_of sets areas uuid f.entry f.pending regions read f.is f.status before good n stays
-
-pub rename_apart : (sets : List (List Mapping)) (areas : List (Option Area)) (uuid : List ℕ) (name : Named) → AreRegions sets → LabelsAreRead areas → refusal_of (namespaces_of sets areas) (command.Rename uuid name) ≡ None
-    → KeepsApart sets areas (command.Rename uuid name)
-rename_apart sets areas uuid name regions read good before n stays =
-    let f = rename_found sets areas uuid name good in
-    rename_apart_of sets areas uuid f.entry f.pending regions read f.is f.status before name good n stays

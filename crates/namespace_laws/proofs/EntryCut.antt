@@ -16,7 +16,7 @@ use Rattle.namespace_map.specs.declared.refused.OpRefused.{OpRefused}
 use Rattle.namespace_map.specs.declared.refused.OpRefused.TheVariants.{NotComplete, Busy, ReadOnlyLabel}
 use Rattle.namespace_map.specs.Areas.{Area, after_steps}
 use Rattle.namespace_map.specs.Commands.{name_in, refusal_of, entry_refusal, entry_modules, short_of, bad_name, is_complete}
-use Rattle.namespace_map.specs.Changes.{namespaces_of, placed_in_all, changes_of}
+use Rattle.namespace_map.specs.Changes.{namespaces_of, placed_in_all, delete_changes, rename_changes}
 use Rattle.namespace_map.specs.Left.{AreRegions, LabelsAreRead}
 use Rattle.namespace_laws.specs.Laws.{CutOfDelete, CutOfDeleteAlone, CutOfRename, CutOfRenameAlone}
 use Rattle.namespace_laws.proofs.Whole.{own_of}
@@ -82,7 +82,7 @@ module _ (sets : List (List Mapping)) (areas : List (Option Area)) (uuid : List 
     has = delete_good (namespaces_of sets areas) uuid e is good
 
     abbrev deleted : ℕ → Bool → List (Option Area)
-    deleted n stays = after_steps areas (changes_of (namespaces_of sets areas) areas (command.Delete uuid)) n stays
+    deleted n stays = after_steps areas (delete_changes uuid areas) n stays
 
     gone : (left : List (Option Area)) → own_of uuid left ≡ [] → found left ≡ None
     gone left empty = lookup_entries sets (placed_in_all left) uuid ∙ entries.entry_none sets (placed_in_all left) uuid empty
@@ -97,7 +97,7 @@ module _ (sets : List (List Mapping)) (areas : List (Option Area)) (uuid : List 
         (st.is_complete sets areas uuid e false regions read is status has.unlocked refl) n stays)
       where
         same : length (deleted n stays) ≡ length areas
-        same = length_cut (changes_of (namespaces_of sets areas) areas (command.Delete uuid)) areas n stays
+        same = length_cut (delete_changes uuid areas) areas n stays
 
         by : DeleteLeft uuid (st.set sets areas uuid e false regions read is status has.unlocked) (st.model sets areas uuid e false regions read is status has.unlocked) e.name areas (deleted n stays) → CutOfDelete e (found (deleted n stays))
         by (inl before) = inl (ap found before ∙ is)
@@ -135,7 +135,7 @@ module _ (sets : List (List Mapping)) (areas : List (Option Area)) (uuid : List 
     fine = rename_good (namespaces_of sets areas) uuid name e is good
 
     abbrev renamed_areas : ℕ → Bool → List (Option Area)
-    renamed_areas n stays = after_steps areas (changes_of (namespaces_of sets areas) areas (command.Rename uuid name)) n stays
+    renamed_areas n stays = after_steps areas (rename_changes uuid name areas) n stays
 
     rename_many : 2 ≤ length e.parts → (n : ℕ) (stays : Bool) → CutOfRename e (name_in name) (found (renamed_areas n stays))
     rename_many many n stays =
@@ -147,7 +147,7 @@ module _ (sets : List (List Mapping)) (areas : List (Option Area)) (uuid : List 
         (st.is_complete sets areas uuid e false regions read is status fine.unlocked refl) n stays)
       where
         same : length (renamed_areas n stays) ≡ length areas
-        same = length_cut (changes_of (namespaces_of sets areas) areas (command.Rename uuid name)) areas n stays
+        same = length_cut (rename_changes uuid name areas) areas n stays
 
         by : RenameLeft uuid (st.set sets areas uuid e false regions read is status fine.unlocked) (st.model sets areas uuid e false regions read is status fine.unlocked) e.name (name_in name) areas (renamed_areas n stays)
             → CutOfRename e (name_in name) (found (renamed_areas n stays))
@@ -165,7 +165,7 @@ module _ (sets : List (List Mapping)) (areas : List (Option Area)) (uuid : List 
         (st.is_complete sets areas uuid e false regions read is status fine.unlocked refl) (st.count_is sets areas uuid e false regions read is status fine.unlocked ∙ one) n stays)
       where
         same : length (renamed_areas n stays) ≡ length areas
-        same = length_cut (changes_of (namespaces_of sets areas) areas (command.Rename uuid name)) areas n stays
+        same = length_cut (rename_changes uuid name areas) areas n stays
 
         by : (renamed_areas n stays ≡ areas) ⊎ Stands uuid (st.set sets areas uuid e false regions read is status fine.unlocked) (st.model sets areas uuid e false regions read is status fine.unlocked) (Complete (name_in name) false) (renamed_areas n stays)
             → CutOfRenameAlone e (name_in name) (found (renamed_areas n stays))

@@ -45,4 +45,5 @@ pub mod SettleFront
 pub mod Unfinished
 pub mod GoneFront
 pub mod Cuts
+pub mod First
 pub mod TableRegions

@@ -18,7 +18,7 @@ use Rattle.namespace_map.specs.declared.commands.Command.{Command}
 use Rattle.namespace_map.specs.declared.commands.Command.TheVariants as command
 use Rattle.namespace_map.specs.Areas.{Area, Change, all_changed, after_steps}
 use Rattle.namespace_map.specs.Commands.{refusal_of, done, name_in, after_recovery, renamed, deleted_entry, renamed_entry}
-use Rattle.namespace_map.specs.Changes.{namespaces_of, changes_of, placed_in_all, in_two}
+use Rattle.namespace_map.specs.Changes.{namespaces_of, changes_of, placed_in_all, in_two, delete_changes, rename_changes}
 use Rattle.namespace_map.proofs.Areas.{Proper, HasRoom, Fitting}
 use Rattle.namespace_map.proofs.Fronts.{cut_is_front, IsFront}
 use Rattle.namespace_map.specs.Left.{AreRegions, LabelsAreRead}
@@ -38,6 +38,12 @@ use Rattle.namespace_laws.proofs.AgreesCreate as creates
 use Rattle.namespace_laws.proofs.AgreesEntry as agree
 use Rattle.namespace_laws.proofs.Backwards.{none_changing}
 use Rattle.namespace_laws.proofs.Recovers.{FrontOf, front_of_cut, front_before, front_after, recovers_same, recovers_gone, recovers_settled, own_updating}
+
+-- after a crash in these changes, recovery leads to the map before the command or after it
+abbrev pub RecoversBy : List (List Mapping) → List (Option Area) → List Change → Command → Type 0
+RecoversBy sets areas cs c =
+    (steps : ℕ) (stays : Bool) → let left = namespaces_of sets (after_steps areas cs steps stays) in
+    (after_recovery left ≡ after_recovery (namespaces_of sets areas)) ⊎ (after_recovery left ≡ after_recovery (done (namespaces_of sets areas) c))
 
 self : (u : List ℕ) → bytes_eq u u ≡ true
 self u = (bytes_eq-Decides u u).1 refl
@@ -99,7 +105,7 @@ module _ (sets : List (List Mapping)) (areas : List (Option Area)) (uuid : List 
 -- ---- delete and rename
 
 -- one change is made, or not
-one_or_none : (areas : List (Option Area)) (cs : List Change) (n : ℕ) (stays : Bool) → length cs ≡ 1 → (after_steps areas cs n stays ≡ areas) ⊎ (after_steps areas cs n stays ≡ all_changed areas cs)
+pub one_or_none : (areas : List (Option Area)) (cs : List Change) (n : ℕ) (stays : Bool) → length cs ≡ 1 → (after_steps areas cs n stays ≡ areas) ⊎ (after_steps areas cs n stays ≡ all_changed areas cs)
 unfolding all_changed
 one_or_none areas cs n stays one = by cs refl (cut_is_front cs areas n stays)
   where
@@ -143,7 +149,7 @@ module _ (sets : List (List Mapping)) (areas : List (Option Area)) (uuid : List 
 
   module _ (gone : refusal_of (namespaces_of sets areas) (command.Delete uuid) ≡ None) where
     abbrev ds : List Change
-    ds = changes_of (namespaces_of sets areas) areas (command.Delete uuid)
+    ds = delete_changes uuid areas
 
     has : DeleteGood (namespaces_of sets areas) e
     has = delete_good (namespaces_of sets areas) uuid e is gone
@@ -158,7 +164,7 @@ module _ (sets : List (List Mapping)) (areas : List (Option Area)) (uuid : List 
         ∙ lookup_without (namespaces_of sets areas).entries e.uuid uuid
         ∙ rw ((bytes_eq-Decides e.uuid uuid).1 (entries.entry_uuid sets (placed_in_all areas) uuid e (sym (lookup_entries sets (placed_in_all areas) uuid) ∙ is))) refl
 
-    delete_many : AllByRecursion (IsGiven uuid (lab has.unlocked) areas) (own_ps has.unlocked) → RecoversToEither sets areas (command.Delete uuid)
+    delete_many : AllByRecursion (IsGiven uuid (lab has.unlocked) areas) (own_ps has.unlocked) → RecoversBy sets areas (delete_changes uuid areas) (command.Delete uuid)
     delete_many given n stays = by (delete_is_cut sets areas uuid e regions read is status gone n stays)
       where
         fits : Fitting uuid (lab has.unlocked) areas ds
@@ -183,7 +189,7 @@ module _ (sets : List (List Mapping)) (areas : List (Option Area)) (uuid : List 
             inr (recovers_gone sets uuid (lab has.unlocked) areas (after_steps areas ds n stays) (all_changed areas ds) cut after x at part.unfinished deleted_end ∙ ap after_recovery whole_delete)
         by (inr (inr (inr none))) = inr (recovers_same sets uuid (lab has.unlocked) areas (after_steps areas ds n stays) (all_changed areas ds) cut after (none ∙ sym deleted_end) ∙ ap after_recovery whole_delete)
 
-    pub delete_recovers : RecoversToEither sets areas (command.Delete uuid)
+    pub delete_recovers : RecoversBy sets areas (delete_changes uuid areas) (command.Delete uuid)
     delete_recovers n stays = elim (cases_lt 1 (length e.parts)) [
       | inl many ↦ delete_many (st.given sets areas uuid e false regions read is status has.unlocked (rw (le-leb 2 (length e.parts) (omega arith)) at has.room)) n stays
       | inr few ↦
@@ -207,7 +213,7 @@ module _ (sets : List (List Mapping)) (areas : List (Option Area)) (uuid : List 
 
   module _ (name : Named) (fine_name : refusal_of (namespaces_of sets areas) (command.Rename uuid name) ≡ None) where
     abbrev rs : List Change
-    rs = changes_of (namespaces_of sets areas) areas (command.Rename uuid name)
+    rs = rename_changes uuid name areas
 
     abbrev new_name : List ℕ
     new_name = name_in name
@@ -225,7 +231,7 @@ module _ (sets : List (List Mapping)) (areas : List (Option Area)) (uuid : List 
         ∙ lookup_put (namespaces_of sets areas).entries (renamed e new_name) uuid
         ∙ rw ((bytes_eq-Decides e.uuid uuid).1 (entries.entry_uuid sets (placed_in_all areas) uuid e (sym (lookup_entries sets (placed_in_all areas) uuid) ∙ is))) refl
 
-    pub rename_recovers : RecoversToEither sets areas (command.Rename uuid name)
+    pub rename_recovers : RecoversBy sets areas (rename_changes uuid name areas) (command.Rename uuid name)
     rename_recovers n stays = by (rename_is_cut sets areas uuid e regions read is status name fine_name n stays)
       where
         given : AllByRecursion (IsGiven uuid (lab fine.unlocked) areas) (own_ps fine.unlocked)

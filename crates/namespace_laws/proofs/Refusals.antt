@@ -18,11 +18,8 @@ use Rattle.namespace_map.specs.declared.refused.OpRefused.TheVariants.{NoSuch, N
 use Rattle.namespace_map.specs.Areas.{Area}
 use Rattle.namespace_map.specs.Commands.{refusal_of, entry_refusal, bad_name, is_complete}
 use Rattle.namespace_map.specs.Changes.{namespaces_of, placed_in_all}
-use Rattle.namespace_map.specs.Left.{AreRegions, LabelsAreRead}
-use Rattle.namespace_laws.specs.Whole.{Agrees}
 use Rattle.namespace_laws.proofs.Sets.{no_fault}
 use Rattle.namespace_laws.proofs.Allowed.{passed_if}
-use Rattle.namespace_laws.proofs.AgreesEntry as agree
 
 -- a complete entry, with the name of its status
 pub record IsFound (sets : List (List Mapping)) (areas : List (Option Area)) (uuid : List ℕ) : Type 0 where
@@ -69,15 +66,3 @@ delete_found sets areas uuid good = found_in sets areas uuid _ (lookup uuid (nam
 
 pub rename_found : (sets : List (List Mapping)) (areas : List (Option Area)) (uuid : List ℕ) (name : Named) → refusal_of (namespaces_of sets areas) (command.Rename uuid name) ≡ None → IsFound sets areas uuid
 rename_found sets areas uuid name good = found_in sets areas uuid _ (lookup uuid (namespaces_of sets areas).entries) refl (no_fault _ [] (no_fault (bad_name name) _ good).1).0
-
-pub delete_agrees : (sets : List (List Mapping)) (areas : List (Option Area)) (uuid : List ℕ) → AreRegions sets → LabelsAreRead areas
-    → refusal_of (namespaces_of sets areas) (command.Delete uuid) ≡ None → Agrees sets areas (command.Delete uuid)
-delete_agrees sets areas uuid regions read good =
-    let f = delete_found sets areas uuid good in
-    agree.delete_agrees sets areas uuid f.entry f.pending regions read f.is f.status good
-
-pub rename_agrees : (sets : List (List Mapping)) (areas : List (Option Area)) (uuid : List ℕ) (name : Named) → AreRegions sets → LabelsAreRead areas
-    → refusal_of (namespaces_of sets areas) (command.Rename uuid name) ≡ None → Agrees sets areas (command.Rename uuid name)
-rename_agrees sets areas uuid name regions read good =
-    let f = rename_found sets areas uuid name good in
-    agree.rename_agrees sets areas uuid f.entry f.pending regions read f.is f.status name good

@@ -4,6 +4,7 @@ use Rattle.std.specs.Prelude.{◌&&◌, map, filter, unwrap_or}
 use Rattle.std.proofs.Math.ListN.{length-map}
 use Rattle.std.proofs.lemmas.Bool.{and_parts, cases_lt}
 use Rattle.std.proofs.lemmas.Option.{unwrap_or-slice_get, slice_get_past}
+use Rattle.std.specs.List.{list_any}
 use Rattle.nfit_reader.specs.declared.table.Mapping.{Mapping}
 use Rattle.label_codec.specs.declared.label.Label.{Label}
 use Rattle.label_set.specs.declared.placed.SetStatus.TheVariants.{Complete}
@@ -116,13 +117,25 @@ module _ (sets : List (List Mapping)) (areas : List (Option Area)) (uuid : List 
   abbrev pub settling : List Change
   settling = one.cs sets areas uuid e pending regions read is status (is_unsettled areas) (λ p u. u)
 
-  pub front_recovers : (k : ℕ) → recovery_of sets (all_changed areas (take k settling)) ≡ recovery_of sets areas
-  front_recovers k =
-      ap (λ (cs : List Change). recovery_of sets (all_changed areas cs)) (take_map (change_to (λ l. Some (with_name e.name (updated l)))) k unsettled ∙ ap (map (change_to (λ l. Some (with_name e.name (updated l))))) (front_passes (is_unsettled areas) k (own_labels areas uuid) apart))
-      ∙ settled_recovers sets areas uuid e pending regions read is status front (λ p passes. (and_parts (is_unsettled areas p) (names (take k unsettled) p.0) passes).0)
-    where
-      front : ℕ × Label → Bool
-      front p = is_unsettled areas p && names (take k unsettled) p.0
+  abbrev front : ℕ → ℕ × Label → Bool
+  front k p = is_unsettled areas p && names (take k unsettled) p.0
 
-      apart : Apart (own_labels areas uuid)
-      apart = mine.apart uuid areas read (one.rules sets areas uuid e pending regions read is status (is_unsettled areas) (λ p u. u)).once
+  apart : Apart (own_labels areas uuid)
+  apart = mine.apart uuid areas read (one.rules sets areas uuid e pending regions read is status (is_unsettled areas) (λ p u. u)).once
+
+  may : (k : ℕ) (p : ℕ × Label) → front k p ≡ true → is_unsettled areas p ≡ true
+  may k p passes = (and_parts (is_unsettled areas p) (names (take k unsettled) p.0) passes).0
+
+  -- a front of the changes settles some of the labels
+  front_is : (k : ℕ) → take k settling ≡ one.cs sets areas uuid e pending regions read is status (front k) (may k)
+  front_is k = take_map (change_to (λ l. Some (with_name e.name (updated l)))) k unsettled ∙ ap (map (change_to (λ l. Some (with_name e.name (updated l))))) (front_passes (is_unsettled areas) k (own_labels areas uuid) apart)
+
+  pub front_recovers : (k : ℕ) → recovery_of sets (all_changed areas (take k settling)) ≡ recovery_of sets areas
+  front_recovers k = ap (λ (cs : List Change). recovery_of sets (all_changed areas cs)) (front_is k) ∙ settled_recovers sets areas uuid e pending regions read is status (front k) (may k)
+
+  -- the entry after a front: fewer of its labels have UPDATING
+  abbrev pub entry_with_updating : List ℕ → NamespaceEntry
+  entry_with_updating updating = record e { updating = updating; status = Complete e.name (list_any (λ (m : ℕ). true) updating) }
+
+  pub front_found : (k : ℕ) → (updating : List ℕ) × (found sets (all_changed areas (take k settling)) uuid ≡ Some (entry_with_updating updating))
+  front_found k = (_, ap (λ (cs : List Change). found sets (all_changed areas cs) uuid) (front_is k) ∙ one.found_then sets areas uuid e pending regions read is status (front k) (may k))

@@ -1,5 +1,5 @@
 -- Laws: the entry of a command after a crash.
-use Rattle.std.specs.Prelude.{◌≡◌, ◌⊎◌, ℕ, Bool, false, List, length, Option, Some, None}
+use Rattle.std.specs.Prelude.{◌≡◌, ◌⊎◌, ℕ, Bool, false, List, [], length, Option, Some, None}
 use Rattle.nfit_reader.specs.declared.table.Mapping.{Mapping}
 use Rattle.label_set.specs.declared.placed.SetStatus.TheVariants.{Complete}
 use Rattle.namespace_map.specs.Namespaces.{NamespaceEntry, lookup}
@@ -86,3 +86,31 @@ RenameAloneIsCut =
     → lookup uuid (namespaces_of sets areas).entries ≡ Some e → e.status ≡ Complete e.name false → (name : Named)
     → refusal_of (namespaces_of sets areas) (Rename uuid name) ≡ None → length e.parts ≡ 1 → (steps : ℕ) (stays : Bool)
     → CutOfRenameAlone e (name_in name) (lookup uuid (namespaces_of sets (after_steps areas (changes_of (namespaces_of sets areas) areas (Rename uuid name)) steps stays)).entries)
+
+-- ---- of any complete entry: one that is pending, with several parts, is settled first
+
+-- the entry as it is once it is settled
+abbrev pub settled : NamespaceEntry → NamespaceEntry
+settled e = record e { status = Complete e.name false; updating = [] }
+
+-- the entry; the entry with fewer labels that have UPDATING; or what a crash leaves once it is settled
+abbrev pub CutOfAny : NamespaceEntry → (NamespaceEntry → Type 0) → Option NamespaceEntry → Type 0
+CutOfAny e Then left = (left ≡ Some e) ⊎ Left (IsPending e.name e) left ⊎ Then (settled e)
+
+-- a law: the entry after a crash in a delete that isn't refused
+abbrev pub AnyDeleteIsCut : Type 0
+AnyDeleteIsCut =
+    (sets : List (List Mapping)) (areas : List (Option Area)) (uuid : List ℕ) (e : NamespaceEntry) → AreRegions sets → LabelsAreRead areas
+    → lookup uuid (namespaces_of sets areas).entries ≡ Some e
+    → refusal_of (namespaces_of sets areas) (Delete uuid) ≡ None → (steps : ℕ) (stays : Bool)
+    → let left = lookup uuid (namespaces_of sets (after_steps areas (changes_of (namespaces_of sets areas) areas (Delete uuid)) steps stays)).entries in
+    CutOfAny e (λ x. CutOfDelete x left) left
+
+-- a law: the entry after a crash in a rename that isn't refused
+abbrev pub AnyRenameIsCut : Type 0
+AnyRenameIsCut =
+    (sets : List (List Mapping)) (areas : List (Option Area)) (uuid : List ℕ) (e : NamespaceEntry) → AreRegions sets → LabelsAreRead areas
+    → lookup uuid (namespaces_of sets areas).entries ≡ Some e → (name : Named)
+    → refusal_of (namespaces_of sets areas) (Rename uuid name) ≡ None → (steps : ℕ) (stays : Bool)
+    → let left = lookup uuid (namespaces_of sets (after_steps areas (changes_of (namespaces_of sets areas) areas (Rename uuid name)) steps stays)).entries in
+    CutOfAny e (λ x. CutOfRename x (name_in name) left) left

@@ -1,8 +1,6 @@
 -- Laws: after a crash in a command, recovery leads to the map before it or after it.
-use Rattle.std.specs.Prelude.{◌≡◌, ◌⊎◌, ℕ, Bool, false, List, Option, Some, None}
+use Rattle.std.specs.Prelude.{◌≡◌, ◌⊎◌, ℕ, Bool, List, Option, None}
 use Rattle.nfit_reader.specs.declared.table.Mapping.{Mapping}
-use Rattle.label_set.specs.declared.placed.SetStatus.TheVariants.{Complete}
-use Rattle.namespace_map.specs.Namespaces.{NamespaceEntry, lookup}
 use Rattle.namespace_map.specs.declared.commands.CreateSpec.{CreateSpec}
 use Rattle.namespace_map.specs.declared.commands.Named.{Named}
 use Rattle.namespace_map.specs.declared.commands.Command.{Command}
@@ -24,16 +22,14 @@ CreateRecovers =
     (sets : List (List Mapping)) (areas : List (Option Area)) (spec : CreateSpec) → AreRegions sets
     → refusal_of (namespaces_of sets areas) (Create spec) ≡ None → RecoversToEither sets areas (Create spec)
 
--- a law: for a delete that isn't refused, of an entry that is complete and not pending
+-- a law: for a delete that isn't refused, of a complete entry, pending or not
 abbrev pub DeleteRecovers : Type 0
 DeleteRecovers =
-    (sets : List (List Mapping)) (areas : List (Option Area)) (uuid : List ℕ) (e : NamespaceEntry) → AreRegions sets → LabelsAreRead areas
-    → lookup uuid (namespaces_of sets areas).entries ≡ Some e → e.status ≡ Complete e.name false
+    (sets : List (List Mapping)) (areas : List (Option Area)) (uuid : List ℕ) → AreRegions sets → LabelsAreRead areas
     → refusal_of (namespaces_of sets areas) (Delete uuid) ≡ None → RecoversToEither sets areas (Delete uuid)
 
--- a law: for a rename that isn't refused, of an entry that is complete and not pending
+-- a law: for a rename that isn't refused, of a complete entry, pending or not
 abbrev pub RenameRecovers : Type 0
 RenameRecovers =
-    (sets : List (List Mapping)) (areas : List (Option Area)) (uuid : List ℕ) (e : NamespaceEntry) → AreRegions sets → LabelsAreRead areas
-    → lookup uuid (namespaces_of sets areas).entries ≡ Some e → e.status ≡ Complete e.name false → (name : Named)
+    (sets : List (List Mapping)) (areas : List (Option Area)) (uuid : List ℕ) (name : Named) → AreRegions sets → LabelsAreRead areas
     → refusal_of (namespaces_of sets areas) (Rename uuid name) ≡ None → RecoversToEither sets areas (Rename uuid name)

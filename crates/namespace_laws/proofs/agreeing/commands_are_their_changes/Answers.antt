@@ -1,5 +1,5 @@
 use Rattle.namespace_laws.proofs.AgreesCreate as creating
-use Rattle.namespace_laws.proofs.Refusals as changing
+use Rattle.namespace_laws.proofs.First as changing
 use Rattle.namespace_laws.proofs.agreeing.commands_are_their_changes.Goals as goal
 
 pub returns-clause-create : goal.returns-clause-create

@@ -1,5 +1,5 @@
 use Rattle.namespace_laws.proofs.Disjoint as creating
-use Rattle.namespace_laws.proofs.DisjointEntry as changing
+use Rattle.namespace_laws.proofs.First as changing
 use Rattle.namespace_laws.proofs.agreeing.commands_leave_others.Goals as goal
 
 pub returns-clause-create : goal.returns-clause-create

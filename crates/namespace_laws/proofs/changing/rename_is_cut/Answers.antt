@@ -1,4 +1,4 @@
-use Rattle.namespace_laws.proofs.EntryCut as cut
+use Rattle.namespace_laws.proofs.First as cut
 use Rattle.namespace_laws.proofs.changing.rename_is_cut.Goals as goal
 
 pub returns-clause-left : goal.returns-clause-left
@@ -6,3 +6,6 @@ returns-clause-left c = cut.rename_is_cut
 
 pub returns-clause-alone : goal.returns-clause-alone
 returns-clause-alone c sets areas uuid e regions read is status name good one steps stays = cut.rename_is_cut_alone sets areas uuid e regions read is status name good one steps stays
+
+pub returns-clause-any : goal.returns-clause-any
+returns-clause-any c = cut.any_rename_is_cut
