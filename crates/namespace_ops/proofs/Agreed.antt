@@ -15,7 +15,7 @@ use Rattle.namespace_map.specs.Changes.{changes_of, namespaces_of}
 use Rattle.namespace_map.specs.Left.{AreRegions}
 use Rattle.namespace_laws.specs.Whole.{Agrees}
 use Rattle.namespace_laws.proofs.AgreesCreate.{create_agrees}
-use Rattle.namespace_laws.proofs.Refusals.{delete_agrees, rename_agrees}
+use Rattle.namespace_laws.proofs.First.{delete_agrees, rename_agrees}
 use Rattle.namespace_areas.specs.Seen.{areas_seen}
 use Rattle.namespace_areas.specs.Went.{Went}
 use Rattle.namespace_areas.proofs.Seen.{seen_read}

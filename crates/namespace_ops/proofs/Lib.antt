@@ -5,6 +5,7 @@ pub mod CanPlan
 pub mod Rounds
 pub mod Counts
 pub mod Recovered
+pub mod First
 pub mod Agreed
 pub mod Claimed
 pub mod NewOnes

@@ -13,7 +13,7 @@ use Rattle.namespace_map.specs.Namespaces.{NamespaceEntry, uuid_of, labels_with,
 use Rattle.namespace_map.specs.Areas.{Change}
 use Rattle.namespace_areas.specs.Groups.{IsNextGroup, IsStart}
 
-first_passes : {X : Type 0} (t : X → Bool) (xs : List X) (x : X) → slice_get (filter t xs) 0 ≡ Some x → t x ≡ true
+pub first_passes : {X : Type 0} (t : X → Bool) (xs : List X) (x : X) → slice_get (filter t xs) 0 ≡ Some x → t x ≡ true
 first_passes t [] x e = absurd (none-some x e)
 first_passes {X} t (y ∷ ys) x e = by (cases_Bool (t y)) (first_passes t ys x)
   where

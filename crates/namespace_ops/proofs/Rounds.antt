@@ -1,11 +1,13 @@
 -- The two rounds of recovery: which changes they have, and that each of these can be made.
-use Rattle.std.proofs.Common.{◌≡◌, ℕ, Bool, true, false, cond, List, [], ◌∷◌, ◌++◌, map, Option, Some, None, refl, sym, ap, ◌∙◌, subst, inl, inr}
+use Rattle.std.proofs.Common.{◌≡◌, ℕ, Bool, true, false, cond, List, [], ◌∷◌, ◌++◌, length, map, Option, Some, None, refl, sym, ap, ◌∙◌, ◌⊎◌, subst, inl, inr}
 use Rattle.std.specs.Prelude.{◌/◌, ◌%◌, ◌==◌, ◌&&◌, nat_le, filter, slice_get}
 use Rattle.std.specs.Option.{option_map}
 use Rattle.std.specs.List.{AllByRecursion, flat_map, list_all, list_any}
 use Rattle.std.specs.Str.{bytes_eq}
 use Rattle.std.proofs.lemmas.Bool.{cases_Bool, false≢true, leb-true}
 use Rattle.std.proofs.lemmas.Option.{none-some, same_Some}
+use Rattle.std.proofs.lemmas.Slice.Eq.{bytes_eq-Decides}
+use Rattle.std.proofs.Math.ListN.{length-map}
 use Rattle.nfit_reader.specs.declared.table.Mapping.{Mapping}
 use Rattle.label_codec.specs.declared.label.Label.{Label}
 use Rattle.label_codec.specs.Name.{HasNoZero}
@@ -17,17 +19,18 @@ use Rattle.label_set.specs.declared.placed.Why.TheVariants.{Outside, Differs}
 use Rattle.label_set.specs.declared.placed.Field.TheVariants.{Names}
 use Rattle.label_set.specs.Rules.{is_local, is_updating, is_marked, same_name, agreed_name}
 use Rattle.label_set.specs.Status.{half_named, named_by, naming_of}
-use Rattle.namespace_map.specs.Namespaces.{NamespaceEntry, uuid_of, uuid_lt, labels_with, region_of, status_in, shown_name, entry_with, entry_at, entries_of, put, put_all}
+use Rattle.namespace_map.specs.Namespaces.{NamespaceEntry, uuid_of, uuid_lt, labels_with, region_of, status_in, shown_name, entry_with, entry_at, entries_of, lookup, part_of, put, put_all}
 use Rattle.namespace_areas.specs.declared.area.Area.{Area}
 use Rattle.namespace_areas.specs.Areas.{labels_of}
-use Rattle.namespace_map.specs.Areas.{Area as SeenArea, free_in, slots_on}
-use Rattle.namespace_map.specs.Commands.{is_complete, is_unfinished}
-use Rattle.namespace_map.specs.Changes.{placed_in_all, by_position, change_to, with_name, is_unsettled, gone_changes, settling_changes, own_labels}
+use Rattle.namespace_map.specs.Areas.{Area as SeenArea, Change, free_in, slots_on}
+use Rattle.namespace_map.specs.Commands.{is_complete, is_pending, is_unfinished}
+use Rattle.namespace_map.specs.Changes.{placed_in_all, by_position, change_to, with_name, is_unsettled, gone_changes, settled_first, settling_changes, own_labels}
 use Rattle.label_codec.specs.Flags.{updated}
 use Rattle.namespace_laws.proofs.Staged.{all_map}
 use Rattle.namespace_laws.proofs.Position.{by_position_all}
 use Rattle.namespace_laws.proofs.Complete.{facts}
 use Rattle.namespace_laws.proofs.Gone.{append_all}
+use Rattle.namespace_map.proofs.Entries.{lookup_entries}
 use Rattle.namespace_map.proofs.Rising.{all_pass_to}
 use Rattle.namespace_areas.specs.Groups.{HasGroupsOf}
 use Rattle.namespace_areas.proofs.Grouped.{entries_same}
@@ -36,7 +39,9 @@ use Rattle.namespace_areas.specs.Went.{CanMake, PutsSound}
 use Rattle.namespace_areas.proofs.Seen.{seen_labels}
 use Rattle.namespace_areas.proofs.CanMake.{HasLabel, IsRemoval, Fits, can_remove, can_put}
 use Rattle.namespace_areas.proofs.Placed.{IsPlaced, placed_each, placed_ready, placed_label, placed_sound}
-use Rattle.namespace_ops.specs.Plans.{gone_of, gone_in, settling_of, settling_in, all_gone, all_settling, gone_round, settling_round}
+use Rattle.namespace_ops.specs.Plans.{first_of, gone_of, gone_in, settling_of, settling_in, settlings, all_gone, all_settling, gone_round, settling_round}
+use Rattle.namespace_ops.specs.Carried.{first_round}
+use Rattle.namespace_ops.proofs.Planned.{first_passes}
 
 -- ---- lists
 
@@ -81,6 +86,35 @@ module _ (sets : List (List Mapping)) (areas : List Area) (held : AreHeld areas)
   settling_is =
       ap (flat_map (settling_in (areas_seen areas) sorted)) (entries_same sets sorted labels groups)
       ∙ flat_same (settling_in (areas_seen areas) sorted) (settling_in (areas_seen areas) labels) (λ e. ap (settling_of (areas_seen areas) e) (groups e.uuid)) (entries_of sets labels)
+
+  -- those that come before a command, if its entry is pending with several labels
+  pub first_is : (uuid : List ℕ) → first_of sets (areas_seen areas) (labels_with uuid sorted) ≡ first_round sets (areas_seen areas) uuid
+  first_is uuid =
+      ap (first_of sets (areas_seen areas)) (groups uuid)
+      ∙ by (labels_with uuid labels) refl
+      ∙ sym (ap (settled_first (areas_seen areas)) (lookup_entries sets labels uuid))
+    where
+      pick : (s : SetStatus) (many : Bool) (xs : List Change) → cond many (cond (is_pending s) xs []) [] ≡ cond (is_pending s && many) (cond (is_complete s) xs []) []
+      pick (Complete name true) true xs = refl
+      pick (Complete name true) false xs = refl
+      pick (Complete name false) true xs = refl
+      pick (Complete name false) false xs = refl
+      pick Unfinished true xs = refl
+      pick Unfinished false xs = refl
+      pick Local true xs = refl
+      pick Local false xs = refl
+      pick (Incomplete why) true xs = refl
+      pick (Incomplete why) false xs = refl
+
+      by : (own : List Placed) → labels_with uuid labels ≡ own → first_of sets (areas_seen areas) own ≡ settled_first (areas_seen areas) (option_map (entry_with sets own) (slice_get own 0))
+      by [] is = refl
+      by (p ∷ ps) is =
+          let e : NamespaceEntry = entry_with sets (p ∷ ps) p in
+          let u : e.uuid ≡ uuid = (bytes_eq-Decides e.uuid uuid).0 (first_passes (λ q. bytes_eq (uuid_of q) uuid) labels p (ap (λ (xs : List Placed). slice_get xs 0) is)) in
+          pick e.status (nat_le 2 (length (p ∷ ps))) (settlings (areas_seen areas) e.name (by_position (p ∷ ps)))
+          ∙ ap (λ (n : ℕ). cond (is_pending e.status && nat_le 2 n) (cond (is_complete e.status) (settlings (areas_seen areas) e.name (by_position (p ∷ ps))) []) []) (sym (length-map (p ∷ ps) part_of))
+          ∙ ap (λ (xs : List Placed). cond (is_pending e.status && nat_le 2 (length e.parts)) (cond (is_complete e.status) (settlings (areas_seen areas) e.name (by_position xs)) []) []) (sym is)
+          ∙ ap (λ (v : List ℕ). cond (is_pending e.status && nat_le 2 (length e.parts)) (cond (is_complete e.status) (settlings (areas_seen areas) e.name (by_position (labels_with v labels))) []) []) (sym u)
 
 -- ---- the labels of a UUID, by position
 
@@ -139,6 +173,13 @@ pub settling_can : (sets : List (List Mapping)) (areas : List (Option SeenArea))
 settling_can sets areas =
     can_put (settling_round sets areas) areas
     (flat_all (λ e. Unit {0}) (Fits areas) (settling_changes areas) (λ e ok. fits_each areas e) (entries_of sets (placed_in_all areas)) (any (entries_of sets (placed_in_all areas))))
+
+pub first_can : (sets : List (List Mapping)) (areas : List (Option SeenArea)) (uuid : List ℕ) → CanMake areas (first_round sets areas uuid)
+first_can sets areas uuid = can_put (first_round sets areas uuid) areas (by (lookup uuid (entries_of sets (placed_in_all areas))))
+  where
+    by : (o : Option NamespaceEntry) → AllByRecursion (Fits areas) (settled_first areas o)
+    by None = tt
+    by (Some e) = elim (cases_Bool (is_pending e.status && nat_le 2 (length e.parts))) [ inl it ↦ rw it (fits_each areas e) | inr not_it ↦ rw not_it tt ]
 
 -- ---- and the labels that they put, written
 
@@ -235,3 +276,24 @@ settling_sound sets areas =
     let sound : AllByRecursion (λ p. IsSound p.label) labels = all_pass_to (IsPlaced (areas_seen areas)) (λ p. IsSound p.label) (λ p is. placed_sound areas p is) labels (placed_each (areas_seen areas)) in
     let named : AllByRecursion (λ p. HasNoZero p.label.name) labels = all_pass_to (λ p. IsSound p.label) (λ p. HasNoZero p.label.name) (λ p is. is.no_zero) labels sound in
     flat_all IsNamed PutsSound (settling_changes (areas_seen areas)) (λ e is. sound_each (areas_seen areas) e sound is) (entries_of sets labels) (entries_named sets labels named)
+
+pub first_sound : (sets : List (List Mapping)) (areas : List Area) (uuid : List ℕ) → AllByRecursion PutsSound (first_round sets (areas_seen areas) uuid)
+first_sound sets areas uuid = by (lookup uuid (entries_of sets labels)) refl
+  where
+    labels : List Placed
+    labels = placed_in_all (areas_seen areas)
+
+    sound : AllByRecursion (λ p. IsSound p.label) labels
+    sound = all_pass_to (IsPlaced (areas_seen areas)) (λ p. IsSound p.label) (λ p is. placed_sound areas p is) labels (placed_each (areas_seen areas))
+
+    own_named : AllByRecursion (λ q. HasNoZero q.label.name) (labels_with uuid labels)
+    own_named =
+        all_pass_to (λ q. IsSound q.label × (bytes_eq (uuid_of q) uuid ≡ true)) (λ q. HasNoZero q.label.name) (λ q h. h.0.no_zero) (labels_with uuid labels)
+        (filtered (λ q. IsSound q.label) (λ q. bytes_eq (uuid_of q) uuid) labels sound)
+
+    by : (o : Option NamespaceEntry) → lookup uuid (entries_of sets labels) ≡ o → AllByRecursion PutsSound (settled_first (areas_seen areas) o)
+    by None is = tt
+    by (Some e) is = elim (cases_Bool (is_pending e.status && nat_le 2 (length e.parts))) [
+      | inl it ↦ rw it (sound_each (areas_seen areas) e sound (at_named sets (labels_with uuid labels) e own_named (sym (lookup_entries sets labels uuid) ∙ is)))
+      | inr not_it ↦ rw not_it tt
+    ]

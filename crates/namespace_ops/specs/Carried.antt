@@ -11,7 +11,8 @@ use Rattle.namespace_map.specs.declared.commands.Named.TheVariants as named
 use Rattle.namespace_map.specs.declared.refused.OpRefused.{OpRefused}
 use Rattle.namespace_map.specs.declared.refused.OpRefused.TheVariants.{PowerCut}
 use Rattle.namespace_map.specs.Commands.{refusal_of}
-use Rattle.namespace_map.specs.Changes.{changes_of, in_two, own_labels, with_name}
+use Rattle.namespace_map.specs.Namespaces.{lookup}
+use Rattle.namespace_map.specs.Changes.{changes_of, in_two, namespaces_of, own_labels, settled_first, with_name}
 use Rattle.label_codec.specs.Flags.{updated, updating}
 use Rattle.namespace_map.specs.Areas.{Area as SeenArea, Change}
 use Rattle.namespace_areas.specs.Seen.{areas_seen}
@@ -33,6 +34,10 @@ becomes Remove l = None
 -- the label changes of two rounds over the labels of a UUID, by position
 abbrev pub rounds : Round → Round → List (Option SeenArea) → List ℕ → List Change
 rounds first second areas uuid = in_two (becomes first) (becomes second) (own_labels areas uuid)
+
+-- the label changes that come before these, of a pending namespace of several labels
+abbrev pub first_round : List (List Mapping) → List (Option SeenArea) → List ℕ → List Change
+first_round sets areas uuid = settled_first areas (lookup uuid (namespaces_of sets areas).entries)
 
 -- a name has no zero byte
 abbrev pub IsGoodName : Named → Type 0

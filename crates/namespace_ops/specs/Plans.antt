@@ -1,12 +1,12 @@
 -- The label changes of recovery, entry by entry, as labels by UUID give them.
-use Rattle.std.specs.Prelude.{ℕ, if◌then◌else◌, List, [], map, filter, Option, Some, None}
+use Rattle.std.specs.Prelude.{ℕ, nat_le, if◌then◌else◌, List, [], ◌∷◌, length, map, filter, Option, Some, None}
 use Rattle.std.specs.List.{flat_map}
 use Rattle.nfit_reader.specs.declared.table.Mapping.{Mapping}
 use Rattle.label_codec.specs.declared.label.Label.{Label}
 use Rattle.label_set.specs.declared.placed.Placed.{Placed}
-use Rattle.namespace_map.specs.Namespaces.{NamespaceEntry, labels_with, entries_of}
+use Rattle.namespace_map.specs.Namespaces.{NamespaceEntry, entry_with, labels_with, entries_of}
 use Rattle.namespace_map.specs.Areas.{Area, Change}
-use Rattle.namespace_map.specs.Commands.{is_complete, is_unfinished}
+use Rattle.namespace_map.specs.Commands.{is_complete, is_pending, is_unfinished}
 use Rattle.namespace_map.specs.Changes.{by_position, change_to, with_name, is_unsettled, namespaces_of, gone_changes, settling_changes}
 use Rattle.label_codec.specs.Flags.{updated}
 
@@ -27,6 +27,14 @@ gone_of e own = if is_unfinished e.status then removals (by_position own) else [
 
 abbrev pub settling_of : List (Option Area) → NamespaceEntry → List Placed → List Change
 settling_of areas e own = if is_complete e.status then settlings areas e.name (by_position own) else []
+
+abbrev pub pending_of : List (Option Area) → NamespaceEntry → List Placed → List Change
+pending_of areas e own = if is_pending e.status then settlings areas e.name (by_position own) else []
+
+-- those that come before a delete or rename of the namespace of all these labels
+abbrev pub first_of : List (List Mapping) → List (Option Area) → List Placed → List Change
+first_of sets areas [] = []
+first_of sets areas (p ∷ own) = if nat_le 2 (length (p ∷ own)) then pending_of areas (entry_with sets (p ∷ own) p) (p ∷ own) else []
 
 -- of one entry, whose labels are among others
 abbrev pub gone_in : List Placed → NamespaceEntry → List Change

@@ -10,10 +10,11 @@ ghost use Rattle.namespace_map.specs.Left.{AreRegions};
 ghost use Rattle.namespace_map.specs.Commands.{done};
 ghost use Rattle.namespace_areas.specs.Refusals.{shown};
 ghost use Rattle.namespace_ops.specs.Held.{AreCurrent, StayCurrent};
-ghost use Rattle.namespace_ops.specs.Carried.{AreWorkable, Carried, IsGoodName, is_cut, rounds};
+ghost use Rattle.namespace_ops.specs.Carried.{AreWorkable, Carried, IsGoodName, first_round, is_cut, rounds};
 
 use crate::making::make_all;
 use crate::room::{Room, order};
+use crate::settling::plan_first;
 use crate::turns::{Round, plan};
 use cut_words::{Fuse, PowerCut};
 use interleave::InterleaveSet;
@@ -65,8 +66,32 @@ fn make_rounds(
     carry_out(areas, groups, &room.changes, fuse)
 }
 
+/// Settles the namespace of a UUID if it is pending and has two or more labels; else nothing changes.
+///
+/// A command that a crash interrupted left UPDATING on some of its labels, or another name. As long as they differ, a
+/// crash in a delete or rename could leave labels of which recovery can't say what they belong to. So these begin on a
+/// settled namespace.
+fn settle_first(
+    sets: &[InterleaveSet],
+    areas: &mut [Area],
+    groups: &mut LabelGroups,
+    room: &mut Room,
+    fuse: &mut Fuse,
+    uuid: &Uuid,
+) -> Result<(), OpRefused>
+    requires few_sets { length sets.now < 2 ^ 32 }
+    requires few { length areas.old < 2 ^ 32 }
+    requires work { AreWorkable areas.old groups.old (vec_capacity room.old.own) (vec_capacity room.old.changes) }
+    ensures went { Went areas.old areas.new fuse.old fuse.new (first_round sets.now (areas_seen areas.old) uuid.now) (is_ok result) }
+    ensures cut { (f : Refused) → result ≡ Err f → f ≡ OpRefused.PowerCut }
+    ensures work { is_cut result ≡ false → AreWorkable areas.new groups.new (vec_capacity room.new.own) (vec_capacity room.new.changes) }
+{
+    plan_first(sets, areas, groups.group(uuid), room);
+    carry_out(areas, groups, &room.changes, fuse)
+}
+
 /// Deletes the namespace of a UUID: its labels get UPDATING, by position, and then each is removed. A single label
-/// is removed at once.
+/// is removed at once. A pending namespace of two or more labels is settled first ([`settle_first`]).
 ///
 /// It is refused as `delete_refusal` of `namespace_areas` says, and nothing has changed then. Else the one error is
 /// `PowerCut`: the fuse has fewer steps left than all changes take. As many were made as there were, and one area is
@@ -91,6 +116,7 @@ pub(crate) fn delete(
     if let Some(refused) = delete_refusal(sets, areas, groups, uuid) {
         return Err(refused);
     }
+    settle_first(sets, areas, groups, room, fuse, uuid)?;
     make_rounds(
         areas,
         groups,
@@ -103,7 +129,7 @@ pub(crate) fn delete(
 }
 
 /// Renames the namespace of a UUID: its labels get the name and UPDATING, by position, and then the name without
-/// UPDATING. A single label gets the name at once.
+/// UPDATING. A single label gets the name at once. It is settled first as in [`delete`].
 ///
 /// It is refused as `rename_refusal` of `namespace_areas` says, and nothing has changed then. Else the one error is
 /// `PowerCut`, as for [`delete`]. Conditions as for [`delete`]; the name has no zero byte. It takes no memory.
@@ -128,6 +154,7 @@ pub(crate) fn rename(
     if let Some(refused) = rename_refusal(sets, areas, groups, uuid, name) {
         return Err(refused);
     }
+    settle_first(sets, areas, groups, room, fuse, uuid)?;
     match name {
         Named::Good(name) => make_rounds(
             areas,

@@ -1,17 +1,18 @@
 //! The label changes of pending namespaces.
-ghost use Rattle.std.specs.Prelude.{◌≡◌, ◌+◌, ◌≤◌, ◌<◌, ◌++◌, ◌∷◌, [], nat_le, length, vec_len, Some};
+ghost use Rattle.std.specs.Prelude.{◌≡◌, ◌+◌, ◌≤◌, ◌<◌, ◌^◌, ◌++◌, ◌∷◌, [], nat_le, length, vec_len, Some};
 ghost use Rattle.std.specs.Vec.{vec_capacity};
 ghost use Rattle.namespace_map.specs.Namespaces.{entry_with};
 ghost use Rattle.label_codec.specs.Flags.{updated};
 ghost use Rattle.namespace_map.specs.Areas.{free_in, slots_of, slots_on};
 ghost use Rattle.namespace_map.specs.Changes.{change_to, is_unsettled, with_name};
 ghost use Rattle.namespace_areas.specs.Seen.{AreHeld, IsHeld, area_seen, areas_seen};
-ghost use Rattle.namespace_ops.specs.Plans.{all_settling, settling_of, settlings};
+ghost use Rattle.namespace_ops.specs.Plans.{all_settling, first_of, pending_of, settling_of, settlings};
 
 use crate::room::{Room, add, order};
+use interleave::InterleaveSet;
 use label_codec::{Label, Name};
 use label_set::{Placed, SetStatus};
-use namespace_areas::{Area, Change, LabelGroups, Regions, status_in};
+use namespace_areas::{Area, Change, LabelGroups, Regions, region_of, status_in};
 
 /// A label without UPDATING, and with a name; all else is kept.
 fn updated_label(label: &Label, name: &Name) -> Label
@@ -105,6 +106,48 @@ fn add_settling(
     if let SetStatus::Complete { name, .. } = status_in(regions.region_of(first), group, first) {
         order(&mut room.own, group);
         add_settlings(areas, &name, &room.own, &mut room.changes);
+    }
+}
+
+/// Adds the changes of a namespace if it is pending; its labels are given, and the first of them.
+fn add_pending(
+    sets: &[InterleaveSet],
+    areas: &[Area],
+    group: &[Placed],
+    first: &Placed,
+    room: &mut Room,
+)
+    requires few { length sets.now < 2 ^ 32 }
+    requires some { 0 < length group.now }
+    requires held { AreHeld areas.now }
+    requires own { length group.now ≤ vec_capacity room.old.own }
+    requires room { vec_len room.old.changes + length group.now ≤ vec_capacity room.old.changes }
+    ensures items { room.new.changes.items ≡ room.old.changes.items ++ pending_of (areas_seen areas.now) (entry_with sets.now group.now first.now) group.now }
+    ensures own_capacity { vec_capacity room.old.own ≤ vec_capacity room.new.own }
+    ensures capacity { vec_capacity room.old.changes ≤ vec_capacity room.new.changes }
+{
+    if let SetStatus::Complete { name, pending } = status_in(region_of(sets, first), group, first) {
+        if pending {
+            order(&mut room.own, group);
+            add_settlings(areas, &name, &room.own, &mut room.changes);
+        }
+    }
+}
+
+/// Takes the changes by which a pending namespace of two or more labels is settled before a delete or rename; its labels
+/// are given. For any other namespace there are none.
+pub(crate) fn plan_first(sets: &[InterleaveSet], areas: &[Area], group: &[Placed], room: &mut Room)
+    requires few { length sets.now < 2 ^ 32 }
+    requires held { AreHeld areas.now }
+    requires own { length group.now ≤ vec_capacity room.old.own }
+    requires room { length group.now ≤ vec_capacity room.old.changes }
+    ensures items { room.new.changes.items ≡ first_of sets.now (areas_seen areas.now) group.now }
+    ensures own_capacity { vec_capacity room.old.own ≤ vec_capacity room.new.own }
+    ensures capacity { vec_capacity room.old.changes ≤ vec_capacity room.new.changes }
+{
+    room.changes.clear();
+    if group.len() >= 2 {
+        add_pending(sets, areas, group, &group[0], room);
     }
 }
 
