@@ -11,10 +11,8 @@ use Rattle.label_index.specs.Index.{has_signature, sequence_of, has_version, has
 use Rattle.label_index.specs.Spelling.{spelling_of as block_spelling}
 use Rattle.label_codec.specs.Label.{spelling_of as label_spelling}
 use Rattle.label_area.specs.Init.{full_words}
-use Rattle.label_set.specs.declared.placed.Field.TheVariants.{Names}
 use Rattle.label_set.specs.declared.placed.SetStatus.{SetStatus}
-use Rattle.label_set.specs.declared.placed.SetStatus.TheVariants.{Complete, Incomplete}
-use Rattle.label_set.specs.declared.placed.Why.TheVariants.{Differs}
+use Rattle.label_set.specs.declared.placed.SetStatus.TheVariants.{Complete}
 use Rattle.label_set.specs.Status.{status_of}
 use Rattle.namespace_map.specs.Namespaces.{Namespaces, NamespaceEntry, put_all, put}
 use Rattle.namespace_map.specs.declared.commands.Make.TheVariants as make
@@ -24,7 +22,7 @@ use Rattle.namespace_map.specs.declared.commands.Command.TheVariants as command
 use Rattle.namespace_map.specs.declared.refused.OpRefused.TheVariants.{PowerCut, Busy, NoSuch}
 use Rattle.namespace_map.specs.Areas.{Area, Change, steps_of_all, after_steps, all_changed}
 use Rattle.namespace_map.specs.Commands.{taken_from, given_to, unfinished_gone}
-use Rattle.namespace_map.specs.Changes.{namespaces_of, changes_of, by_position, by_position_with}
+use Rattle.namespace_map.specs.Changes.{namespaces_of, changes_of, rename_changes, by_position, by_position_with}
 use Rattle.namespace_areas.specs.Seen.{areas_shown}
 use Rattle.namespace_areas.specs.Steps.{Rows, after_all, all_rows, all_settled, all_steps, words_after}
 use Rattle.namespace_ops.specs.Replay.{Kept}
@@ -113,9 +111,9 @@ told_cut = record { last = entry 0 0 rename_b (Err PowerCut) ∷ []; entries = r
 
 -- ---- recovered
 
--- a rename on two modules is four changes of 130 steps each
+-- a rename on two modules is four changes of 130 steps each; nothing comes before them, since it isn't pending
 abbrev renamed_by : ℕ → List (Option Area)
-renamed_by steps = after_steps made (changes_of (namespaces_of sets made) made rename_b) steps true
+renamed_by steps = after_steps made (rename_changes u (named.Good (codes "b")) made) steps true
 
 -- after the first of them recovery leads back to the old name
 same_before : recovered_namespaces sets (renamed_by 200) ≡ recovered_namespaces sets made
@@ -138,10 +136,10 @@ pub names_after : statuses (recovered_namespaces sets (renamed_by 300)) ≡ Comp
 unfolding after_steps steps_of_all all_changed put_all put status_of first_fault checked by_position by_position_with taken_from given_to unfinished_gone
 names_after = refl
 
--- the exception: a delete that begins while the rename is pending, and is cut after two changes, leaves two names, which recovery keeps
-pub names_differ : statuses (recovered_namespaces sets (after_steps (renamed_by 200) (changes_of (namespaces_of sets (renamed_by 200)) (renamed_by 200) (command.Delete u)) 300 true)) ≡ Incomplete (Differs Names) ∷ []
+-- a delete that begins while the rename is pending settles the namespace first: cut after two changes it is whole, under its old name
+pub names_agree : statuses (recovered_namespaces sets (after_steps (renamed_by 200) (changes_of (namespaces_of sets (renamed_by 200)) (renamed_by 200) (command.Delete u)) 300 true)) ≡ Complete (codes "a") false ∷ []
 unfolding after_steps steps_of_all all_changed put_all put status_of first_fault checked by_position by_position_with taken_from given_to unfinished_gone
-names_differ = refl
+names_agree = refl
 
 -- ---- the words when power was cut
 

@@ -6,8 +6,8 @@ use Rattle.nvd_words.specs.Checks.{fault_if, first_fault}
 use Rattle.nfit_reader.specs.declared.table.Mapping.{Mapping}
 use Rattle.label_codec.specs.declared.label.Label.{Label}
 use Rattle.label_codec.specs.Flags.{updated, updating}
-use Rattle.namespace_map.specs.Areas.{Area}
-use Rattle.namespace_map.specs.Changes.{change_to, changes_of, in_two, is_unsettled, namespaces_of, new_label, own_labels, with_name}
+use Rattle.namespace_map.specs.Areas.{Area, all_changed}
+use Rattle.namespace_map.specs.Changes.{change_to, changes_of, delete_changes, in_two, is_unsettled, namespaces_of, new_label, own_labels, rename_changes, settled_first, with_name}
 use Rattle.namespace_map.specs.Commands.{delete_refusal, is_complete, entry_refusal, name_in, refusal_of, share_of, set_of, new_offset}
 use Rattle.namespace_map.specs.declared.commands.Command.{Command}
 use Rattle.namespace_map.specs.declared.commands.Command.TheVariants.{Claim, Create, Delete, Rename, Unclaim}
@@ -19,9 +19,10 @@ use Rattle.namespace_map.specs.Namespaces.{NamespaceEntry, Namespaces, lookup}
 use Rattle.namespace_map.proofs.Rising.{all_pass_to}
 use Rattle.namespace_laws.proofs.Allowed.{allowed}
 use Rattle.namespace_laws.proofs.Gone.{append_all}
-use Rattle.namespace_laws.proofs.GoneLists.{PutsBytes}
+use Rattle.namespace_laws.proofs.GoneLists.{PutsBytes, read_all}
 use Rattle.namespace_laws.proofs.OwnLabels as mine
 use Rattle.namespace_laws.proofs.Proper.{bytes_of_lab}
+use Rattle.namespace_laws.proofs.First.{delete_still_allowed, first_bytes, rename_still_allowed}
 use Rattle.namespace_laws.proofs.Refusals.{IsFound, delete_found, rename_found}
 use Rattle.namespace_laws.proofs.SettleEntry as one
 use Rattle.namespace_ops.specs.Counted.{with_claims}
@@ -95,14 +96,25 @@ module _ (sets : List (List Mapping)) (areas : List (Option Area)) where
 
   -- ---- its labels have bytes
 
+  bytes_first : (uuid : List ℕ) → AreRegions sets → LabelsAreRead areas → IsFound sets areas uuid → AllByRecursion PutsBytes (settled_first areas (lookup uuid (namespaces_of sets areas).entries))
+  bytes_first uuid regions read f = first_bytes sets areas uuid f.entry f.pending regions read f.is f.status
+
   pub puts_bytes : (c : Command) → AreRegions sets → LabelsAreRead areas → refusal_of (namespaces_of sets areas) c ≡ None → AllByRecursion PutsBytes (changes_of (namespaces_of sets areas) areas c)
   puts_bytes (Create spec) regions read none =
       let ns = namespaces_of sets areas in
       puts_two _ _ (puts_as updating (λ l. refl)) (puts_as updated (λ l. refl)) _
       (new_bytes ns spec (allowed ns spec.uuid spec.name spec.region spec.size spec.make none).raw_some (enumerate_from 0 (set_of ns spec.region)))
-  puts_bytes (Delete uuid) regions read none = puts_two _ _ (puts_as updating (λ l. refl)) puts_none _ (own_bytes sets areas uuid regions read (delete_found sets areas uuid none))
+  puts_bytes (Delete uuid) regions read none =
+      let first = settled_first areas (lookup uuid (namespaces_of sets areas).entries) in
+      let bytes = bytes_first uuid regions read (delete_found sets areas uuid none) in
+      append_all PutsBytes first (delete_changes uuid (all_changed areas first)) bytes
+      (puts_two _ _ (puts_as updating (λ l. refl)) puts_none _
+      (own_bytes sets (all_changed areas first) uuid regions (read_all first areas read bytes) (delete_found sets (all_changed areas first) uuid (delete_still_allowed sets areas uuid regions read none))))
   puts_bytes (Rename uuid name) regions read none =
-      puts_two _ _ (puts_as (λ l. with_name (name_in name) (updating l)) (λ l. refl)) (puts_as (λ l. with_name (name_in name) (updated l)) (λ l. refl)) _
-      (own_bytes sets areas uuid regions read (rename_found sets areas uuid name none))
+      let first = settled_first areas (lookup uuid (namespaces_of sets areas).entries) in
+      let bytes = bytes_first uuid regions read (rename_found sets areas uuid name none) in
+      append_all PutsBytes first (rename_changes uuid name (all_changed areas first)) bytes
+      (puts_two _ _ (puts_as (λ l. with_name (name_in name) (updating l)) (λ l. refl)) (puts_as (λ l. with_name (name_in name) (updated l)) (λ l. refl)) _
+      (own_bytes sets (all_changed areas first) uuid regions (read_all first areas read bytes) (rename_found sets (all_changed areas first) uuid name (rename_still_allowed sets areas uuid name regions read none))))
   puts_bytes (Claim uuid) regions read none = tt
   puts_bytes (Unclaim uuid) regions read none = tt

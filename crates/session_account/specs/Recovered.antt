@@ -1,14 +1,11 @@
 -- What recovery makes of the label areas that a journal left.
-use Rattle.std.specs.Prelude.{◌≡◌, ◌≢◌, ◌⊎◌, ℕ, ◌≤◌, true, List, [], ◌∷◌, length, Option, Some, MatchBool}
+use Rattle.std.specs.Prelude.{◌≡◌, ◌⊎◌, ℕ, List, [], ◌∷◌, Option, MatchBool}
 use Rattle.cut_words.specs.Fuses.{burnt, lasts}
 use Rattle.nfit_reader.specs.declared.table.Mapping.{Mapping}
-use Rattle.label_set.specs.declared.placed.SetStatus.TheVariants.{Complete}
 use Rattle.namespace_map.specs.Areas.{Area}
 use Rattle.namespace_map.specs.Changes.{namespaces_of, recovered_areas}
-use Rattle.namespace_map.specs.declared.commands.Command.{Command}
-use Rattle.namespace_map.specs.declared.commands.Command.TheVariants.{Delete, Rename}
 use Rattle.namespace_map.specs.Left.{AreRegions, LabelsAreRead}
-use Rattle.namespace_map.specs.Namespaces.{NamespaceEntry, Namespaces, lookup}
+use Rattle.namespace_map.specs.Namespaces.{Namespaces}
 use Rattle.namespace_ops.specs.Entries.{JournalEntry}
 use Rattle.namespace_ops.specs.Replay.{Kept}
 use Rattle.session_account.specs.Journal.{AreLeft, kept_with, steps_at}
@@ -19,27 +16,11 @@ recovered_namespaces sets areas = namespaces_of sets (recovered_areas sets areas
 
 -- ---- a command that was cut
 
--- It began on a namespace that was pending, with several labels. A cut may leave it incomplete: no label without UPDATING, and names that
--- differ. Every other namespace is as before the command.
-pub record BeganPending (uuid : List ℕ) (before left : Namespaces) : Type 0 where
-  pub entry : NamespaceEntry
-  pub found : lookup uuid before.entries ≡ Some entry
-  pub pending : entry.status ≡ Complete entry.name true
-  pub several : 2 ≤ length entry.parts
-  pub others : (other : List ℕ) → other ≢ uuid → lookup other left.entries ≡ lookup other before.entries
-
--- only a delete or a rename begins so
-abbrev pub IsOnPending : Command → Namespaces → Namespaces → Type 0
-IsOnPending (Delete uuid) before left = BeganPending uuid before left
-IsOnPending (Rename uuid name) before left = BeganPending uuid before left
-IsOnPending c before left = ⊥
-
 -- recovered, the areas after the cut have the namespaces from before the command, or those from after it
 abbrev pub CutRecovers : List (List Mapping) → Kept → JournalEntry → List (Option Area) → Type 0
 CutRecovers sets k e left =
     (recovered_namespaces sets left ≡ recovered_namespaces sets k.areas)
     ⊎ (recovered_namespaces sets left ≡ recovered_namespaces sets (kept_with sets k e).areas)
-    ⊎ IsOnPending e.command (namespaces_of sets k.areas) (namespaces_of sets left)
 
 -- ---- a journal
 

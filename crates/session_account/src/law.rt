@@ -87,8 +87,7 @@ pub fn off_is_journal()
 {}
 
 /// The label areas that a journal left, once recovered, have the namespaces of its end; or those from before or after the command in
-/// which power was cut. The one exception is a delete or rename of a namespace of several labels that was pending as the command
-/// began: then every other namespace is as before it.
+/// which power was cut. A command may begin on a namespace that is pending.
 pub fn journals_recover()
     ensures { JournalsRecover }
 {}

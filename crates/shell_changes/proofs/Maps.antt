@@ -39,12 +39,11 @@ use Rattle.namespace_laws.proofs.Allowed.{area_free}
 use Rattle.namespace_laws.proofs.AgreesCreate.{create_agrees}
 use Rattle.namespace_laws.proofs.Cuts.{recovery_resumes}
 use Rattle.namespace_laws.proofs.Disjoint.{create_apart, create_others}
-use Rattle.namespace_laws.proofs.DisjointEntry.{delete_apart, delete_others, rename_apart, rename_others}
+use Rattle.namespace_laws.proofs.First.{delete_agrees, delete_apart, delete_others, rename_agrees, rename_apart, rename_others}
 use Rattle.namespace_laws.proofs.Fronts.{take_all}
 use Rattle.namespace_laws.proofs.Gone.{GoneAll, append_all, gone_all}
 use Rattle.namespace_laws.proofs.GoneLists.{PutsBytes, read_all}
 use Rattle.namespace_laws.proofs.RecoveryLaw.{recovery_agrees, self_found}
-use Rattle.namespace_laws.proofs.Refusals.{delete_agrees, rename_agrees}
 use Rattle.namespace_laws.proofs.SettleAll.{SettledAll, settled_all}
 use Rattle.namespace_laws.proofs.TableRegions.{gives_regions}
 use Rattle.namespace_areas.specs.Seen.{areas_shown}

@@ -19,7 +19,7 @@ use Rattle.namespace_map.specs.declared.commands.Command.{Command}
 use Rattle.namespace_map.specs.declared.commands.Named.{Named}
 use Rattle.namespace_map.specs.declared.commands.Command.TheVariants.{Create, Delete, Rename, Claim, Unclaim}
 use Rattle.namespace_map.specs.Areas.{Area, Change, after_steps, all_changed}
-use Rattle.namespace_map.specs.Changes.{change_to, changes_of, in_two, namespaces_of, own_labels, placed_in_all}
+use Rattle.namespace_map.specs.Changes.{change_to, changes_of, delete_changes, in_two, namespaces_of, own_labels, placed_in_all}
 use Rattle.namespace_map.specs.Commands.{area_of, deleted_entry, done, entry_modules, is_complete, after_recovery, refusal_of, settled_entry, settled_status, short_of, unfinished_gone}
 use Rattle.namespace_map.specs.Left.{LabelsAreRead, AreRegions}
 use Rattle.namespace_map.proofs.Entries as entries
@@ -30,11 +30,12 @@ use Rattle.namespace_laws.proofs.Agrees.{lookup_without}
 use Rattle.namespace_laws.proofs.Allowed.{not_short}
 use Rattle.namespace_laws.proofs.CreateCut.{create_is_cut, create_is_cut_alone}
 use Rattle.namespace_laws.proofs.Delete.{to_nothing, to_updating}
-use Rattle.namespace_laws.proofs.EntryCut.{DeleteGood, RenameGood, delete_good, delete_is_cut, rename_good, rename_is_cut, rename_is_cut_alone}
+use Rattle.namespace_laws.proofs.EntryCut.{DeleteGood, RenameGood, delete_good, rename_good}
+use Rattle.namespace_laws.proofs.First.{delete_agrees, delete_is_cut, delete_recovers, first_alone, only_then, rename_is_cut, rename_is_cut_alone, rename_recovers, updating_among}
 use Rattle.namespace_laws.proofs.One.{cut_of_one, one_of}
 use Rattle.namespace_laws.proofs.Recovery.{goes, lookup_gone, lookup_settled}
-use Rattle.namespace_laws.proofs.RecoversLaw.{create_recovers, delete_recovers, rename_recovers}
-use Rattle.namespace_laws.proofs.Refusals.{IsFound, delete_agrees, delete_found, rename_found}
+use Rattle.namespace_laws.proofs.RecoversLaw.{create_recovers}
+use Rattle.namespace_laws.proofs.Refusals.{IsFound, delete_found, rename_found}
 use Rattle.namespace_laws.proofs.Standing as st
 use Rattle.shell_changes.specs.Maps.{ChangesLabels, DeleteIsLeft, OwnIsLeft, uuid_of}
 
@@ -73,24 +74,6 @@ settled_whole gone x all name pending is = by x.status is
     by Local e = absurd cc
     by (Incomplete why) e = absurd cc
 
--- the modules of labels with UPDATING are among those of all labels
-some_modules : (P : ℕ → Type 0) (labels : List Placed) → AllByRecursion P (map (λ (p : Part). p.extent.«module») (map part_of labels)) → AllByRecursion P (map module_of (filter is_updating labels))
-some_modules P [] all = tt
-some_modules P (p ∷ labels) (one, rest) = by (is_updating p) (some_modules P labels rest)
-  where
-    by : (b : Bool) → AllByRecursion P (map module_of (filter is_updating labels)) → AllByRecursion P (map module_of (cond b (p ∷ filter is_updating labels) (filter is_updating labels)))
-    by true more = (one, more)
-    by false more = more
-
-updating_among : (P : ℕ → Type 0) (sets : List (List Mapping)) (areas : List (Option Area)) (u : List ℕ) (x : NamespaceEntry) → lookup u (namespaces_of sets areas).entries ≡ Some x → AllByRecursion P (entry_modules x) → AllByRecursion P x.updating
-updating_among P sets areas u x is = by (slice_get (labels_with u (placed_in_all areas)) 0) (sym (lookup_entries sets (placed_in_all areas) u) ∙ is)
-  where
-    by : (o : Option Placed) → option_map (entry_with sets (labels_with u (placed_in_all areas))) o ≡ Some x → AllByRecursion P (entry_modules x) → AllByRecursion P x.updating
-    by None at = absurd (none-some x at)
-    by (Some p) at =
-        subst (λ (y : NamespaceEntry). AllByRecursion P (entry_modules y) → AllByRecursion P y.updating) (same_Some (entry_with sets (labels_with u (placed_in_all areas)) p) x at)
-        (some_modules P (labels_with u (placed_in_all areas)))
-
 -- ---- on areas that recovery has made
 
 module _ (sets : List (List Mapping)) (seen mid : List (Option Area)) (regions : AreRegions sets) (read : LabelsAreRead mid) (map_is : namespaces_of sets mid ≡ after_recovery (namespaces_of sets seen)) where
@@ -128,18 +111,23 @@ module _ (sets : List (List Mapping)) (seen mid : List (Option Area)) (regions :
       | inr few ↦ let some = some_parts in omega (arith, some, few)
     ]
 
+    abbrev IsWhole : List Change → ℕ → Bool → Type 0
+    IsWhole cs n stays = (after_steps mid cs n stays ≡ mid) ⊎ (after_steps mid cs n stays ≡ all_changed mid cs)
+
     -- of one label the delete is one change
-    one_change : length found.entry.parts ≡ 1 → (n : ℕ) (stays : Bool) → (after_steps mid ds n stays ≡ mid) ⊎ (after_steps mid ds n stays ≡ all_changed mid ds)
+    one_change : length found.entry.parts ≡ 1 → (n : ℕ) (stays : Bool) → IsWhole ds n stays
     unfolding all_changed
-    one_change one n stays = by (one_of (own_labels mid uuid) (st.count_is sets mid uuid found.entry found.pending regions read found.is found.status has.unlocked ∙ one))
+    one_change one n stays =
+        subst (λ (cs : List Change). IsWhole cs n stays) (sym alone) (by (one_of (own_labels mid uuid) (st.count_is sets mid uuid found.entry found.pending regions read found.is found.status has.unlocked ∙ one)))
       where
-        single : (p : ℕ × Label) → (after_steps mid (in_two to_updating to_nothing (p ∷ [])) n stays ≡ mid) ⊎ (after_steps mid (in_two to_updating to_nothing (p ∷ [])) n stays ≡ all_changed mid (in_two to_updating to_nothing (p ∷ [])))
+        alone : ds ≡ delete_changes uuid mid
+        alone = only_then sets mid uuid found.entry found.pending regions read found.is found.status (delete_changes uuid) (first_alone sets mid uuid found.entry found.pending regions read found.is found.status one)
+
+        single : (p : ℕ × Label) → IsWhole (in_two to_updating to_nothing (p ∷ [])) n stays
         single p = cut_of_one mid (change_to to_nothing p) n stays
 
-        by : (p : ℕ × Label) × (own_labels mid uuid ≡ p ∷ []) → (after_steps mid ds n stays ≡ mid) ⊎ (after_steps mid ds n stays ≡ all_changed mid ds)
-        by (p, is) =
-            subst (λ (ps : List (ℕ × Label)). (after_steps mid (in_two to_updating to_nothing ps) n stays ≡ mid) ⊎ (after_steps mid (in_two to_updating to_nothing ps) n stays ≡ all_changed mid (in_two to_updating to_nothing ps)))
-            (sym is) (single p)
+        by : (p : ℕ × Label) × (own_labels mid uuid ≡ p ∷ []) → IsWhole (delete_changes uuid mid) n stays
+        by (p, is) = subst (λ (ps : List (ℕ × Label)). IsWhole (in_two to_updating to_nothing ps) n stays) (sym is) (single p)
 
     whole : namespaces_of sets (all_changed mid ds) ≡ done ns (Delete uuid)
     whole = delete_agrees sets mid uuid regions read good
@@ -170,13 +158,6 @@ module _ (sets : List (List Mapping)) (seen mid : List (Option Area)) (regions :
       alone = λ one. delete_alone one n stays;
       pending = one_if_pending;
     }
-
-    delete_either : (b : Bool) → found.entry.status ≡ Complete found.entry.name b → RecoversToEither sets mid (Delete uuid)
-    delete_either false status n stays = delete_recovers sets mid uuid found.entry regions read found.is status good n stays
-    delete_either true status n stays = elim (one_change (one_if_pending status) n stays) [
-      | inl before ↦ inl (ap (λ (left : List (Option Area)). after_recovery (namespaces_of sets left)) before)
-      | inr after ↦ inr (ap (λ (left : List (Option Area)). after_recovery (namespaces_of sets left)) after ∙ ap after_recovery whole)
-    ]
 
   -- ---- a rename
 
@@ -215,9 +196,7 @@ module _ (sets : List (List Mapping)) (seen mid : List (Option Area)) (regions :
 
   pub to_either : (c : Command) → ChangesLabels c → refusal_of ns c ≡ None → RecoversToEither sets mid c
   to_either (Create spec) changes good = create_recovers sets mid spec.uuid spec.name spec.region spec.size spec.make regions good
-  to_either (Delete uuid) changes good = delete_either uuid good (found uuid good).pending (found uuid good).status
-  to_either (Rename uuid name) changes good =
-      let it = renamed uuid name good in
-      rename_recovers sets mid uuid it.entry regions read it.is (quiet uuid name good) name good
+  to_either (Delete uuid) changes good = delete_recovers sets mid uuid regions read good
+  to_either (Rename uuid name) changes good = rename_recovers sets mid uuid name regions read good
   to_either (Claim uuid) changes good = absurd changes
   to_either (Unclaim uuid) changes good = absurd changes

@@ -13,7 +13,7 @@ use Rattle.namespace_map.specs.declared.refused.OpRefused.{OpRefused}
 use Rattle.namespace_map.specs.Left.{LabelsAreRead, AreRegions}
 use Rattle.namespace_laws.specs.Apart.{EntriesApart}
 use Rattle.namespace_laws.proofs.Disjoint.{create_apart}
-use Rattle.namespace_laws.proofs.DisjointEntry.{delete_apart, rename_apart}
+use Rattle.namespace_laws.proofs.First.{delete_apart, rename_apart}
 use Rattle.namespace_ops.specs.Entries.{JournalEntry}
 use Rattle.namespace_ops.specs.Replay.{Kept, kept_by, namespaces_with}
 use Rattle.session_account.specs.Journal.{AreLeft, IsCutIn, kept_with, refusal_at, steps_at, steps_by}

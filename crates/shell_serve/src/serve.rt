@@ -98,8 +98,8 @@ fn recovered_answer<R: Threads + Wait + Sync, C: Chooser, G: Gate>(
 /// - every read replies with its sector's value at one point of its arena's one legal history, in which each session's calls stand
 ///   once and in order;
 /// - the set that is left, once recovered, gives every sector as that history ends, or as one write that was cut; and the namespaces
-///   of the journal's end, or those from before or after the command that was cut. Only a namespace of several labels that was pending
-///   as its delete or rename began may be incomplete (`LeftRecovers`). No two namespaces have extents that meet;
+///   of the journal's end, or those from before or after the command that was cut (`LeftRecovers`). No two namespaces have extents that
+///   meet;
 /// - each unflushed word is as the chooser picks. It is begun once, behind the last call, and asked for the pending words of each arena,
 ///   in order of the namespaces, and then for those of the label areas. These hold the words that the commands stored and flushed, as
 ///   far as `labelcut` lasted, and no other (`AreasHold`).
