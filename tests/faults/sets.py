@@ -70,6 +70,16 @@ def pair(labels0=None, labels1=None, nfit=None, **other):
             "labels-1.bin": area() if labels1 is None else labels1, "contents-0.bin": SIZE, "contents-1.bin": SIZE, "complete": b"", **other}
 
 
+SPARE = [uuid.UUID(int=0x44444444_4444_4444_8444_000000000000 + k) for k in range(SLOTS - 1)]
+
+
+def full_and_pending():
+    """A set of two modules, of which module 0 has a second region for itself and no free slot: FIRST is pending under two names, and the rest are small."""
+    nfit = two(spa(), mapping(0), mapping(1), interleave(), spa(2, SIZE, 1 << 33), mapping(0, 2, 1, SIZE, 0, SIZE, 0, 1))
+    small = [label(who, b"s%d" % k, k + 1, 4096, dpa=SIZE + 4096 * k, cookie=cookie(1)) for k, who in enumerate(SPARE)]
+    return pair(area([part(0, name=b"b", flags=8), *small]), area([part(1)]), nfit, **{"contents-0.bin": 2 * SIZE})
+
+
 ARENA = 16 << 20
 SECTOR, LANES = 4096, 256
 INNER = (ARENA - 8192 - 64 * LANES - 4096) // (SECTOR + 4)
