@@ -5,7 +5,6 @@ import sys
 import uuid
 
 import explain
-import runs
 from faults import explained
 from places import FAULTS, Ended, say, text_of
 from space import free_of
@@ -110,7 +109,7 @@ def namespace(program, folder, text):
 
 def export(program, words):
     """Prints the bytes as ever, and the document on standard error."""
-    status = runs.run(program.path, words) if program.path else program.run(words)[0]
+    status = program.ran(words)
     if status:
         run = explain.Run(program.path, words, status, True)
         fault_as_json(status, run.text() if status in WITH_MEANING else {2: "usage", 5: "read fault"}.get(status, ""), sys.stderr)

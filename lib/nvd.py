@@ -41,6 +41,10 @@ class Program:
         """The status and the text of a run that only asks; without a program rt try runs it."""
         return runs.asked(self.path, words) if self.path else by_rt(words, True)
 
+    def ran(self, words):
+        """The status of a run with nvd's own streams, of which nothing is said."""
+        return runs.run(self.path, words) if self.path else by_rt(words)[0]
+
     def records(self, folder, *words):
         """The records of a command that only prints. If it ends with a fault, that is the end of the outer command too."""
         from texts import records_of
