@@ -5,8 +5,7 @@ use Rattle.turn_lock.specs.Passes.{PartBecomes, lock_id, lock_of, number_of, out
 use Rattle.lane_core.specs.declared.history.Entry.{Entry}
 use Rattle.lane_core.specs.declared.shape.Shape.{Shape}
 use Rattle.session_parts.specs.declared.parts.CorePart.{CorePart}
-use Rattle.session_parts.specs.Laws.{MayBegin}
-use Rattle.session_parts.specs.Parts.{stand}
+use Rattle.session_parts.specs.Parts.{MayBegin, stand}
 use Rattle.lane_table.specs.declared.arena.Arena.{Arena}
 use Rattle.lane_table.specs.declared.lanes.Kit.{Kit}
 use Rattle.lane_table.specs.declared.table.Call.{Call}

@@ -12,8 +12,7 @@ use Rattle.lane_core.specs.declared.history.Entry.{Entry}
 use Rattle.lane_core.specs.declared.in_call.InCall.{InCall}
 use Rattle.lane_core.specs.Arenas.{shape_in}
 use Rattle.session_parts.specs.declared.parts.CorePart.{CorePart}
-use Rattle.session_parts.specs.Laws.{MayBegin}
-use Rattle.session_parts.specs.Parts.{part, stand}
+use Rattle.session_parts.specs.Parts.{MayBegin, part, stand}
 use Rattle.lane_table.specs.declared.arena.Arena.{Arena}
 use Rattle.lane_table.specs.declared.lanes.Kit.{Kit}
 use Rattle.lane_table.specs.declared.lanes.Lane.{Lane}

@@ -7,8 +7,7 @@ use Rattle.lane_core.specs.declared.in_call.InCall.{InCall}
 use Rattle.lane_core.specs.declared.shape.Shape.{Shape}
 use Rattle.session_parts.specs.declared.parts.CorePart.{CorePart}
 use Rattle.session_parts.specs.declared.parts.Stand.{Stand}
-use Rattle.session_parts.specs.Laws.{MayBegin}
-use Rattle.session_parts.specs.Parts.{part, stand_at}
+use Rattle.session_parts.specs.Parts.{MayBegin, part, stand_at}
 use Rattle.lane_table.specs.declared.lanes.Kit.{Kit}
 use Rattle.lane_table.specs.Fuse.{of_left}
 use Rattle.lane_table.specs.Kits.{spare_in}

@@ -5,7 +5,7 @@ use Rattle.turn_lock.specs.Passes.{PartBecomes}
 use Rattle.lane_core.specs.declared.shape.Shape.{Shape}
 use Rattle.session_parts.specs.declared.parts.CorePart.{CorePart}
 use Rattle.session_parts.specs.declared.parts.Stand.{Stand}
-use Rattle.session_parts.specs.Laws.{MayBegin}
+use Rattle.session_parts.specs.Parts.{MayBegin}
 use Rattle.lane_pool.specs.declared.pool.PoolPart.{PoolPart}
 use Rattle.lane_calls.specs.declared.session.Sectors.{Sectors}
 use Rattle.lane_calls.specs.declared.session.Session.{Session}

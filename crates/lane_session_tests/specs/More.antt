@@ -1,6 +1,6 @@
 -- What a session may do yet on the first of its arenas.
 use Rattle.std.specs.Prelude.{◌≡◌, ℕ, ◌+◌, ◌^◌, ◌<◌, ◌≤◌, length}
-use Rattle.session_parts.specs.Laws.{MayBegin}
+use Rattle.session_parts.specs.Parts.{MayBegin}
 use Rattle.lane_pool.specs.declared.holders.Hand.TheVariants as hand
 use Rattle.lane_calls.specs.declared.session.Sectors.{Sectors}
 use Rattle.lane_calls.specs.declared.session.Session.{Session}

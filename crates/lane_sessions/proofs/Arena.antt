@@ -1,5 +1,5 @@
 -- What an arena leaves follows from what its sessions know of it.
-use Rattle.std.proofs.Common.{◌≡◌, inl, inr, ℕ, zero, suc, ◌<◌, ◌≤◌, Bool, true, false, List, [], ◌∷◌, ◌++◌, length, get_or, map, Option, Some, None, refl, sym, ap, ◌∙◌, subst, arith}
+use Rattle.std.proofs.Common.{◌≡◌, inl, inr, ℕ, zero, suc, ◌<◌, ◌≤◌, Bool, true, false, List, [], ◌∷◌, ◌++◌, length, length-drop, length-take-le, drop, get_or, map, Option, Some, None, refl, sym, ap, ◌∙◌, subst, arith}
 use Rattle.std.specs.Prelude.{All, Any}
 use mathlib.Core.Option.{some}
 use lib.ListN.{get_elem?}
@@ -200,6 +200,17 @@ module _ (a : Arena) (ends ends' : List LaneEnd) (passes : List (Option Pass)) (
               record { arena = f.arena; opens = f.opens; info = f.info; contents = λ t lt. may t _ (f.contents t lt) };
         }
 
+    -- ---- both lists have the arena's words
+
+    abbrev total : ℕ
+    total = a.table.shared.key.shape.total
+
+    seen_size : length words.seen.items ≡ total
+    seen_size = ap length seen ∙ ap length closed.seen ∙ length-take-le total closed.row (omega (arith, closed.size))
+
+    kept_size : length words.kept.items ≡ total
+    kept_size = ap length kept ∙ ap length closed.kept ∙ length-take-le total (drop total closed.row) (omega (arith, length-drop total closed.row, closed.size))
+
     pub arena_left : IsArenaLeft (length passes) state (λ q. (known q).mine) words
     arena_left = record {
       history = history;
@@ -208,5 +219,6 @@ module _ (a : Arena) (ends ends' : List LaneEnd) (passes : List (Option Pass)) (
       own = λ q lt. λ i. record { stands = own_entries q lt i; calls = own_calls (length passes) known owns q lt i };
       none = none_other;
       flying = all_below (length passes) known owns;
+      same = seen_size ∙ sym kept_size;
       reopens = reopens;
     }

@@ -8,3 +8,4 @@ pub mod Arena
 pub mod Columns
 pub mod Handing
 pub mod LastArena
+pub mod Sending

@@ -1,5 +1,5 @@
 -- What an arena leaves, by what its sessions know of it.
-use Rattle.std.specs.Prelude.{◌≡◌, ◌⊎◌, ℕ, ◌<◌, ◌≤◌, List, [], Any}
+use Rattle.std.specs.Prelude.{◌≡◌, ◌⊎◌, ℕ, ◌<◌, ◌≤◌, List, [], length, Any}
 use Rattle.std.specs.List.{AllByRecursion}
 use Rattle.arena_open.specs.declared.cell.Cell.{Cell}
 use Rattle.arena_open.specs.declared.state.ArenaState.{ArenaState}
@@ -28,5 +28,7 @@ pub record IsArenaLeft (n : ℕ) (state : ArenaState) (known : ℕ → CorePart)
   -- and nothing is of another session
   pub none : (q : ℕ) → n ≤ q → own_stands q history ≡ []
   pub flying : AllByRecursion (λ c. c.tag.session < n) calls
+  -- as many words are seen as are kept
+  pub same : length words.seen.items ≡ length words.kept.items
   -- after a power cut, in which each word is the kept one or the seen one, they open again
   pub reopens : (left : List ℕ) → IsEither words.kept.items words.seen.items left → Reopens state (MayBeLeft (first_cells state) history calls) left

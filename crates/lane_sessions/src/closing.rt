@@ -49,7 +49,7 @@ fn join(arena: &Arena, mut ends: Vec<LaneEnd>, passes: Vec<Option<Pass>>) -> Vec
 /// Closes an arena: all its lanes are handed in, in the order of their numbers, and the passes of
 /// all its sessions that no lane holds.
 ///
-/// The one refusal is out of memory.
+/// The one refusal is out of memory. Then the arena, its lanes and the passes are dropped.
 pub fn close_arena(
     alloc: Global,
     arena: Arena,

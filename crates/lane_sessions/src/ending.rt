@@ -101,7 +101,7 @@ fn close_row(
 
 /// Closes the arenas of sessions, which are all between two calls, and the pool of their lanes.
 ///
-/// The one refusal is out of memory.
+/// The one refusal is out of memory. Then the arenas, their lanes and all passes are dropped.
 pub fn close_sectors(
     alloc: Global,
     sectors: Sectors,

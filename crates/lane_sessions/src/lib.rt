@@ -1,6 +1,6 @@
 //! The arenas of sessions over lanes: how they are made, and what is known when they are closed.
 //!
-//! No command runs on it yet: the sessions of `serve` and `load` still run on locked cores.
+//! The sessions of `serve` and `load` run on it.
 //!
 //! # Making
 //!
@@ -24,7 +24,7 @@
 //! | the same | there are as many sets as workers, or as the arena with the fewest lanes has, if these are fewer; and at least one | `count`, `some` |
 //! | the same | nobody did anything at the pool | `pool` |
 //! | the same | session q has its number, its steps and a pass of each arena; it knows that it did nothing there, has no set out, and may make as many calls as its limit says | `sessions`, `IsNewSession` of specs/Making.antt |
-//! | the same | each lane of a set has room for all calls of all sessions, so no call takes memory | the pool asks for it (`IsReady` of lane_pool's specs/Sets.antt) |
+//! | the same | each lane of a set has room for all calls of all sessions, so no call takes memory | `room`, `IsReady` of lane_pool's specs/Sets.antt |
 //!
 //! # Closing
 //!
@@ -45,6 +45,7 @@
 //! | one legal history has of each session exactly the entries that it knows, in order, each once | `IsArenaLeft`, fields `legal` and `own`, of specs/Left.antt |
 //! | the writes in flight are exactly those that the sessions know | `own` |
 //! | nothing is of another session | `none`, `flying` |
+//! | as many words are seen as are kept | `same` |
 //! | after a power cut, in which each word is the kept one or the seen one, the words open again; each sector has its cell at the history's end or that of a write in flight | `reopens` |
 //!
 //! [`close_sectors`] says besides that power is off only if a session switched it off that nobody had

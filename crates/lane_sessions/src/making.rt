@@ -1,7 +1,8 @@
 //! Sectors are made of arenas, and sessions that use them.
-ghost use Rattle.std.specs.Prelude.{◌≡◌, ◌<◌, All, length, map, IfOk};
+ghost use Rattle.std.specs.Prelude.{◌≡◌, ◌<◌, All, length, map, sum, IfOk};
 ghost use Rattle.arena_open.specs.Moves.{IsOpenState};
-ghost use Rattle.lane_sessions.specs.Making.{AreNewSessions, AreNumbered, IsNewPool, first_sets, set_count};
+ghost use Rattle.lane_pool.specs.Sets.{IsReady};
+ghost use Rattle.lane_sessions.specs.Making.{AreNewSessions, AreNumbered, IsNewPool, calls_in, first_sets, set_count};
 ghost use Rattle.lane_sessions.specs.Sets.{AreMadeOf, AreSets};
 
 use crate::arenas::{Laid, Plan, count_sets, lay};
@@ -50,6 +51,7 @@ pub fn make_sectors(
     ensures numbers { IfOk result (λ m. AreNumbered (first_sets m.sectors)) }
     ensures count { IfOk result (λ m. length (first_sets m.sectors) ≡ set_count workers states.items) }
     ensures some { IfOk result (λ m. 0 < length (first_sets m.sectors)) }
+    ensures room { IfOk result (λ m. All (IsReady (sum (calls_in limits.now))) (first_sets m.sectors)) }
     ensures sessions { IfOk result (λ m. AreNewSessions m.sectors states.items limits.now m.sessions.items) }
 {
     if limits.len() >= u32::MAX as usize {

@@ -1,5 +1,5 @@
 -- Label areas after any commands.
-use Rattle.std.proofs.Common.{◌≡◌, ◌≢◌, Bool, true, false, List, map, Option, Some, None, Ok, Err, refl, sym, ap, ◌∙◌, subst, ℕ}
+use Rattle.std.proofs.Common.{◌≡◌, Bool, true, false, List, map, Option, Some, None, Ok, Err, refl, sym, ap, ◌∙◌, subst, ℕ}
 use Rattle.std.specs.Prelude.{is_ok}
 use Rattle.cut_words.specs.Fuses.{burnt, lasts}
 use Rattle.namespace_areas.specs.declared.area.Area.{Area}

@@ -12,8 +12,8 @@
 //! - A session knows its **part** of the registry: its own entries of the journal, its room for
 //!   more, and what it has open. Whatever others order, its part is as its own orders left it.
 //! - The **fuse** (`labelcut` of a script) counts the steps of all commands. In the command with
-//!   which it ends, power is cut: that session switches power off for all. From then on the
-//!   registry answers every call so.
+//!   which it ends, power is cut: that session switches power off for all, at the pool of lanes
+//!   (`lane_pool`). From then on the registry answers every call so.
 //! - If memory runs out in an order, nothing has changed: no entry counts for it, and it has no
 //!   reply.
 //!
@@ -21,7 +21,7 @@
 //! |---|---|---|
 //! | [`lock_registry`] | each session begins with no entry and nothing open | `fresh` of `specs/Served.antt`, law [`begins_empty`] |
 //! | [`order`] | a reply has its entry and an entry its reply; it is refused exactly by its checks | `IsOrdered` of `specs/Parts.antt` |
-//! | the same | a cut order stands or doesn't; power is off, and if it stands, its session switched it off | `IsCutShort` of `specs/Switch.antt` |
+//! | the same | a cut order stands or doesn't; power is off, and if it stands, its session switched it off on the side of the labels, after the steps of the fuse | `IsCutShort` of `specs/Switch.antt` |
 //! | [`give_back`] | at a session's end its claim is given back | `GivesBack` of `specs/Parts.antt` |
 //! | [`close_registry`] | all orders are one journal from what the registry began with, cut by its fuse alone; its areas are what that leaves, and hold the words that were stored and flushed | `IsJournal`, `AreLeft`, `AreasHold` of `session_account` |
 //!

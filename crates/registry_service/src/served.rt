@@ -19,7 +19,6 @@ use session_script::Order;
 use std::alloc::{AllocError, Global};
 use std::collections::LinkedList;
 use std::marker::Model;
-use std::snapshot::Snapshot;
 use turn_lock::Parted;
 use uuid::Uuid;
 
@@ -56,8 +55,8 @@ pub struct ServedRegistry {
     registry: Registry,
     fuse: Fuse,
     opens: Vec<Option<Uuid>>,
-    // The fuse before the first call. Only contracts look at it.
-    first: Snapshot<Fuse>,
+    /// The steps of the fuse before the first call.
+    first: Option<u64>,
 }
 
 impl Model for ServedRegistry {
@@ -65,9 +64,9 @@ impl Model for ServedRegistry {
 
     ghost Value = { Served };
 
-    ghost view = { λ s. record { registry = s.registry; left = s.fuse; first = s.first.value; opens = s.opens.items } };
+    ghost view = { λ s. record { registry = s.registry; left = s.fuse; first = s.first; opens = s.opens.items } };
 
-    ghost invariant = { λ s. IsServing (record { registry = s.registry; left = s.fuse; first = s.first.value; opens = s.opens.items }) };
+    ghost invariant = { λ s. IsServing (record { registry = s.registry; left = s.fuse; first = s.first; opens = s.opens.items }) };
 }
 
 impl Parted for ServedRegistry {
@@ -123,7 +122,7 @@ fn none_open(alloc: Global, sessions: usize) -> Result<Vec<Option<Uuid>>, AllocE
 }
 
 impl ServedRegistry {
-    ghost use Rattle.std.specs.Prelude.{◌⊎◌, [], Ok, OnErr, IsSome, length, map};
+    ghost use Rattle.std.specs.Prelude.{◌⊎◌, [], Some, Ok, OnErr, IsSome, length, map};
     ghost use Rattle.turn_lock.specs.Turns.{KeepsOthers};
     ghost use Rattle.namespace_areas.specs.Seen.{AreHeld, AreLeft as AreasLeft, areas_shown, words_of};
     ghost use Rattle.namespace_areas.specs.Steps.{rows_of};
@@ -157,7 +156,7 @@ impl ServedRegistry {
         registry.reserve(alloc, calls)?;
         // The clause of `journal` says what an empty one replays to.
         let _journal = registry.journal();
-        let first = Snapshot::of(&fuse);
+        let first = fuse.left();
         Ok(ServedRegistry {
             alloc,
             registry,
@@ -165,6 +164,13 @@ impl ServedRegistry {
             opens,
             first,
         })
+    }
+
+    /// After how many steps on labels power is cut; 0 if it never is.
+    pub(crate) fn labelcut(&self) -> u64
+        ensures { (n : ℕ) → self.now.first ≡ Some n → result ≡ n }
+    {
+        self.first.unwrap_or(0)
     }
 
     /// The namespace that a session has open.

@@ -1,5 +1,5 @@
 -- A session's call on a sector, as a step of its account.
-use Rattle.std.proofs.Common.{◌≡◌, ◌≢◌, ◌⊎◌, inl, inr, ℕ, ◌+◌, ◌-◌, ◌*◌, ◌/◌, Bool, true, false, ◌&&◌, cond, List, [], ◌∷◌, ◌++◌, length, Option, Some, None, refl, sym, ap, ◌∙◌, subst, arith, append-nil, eq-eqb}
+use Rattle.std.proofs.Common.{◌≡◌, ◌≢◌, ◌⊎◌, inl, inr, ℕ, ◌+◌, ◌-◌, ◌*◌, ◌/◌, ◌≤◌, Bool, true, false, ◌&&◌, List, [], ◌∷◌, ◌++◌, length, Option, Some, None, refl, sym, ap, ◌∙◌, subst, arith, eq-eqb}
 use Rattle.std.specs.Prelude.{◌==◌, if◌then◌else◌, option_to_list}
 use Rattle.std.specs.List.{AllByRecursion}
 use mathlib.Core.Logic.{dite}
@@ -8,7 +8,6 @@ use Rattle.arena_open.specs.declared.cell.Cell.{Cell}
 use Rattle.lane_core.specs.declared.history.Act.{Act}
 use Rattle.lane_core.specs.declared.history.Act.TheVariants as act
 use Rattle.lane_core.specs.declared.in_call.InCall.{InCall}
-use Rattle.lane_core.specs.Sessions.{write_steps}
 use Rattle.namespace_ops.specs.Entries.{JournalEntry}
 use Rattle.session_parts.specs.Parts.{stand_at}
 use Rattle.session_script.specs.declared.payload.Payload.{Payload}
@@ -27,33 +26,49 @@ use Rattle.session_account.specs.Serving.{Serving, Shape, Spot, IsArena, arenas_
 use Rattle.session_account.proofs.Calling.{call_ends, call_stops}
 use Rattle.session_account.proofs.Going.{map_more, stopped_cut, stopped_uncut}
 use Rattle.registry_service.specs.declared.served.OrdersPart.{OrdersPart}
-use Rattle.turn_callers.specs.declared.desk.Mine.{Mine}
-use Rattle.sector_service.specs.declared.served.ServedPart.{ServedPart}
-use Rattle.sector_service.specs.Calls as core
-use Rattle.sector_service.specs.Calls.{IsLeft, IsWrite, Paid, answered, within}
-use Rattle.sector_service.specs.Rows.{Parts, with_part}
-use Rattle.sector_service.specs.Served.{shape_of}
-use Rattle.sector_service.proofs.Sessions.{with_other, with_same}
+use Rattle.session_parts.specs.declared.parts.CorePart.{CorePart}
+use Rattle.lane_pool.specs.declared.pool.PoolPart.{PoolPart}
+use Rattle.lane_calls.specs.declared.parts.ArenaPart.{ArenaPart}
+use Rattle.lane_calls.specs.Calls as lanes
+use Rattle.lane_calls.specs.Calls.{IsOpenWrite, answered, write_at_least}
+use Rattle.lane_calls.specs.Lanes.{Fewer}
+use Rattle.lane_calls.specs.Sessions.{Parts, shape_of, with_part}
+use Rattle.lane_calls.proofs.Sessions.{with_other, with_same}
 use Rattle.session_service.specs.declared.finding.FoundSector.{FoundSector}
-use Rattle.session_service.specs.Namespaces.{IsFound, core_at, shape_by}
+use Rattle.session_service.specs.Namespaces.{IsFound, number_at, shape_by}
 use Rattle.session_service.specs.Runners.{Standing, calls_by, stands_by}
-use Rattle.session_service.proofs.Cores.{core_apart}
+use Rattle.session_service.proofs.Numbers.{number_apart}
+
+-- of the steps that are left, at least so many went
+abbrev pub Paid : ℕ → Option ℕ → Option ℕ → Type 0
+Paid n left left' = (l : ℕ) → left ≡ Some l → (l' : ℕ) × (left' ≡ Some l') × (n + l' ≤ l)
+
+pub paid_least : (n made : ℕ) (left left' : Option ℕ) → n ≤ made → Fewer made left left' → Paid n left left'
+paid_least n made left left' enough paid l is = let p = paid.fewer l is in (p.0, p.1, let sum = p.2 in omega (arith, enough, sum))
 
 both : (a b : ℕ) → ((a == a) && (b == b)) ≡ true
 both a b = (λ i. (eq-eqb a a refl i) && (eq-eqb b b refl i))
 
+-- the checks of a write
+module _ (all : List Serving) (held : Option (List ℕ)) (sector : ℕ) (f : FoundSector) (found : IsFound all held sector f) where
+  pub write_checks : (value : Payload) → check_of all held (line.Write sector value) ≡ wrong_length (size_of value f.bytes) f.bytes
+  write_checks value =
+      ap (λ (o : Option (List ℕ)). check_of all o (line.Write sector value)) found.is_open
+      ∙ ap (λ (s : Option Spot). on_spot (arenas_of all found.uuid) s (λ (shape : Shape). wrong_length (size_of value shape.bytes) shape.bytes)) found.spot_is
+      ∙ ap (λ (b : ℕ). wrong_length (size_of value b) b) (sym found.bytes_is)
+
 module _ (all : List Serving) (held : Option (List ℕ)) (sector : ℕ) (f : FoundSector) (found : IsFound all held sector f) (known : Parts) where
   abbrev pub j : ℕ
-  j = core_at all found.spot.place found.spot.arena
+  j = number_at all found.spot.place found.spot.arena
 
-  pub here : (m : ServedPart) → stands_by all (with_part known j m) found.spot.place found.spot.arena ≡ m.mine.stands
-  here m = ap (λ (x : ServedPart). x.mine.stands) (with_same known j m)
+  pub here : (m : ArenaPart) → stands_by all (with_part known j m) found.spot.place found.spot.arena ≡ m.mine.stands
+  here m = ap (λ (x : ArenaPart). x.mine.stands) (with_same known j m)
 
-  pub apart : (m : ServedPart) (p n : ℕ) → IsArena all p n → (p ≢ found.spot.place) ⊎ (n ≢ found.spot.arena) → with_part known j m (core_at all p n) ≡ known (core_at all p n)
-  apart m p n there ne = with_other known j (core_at all p n) m (λ e. core_apart all p n found.spot.place found.spot.arena there found.there ne e)
+  pub apart : (m : ArenaPart) (p n : ℕ) → IsArena all p n → (p ≢ found.spot.place) ⊎ (n ≢ found.spot.arena) → with_part known j m (number_at all p n) ≡ known (number_at all p n)
+  apart m p n there ne = with_other known j (number_at all p n) m (λ e. number_apart all p n found.spot.place found.spot.arena there found.there ne e)
 
-  pub others : (m : ServedPart) (p n : ℕ) → IsArena all p n → (p ≢ found.spot.place) ⊎ (n ≢ found.spot.arena) → stands_by all (with_part known j m) p n ≡ stands_by all known p n
-  others m p n there ne = ap (λ (x : ServedPart). x.mine.stands) (apart m p n there ne)
+  pub others : (m : ArenaPart) (p n : ℕ) → IsArena all p n → (p ≢ found.spot.place) ⊎ (n ≢ found.spot.arena) → stands_by all (with_part known j m) p n ≡ stands_by all known p n
+  others m p n there ne = ap (λ (x : ArenaPart). x.mine.stands) (apart m p n there ne)
 
   -- what the call stands as, in its arena
   module _ (n : ℕ) (l : Line) (r : Reply) (a : Act) (on_spot_is : spot_of all (made n held l r) ≡ Some found.spot) (acts : act_for l r found.spot.shape ≡ Some a) where
@@ -64,9 +79,9 @@ module _ (all : List Serving) (held : Option (List ℕ)) (sector : ℕ) (f : Fou
         ∙ ap (stand_as n found.spot.own) acts
         ∙ ap (λ (s : ℕ). Some (stand_at n s a)) (sym found.sector_is)
 
-    pub stands_more : (m : ServedPart) → m ≡ answered (stand_at n f.sector a) (known j)
+    pub stands_more : (m : ArenaPart) → m.mine ≡ answered (stand_at n f.sector a) (known j).mine
         → stands_by all (with_part known j m) found.spot.place found.spot.arena ≡ stands_by all known found.spot.place found.spot.arena ++ option_to_list (stand_of all found.spot.place found.spot.arena (made n held l r))
-    stands_more m is = here m ∙ ap (λ (x : ServedPart). x.mine.stands) is ∙ ap (λ (o : Option Stand). stands_by all known found.spot.place found.spot.arena ++ option_to_list o) (sym stand_is)
+    stands_more m is = here m ∙ ap (λ (x : CorePart). x.stands) is ∙ ap (λ (o : Option Stand). stands_by all known found.spot.place found.spot.arena ++ option_to_list o) (sym stand_is)
 
   -- ---- a read
 
@@ -78,7 +93,7 @@ module _ (all : List Serving) (held : Option (List ℕ)) (sector : ℕ) (f : Fou
       ap (λ (o : Option (List ℕ)). check_of all o (line.Read sector)) found.is_open
       ∙ ap (λ (s : Option Spot). on_spot (arenas_of all found.uuid) s (λ (shape : Shape). None)) found.spot_is
 
-  pub read_answered : (q n : ℕ) (cell : Cell) (entries : List JournalEntry) (left left' : Option ℕ) (m : ServedPart) → m ≡ answered (stand_at n f.sector (act.Read cell)) (known j) → Paid 1 left left'
+  pub read_answered : (q n : ℕ) (cell : Cell) (entries : List JournalEntry) (left left' : Option ℕ) (m : ArenaPart) → m.mine ≡ answered (stand_at n f.sector (act.Read cell)) (known j).mine → Paid 1 left left'
       → IsAnswered all q (made n held (line.Read sector) (reply.Value cell)) entries entries (stands_by all known) (stands_by all (with_part known j m)) left left'
   read_answered q n cell entries left left' m is paid =
       call_ends all q (made n held (line.Read sector) (reply.Value cell)) found.spot entries (stands_by all known) (stands_by all (with_part known j m)) left left'
@@ -91,18 +106,12 @@ module _ (all : List Serving) (held : Option (List ℕ)) (sector : ℕ) (f : Fou
 
   -- ---- a write
 
-  pub write_checks : (value : Payload) → check_of all held (line.Write sector value) ≡ wrong_length (size_of value f.bytes) f.bytes
-  write_checks value =
-      ap (λ (o : Option (List ℕ)). check_of all o (line.Write sector value)) found.is_open
-      ∙ ap (λ (s : Option Spot). on_spot (arenas_of all found.uuid) s (λ (shape : Shape). wrong_length (size_of value shape.bytes) shape.bytes)) found.spot_is
-      ∙ ap (λ (b : ℕ). wrong_length (size_of value b) b) (sym found.bytes_is)
-
   module _ (value : Payload) (fits : wrong_length (size_of value f.bytes) f.bytes ≡ None) where
     pub write_spot : (n : ℕ) (r : Reply) → spot_of all (made n held (line.Write sector value) r) ≡ Some found.spot
     write_spot n r = ap (λ (o : Option (List ℕ)). spot_of all (made n o (line.Write sector value) r)) found.is_open ∙ found.spot_is
 
     write_check : check_of all held (line.Write sector value) ≡ None
-    write_check = write_checks value ∙ fits
+    write_check = write_checks all held sector f found value ∙ fits
 
     fits_is : (said had : ℕ) → wrong_length said had ≡ None → (said == had) ≡ true
     fits_is said had h = by (said == had) h
@@ -122,7 +131,7 @@ module _ (all : List Serving) (held : Option (List ℕ)) (sector : ℕ) (f : Fou
         ap (λ (b : ℕ). if size_of value b == b then Some (act.Write (words_of value b)) else None) (sym found.bytes_is)
         ∙ ap (λ (b : Bool). if b then Some (act.Write words) else None) (fits_is (size_of value f.bytes) f.bytes fits)
 
-    pub write_answered : (q n : ℕ) (entries : List JournalEntry) (left left' : Option ℕ) (m : ServedPart) → shape_by (known j).first ≡ found.spot.shape → m ≡ answered (stand_at n f.sector (act.Write words)) (known j) → Paid (write_steps (shape_of (known j))) left left'
+    pub write_answered : (q n : ℕ) (entries : List JournalEntry) (left left' : Option ℕ) (m : ArenaPart) → shape_by (known j).first ≡ found.spot.shape → m.mine ≡ answered (stand_at n f.sector (act.Write words)) (known j).mine → Paid (write_at_least (shape_of (known j))) left left'
         → IsAnswered all q (made n held (line.Write sector value) reply.Done) entries entries (stands_by all known) (stands_by all (with_part known j m)) left left'
     write_answered q n entries left left' m layout is paid =
         call_ends all q (made n held (line.Write sector value) reply.Done) found.spot entries (stands_by all known) (stands_by all (with_part known j m)) left left'
@@ -142,7 +151,7 @@ module _ (all : List Serving) (held : Option (List ℕ)) (sector : ℕ) (f : Fou
 
   -- ---- a call that was cut
 
-  module _ (script : Script) (q : ℕ) (replies : List Reply) (orders : OrdersPart) (power : Mine) (left : Option ℕ) (held_is : held ≡ orders.held) (s : Standing all script q replies orders known power left) (l : Line) (next : NextIs (session_at script q) replies l) where
+  module _ (script : Script) (q : ℕ) (replies : List Reply) (orders : OrdersPart) (pool : PoolPart) (left : Option ℕ) (held_is : held ≡ orders.held) (s : Standing all script q replies orders known pool left) (l : Line) (next : NextIs (session_at script q) replies l) where
     abbrev pub at_cut : Made
     at_cut = made (length replies) held l reply.Cut
 
@@ -163,57 +172,42 @@ module _ (all : List Serving) (held : Option (List ℕ)) (sector : ℕ) (f : Fou
     its_stand : (a : Act) → stand_of all found.spot.place found.spot.arena at_cut ≡ Some (stand_at (length replies) f.sector a) → stands_of all found.spot.place found.spot.arena (cut_of calls) ≡ stand_at (length replies) f.sector a ∷ []
     its_stand a is = ap (stands_of all found.spot.place found.spot.arena) only_it ∙ map_more (stand_of all found.spot.place found.spot.arena) [] at_cut ∙ ap (λ (o : Option Stand). option_to_list o) is
 
-    -- the lanes in its call: none, or one in the arena of the sector
-    still_at : (m : ServedPart) → AllByRecursion (IsOfCut all found.spot.place found.spot.arena calls m.mine.stands) m.mine.calls
+    -- its writes in flight: none, or one in the arena of the sector
+    still_at : (m : ArenaPart) → AllByRecursion (IsOfCut all found.spot.place found.spot.arena calls m.mine.stands) m.mine.calls
         → (p n : ℕ) → IsArena all p n → AllByRecursion (IsOfCut all p n calls (stands_by all (with_part known j m) p n)) (calls_by all (with_part known j m) p n)
     still_at m lanes p n there = dite (ℕ_discrete p found.spot.place)
         (λ same. dite (ℕ_discrete n found.spot.arena)
         (λ same'.
         subst (λ (x : ℕ). AllByRecursion (IsOfCut all x n calls (stands_by all (with_part known j m) x n)) (calls_by all (with_part known j m) x n)) (sym same)
         (subst (λ (x : ℕ). AllByRecursion (IsOfCut all found.spot.place x calls (stands_by all (with_part known j m) found.spot.place x)) (calls_by all (with_part known j m) found.spot.place x)) (sym same')
-        (subst (λ (x : ServedPart). AllByRecursion (IsOfCut all found.spot.place found.spot.arena calls x.mine.stands) x.mine.calls) (sym (with_same known j m)) lanes)))
+        (subst (λ (x : ArenaPart). AllByRecursion (IsOfCut all found.spot.place found.spot.arena calls x.mine.stands) x.mine.calls) (sym (with_same known j m)) lanes)))
         (λ other. elsewhere (inr other)))
         (λ other. elsewhere (inl other))
       where
         elsewhere : (p ≢ found.spot.place) ⊎ (n ≢ found.spot.arena) → AllByRecursion (IsOfCut all p n calls (stands_by all (with_part known j m) p n)) (calls_by all (with_part known j m) p n)
         elsewhere ne =
-            let none : calls_by all (with_part known j m) p n ≡ [] = ap (λ (x : ServedPart). x.mine.calls) (apart m p n there ne) ∙ s.free (core_at all p n) in
+            let none : calls_by all (with_part known j m) p n ≡ [] = ap (λ (x : ArenaPart). x.mine.calls) (apart m p n there ne) ∙ s.free (number_at all p n) in
             subst (λ (cs : List InCall). AllByRecursion (IsOfCut all p n calls (stands_by all (with_part known j m) p n)) cs) (sym none) tt
 
-    -- a read leaves nothing
-    module _ (m : ServedPart) (at : l ≡ line.Read sector) (goes : IsLeft q (length replies) f.sector (known j) m) where
-      read_stands : m.mine.stands ≡ (known j).mine.stands
-      read_stands = by goes
-        where
-          by : IsLeft q (length replies) f.sector (known j) m → m.mine.stands ≡ (known j).mine.stands
-          by (inl is) = ap (λ (x : ServedPart). x.mine.stands) is
-          by (inr h) = ap (λ (x : ServedPart). x.mine.stands) h.3
+    none_here : (m : ArenaPart) → m.mine.calls ≡ [] → AllByRecursion (IsOfCut all found.spot.place found.spot.arena calls m.mine.stands) m.mine.calls
+    none_here m none = subst (λ (cs : List InCall). AllByRecursion (IsOfCut all found.spot.place found.spot.arena calls m.mine.stands) cs) (sym none) tt
 
+    -- a read leaves nothing
+    module _ (m : ArenaPart) (at : l ≡ line.Read sector) (same : m.mine ≡ (known j).mine) where
       pub read_stops : (entries : List JournalEntry) → IsStopped all q at_cut entries entries (stands_by all known) (stands_by all (with_part known j m))
       read_stops entries =
           call_stops all q at_cut found.spot entries (stands_by all known) (stands_by all (with_part known j m))
           (ap (λ (x : Line). spot_of all (made (length replies) held x reply.Cut)) at ∙ read_spot (length replies) reply.Cut)
-          (no_entry l at) refl (inl (here m ∙ read_stands)) (others m)
+          (no_entry l at) refl (inl (here m ∙ ap (λ (x : CorePart). x.stands) same)) (others m)
         where
           no_entry : (x : Line) → x ≡ line.Read sector → entry_for q (made (length replies) held x reply.Cut) ≡ None
           no_entry x e = ap (λ (x : Line). entry_for q (made (length replies) held x reply.Cut)) e
 
       pub read_still : (p n : ℕ) → IsArena all p n → AllByRecursion (IsOfCut all p n calls (stands_by all (with_part known j m) p n)) (calls_by all (with_part known j m) p n)
-      read_still = still_at m (by goes)
-        where
-          by : IsLeft q (length replies) f.sector (known j) m → AllByRecursion (IsOfCut all found.spot.place found.spot.arena calls m.mine.stands) m.mine.calls
-          by (inl is) = subst (λ (x : ServedPart). AllByRecursion (IsOfCut all found.spot.place found.spot.arena calls x.mine.stands) x.mine.calls) (sym is) (subst (λ (cs : List InCall). AllByRecursion (IsOfCut all found.spot.place found.spot.arena calls (known j).mine.stands) cs) (sym (s.free j)) tt)
-          by (inr h) =
-              subst (λ (x : ServedPart). AllByRecursion (IsOfCut all found.spot.place found.spot.arena calls x.mine.stands) x.mine.calls) (sym h.3) (
-                record {
-                  call = λ a e. absurd (let x : Some a ≡ None = sym e ∙ h.2.nothing in cc);
-                  not_yet = λ _. stands_so found.spot.place found.spot.arena found.there;
-                },
-                tt,
-              )
+      read_still = still_at m (none_here m (ap (λ (x : CorePart). x.calls) same ∙ s.free j))
 
     -- a write stands or doesn't
-    module _ (value : Payload) (fits : wrong_length (size_of value f.bytes) f.bytes ≡ None) (m : ServedPart) (at : l ≡ line.Write sector value) (goes : core.IsStopped q (length replies) f.sector (words value fits) (known j) m) where
+    module _ (value : Payload) (fits : wrong_length (size_of value f.bytes) f.bytes ≡ None) (m : ArenaPart) (at : l ≡ line.Write sector value) (goes : lanes.IsStopped q (length replies) f.sector (words value fits) (known j).mine m.mine) where
       abbrev its : Act
       its = act.Write (words value fits)
 
@@ -228,17 +222,12 @@ module _ (all : List Serving) (held : Option (List ℕ)) (sector : ℕ) (f : Fou
           call_stops all q at_cut found.spot entries (stands_by all known) (stands_by all (with_part known j m)) spot_here
           (ap (λ (x : Line). entry_for q (made (length replies) held x reply.Cut)) at) refl (by goes) (others m)
         where
-          entering : (c : InCall) (b : Bool) → c.entered ≡ b → m ≡ within (known j) (stand_at (length replies) f.sector its) c
+          by : lanes.IsStopped q (length replies) f.sector (words value fits) (known j).mine m.mine
               → (stands_by all (with_part known j m) found.spot.place found.spot.arena ≡ stands_by all known found.spot.place found.spot.arena)
               ⊎ (stands_by all (with_part known j m) found.spot.place found.spot.arena ≡ stands_by all known found.spot.place found.spot.arena ++ option_to_list (stand_of all found.spot.place found.spot.arena at_cut))
-          entering c true e is = inr (here m ∙ ap (λ (x : ServedPart). x.mine.stands) is ∙ ap (λ (b : Bool). (known j).mine.stands ++ cond b (stand_at (length replies) f.sector its ∷ []) []) e ∙ ap (λ (o : Option Stand). (known j).mine.stands ++ option_to_list o) (sym flies))
-          entering c false e is = inl (here m ∙ ap (λ (x : ServedPart). x.mine.stands) is ∙ ap (λ (b : Bool). (known j).mine.stands ++ cond b (stand_at (length replies) f.sector its ∷ []) []) e ∙ append-nil (known j).mine.stands)
-
-          by : core.IsStopped q (length replies) f.sector (words value fits) (known j) m
-              → (stands_by all (with_part known j m) found.spot.place found.spot.arena ≡ stands_by all known found.spot.place found.spot.arena)
-              ⊎ (stands_by all (with_part known j m) found.spot.place found.spot.arena ≡ stands_by all known found.spot.place found.spot.arena ++ option_to_list (stand_of all found.spot.place found.spot.arena at_cut))
-          by (inl is) = inl (here m ∙ ap (λ (x : ServedPart). x.mine.stands) is)
-          by (inr h) = entering h.1 h.1.entered refl h.3
+          by (inl is) = inl (here m ∙ ap (λ (x : CorePart). x.stands) is)
+          by (inr (inl h)) = inl (here m ∙ ap (λ (x : CorePart). x.stands) h.2)
+          by (inr (inr is)) = inr (here m ∙ ap (λ (x : CorePart). x.stands) is ∙ ap (λ (o : Option Stand). (known j).mine.stands ++ option_to_list o) (sym flies))
 
       pub write_still : (p n : ℕ) → IsArena all p n → AllByRecursion (IsOfCut all p n calls (stands_by all (with_part known j m) p n)) (calls_by all (with_part known j m) p n)
       write_still = still_at m (by goes)
@@ -246,17 +235,14 @@ module _ (all : List Serving) (held : Option (List ℕ)) (sector : ℕ) (f : Fou
           acts : (a : Act) → Some its ≡ Some a → its ≡ a
           acts a e = cc
 
-          lane : (c : InCall) → (k : ℕ) → IsWrite q (length replies) k f.sector (words value fits) c
-              → IsOfCut all found.spot.place found.spot.arena calls (within (known j) (stand_at (length replies) f.sector its) c).mine.stands c
-          lane c k h = record {
-            call = λ a e. call_is a e h.either;
-            not_yet = λ e. ap (λ (b : Bool). (known j).mine.stands ++ cond b (stand_at (length replies) f.sector its ∷ []) []) e ∙ append-nil (known j).mine.stands ∙ stands_so found.spot.place found.spot.arena found.there;
+          -- in flight
+          lane : (c : InCall) → IsOpenWrite q (length replies) f.sector (words value fits) c → IsOfCut all found.spot.place found.spot.arena calls (known j).mine.stands c
+          lane c h = record {
+            call = λ a e. its_stand its flies ∙ (λ i. stand_at (sym h.tag_is i).call (sym h.sector_is i) (acts a (sym h.act_is ∙ e) i) ∷ []);
+            not_yet = λ _. stands_so found.spot.place found.spot.arena found.there;
           }
-            where
-              call_is : (a : Act) → c.act ≡ Some a → ((c.entered ≡ false) × (c.act ≡ Some its)) ⊎ ((c.entered ≡ true) × (c.act ≡ None)) → stands_of all found.spot.place found.spot.arena (cut_of calls) ≡ stand_at c.tag.call c.sector a ∷ []
-              call_is a e (inl x) = its_stand its flies ∙ (λ i. stand_at (sym h.call_is.tag_is i).call (sym h.call_is.sector_is i) (acts a (sym x.1 ∙ e) i) ∷ [])
-              call_is a e (inr x) = absurd (let y : Some a ≡ None = sym e ∙ x.1 in cc)
 
-          by : core.IsStopped q (length replies) f.sector (words value fits) (known j) m → AllByRecursion (IsOfCut all found.spot.place found.spot.arena calls m.mine.stands) m.mine.calls
-          by (inl is) = subst (λ (x : ServedPart). AllByRecursion (IsOfCut all found.spot.place found.spot.arena calls x.mine.stands) x.mine.calls) (sym is) (subst (λ (cs : List InCall). AllByRecursion (IsOfCut all found.spot.place found.spot.arena calls (known j).mine.stands) cs) (sym (s.free j)) tt)
-          by (inr h) = subst (λ (x : ServedPart). AllByRecursion (IsOfCut all found.spot.place found.spot.arena calls x.mine.stands) x.mine.calls) (sym h.3) (lane h.1 h.0 h.2, tt)
+          by : lanes.IsStopped q (length replies) f.sector (words value fits) (known j).mine m.mine → AllByRecursion (IsOfCut all found.spot.place found.spot.arena calls m.mine.stands) m.mine.calls
+          by (inl is) = none_here m (ap (λ (x : CorePart). x.calls) is ∙ s.free j)
+          by (inr (inl h)) = subst (λ (x : CorePart). AllByRecursion (IsOfCut all found.spot.place found.spot.arena calls x.stands) x.calls) (sym h.2) (lane h.0 h.1, tt)
+          by (inr (inr is)) = none_here m (ap (λ (x : CorePart). x.calls) is)

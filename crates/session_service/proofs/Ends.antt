@@ -1,19 +1,13 @@
--- The words of cores at their end.
-use Rattle.std.proofs.Common.{◌≡◌, ◌≢◌, ℕ, zero, suc, ◌+◌, ◌<◌, ◌⊎◌, inl, inr, Bool, true, false, cond, List, [], ◌∷◌, ◌++◌, length, drop, get_or, slice_get, Option, Some, None, Result, Ok, Err, refl, sym, ap, ◌∙◌, subst, arith, eq-eqb}
-use Rattle.std.specs.Prelude.{All, ◌==◌, unwrap_or}
+-- Words with two values, and the loop that chooses one of each.
+use Rattle.std.proofs.Common.{◌≡◌, ◌≢◌, ℕ, zero, suc, ◌<◌, inl, inr, Bool, true, false, cond, List, [], ◌∷◌, length, drop, get_or, Option, Some, None, refl, sym, ap, ◌∙◌, subst, arith, eq-eqb}
+use Rattle.std.specs.Prelude.{◌==◌, unwrap_or}
 use Rattle.std.proofs.lemmas.Bool.{eqb-true}
 use Rattle.std.proofs.lemmas.List.{get_or-drop, get_or_read}
 use Rattle.std.proofs.lemmas.Option.{none-some, same_Some}
 use Rattle.cut_words.specs.Leaving.{LeavesOne}
-use Rattle.cut_words.specs.Words.{IsLeft, Words}
-use Rattle.arena_open.specs.declared.state.ArenaState.{ArenaState}
-use Rattle.lane_core.specs.declared.machine.Core.{Core}
-use Rattle.lane_core.specs.Held.{held_by}
-use Rattle.lane_core.specs.Machines.{IsSomeCore}
-use Rattle.lane_core.specs.Reopening.{IsCoreOf, IsEither, MaySurvive, Reopens, first_cells}
-use Rattle.session_service.specs.Closed.{AreEndsOf, AreShared, IsEndOf}
+use Rattle.cut_words.specs.Words.{IsLeft}
+use Rattle.lane_core.specs.Reopening.{IsEither}
 use Rattle.session_service.specs.Ends.{PendingDiffer, differing, two_valued}
-use Rattle.session_service.specs.Services.{arena_at}
 
 -- ---- words with two values
 
@@ -75,28 +69,3 @@ chosen_at picks kept seen now i x y value c c' same lt long untouched read_kept 
     (λ j. cond (kept_is j == read_seen j) None (Some (read_seen j))) ∙ sym (differing_at kept seen i lt same) in
     subst (λ (o : Option ℕ). LeavesOne picks i (get_or kept i 0) o value c c') stored_is
     (subst (λ (k : ℕ). LeavesOne picks i k (cond (x == y) None (Some y)) value c c') kept_is one)
-
--- ---- cores
-
-pub ends_count : (cores : List Core) (ends : List Words) → AreEndsOf cores ends → length ends ≡ length cores
-ends_count [] ends none = ap length none
-ends_count (c ∷ cores) [] are = absurd are
-ends_count (c ∷ cores) (w ∷ ends) are = ap suc (ends_count cores ends are.1)
-
-pub ends_more : (cores : List Core) (ends : List Words) (core : Core) (words : Words) → AreEndsOf cores ends → IsEndOf core words → AreEndsOf (cores ++ core ∷ []) (ends ++ words ∷ [])
-ends_more [] ends core words none here = subst (λ (ws : List Words). AreEndsOf (core ∷ []) (ws ++ words ∷ [])) (sym none) (here, refl)
-ends_more (c ∷ cores) [] core words are here = absurd are
-ends_more (c ∷ cores) (w ∷ ends) core words are here = (are.0, ends_more cores ends core words are.1 here)
-
-pub ends_there : (cores : List Core) (ends : List Words) (j : ℕ) (core : Core) → AreEndsOf cores ends → slice_get cores j ≡ Some core → (words : Words) × (slice_get ends j ≡ Some words) × IsEndOf core words
-ends_there [] ends j core none at = absurd (none-some core at)
-ends_there (c ∷ cores) [] j core are at = absurd are
-ends_there (c ∷ cores) (w ∷ ends) zero core are at = (w, refl, subst (λ (x : Core). IsEndOf x w) (same_Some c core at) are.0)
-ends_there (c ∷ cores) (w ∷ ends) (suc j) core are at = ends_there cores ends j core are.1 at
-
-pub end_of : (core : Core) (kept seen : List ℕ) → length seen ≡ length kept
-    → ((state : ArenaState) (left : List ℕ) → IsCoreOf state core → IsEither kept seen left → Reopens state (MaySurvive (first_cells state) (held_by core)) left) → IsEndOf core (two_valued kept seen)
-end_of core kept seen same reopens = record { differ = pending_differ kept seen; reopens = λ state left h is. reopens state left h (either_left kept seen left same is) }
-
-pub all_sound : (callers : ℕ) (arenas : List ArenaState) (cores : List Core) → AreShared callers arenas cores → All IsSomeCore cores
-all_sound callers arenas cores shared j e lt = (first_cells (arena_at arenas j), (shared j e lt).of_arena.shows)

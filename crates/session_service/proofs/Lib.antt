@@ -1,10 +1,9 @@
-pub mod Cores
+pub mod Numbers
 pub mod Standing
 pub mod Calls
 pub mod Steps
 pub mod Seating
 pub mod Sending
-pub mod Locks
 pub mod Accounting
 pub mod Making
 pub mod Ends

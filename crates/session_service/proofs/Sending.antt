@@ -5,7 +5,8 @@ use denote.Exit.{Kept}
 use denote.RattleType.{RattleType}
 use denote.Param.{arg, param}
 use denote.Struct.Tuple.{TupleAt, type_at}
-use denote.Param.Send.{IsSend, IsSync, param_sync, arg_sync, struct_send, struct_sync, recorded_send, recorded_sync, plain_send, sendable}
+use denote.Memory.{raw_all}
+use denote.Param.Send.{IsSend, IsSync, whole-keyless, param_sync, arg_sync, struct_send, struct_sync, recorded_send, recorded_sync, plain_send, sendable}
 use denote.Struct.Declared.{shape}
 use Rattle.std.proofs.Crossing.{crosses}
 use Rattle.std.proofs.vec.Vec.TheSendSync as vec
@@ -13,16 +14,21 @@ use Rattle.std.proofs.alloc.Global.TheSendSync as heap
 use Rattle.std.below.std_heap.proofs.GlobalAllocator.TheSendSync.{the_frees}
 use Rattle.std.specs.contracts.alloc.Global as Heap
 use Rattle.std.specs.contracts.impls.GlobalAllocator.TheImpl as allocator
-use Rattle.lane_core.proofs.machine.Core.TheSendSync as core
+use Rattle.arena_open.specs.contracts.state.ArenaState as ArenaState
+use Rattle.atomic_table.proofs.shared.Seat.TheSendSync as seat
+use Rattle.atomic_table.specs.contracts.shared.Seat as Seat
+use Rattle.lane_table.specs.contracts.table.Call as Call
+use Rattle.lane_table.specs.contracts.table.View as View
+use Rattle.lane_table.specs.contracts.lanes.Kit as Kit
+use Rattle.lane_table.specs.contracts.lanes.Lane as Lane
+use Rattle.lane_table.specs.contracts.lanes.Staged as Staged
+use Rattle.lane_table.specs.contracts.lanes.Stopped as Stopped
+use Rattle.lane_table.specs.contracts.lanes.LaneEnd as LaneEnd
+use Rattle.lane_sessions.proofs.Sending.{sectors_field_sync, session_field_send}
 use Rattle.turn_lock.specs.contracts.pass.TurnPass as TurnPass
 use Rattle.turn_lock.specs.contracts.turn.Turn as Turn
 use Rattle.turn_lock.proofs.pass.TurnPass.TheSendSync as pass
 use Rattle.turn_lock.proofs.turn.Turn.TheSendSync as turn
-use Rattle.sector_service.specs.contracts.served.ServedCore as ServedCore
-use Rattle.sector_service.specs.contracts.served.ServedPart as ServedPart
-use Rattle.sector_service.specs.contracts.served.ServedCoreParted.TheImpl as parted
-use Rattle.sector_service.specs.contracts.session.Session as Session
-use Rattle.sector_service.proofs.power.Caller.TheSendSync as caller
 use Rattle.label_codec.proofs.label.Label.TheSendSync as label
 use Rattle.label_set.proofs.placed.Placed.TheSendSync as placed
 use Rattle.namespace_areas.proofs.area.Area.TheSendSync as area
@@ -46,21 +52,11 @@ use Rattle.registry_service.specs.contracts.served.ServedRegistry as ServedRegis
 use Rattle.registry_service.specs.contracts.served.ServedRegistryParted.TheImpl as orders_parted
 use Rattle.session_account.specs.contracts.reply.Reply as Reply
 use Rattle.session_account.proofs.reply.Reply.TheSendSync as reply
-use Rattle.session_service.specs.contracts.namespaces.NamespaceCores as NamespaceCores
+use Rattle.session_service.specs.contracts.namespaces.NamespaceArenas as NamespaceArenas
 use Rattle.session_service.specs.contracts.runner.Runner as Runner
 use Rattle.session_service.specs.contracts.service.Orders as Orders
 use Rattle.session_service.specs.contracts.service.Service as Service
-use Rattle.session_service.proofs.namespaces.NamespaceCores.TheSendSync as place
-use Rattle.session_service.proofs.service.Switch.TheSendSync as switch
-
-served_send : IsSend ServedCore.the_row
-served_send = search (core.the_field_send, sendable, crosses) depth 20
-
-pass_send : IsSend (TurnPass.the_row ServedCore.the_row ServedPart.the_row parted.ghosts)
-pass_send = pass.the_send ServedCore.the_row ServedPart.the_row parted.ghosts served_send
-
-turn_sync : IsSync (Turn.the_row ServedCore.the_row ServedPart.the_row parted.ghosts)
-turn_sync = turn.the_sync ServedCore.the_row ServedPart.the_row parted.ghosts served_send
+use Rattle.session_service.proofs.namespaces.NamespaceArenas.TheSendSync as place
 
 set_send : IsSend InterleaveSet.the_row
 set_send = search (mapping.the_send, sendable, crosses) depth 20
@@ -108,15 +104,6 @@ orders_pass_send = pass.the_field_send ServedRegistry.the_row OrdersPart.the_row
 orders_turn_sync : IsSync (Turn.the_field ServedRegistry.the_row OrdersPart.the_row orders_parted.ghosts).row
 orders_turn_sync = turn.the_field_sync ServedRegistry.the_row OrdersPart.the_row orders_parted.ghosts registry_send
 
-session_field_send : IsSend (Session.the_field).row
-session_field_send = struct_send (shape Session.the_type) (
-  plain_send _ _ _ _ _,
-  (
-    vec.the_send (TurnPass.the_row ServedCore.the_row ServedPart.the_row parted.ghosts) Heap.the_row allocator.ghosts pass_send heap.the_send the_frees,
-    (caller.the_field_send, tt),
-  ),
-)
-
 runner_field_send : IsSend (Runner.the_field).row
 runner_field_send = struct_send (shape Runner.the_type) (
   session_field_send,
@@ -132,14 +119,54 @@ runner_field_send = struct_send (shape Runner.the_type) (
 pub runner_send : IsSend Runner.the_row
 runner_send = recorded_send (Runner.the_field).row _ _ (Runner.the_type).to_one runner_field_send
 
-pub service_field_sync : IsSync (Service.the_field).row
+opened_sync : IsSync (Snapshot.the_row (Vec.the_row ArenaState.the_row Heap.the_row allocator.ghosts))
+opened_sync = search crosses depth 20
+
+-- ---- lanes: a `&` to a seat is not read
+
+call_send : IsSend Call.the_row
+call_send = search (sendable, crosses) depth 20
+
+seat_sync : IsSync (Seat.the_row Call.the_row View.the_row)
+seat_sync = record {
+  shared = λ d b o κ q. whole-keyless (raw_all (Seat.the_row Call.the_row View.the_row).mir) (Seat.the_row Call.the_row View.the_row).own_val (seat.the_send Call.the_row View.the_row call_send).owned q d b o;
+}
+
+kit_field_sync : IsSync (Kit.the_field).row
+kit_field_sync = struct_sync (shape Kit.the_type) (
+  seat_sync,
+  (
+    search (sendable, crosses) depth 20,
+    (search (sendable, crosses) depth 20, (search (sendable, crosses) depth 20, (search (sendable, crosses) depth 20, tt))),
+  ),
+)
+
+lane_field_sync : IsSync (Lane.the_field).row
+lane_field_sync = struct_sync (shape Lane.the_type) (kit_field_sync, (search (sendable, crosses) depth 20, tt))
+
+staged_field_sync : IsSync (Staged.the_field).row
+staged_field_sync = struct_sync (shape Staged.the_type) (kit_field_sync, (search (sendable, crosses) depth 20, tt))
+
+stopped_field_sync : IsSync (Stopped.the_field).row
+stopped_field_sync = struct_sync (shape Stopped.the_type) (kit_field_sync, tt)
+
+end_sync : IsSync LaneEnd.the_row
+end_sync = search (lane_field_sync, staged_field_sync, stopped_field_sync, sendable, crosses) depth 20
+
+aside_sync : IsSync (Vec.the_row (Vec.the_row LaneEnd.the_row Heap.the_row allocator.ghosts) Heap.the_row allocator.ghosts)
+aside_sync = search (end_sync, sendable, crosses) depth 20
+
+service_field_sync : IsSync (Service.the_field).row
 service_field_sync = struct_sync (shape Service.the_type) (
   heap.the_field_sync,
   (
-    vec.the_sync NamespaceCores.the_row Heap.the_row allocator.ghosts place.the_sync heap.the_sync,
+    vec.the_sync NamespaceArenas.the_row Heap.the_row allocator.ghosts place.the_sync heap.the_sync,
     (
-      vec.the_sync (Turn.the_row ServedCore.the_row ServedPart.the_row parted.ghosts) Heap.the_row allocator.ghosts turn_sync heap.the_sync,
-      (struct_sync (shape Orders.the_type) (orders_turn_sync, tt), (switch.the_field_sync, tt)),
+      search (opened_sync, sendable, crosses) depth 20,
+      (
+        sectors_field_sync,
+        (search (aside_sync, sendable, crosses) depth 20, (struct_sync (shape Orders.the_type) (orders_turn_sync, tt), tt)),
+      ),
     ),
   ),
 )

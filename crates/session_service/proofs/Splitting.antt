@@ -1,11 +1,11 @@
 -- The arenas of one row come to their namespaces.
-use Rattle.std.proofs.Common.{◌≡◌, ℕ, suc, ◌+◌, ◌<◌, ◌≤◌, List, [], ◌∷◌, ◌++◌, length, length-append, get_or, map, take, drop, sym, ap, ◌∙◌, arith, append_assoc, append-nil}
+use Rattle.std.proofs.Common.{◌≡◌, ℕ, suc, ◌<◌, ◌≤◌, List, [], ◌∷◌, ◌++◌, length, length-append, get_or, map, take, drop, sym, ap, ◌∙◌, arith, append_assoc, append-nil}
 use Rattle.std.specs.Prelude.{Vec}
 use mathlib.Core.List.{map-append}
 use Rattle.std.proofs.lemmas.List.{length-map, length-take-le, take-append-drop}
 use Rattle.std.proofs.Math.Seq.{drop-cons, take-suc}
 use Rattle.session_account.specs.Serving.{Serving}
-use Rattle.session_service.specs.declared.namespaces.NamespaceCores.{NamespaceCores}
+use Rattle.session_service.specs.declared.namespaces.NamespaceArenas.{NamespaceArenas}
 use Rattle.session_service.specs.Namespaces.{arenas_in, serving_at, servings_at, shape_as}
 use Rattle.session_service.specs.Ran.{in_row}
 
@@ -13,7 +13,7 @@ row_more : {X Z : Type 0} (vs : List (Vec X Z)) (v : Vec X Z) → in_row (vs ++ 
 row_more [] v = append-nil v.items
 row_more (x ∷ vs) v = ap (λ cs. x.items ++ cs) (row_more vs v) ∙ sym (append_assoc x.items (in_row vs) v.items)
 
-module _ {X Z : Type 0} (places : List NamespaceCores) (j : ℕ) (p : NamespaceCores) (lt : j < length places) (is : p ≡ get_or places j p) (row : List X) (vs vs' : List (Vec X Z)) (v : Vec X Z) (rest behind : List X) (pushed : vs' ≡ vs ++ v ∷ [])
+module _ {X Z : Type 0} (places : List NamespaceArenas) (j : ℕ) (p : NamespaceArenas) (lt : j < length places) (is : p ≡ get_or places j p) (row : List X) (vs vs' : List (Vec X Z)) (v : Vec X Z) (rest behind : List X) (pushed : vs' ≡ vs ++ v ∷ [])
     (front : v.items ≡ take (length p.arenas.items) rest) (back : behind ≡ drop (length p.arenas.items) rest) where
   places_more : servings_at (take (suc j) places) ≡ servings_at (take j places) ++ serving_at p ∷ []
   places_more = ap servings_at (take-suc places j p lt ∙ ap (λ x. take j places ++ x ∷ []) (sym is)) ∙ map-append serving_at (take j places) (p ∷ [])

@@ -1,9 +1,10 @@
 -- A session goes from call to call, and comes to its end, by what its passes know.
-use Rattle.std.proofs.Common.{◌≡◌, ℕ, ◌+◌, ◌≤◌, Bool, true, false, ◌||◌, List, [], ◌∷◌, ◌++◌, length, length-append, Option, Some, None, refl, sym, ap, ◌∙◌, subst, arith}
-use Rattle.std.specs.Prelude.{option_to_list, option_map, option_and_then, IsSome}
+use Rattle.std.proofs.Common.{◌≡◌, ◌≢◌, ℕ, zero, suc, ◌+◌, ◌<◌, ◌≤◌, Bool, true, false, ◌||◌, List, [], ◌∷◌, ◌++◌, length, length-append, Option, Some, None, refl, sym, ap, ◌∙◌, subst, arith}
+use Rattle.std.specs.Prelude.{option_to_list, option_map, option_and_then, IsSome, is_some}
+use mathlib.Core.Logic.{dite}
+use native.Mathlib.Decide.{ℕ_discrete}
 use Rattle.std.specs.List.{AllByRecursion}
 use Rattle.std.proofs.lemmas.List.Folds.{list_any-append}
-use Rattle.turn_callers.specs.declared.desk.Mine.{Mine}
 use Rattle.namespace_map.specs.declared.commands.Command.{Command}
 use Rattle.namespace_map.specs.declared.refused.OpRefused.{OpRefused}
 use Rattle.namespace_map.specs.declared.refused.OpRefused.TheVariants as op
@@ -25,9 +26,70 @@ use Rattle.session_account.specs.Serving.{Serving, IsArena}
 use Rattle.session_account.proofs.Going.{goes_on, stops_so, ends_so}
 use Rattle.registry_service.specs.declared.served.OrdersPart.{OrdersPart}
 use Rattle.registry_service.proofs.Laws.{open_goes_on}
-use Rattle.sector_service.specs.Rows.{Parts}
-use Rattle.sector_service.specs.Switch.{StaysWhole}
-use Rattle.session_service.specs.Runners.{Standing, calls_by, power_by, stands_by, who_by, who_if}
+use Rattle.session_parts.specs.declared.parts.CorePart.{CorePart}
+use Rattle.lane_pool.specs.declared.holders.Hand.TheVariants as hand
+use Rattle.lane_pool.specs.declared.holders.Stop.{Stop}
+use Rattle.lane_pool.specs.declared.pool.PoolPart.{PoolPart}
+use Rattle.lane_pool.specs.declared.sets.PowerOff.{PowerOff}
+use Rattle.lane_pool.specs.declared.sets.Who.TheVariants as who
+use Rattle.lane_pool.specs.Parts.{switched_by}
+use Rattle.lane_calls.specs.declared.parts.ArenaPart.{ArenaPart}
+use Rattle.lane_calls.specs.Calls.{after}
+use Rattle.lane_calls.specs.Lanes.{Fewer}
+use Rattle.lane_calls.specs.Sessions.{Parts, with_part}
+use Rattle.lane_calls.proofs.Sessions.{with_other, with_same}
+use Rattle.lane_sessions.specs.Making.{or_zero}
+use Rattle.session_service.specs.Runners.{IsSpent, Standing, StaysWhole, calls_by, power_by, stands_by, steps_by, steps_to, who_by, who_if}
+
+-- ---- steps
+
+-- an arena that isn't among the first n
+steps_below : (known : Parts) (j n : ℕ) (m : ArenaPart) → n ≤ j → steps_to n (with_part known j m) ≡ steps_to n known
+steps_below known j zero m le = refl
+steps_below known j (suc n) m le =
+    let first = steps_below known j n m (omega (arith, le)) in
+    let here = ap (λ (x : ArenaPart). x.steps) (with_other known j n m (λ e. absurd (omega (arith, e, le)))) in
+    omega (arith, first, here)
+
+-- of an arena among the first n, the session knows of so many steps more
+pub steps_more : (known : Parts) (j n : ℕ) (mine : CorePart) (made : ℕ) → j < n → steps_to n (with_part known j (after (known j) mine made)) ≡ steps_to n known + made
+steps_more known j zero mine made lt = absurd (omega (arith, lt))
+steps_more known j (suc n) mine made lt = dite (ℕ_discrete n j)
+    (λ same.
+    let first = steps_below known j n (after (known j) mine made) (omega (arith, same)) in
+    let here = ap (λ (i : ℕ). (with_part known j (after (known j) mine made) i).steps) same ∙ ap (λ (x : ArenaPart). x.steps) (with_same known j (after (known j) mine made)) in
+    let was = ap (λ (i : ℕ). (known i).steps) same in
+    omega (arith, first, here, was))
+    (λ other.
+    let first = steps_more known j n mine made (let ne = other in omega (arith, lt, ne)) in
+    let here = ap (λ (x : ArenaPart). x.steps) (with_other known j n (after (known j) mine made) other) in
+    omega (arith, first, here))
+
+-- the steps that went off those that are left are steps that lanes made
+abbrev pub Counts : List Serving → Parts → Parts → Option ℕ → Option ℕ → Type 0
+Counts all known known' left left' = (m' : ℕ) → left' ≡ Some m' → (m : ℕ) × (left ≡ Some m) × (steps_by all known' + m' ≡ steps_by all known + m)
+
+some_in : {A : Type 0} {x y : A} → Some x ≡ Some y → x ≡ y
+some_in e = cc
+
+none_some : {A : Type 0} {x : A} → None ≡ Some x → ⊥
+none_some e = cc
+
+pub counts_same : (all : List Serving) (known : Parts) (left left' : Option ℕ) → left' ≡ left → Counts all known known left left'
+counts_same all known left left' same m' e = (m', sym same ∙ e, refl)
+
+pub counts_fewer : (all : List Serving) (known known' : Parts) (left left' : Option ℕ) (made : ℕ) → Fewer made left left' → steps_by all known' ≡ steps_by all known + made → Counts all known known' left left'
+counts_fewer all known known' left left' made paid more m' e = by left refl
+  where
+    by : (o : Option ℕ) → left ≡ o → (m : ℕ) × (left ≡ Some m) × (steps_by all known' + m' ≡ steps_by all known + m)
+    by None is = absurd (none_some (sym (paid.whole is) ∙ e))
+    by (Some l) is =
+        let p = paid.fewer l is in
+        let same : p.0 ≡ m' = some_in (sym p.1 ∙ e) in
+        let sum = p.2 in (l, is, omega (arith, more, same, sum))
+
+pub whole_fewer : {made : ℕ} {left left' : Option ℕ} → Fewer made left left' → StaysWhole left left'
+whole_fewer paid e = paid.whole e
 
 -- ---- entries of calls that weren't cut
 
@@ -70,16 +132,18 @@ or_two false b e f = f
 
 -- ---- one call more
 
-module _ (all : List Serving) (script : Script) (q : ℕ) (replies : List Reply) (orders orders' : OrdersPart) (known known' : Parts) (power power' : Mine) (left left' : Option ℕ) (line : Line) (answer : Reply)
-    (s : Standing all script q replies orders known power left) (next : NextIs (session_at script q) replies line) where
+module _ (all : List Serving) (script : Script) (q : ℕ) (replies : List Reply) (orders orders' : OrdersPart) (known known' : Parts) (pool pool' : PoolPart) (left left' : Option ℕ) (line : Line) (answer : Reply)
+    (s : Standing all script q replies orders known pool left) (next : NextIs (session_at script q) replies line) where
   abbrev call : Made
   call = made (length replies) orders.held line answer
 
   pub next_standing : IsAnswered all q call orders.entries orders'.entries (stands_by all known) (stands_by all known') left left' → ((j : ℕ) → (known' j).mine.calls ≡ [])
-      → orders'.held ≡ on_after orders.held line answer → orders'.began ≡ orders.began → orders.room ≤ orders'.room + 1 → power'.stopped ≡ power.stopped → StaysWhole left left'
-      → Standing all script q (more replies answer) orders' known' power' left'
-  next_standing answered free held began room stopped whole = record {
+      → orders'.held ≡ on_after orders.held line answer → orders'.began ≡ orders.began → orders.room ≤ orders'.room + 1 → pool'.hand ≡ hand.Empty → pool.left ≤ pool'.left + 1 → pool'.stop ≡ pool.stop → StaysWhole left left'
+      → Counts all known known' left left' → Standing all script q (more replies answer) orders' known' pool' left'
+  next_standing answered free held began room empty calls stopped whole counts = record {
     free = free;
+    empty = empty;
+    calls = let l = length-append replies (answer ∷ []) in let c = s.calls in omega (arith, l, c, calls);
     held = held ∙ ap (λ (on : Option (List ℕ)). on_after on line answer) s.held ∙ sym (open_goes_on (session_at script q) replies line answer next);
     labelcut = ap (λ b. b.labelcut) began ∙ s.labelcut;
     room = let l = length-append replies (answer ∷ []) in let r = s.room in omega (arith, l, r, room);
@@ -88,6 +152,7 @@ module _ (all : List Serving) (script : Script) (q : ℕ) (replies : List Reply)
         ap has_cut_entry answered.commands ∙ list_any-append (λ (e : JournalEntry). ops.is_cut e.reply) orders.entries (option_to_list (entry_for q call))
         ∙ or_two (has_cut_entry orders.entries) (has_cut_entry (option_to_list (entry_for q call))) s.uncut (entry_uncut q (length replies) orders.held line answer answered.uncut);
     whole = λ e. whole (s.whole e);
+    counted = λ n m' cut e. let c = counts m' e in c.2 ∙ s.counted n c.0 cut c.1;
     at =
         goes_on all q (session_at script q) replies orders.entries orders'.entries (stands_by all known) (stands_by all known') left left' line answer s.at next
         (subst (λ (on : Option (List ℕ)). IsAnswered all q (made (length replies) on line answer) orders.entries orders'.entries (stands_by all known) (stands_by all known') left left') s.held answered);
@@ -96,10 +161,10 @@ module _ (all : List Serving) (script : Script) (q : ℕ) (replies : List Reply)
   -- a cut ends it
   pub stopped_standing : IsStopped all q call orders.entries orders'.entries (stands_by all known) (stands_by all known')
       → ((place k : ℕ) → IsArena all place k → AllByRecursion (IsOfCut all place k (made_by (session_at script q).calls (more replies answer)) (stands_by all known' place k)) (calls_by all known' place k))
-      → power'.told ≡ true → HasCause script (session_at script q) (more replies answer) orders'.entries (who_by power'.stopped orders'.entries)
-      → parts.IsDone all script q (more replies answer) (known_registry orders'.entries orders'.room) (known_cores (stands_by all known') (calls_by all known')) (power_by power' orders'.entries)
+      → IsSome pool'.told → HasCause script (session_at script q) (more replies answer) orders'.entries (who_by (is_some (switched_by pool'.stop)) orders'.entries)
+      → parts.IsDone all script q (more replies answer) (known_registry orders'.entries orders'.room) (known_cores (stands_by all known') (calls_by all known')) (power_by pool' orders'.entries)
   stopped_standing stopped still told cause =
-      stops_so all script q replies orders.entries orders'.entries (stands_by all known) (stands_by all known') left line answer orders'.room (calls_by all known') (power_by power' orders'.entries) s.at next
+      stops_so all script q replies orders.entries orders'.entries (stands_by all known) (stands_by all known') left line answer orders'.room (calls_by all known') (power_by pool' orders'.entries) s.at next
       (subst (λ (on : Option (List ℕ)). IsStopped all q (made (length replies) on line answer) orders.entries orders'.entries (stands_by all known) (stands_by all known')) s.held stopped)
       still told cause
 
@@ -130,14 +195,41 @@ true_last (r ∷ rs) = ap (λ (b : Bool). is_cut r || b) (true_last rs) ∙ or_t
 pub cut_behind : (replies : List Reply) → has_cut (more replies reply.Cut) ≡ true
 cut_behind replies = true_last replies
 
+-- ---- who switched power off
+
+-- nobody: it didn't
+pub none_spent : (all : List Serving) (script : Script) (q : ℕ) (known : Parts) (pool : PoolPart) → switched_by pool.stop ≡ None → IsSpent all script q known pool
+none_spent all script q known pool none n e = absurd (none_some (sym none ∙ e))
+
+-- the side of the labels
+pub labels_spent : (all : List Serving) (script : Script) (q steps : ℕ) (known : Parts) (pool : PoolPart) → switched_by pool.stop ≡ Some (record { who = who.Labels; steps = steps }) → IsSpent all script q known pool
+labels_spent all script q steps known pool is n e = absurd (let x : who.Labels ≡ who.Session q = ap (λ (p : PowerOff). p.who) (some_in (sym is ∙ e)) in cc)
+
+-- the session itself, with all its steps made
+pub own_spent : (all : List Serving) (script : Script) (q steps : ℕ) (known known' : Parts) (pool' : PoolPart) (left left' : Option ℕ)
+    → switched_by pool'.stop ≡ Some (record { who = who.Session q; steps = steps }) → steps ≡ or_zero (session_at script q).cut → StaysWhole (session_at script q).cut left → left ≢ None → left' ≡ Some 0
+    → ((n m : ℕ) → (session_at script q).cut ≡ Some n → left ≡ Some m → steps_by all known + m ≡ n) → Counts all known known' left left' → IsSpent all script q known' pool'
+own_spent all script q steps known known' pool' left left' is steps_are whole some over counted counts n e = by (session_at script q).cut refl
+  where
+    same : n ≡ steps
+    same = ap (λ (p : PowerOff). p.steps) (some_in (sym e ∙ is))
+
+    by : (o : Option ℕ) → (session_at script q).cut ≡ o → ((session_at script q).cut ≡ Some n) × (steps_by all known' ≡ n)
+    by None cut = absurd (some (whole cut))
+    by (Some k) cut =
+        let here : n ≡ k = same ∙ steps_are ∙ ap or_zero cut in
+        let c = counts 0 over in
+        let sum = c.2 in
+        let due = counted k c.0 cut c.1 in (cut ∙ ap (λ (x : ℕ). Some x) (sym here), omega (arith, here, sum, due))
+
 -- ---- the end
 
-module _ (all : List Serving) (script : Script) (q : ℕ) (replies : List Reply) (orders orders' : OrdersPart) (known : Parts) (power : Mine) (left : Option ℕ) (s : Standing all script q replies orders known power left) where
+module _ (all : List Serving) (script : Script) (q : ℕ) (replies : List Reply) (orders orders' : OrdersPart) (known : Parts) (pool : PoolPart) (left : Option ℕ) (s : Standing all script q replies orders known pool left) where
   pub ended_standing : length replies ≡ length (session_at script q).calls → (last : List JournalEntry) → orders'.entries ≡ orders.entries ++ last → IsGivenBack q (length (session_at script q).calls) orders.held last
-      → parts.IsDone all script q replies (known_registry orders'.entries orders'.room) (known_cores (stands_by all known) (calls_by all known)) (power_by power orders'.entries)
+      → parts.IsDone all script q replies (known_registry orders'.entries orders'.room) (known_cores (stands_by all known) (calls_by all known)) (power_by pool orders'.entries)
   ended_standing whole last is given =
-      subst (λ (es : List JournalEntry). parts.IsDone all script q replies (known_registry es orders'.room) (known_cores (stands_by all known) (calls_by all known)) (power_by power es)) (sym is)
-      (ends_so all script q replies orders.entries last (stands_by all known) left orders'.room (calls_by all known) (power_by power (orders.entries ++ last)) s.at whole
+      subst (λ (es : List JournalEntry). parts.IsDone all script q replies (known_registry es orders'.room) (known_cores (stands_by all known) (calls_by all known)) (power_by pool es)) (sym is)
+      (ends_so all script q replies orders.entries last (stands_by all known) left orders'.room (calls_by all known) (power_by pool (orders.entries ++ last)) s.at whole
       (subst (λ (on : Option (List ℕ)). IsGivenBack q (length (session_at script q).calls) on last) s.held given)
       (λ place k is. s.free _)
-      (cause_none script (session_at script q) replies (orders.entries ++ last) power.stopped s.unstopped))
+      (cause_none script (session_at script q) replies (orders.entries ++ last) (is_some (switched_by pool.stop)) (ap (λ (o : Option Stop). is_some (switched_by o)) s.unstopped)))

@@ -1,21 +1,34 @@
 -- A call of a session with all that its passes know: it goes on, or comes to its end.
-use Rattle.std.proofs.Common.{◌≡◌, inl, inr, ℕ, ◌+◌, ◌^◌, ◌<◌, ◌≤◌, Bool, true, false, List, [], ◌∷◌, ◌++◌, length, length-append, get_or, Option, Some, None, refl, sym, ap, ◌∙◌, subst, arith, append-nil}
-use Rattle.std.specs.Prelude.{◌==◌, ◌*◌, ◌%◌, ◌&&◌, not, T, if◌then◌else◌, option_to_list, IsSome}
+use Rattle.std.proofs.Common.{Global, ◌≡◌, inl, inr, ℕ, ◌+◌, ◌/◌, ◌^◌, ◌<◌, ◌≤◌, Bool, true, false, List, [], ◌∷◌, ◌++◌, length, length-append, get_or, Option, Some, None, refl, sym, ap, ◌∙◌, subst, arith, append-nil}
+use Rattle.std.specs.Prelude.{Vec, ◌==◌, ◌*◌, ◌%◌, ◌&&◌, not, if◌then◌else◌, option_to_list, IsSome, is_some}
 use Rattle.std.specs.List.{AllByRecursion, cons_option}
-use Rattle.std.proofs.lemmas.List.{length-map, length-replicate, get_or-map}
-use Rattle.std.proofs.Math.Facts.{eqb_yes}
-use Rattle.turn_callers.specs.declared.desk.Mine.{Mine}
-use Rattle.turn_callers.specs.Switch.{CanAsk, IsTold, KeepsStopped}
-use Rattle.turn_lock.specs.Passes.{lock_id, number_of, out_of, part_of, IsOutside, IsSamePass}
+use Rattle.std.proofs.lemmas.List.{length-map, get_or-map, get_or_default}
+use Rattle.turn_lock.specs.declared.pass.TurnPass.{TurnPass}
+use Rattle.turn_lock.specs.Passes.{lock_id, number_of, out_of, part_of, IsOutside, IsSamePass, PartBecomes}
 use Rattle.arena_open.specs.declared.cell.Cell.{Cell}
 use Rattle.lane_core.specs.declared.history.Act.TheVariants as act
-use Rattle.lane_core.specs.Sessions.{write_steps}
+use Rattle.lane_core.specs.declared.shape.Shape.{Shape as LaneShape}
 use Rattle.namespace_ops.specs.Entries.{JournalEntry}
+use Rattle.session_parts.specs.declared.parts.CorePart.{CorePart}
 use Rattle.session_parts.specs.declared.parts.Stand.{Stand}
-use Rattle.session_parts.specs.Laws.{MayBegin}
-use Rattle.session_parts.specs.Parts.{stand_at}
+use Rattle.session_parts.specs.Parts.{MayBegin, stand_at}
 use Rattle.cut_words.specs.WordBytes.{words_in}
 use Rattle.lane_replay.specs.Calls.{bytes_said}
+use Rattle.lane_table.specs.declared.session_pass.Pass.{Pass}
+use Rattle.lane_table.specs.Kits.{arena_id}
+use Rattle.lane_pool.specs.declared.holders.Stop.{Stop}
+use Rattle.lane_pool.specs.declared.pool.PoolPart.{PoolPart}
+use Rattle.lane_pool.specs.declared.sets.LaneSet.{LaneSet}
+use Rattle.lane_pool.specs.declared.sets.Who.TheVariants as who
+use Rattle.lane_pool.specs.Parts.{CanAsk, IsAsked, IsTold, KeepsStopped, switched_by}
+use Rattle.lane_pool.specs.Sets.{IsAtPlace}
+use Rattle.lane_calls.specs.declared.parts.ArenaPart.{ArenaPart}
+use Rattle.lane_calls.specs.declared.session.Sectors.{Sectors}
+use Rattle.lane_calls.specs.declared.session.Session.{Session}
+use Rattle.lane_calls.specs.Calls as lanes
+use Rattle.lane_calls.specs.Calls.{CallGoes, Called, IsNextCall, MayCallAt, MayRead, MayTakeOne, MayWrite, StopsWhenSpent, after, answered, none_at_least, one_at_least, spent_one, write_at_least}
+use Rattle.lane_calls.specs.Sessions.{AreLaid, IsKnown, Know, Parts, shape_of, with_part}
+use Rattle.lane_calls.proofs.Sessions.{with_other, with_same}
 use Rattle.session_script.specs.declared.payload.Payload.{Payload}
 use Rattle.session_script.specs.declared.payload.Payload.TheVariants as payload
 use Rattle.session_script.specs.declared.script.Line.{Line}
@@ -26,66 +39,67 @@ use Rattle.session_script.specs.declared.script.SessionLines.{SessionLines}
 use Rattle.session_account.specs.declared.reply.Reply.{Reply}
 use Rattle.session_account.specs.declared.reply.Reply.TheVariants as reply
 use Rattle.session_account.specs.Account.{no_lines, session_at}
-use Rattle.session_account.specs.Going.{IsAnswered, IsStopped, NextIs}
+use Rattle.session_account.specs.Going.{IsAnswered, IsStopped}
 use Rattle.session_account.specs.Made.{Made, is_cut, made, made_by, made_from, on_after}
 use Rattle.session_account.specs.Orders.{entry_for}
 use Rattle.session_account.specs.Parts.{HasCause, IsOfCut, more}
 use Rattle.session_account.specs.Sectors.{act_for, check_of, is_check, IsChecked, on_open, on_spot, size_of, spot_of, stand_as, stand_by, stand_of, stands_of, steps_at, steps_of, words_of, wrong_length}
 use Rattle.session_account.specs.Serving.{Serving, Shape, Spot, IsArena, arenas_of as arenas_by_uuid, spot_in}
+use Rattle.registry_service.specs.contracts.served.ServedRegistryParted.TheImpl.{ghosts}
 use Rattle.registry_service.specs.declared.served.OrdersPart.{OrdersPart}
+use Rattle.registry_service.specs.Served.{Served}
 use Rattle.registry_service.specs.Parts.{GivesBack, IsOrdered, MayOrder, PartGoes}
 use Rattle.registry_service.specs.Switch.{IsCutShort}
 use Rattle.registry_service.proofs.Laws.{cuts_have_cause, open_goes_on, orders_answer, orders_stop}
-use Rattle.sector_service.specs.declared.served.ServedPart.{ServedPart}
-use Rattle.sector_service.specs.declared.session.Session.{Session}
-use Rattle.sector_service.specs.declared.calls.Heard.TheVariants as heard
-use Rattle.sector_service.specs.declared.calls.Wrote.TheVariants as wrote
-use Rattle.sector_service.specs.Calls as core
-use Rattle.sector_service.specs.Calls.{IsLeft, MayRead, MayWrite, Paid, answered}
-use Rattle.sector_service.specs.Rows.{Know, KnowsAt, OneBecomes, OneGoes, Parts, with_part}
-use Rattle.sector_service.specs.Served.{shape_of}
-use Rattle.sector_service.specs.Switch.{IsNextCaller, StopsWhenSpent}
-use Rattle.sector_service.proofs.Sessions.{with_other, with_same}
 use Rattle.session_service.specs.declared.finding.FoundSector.{FoundSector}
 use Rattle.session_service.specs.declared.runner.Runner.{Runner}
 use Rattle.session_service.specs.declared.service.Service.{Service}
-use Rattle.session_service.specs.Namespaces.{IsFound, core_at, shape_by}
-use Rattle.session_service.specs.Runners.{Goes, IsAt, IsDone, IsEnded, IsNext, IsRunning, Knows, Standing, calls_by, counted, stands_by, who_by}
-use Rattle.session_service.specs.Services.{IsLaid, all_of, arena_at, arena_of, arenas_of, locks_of, orders_of, power_of}
+use Rattle.session_service.specs.Namespaces.{IsFound, arenas_in, number_at, shape_by}
+use Rattle.session_service.specs.Runners.{Goes, IsAt, IsDone, IsEnded, IsNext, IsRefusedBy, IsRunning, IsSpent, Knows, Standing, calls_by, stands_by, steps_by, who_by}
+use Rattle.session_service.specs.Services.{IsLaid, all_of, arena_at, arenas_of, no_arena, orders_of}
 use Rattle.session_script.specs.Names.{LineHasText}
-use Rattle.session_service.proofs.Seating.{default_same}
 use Rattle.session_service.proofs.Calls as sectors
-use Rattle.session_service.proofs.Cores.{core_shape, core_there}
-use Rattle.session_service.proofs.Standing.{cause_none, cause_some, cut_behind, ended_standing, next_standing, stopped_standing}
+use Rattle.session_service.proofs.Numbers.{number_shape, number_there}
+use Rattle.session_service.proofs.Standing.{Counts, cause_none, cause_some, counts_fewer, counts_same, cut_behind, ended_standing, labels_spent, next_standing, none_spent, own_spent, steps_more, stopped_standing, whole_fewer}
 use mathlib.Core.Logic.{dite}
 use native.Mathlib.Decide.{ℕ_discrete}
 
 in_some : {A : Type 0} {x y : A} → Some x ≡ Some y → x ≡ y
 in_some e = cc
 
--- ---- the passes
-
--- only the switch's pass may have changed
-pub same_knows : (service : Service) (q : ℕ) (orders orders' : OrdersPart) (known known' : Parts) (power power' : Mine) (r r' : Runner) → Knows service q orders known power r
-    → r'.session.number ≡ r.session.number → Know (locks_of service) q known' r'.session.passes.items → ((j : ℕ) → (known' j).first ≡ (known j).first)
-    → IsSamePass r.orders r'.orders → IsOutside (orders_of service) r'.orders → part_of r'.orders ≡ Some orders'
-    → IsSamePass r.session.caller.switch r'.session.caller.switch → CanAsk (power_of service) r'.session.caller.switch → part_of r'.session.caller.switch ≡ Some power'
-    → Knows service q orders' known' power' r'
-same_knows service q orders orders' known known' power power' r r' k number cores first order_pass outside orders_is pass can_ask power_is = record {
-  number = number ∙ k.number;
-  cores = cores;
-  first = λ j. first j ∙ k.first j;
-  outside = outside;
-  orders_number = order_pass.1 ∙ k.orders_number;
-  orders_is = orders_is;
-  can_ask = can_ask;
-  switch_number = pass.1 ∙ k.switch_number;
-  power_is = power_is;
-}
-
 some_if : (o : Option ℕ) → (o ≡ None → ⊥) → IsSome o
 some_if None h = absurd (h refl)
 some_if (Some n) h = refl
+
+-- ---- the passes
+
+-- the pool's pass changed, and its part knows the same of sets
+abbrev pub know_same : (s : Sectors) (q : ℕ) (parts : Parts) (session session' : Session) (k : Know s q parts session) → session'.number ≡ session.number → session'.passes ≡ session.passes
+    → IsSamePass session.caller.pool session'.caller.pool → out_of session'.caller.pool ≡ None → (m' : PoolPart) → part_of session'.caller.pool ≡ Some m'
+    → m'.first ≡ k.pool.first → m'.placed ≡ k.pool.placed → m'.hand ≡ k.pool.hand → m'.handed ≡ k.pool.handed → Know s q parts session'
+know_same s q parts session session' k number passes pass out m' is first placed hand handed = record {
+  pool = m';
+  seated = record {
+    number = number ∙ k.seated.number;
+    count = ap (λ ps. length ps.items) passes ∙ k.seated.count;
+    outside = (pass.0 ∙ k.seated.outside.0, out);
+    turn = pass.1 ∙ k.seated.turn;
+    pool_is = is;
+    placed = placed ∙ k.seated.placed;
+    laid = subst (λ (sets : List LaneSet). AreLaid s.arenas.items sets) (sym first) k.seated.laid;
+  };
+  none_out = λ at floor e. k.none_out at floor (sym hand ∙ e);
+  handed = λ x e. let h = k.handed x (sym handed ∙ e) in (h.0, hand ∙ h.1, subst (λ (sets : List LaneSet). IsAtPlace sets h.0 x) (sym first) h.2);
+  each = λ j a there.
+      let e = k.each j a there in (
+        e.0,
+        subst (λ (z : List (Option Pass) × Option LaneSet). IsKnown (arena_id a) q (get_or z.0 j None) z.1 j (parts j)) (λ i. ((sym passes i).items, sym handed i)) e.1,
+      );
+}
+
+-- a session may ask for the power between two calls
+pub can_ask : (s : Sectors) (q : ℕ) (parts : Parts) (session : Session) → Know s q parts session → CanAsk (lock_id s.pool.turn) session.caller.pool
+can_ask s q parts session k = (k.seated.outside, (k.pool, k.seated.pool_is, (k.seated.placed, k.none_out)))
 
 -- ---- a call
 
@@ -102,149 +116,161 @@ module _ (service : Service) (script : Script) (q : ℕ) (l : Line) (r r' : Runn
   abbrev at : IsAt service script q r.replies.items r
   at = next.at
 
-  module _ (number : r'.session.number ≡ r.session.number) where
+  abbrev before : PoolPart
+  before = at.knows.know.pool
+
+  abbrev before_is : part_of r.session.caller.pool ≡ Some at.knows.know.pool
+  before_is = at.knows.know.seated.pool_is
+
+  module _ (steps : r'.session.caller.steps ≡ r.session.caller.steps) where
     -- it goes on
-    pub goes_on : (answer : Reply) (orders' : OrdersPart) (known' : Parts) (power' : Mine) → is_cut answer ≡ false → Knows service q orders' known' power' r' → r'.session.caller.call ≡ r.session.caller.call + 1 → r'.held ≡ on_after r.held l answer
-        → Standing all script q (more replies answer) orders' known' power' r'.session.caller.left → Goes service script q replies answer r'
-    goes_on answer orders' known' power' uncut knows call held stands = record {
+    pub goes_on : (answer : Reply) (orders' : OrdersPart) (known' : Parts) → is_cut answer ≡ false → (knows : Knows service q orders' known' r') → r'.session.caller.call ≡ r.session.caller.call + 1 → r'.held ≡ on_after r.held l answer
+        → Standing all script q (more replies answer) orders' known' knows.know.pool r'.session.caller.left → Goes service script q replies answer r'
+    goes_on answer orders' known' uncut knows call held stands = record {
       on = λ _. record {
         orders = orders';
         known = known';
-        power = power';
         knows = knows;
         call = let c = at.call in omega (arith, call, c, length-append replies (answer ∷ []));
+        steps = steps ∙ at.steps;
         held = held ∙ ap (λ (on : Option (List ℕ)). on_after on l answer) at.held ∙ sym (open_goes_on session replies l answer next.next);
         stands = stands;
       };
       ended = λ e. absurd (let x : false ≡ true = sym uncut ∙ e in cc);
     }
 
-    -- it was cut
-    pub stops_at : (orders' : OrdersPart) (known' : Parts) (power' : Mine) → Knows service q orders' known' power' r'
-        → IsStopped all q (made (length replies) at.orders.held l reply.Cut) at.orders.entries orders'.entries (stands_by all at.known) (stands_by all known')
-        → ((place k : ℕ) → IsArena all place k → AllByRecursion (IsOfCut all place k (made_by session.calls (more replies reply.Cut)) (stands_by all known' place k)) (calls_by all known' place k))
-        → power'.told ≡ true → HasCause script session (more replies reply.Cut) orders'.entries (who_by power'.stopped orders'.entries) → Goes service script q replies reply.Cut r'
-    stops_at orders' known' power' knows stopped still told cause = record {
-      on = λ e. absurd (cc);
-      ended = λ _. record {
-        orders = orders';
-        known = known';
-        power = power';
-        knows = knows;
-        done = stopped_standing all script q replies at.orders orders' at.known known' at.power power' r.session.caller.left r'.session.caller.left l reply.Cut at.stands next.next stopped still told cause;
-      };
-    }
+  -- it was cut
+  pub stops_at : (orders' : OrdersPart) (known' : Parts) (knows : Knows service q orders' known' r')
+      → IsStopped all q (made (length replies) at.orders.held l reply.Cut) at.orders.entries orders'.entries (stands_by all at.known) (stands_by all known')
+      → ((place k : ℕ) → IsArena all place k → AllByRecursion (IsOfCut all place k (made_by session.calls (more replies reply.Cut)) (stands_by all known' place k)) (calls_by all known' place k))
+      → IsSome knows.know.pool.told → HasCause script session (more replies reply.Cut) orders'.entries (who_by (is_some (switched_by knows.know.pool.stop)) orders'.entries) → IsSpent all script q known' knows.know.pool
+      → Goes service script q replies reply.Cut r'
+  stops_at orders' known' knows stopped still told cause spent = record {
+    on = λ e. absurd (cc);
+    ended = λ _. record {
+      orders = orders';
+      known = known';
+      knows = knows;
+      spent = spent;
+      done = stopped_standing all script q replies at.orders orders' at.known known' at.knows.know.pool knows.know.pool r.session.caller.left r'.session.caller.left l reply.Cut at.stands next.next stopped still told cause;
+    };
+  }
 
   -- who switched power off, by its own steps
-  pub its_cause : (power' : Mine) → part_of r'.session.caller.switch ≡ Some power' → StopsWhenSpent r.session.caller r'.session.caller → HasCause script session (more replies reply.Cut) at.orders.entries (who_by power'.stopped at.orders.entries)
-  its_cause power' is (inl kept) =
-      let k = kept at.power at.knows.power_is in
-      let same : power' ≡ k.0 = in_some (sym is ∙ k.1) in
-      cause_none script session (more replies reply.Cut) at.orders.entries power'.stopped (ap (λ (w : Mine). w.stopped) same ∙ k.2 ∙ at.stands.unstopped)
-  its_cause power' is (inr spent) =
-      cause_some script session (more replies reply.Cut) at.orders.entries power'.stopped (cut_behind replies)
+  pub its_cause : (pool' : PoolPart) → part_of r'.session.caller.pool ≡ Some pool' → StopsWhenSpent r.session r'.session
+      → HasCause script session (more replies reply.Cut) at.orders.entries (who_by (is_some (switched_by pool'.stop)) at.orders.entries)
+  its_cause pool' is (inl kept) =
+      let k = kept before before_is in
+      let same : pool' ≡ k.0 = in_some (sym is ∙ k.1) in
+      cause_none script session (more replies reply.Cut) at.orders.entries (is_some (switched_by pool'.stop))
+      (ap (λ (w : PoolPart). is_some (switched_by w.stop)) same ∙ ap is_some k.2 ∙ ap (λ (o : Option Stop). is_some (switched_by o)) at.stands.unstopped)
+  its_cause pool' is (inr spent) =
+      cause_some script session (more replies reply.Cut) at.orders.entries (is_some (switched_by pool'.stop)) (cut_behind replies)
       (λ _. some_if session.cut (λ e. spent.1 (at.stands.whole e)))
       (λ e. absurd (let x : true ≡ false = sym e ∙ at.stands.uncut in cc))
 
-  -- ---- power is off before it
+  pub its_spent : (known' : Parts) (pool' : PoolPart) → part_of r'.session.caller.pool ≡ Some pool' → StopsWhenSpent r.session r'.session → Counts all at.known known' r.session.caller.left r'.session.caller.left → IsSpent all script q known' pool'
+  its_spent known' pool' is (inl kept) counts =
+      let k = kept before before_is in
+      let same : pool' ≡ k.0 = in_some (sym is ∙ k.1) in
+      none_spent all script q known' pool' (ap (λ (w : PoolPart). switched_by w.stop) same ∙ k.2 ∙ ap switched_by at.stands.unstopped)
+  its_spent known' pool' is (inr spent) counts =
+      let same : pool' ≡ spent.0.0 = in_some (sym is ∙ spent.0.1) in
+      own_spent all script q r.session.caller.steps at.known known' pool' r.session.caller.left r'.session.caller.left
+      (ap (λ (w : PoolPart). switched_by w.stop) same ∙ spent.0.2 ∙ ap (λ (n : ℕ). Some (record { who = who.Session n; steps = r.session.caller.steps })) at.knows.know.seated.number)
+      at.steps at.stands.whole spent.1 spent.2 at.stands.counted counts
 
-  module _ (same : r'.session.passes ≡ r.session.passes) (number : r'.session.number ≡ r.session.number) (orders_same : r'.orders ≡ r.orders) (pass : IsSamePass r.session.caller.switch r'.session.caller.switch) (can_ask : CanAsk (power_of service) r'.session.caller.switch) where
-    knows_still : (power' : Mine) → part_of r'.session.caller.switch ≡ Some power' → Knows service q at.orders at.known power' r'
-    knows_still power' is =
-        same_knows service q at.orders at.orders at.known at.known at.power power' r r' at.knows number
-        (subst (λ ps. Know (locks_of service) q at.known ps.items) (sym same) at.knows.cores) (λ j. refl)
-        (subst (λ p. IsSamePass r.orders p) (sym orders_same) (refl, refl)) (subst (IsOutside (orders_of service)) (sym orders_same) at.knows.outside) (ap (λ p. part_of p) orders_same ∙ at.knows.orders_is)
-        pass can_ask is
+  -- it has no write in flight
+  none_still : (place k : ℕ) → IsArena all place k → AllByRecursion (IsOfCut all place k (made_by session.calls (more replies reply.Cut)) (stands_by all at.known place k)) (calls_by all at.known place k)
+  none_still place k is = subst (λ cs. AllByRecursion (IsOfCut all place k (made_by session.calls (more replies reply.Cut)) (stands_by all at.known place k)) cs) (sym (at.stands.free (number_at all place k))) tt
 
-    nothing_stops : IsStopped all q (made (length replies) at.orders.held l reply.Cut) at.orders.entries at.orders.entries (stands_by all at.known) (stands_by all at.known)
-    nothing_stops = record { cut = refl; commands = inl refl; arenas = λ place k is. inl refl }
+  -- ---- a call that comes to no lane
 
-    none_still : (place k : ℕ) → IsArena all place k → AllByRecursion (IsOfCut all place k (made_by session.calls (more replies reply.Cut)) (stands_by all at.known place k)) (calls_by all at.known place k)
-    none_still place k is = subst (λ cs. AllByRecursion (IsOfCut all place k (made_by session.calls (more replies reply.Cut)) (stands_by all at.known place k)) cs) (sym (at.stands.free (core_at all place k))) tt
+  module _ (passes : r'.session.passes ≡ r.session.passes) (number : r'.session.number ≡ r.session.number) (steps : r'.session.caller.steps ≡ r.session.caller.steps) (left : r'.session.caller.left ≡ r.session.caller.left)
+      (pass : IsSamePass r.session.caller.pool r'.session.caller.pool) (outside : out_of r'.session.caller.pool ≡ None)
+      (order_pass : IsSamePass r.orders r'.orders) (order_outside : IsOutside (orders_of service) r'.orders) where
+    abbrev knows_then : (orders' : OrdersPart) → part_of r'.orders ≡ Some orders' → (pool' : PoolPart) → part_of r'.session.caller.pool ≡ Some pool'
+        → pool'.first ≡ before.first → pool'.placed ≡ before.placed → pool'.hand ≡ before.hand → pool'.handed ≡ before.handed → Knows service q orders' at.known r'
+    knows_then orders' orders_is pool' is first placed hand handed = record {
+      know = know_same service.sectors q at.known r.session r'.session at.knows.know number passes pass outside pool' is first placed hand handed;
+      first = at.knows.first;
+      outside = order_outside;
+      orders_number = order_pass.1 ∙ at.knows.orders_number;
+      orders_is = orders_is;
+    }
 
-    pub off_goes : IsTold r'.session.caller.switch → KeepsStopped r.session.caller.switch r'.session.caller.switch → Goes service script q replies reply.Cut r'
-    off_goes told kept =
-        stops_at number at.orders at.known told.0 (knows_still told.0 told.1) nothing_stops none_still told.2 (its_cause told.0 told.1 (inl kept))
+    -- it asked for the power
+    abbrev knows_asked : (orders' : OrdersPart) → part_of r'.orders ≡ Some orders' → (pool' : PoolPart) → part_of r'.session.caller.pool ≡ Some pool' → IsAsked before pool' → Knows service q orders' at.known r'
+    knows_asked orders' orders_is pool' is asked =
+        knows_then orders' orders_is pool' is (ap (λ (m : PoolPart). m.first) asked) (ap (λ (m : PoolPart). m.placed) asked) (ap (λ (m : PoolPart). m.hand) asked) (ap (λ (m : PoolPart). m.handed) asked)
 
-    -- power is on
-    pub on_next : r'.held ≡ r.held → r'.replies ≡ r.replies → r'.session.caller.call ≡ r.session.caller.call → r'.session.caller.left ≡ r.session.caller.left → KeepsStopped r.session.caller.switch r'.session.caller.switch → IsNext service script q l r'
-    on_next held replies_same call left kept =
-        let k = kept at.power at.knows.power_is in record {
-          laid = next.laid;
-          at = subst (λ v. IsAt service script q v.items r') (sym replies_same) (record {
-            orders = at.orders;
-            known = at.known;
-            power = k.0;
-            knows = knows_still k.0 k.1;
-            call = call ∙ at.call;
-            held = held ∙ at.held;
-            stands = subst (λ (n : Option ℕ). Standing all script q replies at.orders at.known k.0 n) (sym left) (record {
-              free = at.stands.free;
-              held = at.stands.held;
-              labelcut = at.stands.labelcut;
-              room = at.stands.room;
-              unstopped = k.2 ∙ at.stands.unstopped;
-              uncut = at.stands.uncut;
-              whole = at.stands.whole;
-              at = at.stands.at;
-            });
-          });
-          next = subst (λ v. NextIs session v.items l) (sym replies_same) next.next;
-          short = next.short;
-          text = next.text;
-        }
+    same_stop : KeepsStopped r.session.caller.pool r'.session.caller.pool → StopsWhenSpent r.session r'.session
+    same_stop kept = inl (λ m is. let k = kept m is in (k.0, k.1, ap (λ (x : PoolPart). switched_by x.stop) k.2))
 
-  -- ---- an order
+    told_here : (pool' : PoolPart) → part_of r'.session.caller.pool ≡ Some pool' → IsTold r'.session.caller.pool → IsSome pool'.told
+    told_here pool' is told = subst (λ (m : PoolPart). IsSome m.told) (in_some (sym told.1 ∙ is)) told.2
 
-  module _ (o : Order) (is_order : l ≡ line.Order o) (same : r'.session.passes ≡ r.session.passes) (number : r'.session.number ≡ r.session.number) (order_pass : IsSamePass r.orders r'.orders) (outside : IsOutside (orders_of service) r'.orders)
-      (pass : IsSamePass r.session.caller.switch r'.session.caller.switch) (can_ask : CanAsk (power_of service) r'.session.caller.switch) (left : r'.session.caller.left ≡ r.session.caller.left) where
-    knows_then : (orders' : OrdersPart) (power' : Mine) → part_of r'.orders ≡ Some orders' → part_of r'.session.caller.switch ≡ Some power' → Knows service q orders' at.known power' r'
-    knows_then orders' power' known_is is =
-        same_knows service q at.orders orders' at.known at.known at.power power' r r' at.knows number
-        (subst (λ ps. Know (locks_of service) q at.known ps.items) (sym same) at.knows.cores) (λ j. refl)
-        order_pass outside known_is pass can_ask is
+    -- power was off before it
+    pub off_goes : part_of r'.orders ≡ part_of r.orders → IsTold r'.session.caller.pool → KeepsStopped r.session.caller.pool r'.session.caller.pool → Goes service script q replies reply.Cut r'
+    off_goes same told kept =
+        let k = kept before before_is in
+        stops_at at.orders at.known (knows_asked at.orders (same ∙ at.knows.orders_is) k.0 k.1 k.2)
+        (record { cut = refl; commands = inl refl; arenas = λ place k is. inl refl }) none_still (told_here k.0 k.1 told)
+        (its_cause k.0 k.1 (same_stop kept)) (its_spent at.known k.0 k.1 (same_stop kept) (counts_same all at.known r.session.caller.left r'.session.caller.left left))
 
-    at_most_one : (x : Option JournalEntry) → length (option_to_list x) ≤ 1
-    at_most_one None = omega arith
-    at_most_one (Some e) = omega arith
+    -- it was answered at no lane
+    module _ (answer : Reply) (uncut : is_cut answer ≡ false) (call : r'.session.caller.call ≡ r.session.caller.call + 1) (held : r'.held ≡ on_after r.held l answer) where
+      pub answered_goes : (orders' : OrdersPart) → part_of r'.orders ≡ Some orders' → orders'.held ≡ on_after at.orders.held l answer → orders'.began ≡ at.orders.began → at.orders.room ≤ orders'.room + 1
+          → IsAnswered all q (made (length replies) at.orders.held l answer) at.orders.entries orders'.entries (stands_by all at.known) (stands_by all at.known) r.session.caller.left r.session.caller.left
+          → KeepsStopped r.session.caller.pool r'.session.caller.pool → Goes service script q replies answer r'
+      answered_goes orders' orders_is holds began room answers kept =
+          let k = kept before before_is in
+          goes_on steps answer orders' at.known uncut (knows_asked orders' orders_is k.0 k.1 k.2) call held
+          (next_standing all script q replies at.orders orders' at.known at.known before k.0 r.session.caller.left r'.session.caller.left l answer at.stands next.next
+          (subst (λ (n : Option ℕ). IsAnswered all q (made (length replies) at.orders.held l answer) at.orders.entries orders'.entries (stands_by all at.known) (stands_by all at.known) r.session.caller.left n) (sym left) answers)
+          at.stands.free holds began room
+          (ap (λ (m : PoolPart). m.hand) k.2 ∙ at.stands.empty) (let same = ap (λ (m : PoolPart). m.left) k.2 in omega (arith, same)) (ap (λ (m : PoolPart). m.stop) k.2)
+          (λ e. left ∙ e) (counts_same all at.known r.session.caller.left r'.session.caller.left left))
 
-    -- the parts that an order with this number goes between
-    its_part : (call : ℕ) (answer : Reply) → call ≡ length replies → PartGoes (IsOrdered (number_of r.orders) call o answer) r.orders r'.orders → (m' : OrdersPart) × (part_of r'.orders ≡ Some m') × IsOrdered q (length replies) o answer at.orders m'
-    its_part call answer n goes =
-        let g = goes at.orders at.knows.orders_is in (g.0, g.1, subst (λ (z : ℕ × ℕ). IsOrdered z.0 z.1 o answer at.orders g.0) (λ i. (at.knows.orders_number i, n i)) g.2)
+    -- ---- an order
 
-    pub order_goes : (answer : Reply) → is_cut answer ≡ false → r'.session.caller.call ≡ r.session.caller.call + 1 → r'.held ≡ on_after r.held (line.Order o) answer
-        → PartGoes (IsOrdered (number_of r.orders) r.session.caller.call o answer) r.orders r'.orders → KeepsStopped r.session.caller.switch r'.session.caller.switch → Goes service script q replies answer r'
-    order_goes answer uncut call held goes kept =
-        let g = its_part r.session.caller.call answer at.call goes in
-        let k = kept at.power at.knows.power_is in
-        let room : at.orders.room ≤ g.0.room + 1 = let x = g.2.room in let y = at_most_one (entry_for q (made (length replies) at.orders.held (line.Order o) answer)) in omega (arith, x, y) in
-        let answered = subst (λ (x : Line). IsAnswered all q (made (length replies) at.orders.held x answer) at.orders.entries g.0.entries (stands_by all at.known) (stands_by all at.known) r.session.caller.left r'.session.caller.left) (sym is_order)
-        (subst (λ (n : Option ℕ). IsAnswered all q (made (length replies) at.orders.held (line.Order o) answer) at.orders.entries g.0.entries (stands_by all at.known) (stands_by all at.known) r.session.caller.left n) (sym left)
-        (orders_answer all q (length replies) o answer at.orders g.0 (stands_by all at.known) r.session.caller.left g.2 uncut)) in
-        goes_on number answer g.0 at.known k.0 uncut (knows_then g.0 k.0 g.1 k.1) call (held ∙ ap (λ (x : Line). on_after r.held x answer) (sym is_order))
-        (next_standing all script q replies at.orders g.0 at.known at.known at.power k.0 r.session.caller.left r'.session.caller.left l answer at.stands next.next answered at.stands.free
-        (g.2.held ∙ ap (λ (x : Line). on_after at.orders.held x answer) (sym is_order)) g.2.began room k.2 (λ e. left ∙ e))
+    module _ (o : Order) (is_order : l ≡ line.Order o) where
+      at_most_one : (x : Option JournalEntry) → length (option_to_list x) ≤ 1
+      at_most_one None = omega arith
+      at_most_one (Some e) = omega arith
 
-    pub order_stops : IsCutShort (number_of r.orders) r.session.caller.call o r.orders r'.orders r.session.caller.switch r'.session.caller.switch → IsTold r'.session.caller.switch → Goes service script q replies reply.Cut r'
-    order_stops (inl before) told =
-        stops_at number at.orders at.known told.0 (knows_then at.orders told.0 (before.0 ∙ at.knows.orders_is) told.1)
-        (record { cut = refl; commands = inl refl; arenas = λ place k is. inl refl }) lanes told.2 (its_cause told.0 told.1 (inl before.1))
-      where
-        lanes : (place k : ℕ) → IsArena all place k → AllByRecursion (IsOfCut all place k (made_by session.calls (more replies reply.Cut)) (stands_by all at.known place k)) (calls_by all at.known place k)
-        lanes place k is = subst (λ cs. AllByRecursion (IsOfCut all place k (made_by session.calls (more replies reply.Cut)) (stands_by all at.known place k)) cs) (sym (at.stands.free (core_at all place k))) tt
-    order_stops (inr within) told =
-        let g = its_part r.session.caller.call reply.Cut at.call within.0 in
-        let why = cuts_have_cause q (length replies) o at.orders g.0 g.2 in
-        let stopped = subst (λ (x : Line). IsStopped all q (made (length replies) at.orders.held x reply.Cut) at.orders.entries g.0.entries (stands_by all at.known) (stands_by all at.known)) (sym is_order)
-        (orders_stop all q (length replies) o at.orders g.0 (stands_by all at.known) (inr g.2)) in
-        stops_at number g.0 at.known told.0 (knows_then g.0 told.0 g.1 told.1) stopped lanes told.2
-        (cause_some script session (more replies reply.Cut) g.0.entries told.0.stopped (cut_behind replies)
-        (λ e. absurd (let x : true ≡ false = sym why.1 ∙ e in cc))
-        (λ _. subst (λ (x : Option ℕ). IsSome x) at.stands.labelcut why.0))
-      where
-        lanes : (place k : ℕ) → IsArena all place k → AllByRecursion (IsOfCut all place k (made_by session.calls (more replies reply.Cut)) (stands_by all at.known place k)) (calls_by all at.known place k)
-        lanes place k is = subst (λ cs. AllByRecursion (IsOfCut all place k (made_by session.calls (more replies reply.Cut)) (stands_by all at.known place k)) cs) (sym (at.stands.free (core_at all place k))) tt
+      -- an order with this number, of this session
+      its_order : (call n : ℕ) (answer : Reply) (m' : OrdersPart) → call ≡ length replies → n ≡ q → IsOrdered n call o answer at.orders m' → IsOrdered q (length replies) o answer at.orders m'
+      its_order call n answer m' c e is = subst (λ (z : ℕ × ℕ). IsOrdered z.0 z.1 o answer at.orders m') (λ i. (e i, c i)) is
+
+      pub order_goes : (answer : Reply) → is_cut answer ≡ false → r'.session.caller.call ≡ r.session.caller.call + 1 → r'.held ≡ on_after r.held (line.Order o) answer
+          → PartGoes (IsOrdered (number_of r.orders) r.session.caller.call o answer) r.orders r'.orders → KeepsStopped r.session.caller.pool r'.session.caller.pool → Goes service script q replies answer r'
+      order_goes answer uncut call held goes kept =
+          let g = goes at.orders at.knows.orders_is in
+          let is = its_order r.session.caller.call (number_of r.orders) answer g.0 at.call at.knows.orders_number g.2 in
+          let room : at.orders.room ≤ g.0.room + 1 = let x = is.room in let y = at_most_one (entry_for q (made (length replies) at.orders.held (line.Order o) answer)) in omega (arith, x, y) in
+          answered_goes answer uncut call (held ∙ ap (λ (x : Line). on_after r.held x answer) (sym is_order)) g.0 g.1
+          (is.held ∙ ap (λ (x : Line). on_after at.orders.held x answer) (sym is_order)) is.began room
+          (subst (λ (x : Line). IsAnswered all q (made (length replies) at.orders.held x answer) at.orders.entries g.0.entries (stands_by all at.known) (stands_by all at.known) r.session.caller.left r.session.caller.left) (sym is_order)
+          (orders_answer all q (length replies) o answer at.orders g.0 (stands_by all at.known) r.session.caller.left is uncut))
+          kept
+
+      pub order_stops : IsCutShort (number_of r.orders) r.session.caller.call o r.orders r'.orders r.session.caller.pool r'.session.caller.pool → IsTold r'.session.caller.pool → Goes service script q replies reply.Cut r'
+      order_stops (inl first) told = off_goes first.0 told first.1
+      order_stops (inr within) told =
+          let g = within.1 at.orders at.knows.orders_is in
+          let is = its_order r.session.caller.call (number_of r.orders) reply.Cut g.0 at.call at.knows.orders_number g.2.0 in
+          let k = within.2 before before_is in
+          let why = cuts_have_cause q (length replies) o at.orders g.0 is in
+          let stopped = subst (λ (x : Line). IsStopped all q (made (length replies) at.orders.held x reply.Cut) at.orders.entries g.0.entries (stands_by all at.known) (stands_by all at.known)) (sym is_order)
+          (orders_stop all q (length replies) o at.orders g.0 (stands_by all at.known) (inr is)) in
+          stops_at g.0 at.known
+          (knows_then g.0 g.1 k.0 k.1 (ap (λ (m : PoolPart). m.first) k.2) (ap (λ (m : PoolPart). m.placed) k.2) (ap (λ (m : PoolPart). m.hand) k.2) (ap (λ (m : PoolPart). m.handed) k.2))
+          stopped none_still (told_here k.0 k.1 told)
+          (cause_some script session (more replies reply.Cut) g.0.entries (is_some (switched_by k.0.stop)) (cut_behind replies)
+          (λ e. absurd (let x : true ≡ false = sym why.1 ∙ e in cc))
+          (λ _. subst (λ (x : Option ℕ). IsSome x) at.stands.labelcut why.0))
+          (labels_spent all script q within.0 at.known k.0 (ap (λ (m : PoolPart). switched_by m.stop) k.2))
 
 -- ---- a call on a sector that its checks refuse
 
@@ -327,25 +353,28 @@ misfit_check said had why = by (said == had)
     by true e = absurd (cc)
     by false e = ap is_check (sym (in_some e))
 
-module _ (service : Service) (script : Script) (q : ℕ) (l : Line) (r : Runner) (next : IsNext service script q l r) where
-  pub check_goes : (why : Reply) → is_check why ≡ true → check_of (all_of service) r.held l ≡ Some why → StandsNever l why → ((call : ℕ) (held : Option (List ℕ)) → entry_for q (made call held l why) ≡ None) → ((held : Option (List ℕ)) → on_after held l why ≡ held)
-      → Goes service script q r.replies.items why (counted r)
+-- of a session that asked for the power, and was told that it is on
+module _ (service : Service) (script : Script) (q : ℕ) (l : Line) (r r' : Runner) (next : IsNext service script q l r) (session : r'.session.passes ≡ r.session.passes) (number : r'.session.number ≡ r.session.number)
+    (steps : r'.session.caller.steps ≡ r.session.caller.steps) (left : r'.session.caller.left ≡ r.session.caller.left) (pass : IsSamePass r.session.caller.pool r'.session.caller.pool) (outside : out_of r'.session.caller.pool ≡ None)
+    (orders : r'.orders ≡ r.orders) (held : r'.held ≡ r.held) (call : r'.session.caller.call ≡ r.session.caller.call + 1) (kept : KeepsStopped r.session.caller.pool r'.session.caller.pool) where
+  check_goes : (why : Reply) → is_check why ≡ true → check_of (all_of service) r.held l ≡ Some why → StandsNever l why → ((call : ℕ) (held : Option (List ℕ)) → entry_for q (made call held l why) ≡ None) → ((held : Option (List ℕ)) → on_after held l why ≡ held)
+      → Goes service script q r.replies.items why r'
   check_goes why is check never none same =
       let at = next.at in
-      let session = session_at script q in
       let held_is : r.held ≡ at.orders.held = at.held ∙ sym at.stands.held in
       let check' = subst (λ (on : Option (List ℕ)). check_of (all_of service) on l ≡ Some why) held_is check in
-      let answered = check_answers (all_of service) q (length r.replies.items) at.orders.held l why at.orders.entries (stands_by (all_of service) at.known) r.session.caller.left is check' never (none (length r.replies.items) at.orders.held) in
-      goes_on service script q l r (counted r) next refl why at.orders at.known at.power (checked_uncut why is)
-      (same_knows service q at.orders at.orders at.known at.known at.power at.power r (counted r) at.knows refl at.knows.cores (λ j. refl) (refl, refl) at.knows.outside at.knows.orders_is (refl, refl) at.knows.can_ask at.knows.power_is)
-      refl (sym (same r.held))
-      (next_standing (all_of service) script q r.replies.items at.orders at.orders at.known at.known at.power at.power r.session.caller.left r.session.caller.left l why at.stands next.next answered at.stands.free (sym (same at.orders.held)) refl (omega arith) refl (λ e. e))
+      answered_goes service script q l r r' next session number steps left pass outside (subst (λ p. IsSamePass r.orders p) (sym orders) (refl, refl)) (subst (λ p. IsOutside (orders_of service) p) (sym orders) at.knows.outside)
+      why (checked_uncut why is) call (held ∙ sym (same r.held)) at.orders (ap (λ p. part_of p) orders ∙ at.knows.orders_is) (sym (same at.orders.held)) refl (omega arith)
+      (check_answers (all_of service) q (length r.replies.items) at.orders.held l why at.orders.entries (stands_by (all_of service) at.known) r.session.caller.left is check' never (none (length r.replies.items) at.orders.held)) kept
 
-pub on_read : (sector : ℕ) (why : Reply) (held : Option (List ℕ)) → on_after held (line.Read sector) why ≡ held
-on_read sector why held = refl
-
-pub on_write : (sector : ℕ) (value : Payload) (why : Reply) (held : Option (List ℕ)) → on_after held (line.Write sector value) why ≡ held
-on_write sector value why held = refl
+  pub refused_goes : (why : Reply) (x : Line) → x ≡ l → IsRefusedBy (all_of service) r.held x why → Goes service script q r.replies.items why r'
+  refused_goes why (line.Read sector) is h =
+      check_goes why h.0 (subst (λ (x : Line). check_of (all_of service) r.held x ≡ Some why) is h.1) (subst (λ (x : Line). StandsNever x why) is (read_never sector why h.0))
+      (λ call held. subst (λ (x : Line). entry_for q (made call held x why) ≡ None) is refl) (λ held. subst (λ (x : Line). on_after held x why ≡ held) is refl)
+  refused_goes why (line.Write sector value) is h =
+      check_goes why h.0 (subst (λ (x : Line). check_of (all_of service) r.held x ≡ Some why) is h.1) (subst (λ (x : Line). StandsNever x why) is (write_never sector value why h.0))
+      (λ call held. subst (λ (x : Line). entry_for q (made call held x why) ≡ None) is refl) (λ held. subst (λ (x : Line). on_after held x why ≡ held) is refl)
+  refused_goes why (line.Order o) is h = absurd h
 
 -- ---- a sector that was found
 
@@ -374,30 +403,25 @@ earlier all place k n call on (l ∷ lines) (a ∷ replies) le = one (stand_of a
     one None below more = more
     one (Some s) below more = (below s refl, more)
 
--- the arena of a core
+-- the arena of a sector
 pub layout_is : (service : Service) (laid : IsLaid service) (held : Option (List ℕ)) (sector : ℕ) (f : FoundSector) (found : IsFound (all_of service) held sector f)
-    → (core_at (all_of service) found.spot.place found.spot.arena < length (locks_of service)) × (shape_by (arena_at (arenas_of service) (core_at (all_of service) found.spot.place found.spot.arena)) ≡ found.spot.shape)
+    → (number_at (all_of service) found.spot.place found.spot.arena < length (arenas_of service)) × (shape_by (arena_at (arenas_of service) (number_at (all_of service) found.spot.place found.spot.arena)) ≡ found.spot.shape)
 layout_is service laid held sector f found =
     let all = all_of service in
-    let j : ℕ = core_at all found.spot.place found.spot.arena in
+    let j : ℕ = number_at all found.spot.place found.spot.arena in
     let arenas = arenas_of service in
-    let near = core_there all found.spot.place found.spot.arena found.there in
+    let near = number_there all found.spot.place found.spot.arena found.there in
     let count = ap (λ (xs : List Shape). length xs) laid.shapes in
     let l = length-map arenas shape_by in
-    let m = length-map service.turns.items (λ t. arena_of t) in
-    let n = length-map service.turns.items (λ t. lock_id t) in
     let inside : j < length arenas = omega (arith, near, count, l) in
     let d = shape_by (arena_at arenas j) in (
-      omega (arith, inside, m, n),
-      sym (get_or-map shape_by arenas j _ d inside) ∙ ap (λ (xs : List Shape). get_or xs j d) laid.shapes ∙ core_shape all found.spot.place found.spot.arena d found.there ∙ found.shape_is d,
+      inside,
+      sym (get_or-map shape_by arenas j _ d inside) ∙ ap (λ (xs : List Shape). get_or xs j d) laid.shapes ∙ number_shape all found.spot.place found.spot.arena d found.there ∙ found.shape_is d,
     )
 
 module _ (service : Service) (script : Script) (q : ℕ) (l : Line) (r : Runner) (next : IsNext service script q l r) (sector : ℕ) (f : FoundSector) (found : IsFound (all_of service) r.held sector f) where
-  abbrev pub the_all : List Serving
-  the_all = all_of service
-
   abbrev pub j : ℕ
-  j = core_at (all_of service) found.spot.place found.spot.arena
+  j = number_at (all_of service) found.spot.place found.spot.arena
 
   abbrev standing : IsAt service script q r.replies.items r
   standing = next.at
@@ -416,128 +440,141 @@ module _ (service : Service) (script : Script) (q : ℕ) (l : Line) (r : Runner)
         (earlier (all_of service) found.spot.place found.spot.arena r.session.caller.call 0 None (session_at script q).calls r.replies.items (let c = standing.call in omega (arith, c)));
   }
 
-  knows_here : Know (locks_of service) r.session.number standing.known r.session.passes.items
-  knows_here = subst (λ (k : ℕ). Know (locks_of service) k standing.known r.session.passes.items) (sym standing.knows.number) standing.knows.cores
+  -- it knows each arena, and may take a set
+  know_here : (k : Know service.sectors r.session.number standing.known r.session) × MayTakeOne k.pool
+  know_here = subst (λ (n : ℕ). (k : Know service.sectors n standing.known r.session) × MayTakeOne k.pool) (sym standing.knows.know.seated.number)
+      (standing.knows.know, (standing.stands.empty, let c = standing.stands.calls in let n = next.next.0 in omega (arith, c, n)))
 
-  pub inside : f.core < length service.turns.items
-  inside =
-      let near = (layout_is service next.laid r.held sector f found).0 in
-      let n = length-map service.turns.items (λ t. lock_id t) in
-      let c = found.core_is in omega (arith, near, n, c)
-
-  pub may_read : KnowsAt (locks_of service) r.session.number f.core (MayRead r.session.caller.call f.sector) r.session.passes.items
-  may_read = (
-    standing.known,
-    knows_here,
-    subst (λ (i : ℕ). MayRead r.session.caller.call f.sector (standing.known i)) (sym found.core_is)
-        (record { may = may_begin; sector_in = let e = ap (λ (s : Shape). s.sectors) shape_here in let lt = found.inside in let s = found.sector_is in omega (arith, e, lt, s) }),
-  )
-
-  pub may_write : (words : List ℕ) → 8 * length words ≡ f.bytes → KnowsAt (locks_of service) r.session.number f.core (MayWrite r.session.caller.call f.sector words) r.session.passes.items
-  may_write words whole = (
-    standing.known,
-    knows_here,
-    subst (λ (i : ℕ). MayWrite r.session.caller.call f.sector words (standing.known i)) (sym found.core_is)
-        (
-        record {
-          may = may_begin;
-          sector_in = let e = ap (λ (s : Shape). s.sectors) shape_here in let lt = found.inside in let s = found.sector_is in omega (arith, e, lt, s);
-          whole = let e = ap (λ (s : Shape). s.bytes) shape_here in let b = found.bytes_is in omega (arith, e, b, whole);
-        }
-        ),
-  )
-
-  pub few : r.session.caller.call + 1 < 2 ^ 32
+  few : r.session.caller.call + 1 < 2 ^ 32
   few = let c = standing.call in let n = next.next.0 in let s = next.short in omega (arith, c, n, s)
+
+  may_call : (P : ArenaPart → Type 0) → P (standing.known j) → MayCallAt service.sectors f.arena P r.session
+  may_call P may = record {
+    place_in =
+        let near = (layout_is service next.laid r.held sector f found).0 in
+        let n = next.laid.count in
+        let c = found.number_is in omega (arith, near, n, c);
+    parts = standing.known;
+    know = know_here.0;
+    pool = know_here.1;
+    may = subst (λ (i : ℕ). P (standing.known i)) (sym found.number_is) may;
+    calls = few;
+  }
+
+  sector_here : f.sector < (shape_of (standing.known j)).sectors
+  sector_here = let e = ap (λ (s : Shape). s.sectors) shape_here in let lt = found.inside in let s = found.sector_is in omega (arith, e, lt, s)
+
+  bytes_here : (standing.known j).first.info.layout.sector ≡ f.bytes
+  bytes_here = ap (λ (s : Shape). s.bytes) shape_here ∙ sym found.bytes_is
+
+  pub may_read : (room : ℕ) → room ≡ f.bytes / 8 → MayCallAt service.sectors f.arena (MayRead r.session.caller.call f.sector room) r.session
+  may_read room whole = may_call (MayRead r.session.caller.call f.sector room) (record { may = may_begin; sector_in = sector_here; whole = whole ∙ ap (λ (b : ℕ). b / 8) (sym bytes_here) })
+
+  pub may_write : (words : List ℕ) → 8 * length words ≡ f.bytes → MayCallAt service.sectors f.arena (MayWrite r.session.caller.call f.sector words) r.session
+  may_write words whole = may_call (MayWrite r.session.caller.call f.sector words) (record { may = may_begin; sector_in = sector_here; whole = let b = bytes_here in omega (arith, b, whole) })
 
   -- ---- after it
 
-  module _ (r' : Runner) (number : r'.session.number ≡ r.session.number) (caller : IsNextCaller (power_of service) r.session.caller r'.session.caller) (orders_same : r'.orders ≡ r.orders) (held : r'.held ≡ r.held) where
-    firsts : (m : ServedPart) → m.first ≡ (standing.known j).first → (i : ℕ) → (with_part standing.known j m i).first ≡ (standing.known i).first
-    firsts m is i = dite (ℕ_discrete i j)
-        (λ same. subst (λ (x : ℕ). (with_part standing.known j m x).first ≡ (standing.known x).first) (sym same) (ap (λ (x : ServedPart). x.first) (with_same standing.known j m) ∙ is))
-        (λ other. ap (λ (x : ServedPart). x.first) (with_other standing.known j i m other))
+  module _ (r' : Runner) (step : IsNextCall r.session r'.session) (orders_same : r'.orders ≡ r.orders) (held : r'.held ≡ r.held) where
+    firsts : (m : ArenaPart) → m.first ≡ (standing.known j).first → (i : ℕ) → (with_part standing.known j m i).first ≡ arena_at (arenas_of service) i
+    firsts m is i = by i ∙ standing.knows.first i
+      where
+        by : (i : ℕ) → (with_part standing.known j m i).first ≡ (standing.known i).first
+        by i = dite (ℕ_discrete i j)
+            (λ same. subst (λ (x : ℕ). (with_part standing.known j m x).first ≡ (standing.known x).first) (sym same) (ap (λ (x : ArenaPart). x.first) (with_same standing.known j m) ∙ is))
+            (λ other. ap (λ (x : ArenaPart). x.first) (with_other standing.known j i m other))
 
-    knows_more : (m : ServedPart) (power' : Mine) → m.first ≡ (standing.known j).first → Know (locks_of service) r.session.number (with_part standing.known f.core m) r'.session.passes.items → part_of r'.session.caller.switch ≡ Some power'
-        → Knows service q standing.orders (with_part standing.known j m) power' r'
-    knows_more m power' first know is =
-        same_knows service q standing.orders standing.orders standing.known (with_part standing.known j m) standing.power power' r r' standing.knows number
-        (subst (λ (z : ℕ × ℕ). Know (locks_of service) z.0 (with_part standing.known z.1 m) r'.session.passes.items) (λ i. (standing.knows.number i, found.core_is i)) know)
-        (firsts m first)
-        (subst (λ p. IsSamePass r.orders p) (sym orders_same) (refl, refl)) (subst (IsOutside (orders_of service)) (sym orders_same) standing.knows.outside) (ap (λ p. part_of p) orders_same ∙ standing.knows.orders_is)
-        caller.0 caller.1 is
+    -- it knows this of the arena
+    module _ (mine : CorePart) (made_steps : ℕ) where
+      abbrev mid : Parts
+      mid = with_part standing.known j (after (standing.known j) mine made_steps)
 
-    free_still : (m : ServedPart) → m.mine.calls ≡ [] → (i : ℕ) → (with_part standing.known j m i).mine.calls ≡ []
-    free_still m is i = dite (ℕ_discrete i j)
-        (λ same. subst (λ (x : ℕ). (with_part standing.known j m x).mine.calls ≡ []) (sym same) (ap (λ (x : ServedPart). x.mine.calls) (with_same standing.known j m) ∙ is))
-        (λ other. ap (λ (x : ServedPart). x.mine.calls) (with_other standing.known j i m other) ∙ standing.stands.free i)
+      abbrev knows_more : Know service.sectors r.session.number (with_part standing.known j (after (standing.known j) mine made_steps)) r'.session → Knows service q standing.orders (with_part standing.known j (after (standing.known j) mine made_steps)) r'
+      knows_more know = record {
+        know = subst (λ (n : ℕ). Know service.sectors n (with_part standing.known j (after (standing.known j) mine made_steps)) r'.session) standing.knows.know.seated.number know;
+        first = firsts (after (standing.known j) mine made_steps) refl;
+        outside = subst (λ p. IsOutside (orders_of service) p) (sym orders_same) standing.knows.outside;
+        orders_number = ap (λ p. number_of p) orders_same ∙ standing.knows.orders_number;
+        orders_is = ap (λ p. part_of p) orders_same ∙ standing.knows.orders_is;
+      }
+
+      more_steps : steps_by (all_of service) mid ≡ steps_by (all_of service) standing.known + made_steps
+      more_steps = steps_more standing.known j (length (arenas_in (all_of service))) mine made_steps (number_there (all_of service) found.spot.place found.spot.arena found.there)
+
+      free_still : mine.calls ≡ [] → (i : ℕ) → (with_part standing.known j (after (standing.known j) mine made_steps) i).mine.calls ≡ []
+      free_still is i = dite (ℕ_discrete i j)
+          (λ same. subst (λ (x : ℕ). (with_part standing.known j (after (standing.known j) mine made_steps) x).mine.calls ≡ []) (sym same) (ap (λ (x : ArenaPart). x.mine.calls) (with_same standing.known j (after (standing.known j) mine made_steps)) ∙ is))
+          (λ other. ap (λ (x : ArenaPart). x.mine.calls) (with_other standing.known j i (after (standing.known j) mine made_steps) other) ∙ standing.stands.free i)
+
+    -- what is known of the arena of the sector
+    its_call : {least : LaneShape → ℕ} {P : CorePart → CorePart → Type 0} → CallGoes service.sectors f.arena least P r.session r'.session → Called service.sectors j least P standing.known r.session r'.session
+    its_call {least} {P} goes = subst (λ (i : ℕ). Called service.sectors i least P standing.known r.session r'.session) found.number_is (goes standing.known know_here.0)
 
     -- it was answered, and stands
-    answers : (answer : Reply) (s : Stand) → is_cut answer ≡ false → ((on : Option (List ℕ)) → on_after on l answer ≡ on) → KeepsStopped r.session.caller.switch r'.session.caller.switch
-        → OneBecomes (locks_of service) r.session.number f.core (answered s) r.session.passes.items r'.session.passes.items
-        → IsAnswered (all_of service) q (made (length r.replies.items) r.held l answer) standing.orders.entries standing.orders.entries (stands_by (all_of service) standing.known) (stands_by (all_of service) (with_part standing.known j (answered s (standing.known j)))) r.session.caller.left r'.session.caller.left
-        → Goes service script q r.replies.items answer r'
-    answers answer s uncut stays kept becomes stood =
-        let k = kept standing.power standing.knows.power_is in
-        let m = answered s (standing.known j) in
-        let know = subst (λ (i : ℕ). Know (locks_of service) r.session.number (with_part standing.known f.core (answered s (standing.known i))) r'.session.passes.items) found.core_is (becomes standing.known knows_here) in
-        goes_on service script q l r r' next number answer standing.orders (with_part standing.known j m) k.0 uncut (knows_more m k.0 refl know k.1) caller.2 (held ∙ sym (stays r.held))
-        (next_standing (all_of service) script q r.replies.items standing.orders standing.orders standing.known (with_part standing.known j m) standing.power k.0 r.session.caller.left r'.session.caller.left l answer standing.stands next.next
-        (subst (λ (on : Option (List ℕ)). IsAnswered (all_of service) q (made (length r.replies.items) on l answer) standing.orders.entries standing.orders.entries (stands_by (all_of service) standing.known) (stands_by (all_of service) (with_part standing.known j m)) r.session.caller.left r'.session.caller.left) held_same stood)
-        (free_still m refl) (sym (stays standing.orders.held)) refl (omega arith) k.2 caller.3)
+    module _ (answer : Reply) (s : Stand) (least : LaneShape → ℕ) (uncut : is_cut answer ≡ false) (stays : (on : Option (List ℕ)) → on_after on l answer ≡ on) (spent : PartBecomes spent_one r.session.caller.pool r'.session.caller.pool)
+        (c : Called service.sectors j least (λ m m'. m' ≡ answered s m) standing.known r.session r'.session) where
+      answers : IsAnswered (all_of service) q (made (length r.replies.items) r.held l answer) standing.orders.entries standing.orders.entries (stands_by (all_of service) standing.known) (stands_by (all_of service) (mid c.mine c.made)) r.session.caller.left r'.session.caller.left
+          → Goes service script q r.replies.items answer r'
+      answers stood =
+          let knows = knows_more c.mine c.made c.know in
+          let pool_is : knows.know.pool ≡ spent_one standing.knows.know.pool = in_some (sym knows.know.seated.pool_is ∙ spent standing.knows.know.pool standing.knows.know.seated.pool_is) in
+          goes_on service script q l r r' next step.steps answer standing.orders (mid c.mine c.made) uncut (knows_more c.mine c.made c.know) step.call (held ∙ sym (stays r.held))
+          (next_standing (all_of service) script q r.replies.items standing.orders standing.orders standing.known (mid c.mine c.made) standing.knows.know.pool knows.know.pool r.session.caller.left r'.session.caller.left l answer standing.stands next.next
+          (subst (λ (on : Option (List ℕ)). IsAnswered (all_of service) q (made (length r.replies.items) on l answer) standing.orders.entries standing.orders.entries (stands_by (all_of service) standing.known) (stands_by (all_of service) (mid c.mine c.made)) r.session.caller.left r'.session.caller.left) held_same stood)
+          (free_still c.mine c.made (ap (λ (x : CorePart). x.calls) c.goes)) (sym (stays standing.orders.held)) refl (omega arith)
+          (ap (λ (m : PoolPart). m.hand) pool_is) (let e = ap (λ (m : PoolPart). m.left) pool_is in omega (arith, e)) (ap (λ (m : PoolPart). m.stop) pool_is)
+          (whole_fewer c.paid)
+          (counts_fewer (all_of service) standing.known (mid c.mine c.made) r.session.caller.left r'.session.caller.left c.made c.paid (more_steps c.mine c.made)))
 
-    pub got_goes : (cell : Cell) → l ≡ line.Read sector → OneBecomes (locks_of service) r.session.number f.core (answered (stand_at r.session.caller.call f.sector (act.Read cell))) r.session.passes.items r'.session.passes.items
-        → Paid 1 r.session.caller.left r'.session.caller.left → KeepsStopped r.session.caller.switch r'.session.caller.switch → Goes service script q r.replies.items (reply.Value cell) r'
-    got_goes cell is becomes paid kept =
-        answers (reply.Value cell) (stand_at (length r.replies.items) f.sector (act.Read cell)) refl (λ on. ap (λ (x : Line). on_after on x (reply.Value cell)) is) kept
-        (subst (λ (n : ℕ). OneBecomes (locks_of service) r.session.number f.core (answered (stand_at n f.sector (act.Read cell))) r.session.passes.items r'.session.passes.items) standing.call becomes)
-        (subst (λ (x : Line). IsAnswered (all_of service) q (made (length r.replies.items) r.held x (reply.Value cell)) standing.orders.entries standing.orders.entries (stands_by (all_of service) standing.known) (stands_by (all_of service) (with_part standing.known j (answered (stand_at (length r.replies.items) f.sector (act.Read cell)) (standing.known j)))) r.session.caller.left r'.session.caller.left) (sym is)
-        (sectors.read_answered (all_of service) r.held sector f found standing.known q (length r.replies.items) cell standing.orders.entries r.session.caller.left r'.session.caller.left _ refl paid))
+    pub got_goes : (cell : Cell) → l ≡ line.Read sector → CallGoes service.sectors f.arena one_at_least (λ m m'. m' ≡ answered (stand_at r.session.caller.call f.sector (act.Read cell)) m) r.session r'.session
+        → PartBecomes spent_one r.session.caller.pool r'.session.caller.pool → Goes service script q r.replies.items (reply.Value cell) r'
+    got_goes cell is goes spent =
+        let c = subst (λ (n : ℕ). Called service.sectors j one_at_least (λ m m'. m' ≡ answered (stand_at n f.sector (act.Read cell)) m) standing.known r.session r'.session) standing.call (its_call goes) in
+        answers (reply.Value cell) (stand_at (length r.replies.items) f.sector (act.Read cell)) one_at_least refl (λ on. ap (λ (x : Line). on_after on x (reply.Value cell)) is) spent c
+        (subst (λ (x : Line). IsAnswered (all_of service) q (made (length r.replies.items) r.held x (reply.Value cell)) standing.orders.entries standing.orders.entries (stands_by (all_of service) standing.known) (stands_by (all_of service) (mid c.mine c.made)) r.session.caller.left r'.session.caller.left) (sym is)
+        (sectors.read_answered (all_of service) r.held sector f found standing.known q (length r.replies.items) cell standing.orders.entries r.session.caller.left r'.session.caller.left (after (standing.known j) c.mine c.made) c.goes
+        (sectors.paid_least 1 c.made r.session.caller.left r'.session.caller.left c.enough c.paid)))
 
     pub done_goes : (value : Payload) (fits : wrong_length (size_of value f.bytes) f.bytes ≡ None) → l ≡ line.Write sector value
-        → OneBecomes (locks_of service) r.session.number f.core (answered (stand_at r.session.caller.call f.sector (act.Write (words_of value f.bytes)))) r.session.passes.items r'.session.passes.items
-        → ((parts : Parts) → Know (locks_of service) r.session.number parts r.session.passes.items → Paid (write_steps (shape_of (parts f.core))) r.session.caller.left r'.session.caller.left)
-        → KeepsStopped r.session.caller.switch r'.session.caller.switch → Goes service script q r.replies.items reply.Done r'
-    done_goes value fits is becomes paid kept =
-        answers reply.Done (stand_at (length r.replies.items) f.sector (act.Write (words_of value f.bytes))) refl (λ on. ap (λ (x : Line). on_after on x reply.Done) is) kept
-        (subst (λ (n : ℕ). OneBecomes (locks_of service) r.session.number f.core (answered (stand_at n f.sector (act.Write (words_of value f.bytes)))) r.session.passes.items r'.session.passes.items) standing.call becomes)
-        (subst (λ (x : Line). IsAnswered (all_of service) q (made (length r.replies.items) r.held x reply.Done) standing.orders.entries standing.orders.entries (stands_by (all_of service) standing.known) (stands_by (all_of service) (with_part standing.known j (answered (stand_at (length r.replies.items) f.sector (act.Write (words_of value f.bytes))) (standing.known j)))) r.session.caller.left r'.session.caller.left) (sym is)
-        (sectors.write_answered (all_of service) r.held sector f found standing.known value fits q (length r.replies.items) standing.orders.entries r.session.caller.left r'.session.caller.left _ shape_here refl
-        (subst (λ (i : ℕ). Paid (write_steps (shape_of (standing.known i))) r.session.caller.left r'.session.caller.left) found.core_is (paid standing.known knows_here))))
+        → CallGoes service.sectors f.arena write_at_least (λ m m'. m' ≡ answered (stand_at r.session.caller.call f.sector (act.Write (words_of value f.bytes))) m) r.session r'.session
+        → PartBecomes spent_one r.session.caller.pool r'.session.caller.pool → Goes service script q r.replies.items reply.Done r'
+    done_goes value fits is goes spent =
+        let c = subst (λ (n : ℕ). Called service.sectors j write_at_least (λ m m'. m' ≡ answered (stand_at n f.sector (act.Write (words_of value f.bytes))) m) standing.known r.session r'.session) standing.call (its_call goes) in
+        answers reply.Done (stand_at (length r.replies.items) f.sector (act.Write (words_of value f.bytes))) write_at_least refl (λ on. ap (λ (x : Line). on_after on x reply.Done) is) spent c
+        (subst (λ (x : Line). IsAnswered (all_of service) q (made (length r.replies.items) r.held x reply.Done) standing.orders.entries standing.orders.entries (stands_by (all_of service) standing.known) (stands_by (all_of service) (mid c.mine c.made)) r.session.caller.left r'.session.caller.left) (sym is)
+        (sectors.write_answered (all_of service) r.held sector f found standing.known value fits q (length r.replies.items) standing.orders.entries r.session.caller.left r'.session.caller.left (after (standing.known j) c.mine c.made) shape_here c.goes
+        (sectors.paid_least (write_at_least (shape_of (standing.known j))) c.made r.session.caller.left r'.session.caller.left c.enough c.paid)))
 
     -- it was cut
-    pub read_cut_goes : l ≡ line.Read sector → OneGoes (locks_of service) r.session.number f.core (IsLeft r.session.number r.session.caller.call f.sector) r.session.passes.items r'.session.passes.items
-        → IsTold r'.session.caller.switch → StopsWhenSpent r.session.caller r'.session.caller → Goes service script q r.replies.items reply.Cut r'
-    read_cut_goes is goes told spent =
-        let g = goes standing.known knows_here in
-        let left : IsLeft q (length r.replies.items) f.sector (standing.known j) g.0 = subst (λ (z : ℕ × ℕ × ℕ). IsLeft z.0 z.1 f.sector (standing.known z.2) g.0) (λ i. (standing.knows.number i, standing.call i, found.core_is i)) g.1 in
-        stops_at service script q l r r' next number standing.orders (with_part standing.known j g.0) told.0
-        (knows_more g.0 told.0 (first_left left) g.2 told.1)
-        (subst (λ (on : Option (List ℕ)). IsStopped (all_of service) q (made (length r.replies.items) on l reply.Cut) standing.orders.entries standing.orders.entries (stands_by (all_of service) standing.known) (stands_by (all_of service) (with_part standing.known j g.0))) held_same
-        (sectors.read_stops (all_of service) r.held sector f found standing.known script q r.replies.items standing.orders standing.power r.session.caller.left held_same standing.stands l next.next g.0 is left standing.orders.entries))
-        (sectors.read_still (all_of service) r.held sector f found standing.known script q r.replies.items standing.orders standing.power r.session.caller.left held_same standing.stands l next.next g.0 is left)
-        told.2 (its_cause service script q l r r' next told.0 told.1 spent)
-      where
-        first_left : {m : ServedPart} → IsLeft q (length r.replies.items) f.sector (standing.known j) m → m.first ≡ (standing.known j).first
-        first_left (inl e) = ap (λ (x : ServedPart). x.first) e
-        first_left (inr h) = ap (λ (x : ServedPart). x.first) h.3
+    module _ (least : LaneShape → ℕ) (P : CorePart → CorePart → Type 0) (c : Called service.sectors j least P standing.known r.session r'.session) (told : IsTold r'.session.caller.pool × StopsWhenSpent r.session r'.session) where
+      cut_goes : IsStopped (all_of service) q (made (length r.replies.items) r.held l reply.Cut) standing.orders.entries standing.orders.entries (stands_by (all_of service) standing.known) (stands_by (all_of service) (mid c.mine c.made))
+          → ((p n : ℕ) → IsArena (all_of service) p n → AllByRecursion (IsOfCut (all_of service) p n (made_by (session_at script q).calls (more r.replies.items reply.Cut)) (stands_by (all_of service) (mid c.mine c.made) p n)) (calls_by (all_of service) (mid c.mine c.made) p n))
+          → Goes service script q r.replies.items reply.Cut r'
+      cut_goes stopped still =
+          let knows = knows_more c.mine c.made c.know in
+          stops_at service script q l r r' next standing.orders (mid c.mine c.made) (knows_more c.mine c.made c.know)
+          (subst (λ (on : Option (List ℕ)). IsStopped (all_of service) q (made (length r.replies.items) on l reply.Cut) standing.orders.entries standing.orders.entries (stands_by (all_of service) standing.known) (stands_by (all_of service) (mid c.mine c.made))) held_same stopped)
+          still
+          (subst (λ (m : PoolPart). IsSome m.told) (in_some (sym told.0.1 ∙ knows.know.seated.pool_is)) told.0.2)
+          (its_cause service script q l r r' next knows.know.pool knows.know.seated.pool_is told.1)
+          (its_spent service script q l r r' next (mid c.mine c.made) knows.know.pool knows.know.seated.pool_is told.1
+          (counts_fewer (all_of service) standing.known (mid c.mine c.made) r.session.caller.left r'.session.caller.left c.made c.paid (more_steps c.mine c.made)))
+
+    pub read_cut_goes : l ≡ line.Read sector → CallGoes service.sectors f.arena none_at_least (λ m m'. m' ≡ m) r.session r'.session → IsTold r'.session.caller.pool × StopsWhenSpent r.session r'.session → Goes service script q r.replies.items reply.Cut r'
+    read_cut_goes is goes told =
+        let c = its_call goes in
+        cut_goes none_at_least (λ m m'. m' ≡ m) c told
+        (sectors.read_stops (all_of service) r.held sector f found standing.known script q r.replies.items standing.orders standing.knows.know.pool r.session.caller.left held_same standing.stands l next.next (after (standing.known j) c.mine c.made) is c.goes standing.orders.entries)
+        (sectors.read_still (all_of service) r.held sector f found standing.known script q r.replies.items standing.orders standing.knows.know.pool r.session.caller.left held_same standing.stands l next.next (after (standing.known j) c.mine c.made) is c.goes)
 
     pub write_cut_goes : (value : Payload) (fits : wrong_length (size_of value f.bytes) f.bytes ≡ None) → l ≡ line.Write sector value
-        → OneGoes (locks_of service) r.session.number f.core (core.IsStopped r.session.number r.session.caller.call f.sector (words_of value f.bytes)) r.session.passes.items r'.session.passes.items
-        → IsTold r'.session.caller.switch → StopsWhenSpent r.session.caller r'.session.caller → Goes service script q r.replies.items reply.Cut r'
-    write_cut_goes value fits is goes told spent =
-        let g = goes standing.known knows_here in
-        let left : core.IsStopped q (length r.replies.items) f.sector (words_of value f.bytes) (standing.known j) g.0 = subst (λ (z : ℕ × ℕ × ℕ). core.IsStopped z.0 z.1 f.sector (words_of value f.bytes) (standing.known z.2) g.0) (λ i. (standing.knows.number i, standing.call i, found.core_is i)) g.1 in
-        stops_at service script q l r r' next number standing.orders (with_part standing.known j g.0) told.0
-        (knows_more g.0 told.0 (first_stopped left) g.2 told.1)
-        (subst (λ (on : Option (List ℕ)). IsStopped (all_of service) q (made (length r.replies.items) on l reply.Cut) standing.orders.entries standing.orders.entries (stands_by (all_of service) standing.known) (stands_by (all_of service) (with_part standing.known j g.0))) held_same
-        (sectors.write_stops (all_of service) r.held sector f found standing.known script q r.replies.items standing.orders standing.power r.session.caller.left held_same standing.stands l next.next value fits g.0 is left standing.orders.entries))
-        (sectors.write_still (all_of service) r.held sector f found standing.known script q r.replies.items standing.orders standing.power r.session.caller.left held_same standing.stands l next.next value fits g.0 is left)
-        told.2 (its_cause service script q l r r' next told.0 told.1 spent)
-      where
-        first_stopped : {m : ServedPart} → core.IsStopped q (length r.replies.items) f.sector (words_of value f.bytes) (standing.known j) m → m.first ≡ (standing.known j).first
-        first_stopped (inl e) = ap (λ (x : ServedPart). x.first) e
-        first_stopped (inr h) = ap (λ (x : ServedPart). x.first) h.3
+        → CallGoes service.sectors f.arena none_at_least (lanes.IsStopped r.session.number r.session.caller.call f.sector (words_of value f.bytes)) r.session r'.session
+        → IsTold r'.session.caller.pool × StopsWhenSpent r.session r'.session → Goes service script q r.replies.items reply.Cut r'
+    write_cut_goes value fits is goes told =
+        let c = subst (λ (z : ℕ × ℕ). Called service.sectors j none_at_least (lanes.IsStopped z.0 z.1 f.sector (words_of value f.bytes)) standing.known r.session r'.session) (λ i. (standing.knows.know.seated.number i, standing.call i)) (its_call goes) in
+        cut_goes none_at_least (lanes.IsStopped q (length r.replies.items) f.sector (words_of value f.bytes)) c told
+        (sectors.write_stops (all_of service) r.held sector f found standing.known script q r.replies.items standing.orders standing.knows.know.pool r.session.caller.left held_same standing.stands l next.next value fits (after (standing.known j) c.mine c.made) is c.goes standing.orders.entries)
+        (sectors.write_still (all_of service) r.held sector f found standing.known script q r.replies.items standing.orders standing.knows.know.pool r.session.caller.left held_same standing.stands l next.next value fits (after (standing.known j) c.mine c.made) is c.goes)
 
 -- ---- the registry's pass
 
@@ -545,76 +582,55 @@ pub may_order : (service : Service) (script : Script) (q : ℕ) (r : Runner) →
 may_order service script q r at few = (at.knows.outside, (at.orders, at.knows.orders_is, let room = at.stands.room in omega (arith, room, few)))
 
 -- a session gives back what it has open, and has come to its end
-pub ends_at : (service : Service) (script : Script) (q : ℕ) (r r' : Runner) → IsRunning service script q r → length r.replies.items ≡ length (session_at script q).calls → r'.session ≡ r.session → r'.replies ≡ r.replies
-    → IsSamePass r.orders r'.orders → out_of r'.orders ≡ None → PartGoes (GivesBack (number_of r.orders) r.session.caller.call) r.orders r'.orders → IsEnded service script q r'
-ends_at service script q r r' running last session replies pass outside goes =
+pub ends_at : (service : Service) (script : Script) (q : ℕ) (r : Runner) (p : TurnPass Served OrdersPart ghosts) → IsRunning service script q r → length r.replies.items ≡ length (session_at script q).calls
+    → IsSamePass r.orders p → out_of p ≡ None → PartGoes (GivesBack (number_of r.orders) r.session.caller.call) r.orders p → IsEnded service script q (record r { orders = p })
+ends_at service script q r p running last pass outside goes =
     let at = running.at in
     let g = goes at.orders at.knows.orders_is in
     let given : GivesBack q (length (session_at script q).calls) at.orders g.0 = subst (λ (z : ℕ × ℕ). GivesBack z.0 z.1 at.orders g.0) (λ i. (at.knows.orders_number i, (at.call ∙ last) i)) g.2 in
-    let done = ended_standing (all_of service) script q r.replies.items at.orders g.0 at.known at.power r.session.caller.left at.stands last given.last given.entries given.given in
     record {
-      number = ap (λ (s : Session). s.number) session ∙ at.knows.number;
-      done = λ _. subst (λ v. IsDone service script q v.items r') (sym replies) (record {
+      number = at.knows.know.seated.number;
+      done = λ _. record {
         orders = g.0;
         known = at.known;
-        power = at.power;
-        knows =
-            same_knows service q at.orders g.0 at.known at.known at.power at.power r r' at.knows (ap (λ (s : Session). s.number) session)
-            (subst (λ (s : Session). Know (locks_of service) q at.known s.passes.items) (sym session) at.knows.cores) (λ j. refl)
-            pass (pass.0 ∙ at.knows.outside.0, outside) g.1
-            (subst (λ (s : Session). IsSamePass r.session.caller.switch s.caller.switch) (sym session) (refl, refl))
-            (subst (λ (s : Session). CanAsk (power_of service) s.caller.switch) (sym session) at.knows.can_ask)
-            (ap (λ (s : Session). part_of s.caller.switch) session ∙ at.knows.power_is);
-        done = done;
-      });
+        knows = record {
+          know = at.knows.know;
+          first = at.knows.first;
+          outside = (pass.0 ∙ at.knows.outside.0, outside);
+          orders_number = pass.1 ∙ at.knows.orders_number;
+          orders_is = g.1;
+        };
+        spent = none_spent (all_of service) script q at.known at.knows.know.pool (ap switched_by at.stands.unstopped);
+        done = ended_standing (all_of service) script q r.replies.items at.orders g.0 at.known at.knows.know.pool r.session.caller.left at.stands last given.last given.entries given.given;
+      };
     }
 
--- ---- what a refused call on a sector comes to
+pub asks : (service : Service) (script : Script) (q : ℕ) (l : Line) (r : Runner) → IsNext service script q l r → CanAsk (lock_id service.sectors.pool.turn) r.session.caller.pool
+asks service script q l r next = can_ask service.sectors q next.at.known r.session next.at.knows.know
 
-pub few_left : (service : Service) (script : Script) (q : ℕ) (l : Line) (r : Runner) → IsNext service script q l r → r.session.caller.call + 1 < 2 ^ 32
-few_left service script q l r next = let c = next.at.call in let n = next.next.0 in let s = next.short in omega (arith, c, n, s)
+-- ---- what a checked call on a sector comes to
 
-pub not_cut_heard : {found : Cell} → heard.Got found ≡ heard.Cut → ⊥
-not_cut_heard e = absurd (cc)
+pub read_refused : (all : List Serving) (held : Option (List ℕ)) (sector : ℕ) (why : Reply) → ((further : Shape → Option Reply) → on_open all held sector further ≡ Some why) → IsRefusedBy all held (line.Read sector) why
+read_refused all held sector why check = (open_check all held sector why (check (λ shape. None)), check (λ shape. None))
 
-pub not_cut_wrote : wrote.Done ≡ wrote.Cut → ⊥
-not_cut_wrote e = absurd (cc)
+pub write_refused : (all : List Serving) (held : Option (List ℕ)) (sector : ℕ) (value : Payload) (why : Reply) → ((further : Shape → Option Reply) → on_open all held sector further ≡ Some why) → IsRefusedBy all held (line.Write sector value) why
+write_refused all held sector value why check = (open_check all held sector why (check (λ shape. None)), check (λ shape. wrong_length (size_of value shape.bytes) shape.bytes))
 
-module _ (service : Service) (script : Script) (q : ℕ) (sector : ℕ) (r : Runner) where
-  pub read_refused : IsNext service script q (line.Read sector) r → (why answer : Reply) (r' : Runner) → ((further : Shape → Option Reply) → on_open (all_of service) r.held sector further ≡ Some why) → answer ≡ why → r' ≡ counted r → Goes service script q r.replies.items answer r'
-  read_refused next why answer r' check same counts =
-      let is = open_check (all_of service) r.held sector why (check (λ shape. None)) in
-      subst (λ (a : Reply). Goes service script q r.replies.items a r') (sym same)
-      (subst (λ (x : Runner). Goes service script q r.replies.items why x) (sym counts)
-      (check_goes service script q (line.Read sector) r next why is (check (λ shape. None)) (read_never sector why is) (λ call held. refl) (on_read sector why)))
-
-  module _ (value : Payload) (next : IsNext service script q (line.Write sector value) r) (why answer : Reply) (r' : Runner) (same : answer ≡ why) (counts : r' ≡ counted r) where
-    write_checked : is_check why ≡ true → check_of (all_of service) r.held (line.Write sector value) ≡ Some why → Goes service script q r.replies.items answer r'
-    write_checked is check =
-        subst (λ (a : Reply). Goes service script q r.replies.items a r') (sym same)
-        (subst (λ (x : Runner). Goes service script q r.replies.items why x) (sym counts)
-        (check_goes service script q (line.Write sector value) r next why is check (write_never sector value why is) (λ call held. refl) (on_write sector value why)))
-
-    pub write_refused : ((further : Shape → Option Reply) → on_open (all_of service) r.held sector further ≡ Some why) → Goes service script q r.replies.items answer r'
-    write_refused check = write_checked (open_check (all_of service) r.held sector why (check (λ shape. None))) (check (λ shape. wrong_length (size_of value shape.bytes) shape.bytes))
-
-    pub write_misfits : (f : FoundSector) → IsFound (all_of service) r.held sector f → wrong_length (size_of value f.bytes) f.bytes ≡ Some why → Goes service script q r.replies.items answer r'
-    write_misfits f found e = write_checked (misfit_check (size_of value f.bytes) f.bytes why e) (sectors.write_checks (all_of service) r.held sector f found r_parts value ∙ e)
-      where
-        r_parts : Parts
-        r_parts = next.at.known
+pub write_misfits : (all : List Serving) (held : Option (List ℕ)) (sector : ℕ) (value : Payload) (why : Reply) (f : FoundSector) → IsFound all held sector f → wrong_length (size_of value f.bytes) f.bytes ≡ Some why → IsRefusedBy all held (line.Write sector value) why
+write_misfits all held sector value why f found e = (misfit_check (size_of value f.bytes) f.bytes why e, sectors.write_checks all held sector f found value ∙ e)
 
 -- ---- an order, whatever its reply is
 
-pub order_comes : (service : Service) (script : Script) (q : ℕ) (o : Order) (r r' : Runner) → IsNext service script q (line.Order o) r → (answer : Reply) → r'.session.passes ≡ r.session.passes → r'.session.number ≡ r.session.number → IsSamePass r.orders r'.orders → out_of r'.orders ≡ None
-    → IsSamePass r.session.caller.switch r'.session.caller.switch → CanAsk (power_of service) r'.session.caller.switch → r'.session.caller.left ≡ r.session.caller.left → r'.session.caller.call ≡ r.session.caller.call + 1 → r'.held ≡ on_after r.held (line.Order o) answer
-    → (is_cut answer ≡ false → PartGoes (IsOrdered (number_of r.orders) r.session.caller.call o answer) r.orders r'.orders × KeepsStopped r.session.caller.switch r'.session.caller.switch)
-    → (answer ≡ reply.Cut → IsCutShort (number_of r.orders) r.session.caller.call o r.orders r'.orders r.session.caller.switch r'.session.caller.switch × IsTold r'.session.caller.switch)
+pub order_comes : (service : Service) (script : Script) (q : ℕ) (o : Order) (r r' : Runner) → IsNext service script q (line.Order o) r → (answer : Reply) → r'.session.passes ≡ r.session.passes → r'.session.number ≡ r.session.number → r'.session.caller.steps ≡ r.session.caller.steps
+    → r'.session.caller.left ≡ r.session.caller.left → IsSamePass r.orders r'.orders → out_of r'.orders ≡ None → IsSamePass r.session.caller.pool r'.session.caller.pool → out_of r'.session.caller.pool ≡ None
+    → r'.session.caller.call ≡ r.session.caller.call + 1 → r'.held ≡ on_after r.held (line.Order o) answer
+    → (is_cut answer ≡ false → PartGoes (IsOrdered (number_of r.orders) r.session.caller.call o answer) r.orders r'.orders × KeepsStopped r.session.caller.pool r'.session.caller.pool)
+    → (answer ≡ reply.Cut → IsCutShort (number_of r.orders) r.session.caller.call o r.orders r'.orders r.session.caller.pool r'.session.caller.pool × IsTold r'.session.caller.pool)
     → Goes service script q r.replies.items answer r'
-order_comes service script q o r r' next answer passes number pass outside switch can_ask left call held answered cut = by (is_cut answer) refl
+order_comes service script q o r r' next answer passes number steps left order_pass order_outside pass outside call held answered cut = by (is_cut answer) refl
   where
     out : IsOutside (orders_of service) r'.orders
-    out = (pass.0 ∙ next.at.knows.outside.0, outside)
+    out = (order_pass.0 ∙ next.at.knows.outside.0, order_outside)
 
     is_a_cut : (a : Reply) → is_cut a ≡ true → a ≡ reply.Cut
     is_a_cut reply.Cut e = refl
@@ -629,18 +645,18 @@ order_comes service script q o r r' next answer passes number pass outside switc
     by : (b : Bool) → is_cut answer ≡ b → Goes service script q r.replies.items answer r'
     by false e =
         let a = answered e in
-        order_goes service script q (line.Order o) r r' next o refl passes number pass out switch can_ask left answer e call held a.0 a.1
+        order_goes service script q (line.Order o) r r' next passes number steps left pass outside order_pass out o refl answer e call held a.0 a.1
     by true e =
         let is = is_a_cut answer e in
         let c = cut is in
-        subst (λ (a : Reply). Goes service script q r.replies.items a r') (sym is) (order_stops service script q (line.Order o) r r' next o refl passes number pass out switch can_ask left c.0 c.1)
+        subst (λ (a : Reply). Goes service script q r.replies.items a r') (sym is) (order_stops service script q (line.Order o) r r' next passes number steps left pass outside order_pass out o refl c.0 c.1)
 
 -- ---- a session's loop
 
 pub line_next : (service : Service) (script : Script) (q : ℕ) (r : Runner) (lines : SessionLines) (calls : List Line) (at : ℕ) (l : Line) → IsRunning service script q r → q < length script.sessions → lines ≡ get_or script.sessions q lines → calls ≡ lines.calls
     → at ≡ length r.replies.items → l ≡ get_or calls at l → length r.replies.items < length (session_at script q).calls → IsNext service script q l r
 line_next service script q r lines calls at l running near lines_is calls_is at_is is lt =
-    let session : calls ≡ (session_at script q).calls = calls_is ∙ ap (λ (s : SessionLines). s.calls) (lines_is ∙ default_same script.sessions q lines no_lines near) in
+    let session : calls ≡ (session_at script q).calls = calls_is ∙ ap (λ (s : SessionLines). s.calls) (lines_is ∙ get_or_default script.sessions q lines no_lines near) in
     let here : get_or (session_at script q).calls (length r.replies.items) l ≡ l = sym (is ∙ ap (λ (ls : List Line). get_or ls at l) session ∙ ap (λ (n : ℕ). get_or (session_at script q).calls n l) at_is) in
     record {
       laid = running.laid;
@@ -650,39 +666,18 @@ line_next service script q r lines calls at l running near lines_is calls_is at_
       text = subst LineHasText here (running.text (length r.replies.items) l lt);
     }
 
-pub calls_are : (script : Script) (q : ℕ) (lines : SessionLines) → q < length script.sessions → lines ≡ get_or script.sessions q lines → lines.calls ≡ (session_at script q).calls
-calls_are script q lines near is = ap (λ (s : SessionLines). s.calls) (is ∙ default_same script.sessions q lines no_lines near)
-
 -- ---- values
 
 pub value_is : (value : Payload) (n : ℕ) → words_of value n ≡ words_in (bytes_said n value)
 value_is (payload.Fill b) n = refl
 value_is (payload.Hex bytes) n = refl
 
-pub size_is : (value : Payload) (n : ℕ) → size_of value n ≡ length (bytes_said n value)
-size_is (payload.Fill b) n = sym (length-replicate n b)
-size_is (payload.Hex bytes) n = refl
-
--- a value that fits has as many bytes as the sector
-pub fits_whole : (value : Payload) (n : ℕ) → wrong_length (size_of value n) n ≡ None → length (bytes_said n value) ≡ n
-fits_whole value n e = sym (size_is value n) ∙ by (size_of value n) e
-  where
-    eqb_is : (said : ℕ) (b : Bool) → (said == n) ≡ b → (if b then None else Some (reply.Length said n)) ≡ None → said ≡ n
-    eqb_is said true same e = eqb_yes (subst T (sym same) tt)
-    eqb_is said false same e = absurd (cc)
-
-    by : (said : ℕ) → wrong_length said n ≡ None → said ≡ n
-    by said e = eqb_is said (said == n) refl e
-
 -- a sector has whole words
 pub whole_words : (service : Service) (laid : IsLaid service) (held : Option (List ℕ)) (sector : ℕ) (f : FoundSector) → IsFound (all_of service) held sector f → f.bytes % 8 ≡ 0
 whole_words service laid held sector f found =
-    let j : ℕ = core_at (all_of service) found.spot.place found.spot.arena in
+    let j : ℕ = number_at (all_of service) found.spot.place found.spot.arena in
     let at = layout_is service laid held sector f found in
-    let m = length-map service.turns.items (λ t. arena_of t) in
-    let n = length-map service.turns.items (λ t. lock_id t) in
-    let near = at.0 in
-    let w = laid.whole j _ (omega (arith, near, m, n)) in
+    let w = laid.whole j no_arena at.0 in
     let e = ap (λ (s : Shape). s.bytes) at.1 in
     let b = found.bytes_is in
     let same : (arena_at (arenas_of service) j).info.layout.sector ≡ f.bytes = e ∙ sym b in
@@ -697,31 +692,26 @@ a_cut true e = refl
 a_cut false e = absurd (cc)
 
 -- only its replies changed
-same_known : (service : Service) (q : ℕ) (orders : OrdersPart) (known : Parts) (power : Mine) (r r' : Runner) → r'.session ≡ r.session → r'.orders ≡ r.orders → Knows service q orders known power r → Knows service q orders known power r'
-same_known service q orders known power r r' session same k =
-    same_knows service q orders orders known known power power r r' k (ap (λ (s : Session). s.number) session)
-    (subst (λ (s : Session). Know (locks_of service) q known s.passes.items) (sym session) k.cores) (λ j. refl)
-    (subst (λ p. IsSamePass r.orders p) (sym same) (refl, refl)) (subst (λ p. IsOutside (orders_of service) p) (sym same) k.outside) (ap (λ p. part_of p) same ∙ k.orders_is)
-    (subst (λ (s : Session). IsSamePass r.session.caller.switch s.caller.switch) (sym session) (refl, refl))
-    (subst (λ (s : Session). CanAsk (power_of service) s.caller.switch) (sym session) k.can_ask)
-    (ap (λ (s : Session). part_of s.caller.switch) session ∙ k.power_is)
+module _ (service : Service) (script : Script) (q : ℕ) (replies : List Reply) (r : Runner) (given : Vec Reply Global) where
+  abbrev known_still : (orders : OrdersPart) (known : Parts) → Knows service q orders known r → Knows service q orders known (record r { replies = given })
+  known_still orders known k = record { know = k.know; first = k.first; outside = k.outside; orders_number = k.orders_number; orders_is = k.orders_is }
 
-pub same_at : (service : Service) (script : Script) (q : ℕ) (replies : List Reply) (r r' : Runner) → r'.session ≡ r.session → r'.orders ≡ r.orders → r'.held ≡ r.held → IsAt service script q replies r → IsAt service script q replies r'
-same_at service script q replies r r' session orders held at = record {
-  orders = at.orders;
-  known = at.known;
-  power = at.power;
-  knows = same_known service q at.orders at.known at.power r r' session orders at.knows;
-  call = ap (λ (s : Session). s.caller.call) session ∙ at.call;
-  held = held ∙ at.held;
-  stands = subst (λ (s : Session). Standing (all_of service) script q replies at.orders at.known at.power s.caller.left) (sym session) at.stands;
-}
+  pub same_at : IsAt service script q replies r → IsAt service script q replies (record r { replies = given })
+  same_at at = record {
+    orders = at.orders;
+    known = at.known;
+    knows = known_still at.orders at.known at.knows;
+    call = at.call;
+    steps = at.steps;
+    held = at.held;
+    stands = at.stands;
+  }
 
-pub same_done_at : (service : Service) (script : Script) (q : ℕ) (replies : List Reply) (r r' : Runner) → r'.session ≡ r.session → r'.orders ≡ r.orders → IsDone service script q replies r → IsDone service script q replies r'
-same_done_at service script q replies r r' session orders d = record {
-  orders = d.orders;
-  known = d.known;
-  power = d.power;
-  knows = same_known service q d.orders d.known d.power r r' session orders d.knows;
-  done = d.done;
-}
+  pub same_done_at : IsDone service script q replies r → IsDone service script q replies (record r { replies = given })
+  same_done_at d = record {
+    orders = d.orders;
+    known = d.known;
+    knows = known_still d.orders d.known d.knows;
+    spent = d.spent;
+    done = d.done;
+  }

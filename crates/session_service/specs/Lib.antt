@@ -4,5 +4,4 @@ pub mod Seated
 pub mod Made
 pub mod Runners
 pub mod Ends
-pub mod Closed
 pub mod Ran

@@ -1,5 +1,5 @@
 -- What sessions came to.
-use Rattle.std.specs.Prelude.{◌≡◌, ℕ, ◌<◌, true, false, List, [], ◌∷◌, ◌++◌, length, map, Option, Some, None, Vec, slice_get, slice_index_or}
+use Rattle.std.specs.Prelude.{◌≡◌, ℕ, ◌<◌, true, false, List, [], ◌∷◌, ◌++◌, length, map, Option, Vec, slice_index_or}
 use Rattle.turn_lock.specs.Rows.{items_at}
 use Rattle.cut_words.specs.Words.{Words}
 use Rattle.namespace_areas.specs.Seen.{AreHeld, AreLeft as AreasLeft, areas_seen, areas_shown, words_of}

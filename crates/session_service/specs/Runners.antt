@@ -1,10 +1,9 @@
--- A session between two of its calls, and at its end: what its passes know, held against the account.
-use Rattle.std.specs.Prelude.{◌≡◌, ℕ, ◌+◌, ◌^◌, ◌<◌, ◌≤◌, Bool, true, false, List, [], All, length, vec_capacity, slice_index_or, Option, Some, None}
+-- A session between two of its calls, and at its end: what it knows, held against the account.
+use Rattle.std.specs.Prelude.{◌≡◌, ℕ, zero, suc, ◌+◌, ◌^◌, ◌<◌, ◌≤◌, Bool, true, false, List, [], All, length, vec_capacity, slice_index_or, Option, Some, None, is_some}
 use Rattle.turn_lock.specs.Passes.{number_of, part_of, IsOutside}
-use Rattle.turn_callers.specs.declared.desk.Mine.{Mine}
-use Rattle.turn_callers.specs.Switch.{CanAsk}
 use Rattle.namespace_ops.specs.Entries.{JournalEntry}
 use Rattle.session_script.specs.declared.script.Line.{Line}
+use Rattle.session_script.specs.declared.script.Line.TheVariants as line
 use Rattle.session_script.specs.declared.script.Script.{Script}
 use Rattle.session_account.specs.declared.reply.Reply.{Reply}
 use Rattle.session_account.specs.Account.{has_cut_entry, session_at}
@@ -13,24 +12,38 @@ use Rattle.session_account.specs.Going.{NextIs, Stands, known_cores, known_regis
 use Rattle.session_account.specs.Made.{is_cut, on_end}
 use Rattle.session_account.specs.Parts as parts
 use Rattle.session_account.specs.Parts.{Calls, PowerPart, Who, itself, labels, more}
+use Rattle.session_account.specs.Sectors.{check_of, is_check}
 use Rattle.session_account.specs.Serving.{Serving}
 use Rattle.registry_service.specs.declared.served.OrdersPart.{OrdersPart}
-use Rattle.sector_service.specs.Rows.{Know, Parts}
-use Rattle.sector_service.specs.Switch.{StaysWhole}
+use Rattle.lane_pool.specs.declared.holders.Hand.TheVariants as hand
+use Rattle.lane_pool.specs.declared.pool.PoolPart.{PoolPart}
+use Rattle.lane_pool.specs.declared.sets.Who.TheVariants as who
+use Rattle.lane_pool.specs.Parts.{switched_by}
+use Rattle.lane_calls.specs.Sessions.{Know, Parts}
+use Rattle.lane_sessions.specs.Making.{or_zero}
 use Rattle.session_service.specs.declared.runner.Runner.{Runner}
 use Rattle.session_service.specs.declared.service.Service.{Service}
 use Rattle.session_script.specs.Names.{LineHasText}
-use Rattle.session_service.specs.Namespaces.{core_at}
-use Rattle.session_service.specs.Services.{IsLaid, all_of, arena_at, arenas_of, locks_of, orders_of, power_of}
+use Rattle.session_service.specs.Namespaces.{arenas_in, number_at}
+use Rattle.session_service.specs.Services.{IsLaid, all_of, arena_at, arenas_of, orders_of}
 
 -- ---- what a session knows
 
--- its entries in each arena, and the lanes in its calls there
+-- its entries in each arena, and its writes in flight there
 abbrev pub stands_by : List Serving → Parts → Stands
-stands_by all parts place k = (parts (core_at all place k)).mine.stands
+stands_by all parts place k = (parts (number_at all place k)).mine.stands
 
 abbrev pub calls_by : List Serving → Parts → Calls
-calls_by all parts place k = (parts (core_at all place k)).mine.calls
+calls_by all parts place k = (parts (number_at all place k)).mine.calls
+
+-- the steps that lanes made for it, in the first n arenas
+abbrev pub steps_to : ℕ → Parts → ℕ
+steps_to zero parts = 0
+steps_to (suc n) parts = steps_to n parts + (parts n).steps
+
+-- in all arenas
+abbrev pub steps_by : List Serving → Parts → ℕ
+steps_by all parts = steps_to (length (arenas_in all)) parts
 
 -- why it switched power off: power was cut in a command of its own, or else its own steps ended
 abbrev pub who_if : Bool → Option Who
@@ -41,54 +54,63 @@ abbrev pub who_by : Bool → List JournalEntry → Option Who
 who_by false entries = None
 who_by true entries = who_if (has_cut_entry entries)
 
-abbrev pub power_by : Mine → List JournalEntry → PowerPart
-power_by w entries = record { stopped = who_by w.stopped entries; told = w.told }
+abbrev pub power_by : PoolPart → List JournalEntry → PowerPart
+power_by m entries = record { stopped = who_by (is_some (switched_by m.stop)) entries; told = is_some m.told }
 
--- the passes of session q, and what they know
-pub record Knows (service : Service) (q : ℕ) (orders : OrdersPart) (known : Parts) (power : Mine) (r : Runner) : Type 0 where
-  pub number : r.session.number ≡ q
-  pub cores : Know (locks_of service) q known r.session.passes.items
+-- what session q knows of each arena and of the registry
+pub record Knows (service : Service) (q : ℕ) (orders : OrdersPart) (known : Parts) (r : Runner) : Type 0 where
+  pub know : Know service.sectors q known r.session
   pub first : (j : ℕ) → (known j).first ≡ arena_at (arenas_of service) j
   pub outside : IsOutside (orders_of service) r.orders
   pub orders_number : number_of r.orders ≡ q
   pub orders_is : part_of r.orders ≡ Some orders
-  pub can_ask : CanAsk (power_of service) r.session.caller.switch
-  pub switch_number : number_of r.session.caller.switch ≡ q
-  pub power_is : part_of r.session.caller.switch ≡ Some power
 
 -- ---- between two calls
 
--- session q after some of its calls, none of which was cut, by what its passes know
-pub record Standing (all : List Serving) (script : Script) (q : ℕ) (replies : List Reply) (orders : OrdersPart) (known : Parts) (power : Mine) (left : Option ℕ) : Type 0 where
+-- a session that never cuts power doesn't begin to
+abbrev pub StaysWhole : Option ℕ → Option ℕ → Type 0
+StaysWhole left left' = left ≡ None → left' ≡ None
+
+-- session q after some of its calls, none of which was cut, by what it knows
+pub record Standing (all : List Serving) (script : Script) (q : ℕ) (replies : List Reply) (orders : OrdersPart) (known : Parts) (pool : PoolPart) (left : Option ℕ) : Type 0 where
   -- it is in no call
   pub free : (j : ℕ) → (known j).mine.calls ≡ []
+  -- it has no set out, and may take one for each call that it has left
+  pub empty : pool.hand ≡ hand.Empty
+  pub calls : length (session_at script q).calls ≤ pool.left + length replies
   pub held : orders.held ≡ on_end (session_at script q).calls replies
   pub labelcut : orders.began.labelcut ≡ script.labelcut
   -- it has room for its orders, and to give back what it has open at its end
   pub room : length (session_at script q).calls + 1 ≤ orders.room + length replies
-  pub unstopped : power.stopped ≡ false
+  pub unstopped : pool.stop ≡ None
   pub uncut : has_cut_entry orders.entries ≡ false
   pub whole : StaysWhole (session_at script q).cut left
+  -- the steps that it may make are those that lanes made for it, and those that are left
+  pub counted : (n m : ℕ) → (session_at script q).cut ≡ Some n → left ≡ Some m → steps_by all known + m ≡ n
   pub at : account.IsAt all q (session_at script q) replies orders.entries (stands_by all known) left
 
 pub record IsAt (service : Service) (script : Script) (q : ℕ) (replies : List Reply) (r : Runner) : Type 0 where
   pub orders : OrdersPart
   pub known : Parts
-  pub power : Mine
-  pub knows : Knows service q orders known power r
+  pub knows : Knows service q orders known r
   pub call : r.session.caller.call ≡ length replies
+  pub steps : r.session.caller.steps ≡ or_zero (session_at script q).cut
   pub held : r.held ≡ on_end (session_at script q).calls replies
-  pub stands : Standing (all_of service) script q replies orders known power r.session.caller.left
+  pub stands : Standing (all_of service) script q replies orders known knows.know.pool r.session.caller.left
 
 -- ---- at the end
+
+-- If session q itself switched power off, it has a `cut` line, and lanes made exactly so many steps for it.
+abbrev pub IsSpent : List Serving → Script → ℕ → Parts → PoolPart → Type 0
+IsSpent all script q known pool = (n : ℕ) → switched_by pool.stop ≡ Some (record { who = who.Session q; steps = n }) → ((session_at script q).cut ≡ Some n) × (steps_by all known ≡ n)
 
 -- session q has made its last call and given back what it had open, or a call was cut
 pub record IsDone (service : Service) (script : Script) (q : ℕ) (replies : List Reply) (r : Runner) : Type 0 where
   pub orders : OrdersPart
   pub known : Parts
-  pub power : Mine
-  pub knows : Knows service q orders known power r
-  pub done : parts.IsDone (all_of service) script q replies (known_registry orders.entries orders.room) (known_cores (stands_by (all_of service) known) (calls_by (all_of service) known)) (power_by power orders.entries)
+  pub knows : Knows service q orders known r
+  pub spent : IsSpent (all_of service) script q known knows.know.pool
+  pub done : parts.IsDone (all_of service) script q replies (known_registry orders.entries orders.room) (known_cores (stands_by (all_of service) known) (calls_by (all_of service) known)) (power_by knows.know.pool orders.entries)
 
 -- ---- one call
 
@@ -105,9 +127,11 @@ pub record Goes (service : Service) (script : Script) (q : ℕ) (replies : List 
   pub on : is_cut answer ≡ false → IsAt service script q (more replies answer) r
   pub ended : is_cut answer ≡ true → IsDone service script q (more replies answer) r
 
--- its next call has the next number
-abbrev pub counted : Runner → Runner
-counted r = record r { session = record r.session { caller = record r.session.caller { call = r.session.caller.call + 1 } } }
+-- a call on a sector that its checks refuse
+abbrev pub IsRefusedBy : List Serving → Option (List ℕ) → Line → Reply → Type 0
+IsRefusedBy all held (line.Read sector) why = (is_check why ≡ true) × (check_of all held (line.Read sector) ≡ Some why)
+IsRefusedBy all held (line.Write sector value) why = (is_check why ≡ true) × (check_of all held (line.Write sector value) ≡ Some why)
+IsRefusedBy all held (line.Order o) why = ⊥
 
 -- the replies that were given before are kept
 abbrev pub KeepsReplies : Runner → Runner → Type 0

@@ -1,18 +1,15 @@
--- The locks around all cores, around the registry and around the power switch.
-use Rattle.std.specs.Prelude.{◌≡◌, ℕ, ◌%◌, List, [], All, map, slice_index_or}
+-- The sectors that sessions share, and the registry behind its lock.
+use Rattle.std.specs.Prelude.{◌≡◌, ℕ, ◌%◌, List, [], All, length, map, slice_index_or}
 use Rattle.atomic_table.specs.Seated.{TableId}
-use Rattle.turn_lock.specs.declared.turn.Turn.{Turn}
-use Rattle.turn_lock.specs.Passes.{lock_id, callers_of, first_of}
+use Rattle.turn_lock.specs.Passes.{lock_id}
 use Rattle.arena_open.specs.declared.state.ArenaState.{ArenaState}
-use Rattle.sector_service.specs.declared.served.ServedPart.{ServedPart}
-use Rattle.sector_service.specs.Served.{Served, fresh}
 use Rattle.session_account.specs.Serving.{Serving}
 use Rattle.session_service.specs.declared.service.Service.{Service}
 use Rattle.session_service.specs.Namespaces.{AreLaid, arenas_in, servings_at, shape_by}
 
--- ---- arenas, by the numbers of their cores
+-- ---- arenas, by their numbers
 
--- what stands for the arena of a core that isn't there
+-- what stands for an arena that isn't there
 abbrev pub no_arena : ArenaState
 no_arena = record {
   info = record {
@@ -32,27 +29,17 @@ no_arena = record {
 abbrev pub arena_at : List ArenaState → ℕ → ArenaState
 arena_at arenas j = slice_index_or arenas j no_arena
 
--- ---- locks
-
--- the arena of the core that a lock was made around
-abbrev pub arena_of : Turn Served ServedPart → ArenaState
-arena_of t = (first_of t).first
-
-abbrev pub locks_of : Service → List TableId
-locks_of s = map lock_id s.turns.items
-
+-- the arenas of a service, as they were opened
 abbrev pub arenas_of : Service → List ArenaState
-arenas_of s = map arena_of s.turns.items
+arenas_of s = s.opened.value.items
+
+-- ---- locks
 
 abbrev pub orders_of : Service → TableId
 orders_of s = lock_id s.registry.turn
 
-abbrev pub power_of : Service → TableId
-power_of s = lock_id s.switch.turn
-
--- a lock for this many callers, around a core in which nothing was called
-abbrev pub IsNewCore : ℕ → Turn Served ServedPart → Type 0
-IsNewCore callers t = (callers_of t ≡ callers) × (first_of t ≡ fresh (arena_of t))
+abbrev pub pool_of : Service → TableId
+pool_of s = lock_id s.sectors.pool.turn
 
 -- ---- namespaces
 
@@ -60,8 +47,9 @@ IsNewCore callers t = (callers_of t ≡ callers) × (first_of t ≡ fresh (arena
 abbrev pub all_of : Service → List Serving
 all_of s = servings_at s.places.items
 
--- their arenas are those of the cores, and a sector has whole words
+-- their arenas are those of the sectors, and a sector has whole words
 pub record IsLaid (s : Service) : Type 0 where
   pub laid : AreLaid s.places.items
   pub shapes : map shape_by (arenas_of s) ≡ arenas_in (all_of s)
   pub whole : All (λ a. a.info.layout.sector % 8 ≡ 0) (arenas_of s)
+  pub count : length s.sectors.arenas.items ≡ length (arenas_of s)

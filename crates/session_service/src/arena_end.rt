@@ -1,12 +1,10 @@
 //! An arena's words when its sessions have ended, and what a power cut leaves of them.
-ghost use Rattle.std.specs.Prelude.{◌≡◌, ◌==◌, if◌then◌else◌, length, Some, None, IfOk, All};
+ghost use Rattle.std.specs.Prelude.{◌≡◌, ◌==◌, if◌then◌else◌, length, Some, None, IfOk};
 ghost use Rattle.cut_words.specs.Leaving.{LeavesFrom, LeavesOne};
 ghost use Rattle.cut_words.specs.Words.{IsLeft};
-ghost use Rattle.lane_core.specs.Machines.{IsSomeCore};
-ghost use Rattle.session_service.specs.Closed.{AreEndsOf, IsEndOf};
-ghost use Rattle.session_service.specs.Ends.{two_valued};
+ghost use Rattle.session_service.specs.Ends.{HaveBoth, two_valued, words_of};
 
-use lane_core::{ArenaWords, Core};
+use lane_core::ArenaWords;
 use nvd_media::Chooser;
 use nvd_words::Items;
 use std::alloc::{AllocError, Global};
@@ -58,13 +56,13 @@ fn choose_words<C: Chooser>(choose: &mut C, kept: Vec<u64>, seen: &[u64]) -> Vec
 }
 
 impl ArenaEnd {
-    /// The words of a core in which no session makes a step any more.
-    pub(crate) fn of_core(core: Core) -> Result<ArenaEnd, AllocError>
-        requires core { IsSomeCore core }
-        ensures { IfOk result (IsEndOf core) }
+    /// The words that an arena leaves.
+    pub(crate) fn of_words(words: ArenaWords) -> ArenaEnd
+        requires both { length words.seen.items ≡ length words.kept.items }
+        ensures { result ≡ two_valued words.kept.items words.seen.items }
     {
-        let ArenaWords { seen, kept } = core.into_words()?;
-        Ok(ArenaEnd { seen, kept })
+        let ArenaWords { seen, kept } = words;
+        ArenaEnd { seen, kept }
     }
 
     /// The arena's words after a power cut. It takes no memory.
@@ -80,14 +78,14 @@ impl ArenaEnd {
     }
 }
 
-/// The words of cores in which no session makes a step any more.
-pub(crate) fn ends_of(alloc: Global, cores: Vec<Core>) -> Result<Vec<ArenaEnd>, AllocError>
-    requires { All IsSomeCore cores.items }
-    ensures { IfOk result (λ ends. AreEndsOf cores.items ends.items) }
+/// The words that arenas leave.
+pub(crate) fn ends_of(alloc: Global, arenas: Vec<ArenaWords>) -> Result<Vec<ArenaEnd>, AllocError>
+    requires { HaveBoth arenas.items }
+    ensures { IfOk result (λ ends. ends.items ≡ words_of arenas.items) }
 {
     let mut ends = Vec::new(alloc);
-    for core in cores {
-        ends.push(ArenaEnd::of_core(core)?)?;
+    for words in arenas {
+        ends.push(ArenaEnd::of_words(words))?;
     }
     Ok(ends)
 }

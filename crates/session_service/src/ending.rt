@@ -1,30 +1,24 @@
-//! The locks are closed, and the accounts hold.
+//! The arenas and the registry are closed, and the accounts hold.
 ghost use Rattle.std.specs.Prelude.{◌≡◌, ◌<◌, List, length, map, true, false, IfOk, All};
-ghost use Rattle.turn_lock.specs.Passes.{lock_id};
 ghost use Rattle.namespace_ops.specs.Registered.{Registered};
 ghost use Rattle.session_service.specs.declared.namespaces.ServedNamespace.{ServedNamespace as Given};
-ghost use Rattle.session_service.specs.Closed.{AreShared, KnowAll, PartsAreKnown};
 ghost use Rattle.session_service.specs.Made.{IsMade};
 ghost use Rattle.session_service.specs.Namespaces.{arenas_in, servings_at};
 ghost use Rattle.session_service.specs.Ran.{HasServed, in_row};
 ghost use Rattle.session_service.specs.Runners.{AreEnded};
-ghost use Rattle.session_service.specs.Seated.{KeepAllButCores};
-ghost use Rattle.session_service.specs.Services.{IsNewCore, arena_of};
 
 use crate::arena_end::{ArenaEnd, ends_of};
-use crate::closing::close_cores;
-use crate::namespaces::NamespaceCores;
+use crate::namespaces::NamespaceArenas;
 use crate::runner::Runner;
 use crate::service::Service;
-use lane_core::Core;
+use lane_calls::Session;
+use lane_sessions::close_sectors;
 use namespace_ops::Registry;
 use registry_service::{ServedRegistry, close_registry};
-use sector_service::{Caller, ServedCore, Session};
 use session_account::Reply;
 use session_script::Script;
 use std::alloc::{AllocError, Global};
-use turn_callers::Desk as Power;
-use turn_lock::{Turn, TurnPass};
+use turn_lock::TurnPass;
 
 /// What all sessions came to.
 #[derive(Drop)]
@@ -36,11 +30,11 @@ pub struct Ran {
     pub replies: Vec<Vec<Reply>>,
 }
 
-// What sessions hand in: their passes of the registry and of the power switch, and their replies.
+// What runners hand in.
 #[derive(Drop)]
 pub(crate) struct HandedIn {
+    pub(crate) sessions: Vec<Session>,
     pub(crate) orders: Vec<TurnPass<ServedRegistry>>,
-    pub(crate) switches: Vec<TurnPass<Power>>,
     pub(crate) replies: Vec<Vec<Reply>>,
 }
 
@@ -51,14 +45,14 @@ fn lasted(runners: &[Runner]) -> bool
     runners.iter().all(|runner| !runner.refused)
 }
 
-// The passes and the replies of all sessions.
+// The sessions, the passes of the registry and the replies of all runners.
 fn hand_in(alloc: Global, runners: Vec<Runner>) -> Result<HandedIn, AllocError>
+    ensures sessions { IfOk result (λ h. h.sessions.items ≡ map (λ r. r.session) runners.items) }
     ensures orders { IfOk result (λ h. h.orders.items ≡ map (λ r. r.orders) runners.items) }
-    ensures switches { IfOk result (λ h. h.switches.items ≡ map (λ r. r.session.caller.switch) runners.items) }
     ensures replies { IfOk result (λ h. h.replies.items ≡ map (λ r. r.replies) runners.items) }
 {
+    let mut sessions = Vec::new(alloc);
     let mut orders = Vec::new(alloc);
-    let mut switches = Vec::new(alloc);
     let mut replies = Vec::new(alloc);
     for runner in runners {
         let Runner {
@@ -67,15 +61,13 @@ fn hand_in(alloc: Global, runners: Vec<Runner>) -> Result<HandedIn, AllocError>
             replies: own,
             ..
         } = runner;
-        let Session { caller, .. } = session;
-        let Caller { switch, .. } = caller;
+        sessions.push(session)?;
         orders.push(pass)?;
-        switches.push(switch)?;
         replies.push(own)?;
     }
     Ok(HandedIn {
+        sessions,
         orders,
-        switches,
         replies,
     })
 }
@@ -83,7 +75,7 @@ fn hand_in(alloc: Global, runners: Vec<Runner>) -> Result<HandedIn, AllocError>
 // The arenas of each namespace, out of those of all.
 fn split(
     alloc: Global,
-    places: &[NamespaceCores],
+    places: &[NamespaceArenas],
     row: Vec<ArenaEnd>,
 ) -> Result<Vec<Vec<ArenaEnd>>, AllocError>
     requires { length (arenas_in (servings_at places.now)) ≡ length row.items }
@@ -100,26 +92,8 @@ fn split(
     Ok(arenas)
 }
 
-// The cores, and the sessions without their passes of them.
-fn closed(
-    alloc: Global,
-    turns: Vec<Turn<ServedCore>>,
-    mut runners: Vec<Runner>,
-) -> Result<(Vec<Core>, Vec<Runner>), AllocError>
-    requires new { All (IsNewCore (length runners.items)) turns.items }
-    requires known { KnowAll (map lock_id turns.items) runners.items }
-    ensures count { IfOk result (λ r. length r.0.items ≡ length turns.items) }
-    ensures shared { IfOk result (λ r. AreShared (length runners.items) (map arena_of turns.items) r.0.items) }
-    ensures parts { IfOk result (λ r. PartsAreKnown (map lock_id turns.items) (map arena_of turns.items) runners.items r.0.items) }
-    ensures kept { IfOk result (λ r. length r.1.items ≡ length runners.items) }
-    ensures rest { IfOk result (λ r. KeepAllButCores runners.items r.1.items) }
-{
-    let cores = close_cores(alloc, turns, runners.as_mut_slice())?;
-    Ok((cores, runners))
-}
-
-/// Closes all locks, and hands back the registry and the arenas' words. The one refusal is out of memory,
-/// also if it ran out in a session or in an order.
+/// Closes the arenas and the registry, and hands back the registry and the arenas' words. The one refusal is
+/// out of memory, also if it ran out in a session or in an order; then all of them are dropped.
 ///
 /// Each session's replies belong to its own entries in the registry's journal and in the arenas'
 /// histories, in order, and power was cut only if a session's own steps or those on labels ended
@@ -128,7 +102,7 @@ fn closed(
 /// legal. After a crash an arena opens in its place, each sector as at the history's end or as a
 /// call in flight would make it (`arenas`).
 ///
-/// Conditions: `of_namespaces` made the locks, and each session has run (`run_sessions`).
+/// Conditions: `of_namespaces` made the service, and each session has run (`run_sessions`).
 pub fn close(
     alloc: Global,
     service: Service,
@@ -145,23 +119,22 @@ pub fn close(
     }
     let Service {
         places,
-        turns,
+        sectors,
+        aside,
         registry,
-        switch,
         ..
     } = service;
-    let (cores, runners) = closed(alloc, turns, runners)?;
-    let row = ends_of(alloc, cores)?;
     let handed = hand_in(alloc, runners)?;
-    let places = places.as_slice();
-    let arenas = split(alloc, places, row)?;
     let HandedIn {
+        sessions,
         orders,
-        switches,
         replies,
     } = handed;
+    let ended = close_sectors(alloc, sectors, aside, sessions)?;
+    let row = ends_of(alloc, ended.words)?;
+    let places = places.as_slice();
+    let arenas = split(alloc, places, row)?;
     let (registry, _fuse) = close_registry(registry.turn, orders);
-    let _power = switch.turn.close(switches);
     Ok(Ran {
         registry,
         arenas,

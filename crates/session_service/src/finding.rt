@@ -6,24 +6,24 @@ ghost use Rattle.session_account.specs.declared.reply.Reply.{Reply as Replied};
 ghost use Rattle.session_account.specs.declared.reply.Reply.TheVariants as reply;
 ghost use Rattle.session_service.specs.Namespaces.{AreLaid, HasNone, IsFirstOf, IsFound, IsFoundAt, LiesAt, externals, servings_at};
 
-use crate::namespaces::NamespaceCores;
+use crate::namespaces::NamespaceArenas;
 use arena_layout::Layout;
 use session_account::Reply;
 use uuid::Uuid;
 
-/// A sector of a core.
+/// A sector of an arena.
 #[derive(Debug, Drop)]
 pub struct FoundSector {
-    /// The number of the core, among all cores.
-    pub(crate) core: usize,
-    /// The number of the sector in the core's arena.
+    /// The number of the arena, among all arenas.
+    pub(crate) arena: usize,
+    /// The number of the sector in the arena.
     pub(crate) sector: u32,
     /// The size of the sector in bytes.
     pub(crate) bytes: u32,
 }
 
 /// The place of the namespace with a UUID, if there is one.
-fn place_of(places: &[NamespaceCores], uuid: &Uuid) -> Option<usize>
+fn place_of(places: &[NamespaceArenas], uuid: &Uuid) -> Option<usize>
     ensures { MatchOption result (HasNone places.now uuid.now) (IsFirstOf places.now uuid.now) }
 {
     for (i, place) in places.iter().enumerate() {
@@ -62,7 +62,7 @@ fn locate(arenas: &[Layout], sector: u64) -> Option<(usize, u32)>
 }
 
 /// Finds a sector of a namespace at its place.
-fn find_at(place: &NamespaceCores, sector: u64) -> Result<FoundSector, Reply>
+fn find_at(place: &NamespaceArenas, sector: u64) -> Result<FoundSector, Reply>
     requires first { place.now.first < 2 ^ 32 }
     requires few { length place.now.arenas.items < 2 ^ 32 }
     ensures found { IfOk result (IsFoundAt place.now sector) }
@@ -70,7 +70,7 @@ fn find_at(place: &NamespaceCores, sector: u64) -> Result<FoundSector, Reply>
 {
     match locate(place.arenas.as_slice(), sector) {
         Some((k, own)) => Ok(FoundSector {
-            core: place.first + k,
+            arena: place.first + k,
             sector: own,
             bytes: place.arenas[k].sector,
         }),
@@ -82,7 +82,7 @@ fn find_at(place: &NamespaceCores, sector: u64) -> Result<FoundSector, Reply>
 
 /// Finds a sector of the namespace that is open, or says why there is none.
 pub(crate) fn find(
-    places: &[NamespaceCores],
+    places: &[NamespaceArenas],
     held: Option<Uuid>,
     sector: u64,
 ) -> Result<FoundSector, Reply>

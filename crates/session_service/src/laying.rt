@@ -1,75 +1,71 @@
-//! The cores of all namespaces in one row.
+//! The arenas of all namespaces in one row.
 ghost use Rattle.std.specs.Prelude.{◌≡◌, ◌^◌, ◌<◌, [], ◌∷◌, ◌++◌, All, length, map, IfOk, OnOk};
 ghost use Rattle.arena_open.specs.Moves.{IsOpenState};
-ghost use Rattle.sector_service.specs.Served.{fresh};
 ghost use Rattle.session_service.specs.Made.{states_in};
 ghost use Rattle.session_service.specs.Namespaces.{AreLaid, AreOpened, servings_at, servings_of};
 
-use crate::namespaces::{NamespaceCores, ServedNamespace};
+use crate::namespaces::{NamespaceArenas, ServedNamespace};
 use arena_layout::Layout;
 use arena_open::ArenaState;
-use sector_service::ServedCore;
 use std::alloc::{AllocError, Global};
 
-// Makes a core of an arena more.
+// Takes an arena more.
 fn add_arena(
-    alloc: Global,
     state: ArenaState,
     layouts: &mut Vec<Layout>,
-    cores: &mut Vec<ServedCore>,
+    states: &mut Vec<ArenaState>,
 ) -> Result<(), AllocError>
-    requires { IsOpenState state }
     ensures layouts { OnOk result (layouts.new.items ≡ layouts.old.items ++ state.info.layout ∷ []) }
-    ensures cores { OnOk result (cores.new.items ≡ cores.old.items ++ fresh state ∷ []) }
+    ensures states { OnOk result (states.new.items ≡ states.old.items ++ state ∷ []) }
 {
     layouts.push(state.info.layout)?;
-    cores.push(ServedCore::of(alloc, state)?)?;
+    states.push(state)?;
     Ok(())
 }
 
-// Makes the cores of a namespace, behind those that are there.
+// Takes the arenas of a namespace, behind those that are there.
 fn add_namespace(
     alloc: Global,
     namespace: ServedNamespace,
-    cores: &mut Vec<ServedCore>,
-) -> Result<NamespaceCores, AllocError>
-    requires { AreOpened namespace }
-    ensures place { IfOk result (λ p. (p.uuid ≡ namespace.uuid) × (p.first ≡ length cores.old.items)) }
+    states: &mut Vec<ArenaState>,
+) -> Result<NamespaceArenas, AllocError>
+    ensures place { IfOk result (λ p. (p.uuid ≡ namespace.uuid) × (p.first ≡ length states.old.items)) }
     ensures layouts { IfOk result (λ p. p.arenas.items ≡ map (λ a. a.info.layout) namespace.arenas.items) }
-    ensures cores { OnOk result (cores.new.items ≡ cores.old.items ++ map fresh namespace.arenas.items) }
+    ensures states { OnOk result (states.new.items ≡ states.old.items ++ namespace.arenas.items) }
 {
     let ServedNamespace { uuid, arenas } = namespace;
-    let first = cores.len();
+    let first = states.len();
     let mut layouts = Vec::new(alloc);
     for state in arenas {
-        add_arena(alloc, state, &mut layouts, cores)?;
+        add_arena(state, &mut layouts, states)?;
     }
-    Ok(NamespaceCores {
+    Ok(NamespaceArenas {
         uuid,
         first,
         arenas: layouts,
     })
 }
 
-/// Makes the cores of all namespaces, and their places. The one refusal is out of memory, also if
-/// there are 2^32 cores.
+/// Takes the arenas of all namespaces, and makes their places. The one refusal is out of memory, also if
+/// there are 2^32 arenas.
 pub(crate) fn lay(
     alloc: Global,
     served: Vec<ServedNamespace>,
-) -> Result<(Vec<NamespaceCores>, Vec<ServedCore>), AllocError>
+) -> Result<(Vec<NamespaceArenas>, Vec<ArenaState>), AllocError>
     requires { All AreOpened served.items }
     ensures all { IfOk result (λ r. servings_at r.0.items ≡ servings_of served.items) }
     ensures laid { IfOk result (λ r. AreLaid r.0.items) }
-    ensures cores { IfOk result (λ r. r.1.items ≡ map fresh (states_in served.items)) }
+    ensures states { IfOk result (λ r. r.1.items ≡ states_in served.items) }
+    ensures opened { IfOk result (λ r. All IsOpenState r.1.items) }
 {
     let mut places = Vec::new(alloc);
-    let mut cores = Vec::new(alloc);
+    let mut states = Vec::new(alloc);
     for namespace in served {
-        let place = add_namespace(alloc, namespace, &mut cores)?;
+        let place = add_namespace(alloc, namespace, &mut states)?;
         places.push(place)?;
     }
-    if cores.len() > u32::MAX as usize {
+    if states.len() > u32::MAX as usize {
         return Err(AllocError);
     }
-    Ok((places, cores))
+    Ok((places, states))
 }

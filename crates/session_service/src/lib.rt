@@ -7,33 +7,33 @@
 //!   session 1   open A -> Done    read 9 -> Value     read 99 -> Range
 //! ```
 //!
-//! An order is one turn at the registry (`registry_service`). A call on a sector takes the lock of its arena's core for each single
-//! step (`sector_service`). So calls of several sessions come between one another. What holds at the end is the **account**
+//! An order is one turn at the registry (`registry_service`). A call on a sector runs on a lane of its arena (`lane_calls`), beside
+//! the calls of other sessions. What holds at the end is the **account**
 //! (`Accounts` of `session_account`): the answered calls of a session stand in the journal and in the histories, each once, in
 //! their order, with their replies. Only its last call may be cut; if it is an order or a write, it stands or doesn't.
 //!
-//! **Power.** Before each call a session asks for the power, and is answered `Cut` if that is off. A session with a `cut` line makes
-//! only so many steps, and switches power off when they are spent. If the steps on labels end (`labelcut`), the session in whose
+//! **Power.** A call is answered `Cut` if power is off. A session with a `cut` line makes only so many steps, and switches power off
+//! when they are spent. If the steps on labels end (`labelcut`), the session in whose
 //! order they do so switches it off.
 //!
-//! **Arenas.** The cores of all namespaces stand in one row, namespace after namespace (`core_at` of `specs/Namespaces.antt`):
+//! **Arenas.** The arenas of all namespaces stand in one row, namespace after namespace (`number_at` of `specs/Namespaces.antt`):
 //!
 //! ```text
 //!   namespace   A          B     C
 //!   arena       0  1  2    0     0  1
-//!   core        0  1  2    3     4  5
+//!   number      0  1  2    3     4  5
 //! ```
 //!
 //! | call | promise | definition |
 //! |---|---|---|
-//! | [`of_namespaces`] | the locks are made, and each session is ready | `IsMade` of `specs/Made.antt`, `AreRunnersReady` |
+//! | [`of_namespaces`] | the service is made, and each session is ready | `IsMade` of `specs/Made.antt`, `AreRunnersReady` |
 //! | [`run_sessions`] | each session has come to its end, whatever the threads did | `AreEnded` of `specs/Runners.antt` |
+//! | the same | a session that itself switched power off has a `cut` line, and lanes made exactly so many steps for it | `IsSpent` of `specs/Runners.antt` |
 //! | [`close`] | the accounts hold, the journal and the histories are legal, and they say what a power cut leaves | `HasServed` of `specs/Ran.antt` |
 //! | [`ArenaEnd::leave`] | power is cut: the chooser is asked for exactly the words that have two values | `IsAtCut` of `specs/Ends.antt` |
 #![tactic(auto)]
 
 mod arena_end;
-mod closing;
 mod ending;
 mod finding;
 mod laying;

@@ -1,34 +1,53 @@
 //! A session makes one call of its script.
 ghost use Rattle.std.specs.Prelude.{◌≡◌, ℕ, ◌+◌, ◌^◌, ◌<◌, IfOk};
+ghost use Rattle.lane_table.specs.Reads.{cell_of_kind};
 ghost use Rattle.session_account.specs.declared.reply.Reply.TheVariants as reply;
 ghost use Rattle.session_account.specs.Made.{on_after};
 ghost use Rattle.session_account.specs.Sectors.{wrong_length, size_of};
+ghost use Rattle.session_script.specs.declared.script.Line.{Line};
 ghost use Rattle.session_script.specs.declared.script.Line.TheVariants as line;
 ghost use Rattle.session_script.specs.declared.script.Script.{Script};
-ghost use Rattle.session_service.specs.Runners.{Goes, IsNext, KeepsReplies, counted};
+ghost use Rattle.session_service.specs.Runners.{Goes, IsNext, IsRefusedBy, KeepsReplies};
+ghost use Rattle.session_service.specs.Services.{all_of};
 
 use crate::finding::find;
 use crate::runner::Runner;
 use crate::service::Service;
+use arena_open::{Cell, CellKind};
+use lane_calls::{Heard, Waiting, Wrote, read, write};
+use lane_pool::is_off;
 use lane_replay::{length_of, value_words};
 use nvd_media::Gate;
+use nvd_words::Items;
 use registry_service::order;
-use sector_service::{Heard, Waiting, Wrote, read, write};
 use session_account::Reply;
 use session_script::{Line, Order, Payload};
 use std::alloc::AllocError;
 use std::sync::Wait;
-use turn_callers::is_off;
 use uuid::Uuid;
 
-/// The call was refused by its checks.
-fn refuse(runner: &mut Runner, why: Reply) -> Reply
-    requires { runner.old.session.caller.call + 1 < 2 ^ 32 }
-    ensures why { result ≡ why }
-    ensures counted { runner.new ≡ counted runner.old }
+/// The reply to a call that its checks refuse: that, or that power is off.
+fn refuse<R: Wait>(rt: &R, service: &Service, runner: &mut Runner, why: Reply) -> Reply
+    requires { (script : Script) × (q : ℕ) × (l : Line) × IsNext service.now script q l runner.old × IsRefusedBy (all_of service.now) runner.old.held l why }
+    ensures kept { KeepsReplies runner.old runner.new }
+    ensures goes { (script : Script) (q : ℕ) (l : Line) → IsNext service.now script q l runner.old → IsRefusedBy (all_of service.now) runner.old.held l why → Goes service.now script q runner.old.replies.items result runner.new }
 {
-    runner.session.caller.call += 1;
+    let caller = &mut runner.session.caller;
+    if is_off(rt, &service.sectors.pool, &mut caller.pool) {
+        return Reply::Cut;
+    }
+    caller.call += 1;
     why
+}
+
+/// The cell that a read got.
+fn cell_of(kind: CellKind, words: Vec<u64>) -> Cell
+    ensures { result ≡ cell_of_kind kind words.items }
+{
+    match kind {
+        CellKind::Bytes => Cell::Bytes(Items::from_vec(words)),
+        CellKind::Bad => Cell::Bad,
+    }
 }
 
 /// Reads a sector of the namespace that is open.
@@ -45,20 +64,16 @@ fn make_read<R: Wait>(
     let places = service.places.as_slice();
     let found = match find(places, runner.held, sector) {
         Ok(found) => found,
-        Err(why) => return Ok(refuse(runner, why)),
+        Err(why) => return Ok(refuse(rt, service, runner, why)),
     };
-    let turns = service.turns.as_slice();
-    match read(
-        rt,
-        turns,
-        &service.switch.turn,
-        &mut runner.session,
-        found.core,
-        found.sector,
-    ) {
-        Heard::Got(cell) => Ok(Reply::Value(cell)),
+    let width = (found.bytes / 8) as usize;
+    let mut words = vec![in service.alloc; 0; width]?;
+    let session = &mut runner.session;
+    let into = words.as_mut_slice();
+    let sectors = &service.sectors;
+    match read(rt, sectors, session, found.arena, found.sector, into) {
+        Heard::Got(kind) => Ok(Reply::Value(cell_of(kind, words))),
         Heard::Cut => Ok(Reply::Cut),
-        Heard::OutOfMemory => Err(AllocError),
     }
 }
 
@@ -90,27 +105,19 @@ fn make_write<R: Wait, G: Gate>(
     let places = service.places.as_slice();
     let found = match find(places, runner.held, sector) {
         Ok(found) => found,
-        Err(why) => return Ok(refuse(runner, why)),
+        Err(why) => return Ok(refuse(waiting.rt, service, runner, why)),
     };
     match misfit(value, found.bytes) {
-        Some(why) => return Ok(refuse(runner, why)),
+        Some(why) => return Ok(refuse(waiting.rt, service, runner, why)),
         None => {}
     }
     let words = value_words(service.alloc, value, found.bytes as usize)?;
     let slice = words.as_slice();
-    let turns = service.turns.as_slice();
-    match write(
-        waiting,
-        turns,
-        &service.switch.turn,
-        &mut runner.session,
-        found.core,
-        found.sector,
-        slice,
-    ) {
+    let session = &mut runner.session;
+    let sectors = &service.sectors;
+    match write(waiting, sectors, session, found.arena, found.sector, slice) {
         Wrote::Done => Ok(Reply::Done),
         Wrote::Cut => Ok(Reply::Cut),
-        Wrote::OutOfMemory => Err(AllocError),
     }
 }
 
@@ -141,8 +148,8 @@ fn make_order<R: Wait>(
         rt,
         &service.registry.turn,
         &mut runner.orders,
-        &service.switch.turn,
-        &mut caller.switch,
+        &service.sectors.pool,
+        &mut caller.pool,
         caller.call,
         asked,
     )?;
@@ -151,11 +158,11 @@ fn make_order<R: Wait>(
     Ok(reply)
 }
 
-/// Makes a call of a script. First the session asks for the power, and its reply is `Cut` if that is
-/// off.
+/// Makes a call of a script. If power is off its reply is `Cut`.
 ///
-/// Then come the checks, in this order: `NotOpen`, `Range`, `Length`; of an `open` `IsOpen`. The one
-/// error is out of memory.
+/// The checks come in this order: `NotOpen`, `Range`, `Length`; of an `open` `IsOpen`. They look at nothing
+/// that other sessions change, so the session asks for the power only if one of them refuses the call, or where the call
+/// takes its lanes. The one error is out of memory.
 pub(crate) fn make_line<R: Wait, G: Gate>(
     waiting: &Waiting<R, G>,
     service: &Service,
@@ -167,9 +174,6 @@ pub(crate) fn make_line<R: Wait, G: Gate>(
     ensures goes { (script : Script) (q : ℕ) → IsNext service.now script q line.now runner.old → IfOk result (λ r. Goes service.now script q runner.old.replies.items r runner.new) }
 {
     let rt = waiting.rt;
-    if is_off(rt, &service.switch.turn, &mut runner.session.caller.switch) {
-        return Ok(Reply::Cut);
-    }
     match line {
         Line::Read { sector } => make_read(rt, service, runner, *sector),
         Line::Write { sector, value } => make_write(waiting, service, runner, *sector, value),

@@ -10,11 +10,11 @@ pub struct ServedNamespace {
     pub arenas: Vec<ArenaState>,
 }
 
-/// Where the cores of a namespace stand among all cores, and the layouts of its arenas.
+/// Where the arenas of a namespace stand among all arenas, and their layouts.
 #[derive(Drop)]
-pub struct NamespaceCores {
+pub struct NamespaceArenas {
     pub(crate) uuid: Uuid,
-    /// The number of its first core.
+    /// The number of its first arena.
     pub(crate) first: usize,
     pub(crate) arenas: Vec<Layout>,
 }

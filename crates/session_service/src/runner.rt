@@ -1,11 +1,11 @@
 //! A session that makes its calls.
+use lane_calls::Session;
 use registry_service::ServedRegistry;
-use sector_service::Session;
 use session_account::Reply;
 use turn_lock::TurnPass;
 use uuid::Uuid;
 
-/// A session with its passes of all locks, and its replies.
+/// A session, its pass of the registry, and its replies.
 #[derive(Drop)]
 pub struct Runner {
     pub(crate) session: Session,

@@ -7,9 +7,9 @@ ghost use Rattle.session_service.specs.Runners.{AreEnded, AreRunnersReady, IsEnd
 use crate::lines::make_line;
 use crate::runner::Runner;
 use crate::service::Service;
+use lane_calls::Waiting;
 use nvd_media::Gate;
 use registry_service::give_back;
-use sector_service::Waiting;
 use session_account::Reply;
 use session_script::{Script, SessionLines};
 use std::sync::Wait;

@@ -28,8 +28,8 @@ use crate::sessions::{Tools, carry_out_any};
 use crate::words::{CommandLine, command_from};
 use command_words::WordsFault;
 use image_set::{CopyFault, LoadFault, Loaded, Outline, load, load_outline};
+use lane_calls::Waiting;
 use nvd_media::{Chooser, Gate, ImageSink, ImageSource, TextSink, TextSource};
-use sector_service::Waiting;
 use shell_changes::{
     Answer, SavedSet, SetRead, change_answer, in_memory, init_answer, makes_sectors, without_set,
 };

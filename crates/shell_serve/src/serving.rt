@@ -12,10 +12,10 @@ ghost use Rattle.shell_serve.specs.Chosen.{LeavesTo};
 
 use crate::cutting::cut_all;
 use cut_words::CutWords;
+use lane_calls::Waiting;
 use namespace_ops::Registry;
 use nvd_media::{Chooser, Gate};
 use nvd_words::Items;
-use sector_service::Waiting;
 use served_namespaces::{FoundNamespace, OpenedNamespace, OpenedSet, put_each};
 use session_account::Reply;
 use session_script::Script;
@@ -85,7 +85,7 @@ fn run_all<R: Threads + Wait + Sync, G: Gate>(
     requires text { ScriptHasText script.now }
     ensures { IfOk result (HasServed registry served.items script.now) }
 {
-    let (service, mut runners) = of_namespaces(alloc, registry, served, script)?;
+    let (service, mut runners) = of_namespaces(alloc, registry, served, script, workers)?;
     run_sessions(waiting, &service, script, workers, &mut runners);
     close(alloc, service, script, runners)
 }

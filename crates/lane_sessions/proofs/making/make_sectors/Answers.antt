@@ -1,5 +1,5 @@
 use Rattle.std.proofs.Common.{◌≡◌, ◌<◌, ◌≤◌, ℕ, List, length, map, get_or, refl, ap, ◌∙◌, sym, subst, arith}
-use Rattle.std.specs.Prelude.{All}
+use Rattle.std.specs.Prelude.{All, sum}
 use Rattle.std.proofs.lemmas.List.{length-map}
 use Rattle.lane_core.specs.Arenas.{shape_in}
 use Rattle.lane_pool.specs.declared.sets.LaneSet.{LaneSet}
@@ -7,7 +7,7 @@ use Rattle.lane_pool.specs.Pools.{Now}
 use Rattle.lane_pool.specs.Sets.{IsReady}
 use Rattle.lane_calls.specs.declared.session.Sectors.{Sectors}
 use Rattle.lane_sessions.specs.declared.making.SessionLimits.{SessionLimits}
-use Rattle.lane_sessions.specs.Making.{AreNumbered, set_count}
+use Rattle.lane_sessions.specs.Making.{AreNumbered, calls_in, set_count}
 use Rattle.lane_sessions.specs.Sets.{AreSets}
 use Rattle.lane_sessions.proofs.Sessions.{are_made, are_ready, are_sets, many, new_sessions, sets_within, some_sets}
 use Rattle.lane_sessions.proofs.making.make_sectors.Goals as goal
@@ -43,6 +43,14 @@ returns-clause-some c =
     let is = ap (λ (v : Now). length v.first) c.in_ok-pool.ensures.lock.1 ∙ many _ _ _ c.in_ok-laid.ensures c.in_ok-sets.sets.items c.in_ok-sets.ensures.ends
     ∙ c.count_sets-count.ensures.count ∙ ap (set_count c.args.workers) c.as_slice.ensures.value in
     subst (λ (n : ℕ). 0 < n) (sym is) (some_sets c.args.workers c.args.states.items c.requires.workers c.requires.opened)
+
+pub returns-clause-room : goal.returns-clause-room
+returns-clause-room c =
+    let sets = c.in_ok-sets.sets.items in
+    let first = ap (λ (v : Now). v.first) c.in_ok-pool.ensures.lock.1 in
+    let calls = c.as_slice-entries.ensures.value ∙ c.in_ok-calls.ensures in
+    subst (λ (l : List LaneSet). All (IsReady (sum (calls_in c.args.limits.now))) l) (sym first)
+    (subst (λ (n : ℕ). All (IsReady n) sets) (c.in_ok-room.ensures ∙ ap (λ (l : List ℕ). sum l) calls) (are_ready _ _ _ c.in_ok-laid.ensures sets c.in_ok-sets.ensures.ends))
 
 pub returns-clause-sessions : goal.returns-clause-sessions
 returns-clause-sessions c =

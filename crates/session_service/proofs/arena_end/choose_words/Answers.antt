@@ -1,8 +1,7 @@
-use Rattle.std.proofs.Common.{◌≡◌, ◌<◌, ◌≤◌, arith, length, refl, sym, ◌∙◌}
-use Rattle.cut_words.specs.Leaving.{LeavesFrom}
+use Rattle.std.proofs.Common.{◌<◌, ◌≤◌, arith, length, refl}
 use Rattle.cut_words.proofs.ByWord.{is_left}
 use Rattle.cut_words.proofs.Left.{asked_all, asked_more, asked_none}
-use Rattle.session_service.specs.Ends.{differing, two_valued}
+use Rattle.session_service.specs.Ends.{two_valued}
 use Rattle.session_service.proofs.Ends.{chosen_at, differing_length}
 use Rattle.session_service.proofs.arena_end.choose_words.Goals as goal
 

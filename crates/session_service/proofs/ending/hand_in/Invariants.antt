@@ -3,7 +3,7 @@ use Rattle.session_service.proofs.ending.hand_in.Given as goal
 
 abbrev pub invariant-loop-runner : goal.invariant-loop-runner
 invariant-loop-runner l = record {
+  sessions : l.sessions.items ≡ map (λ r. r.session) l.yielded;
   orders : l.orders.items ≡ map (λ r. r.orders) l.yielded;
-  switches : l.switches.items ≡ map (λ r. r.session.caller.switch) l.yielded;
   replies : l.replies.items ≡ map (λ r. r.replies) l.yielded;
 }

@@ -1,4 +1,4 @@
-use Rattle.std.proofs.Common.{◌+◌, [], ◌∷◌, ◌++◌, length, length-append, get_or, refl, sym, ap, ◌∙◌, subst, arith}
+use Rattle.std.proofs.Common.{[], ◌∷◌, ◌++◌, length, length-append, get_or, sym, ap, ◌∙◌, subst, arith}
 use Rattle.std.specs.Prelude.{vec_capacity}
 use Rattle.session_script.specs.declared.script.SessionLines.{SessionLines}
 use Rattle.session_service.specs.declared.runner.Runner.{Runner}
@@ -21,7 +21,7 @@ returns-in-Ok-clause-on g c = λ yes.
     let i = c.requires.running in (
       record {
         laid = i.laid;
-        at = subst (λ l. IsAt c.args.service.now c.args.script.now c.args.q l after) (sym items) (steps.same_at c.args.service.now c.args.script.now c.args.q _ mid after refl refl refl at);
+        at = subst (λ l. IsAt c.args.service.now c.args.script.now c.args.q l after) (sym items) (steps.same_at c.args.service.now c.args.script.now c.args.q _ mid c.push_reserved.new.self at);
         short = i.short;
         text = i.text;
         room = let a = i.room in let b = c.push_reserved.ensures.capacity in let e = ap (λ v. vec_capacity v) kept.1 in omega (arith, a, b, e);
@@ -39,12 +39,12 @@ returns-in-Ok-clause-ended g c = λ no.
     let items = c.push_reserved.ensures.items ∙ ap (λ v. v.items ++ c.in-Ok.reply ∷ []) kept.1 in
     let done = goes.ended (sym c.is_cut-cut.ensures ∙ steps.a_cut c.is_cut-cut.result no) in
     record {
-      number = done.knows.number;
-      done = λ _. subst (λ l. IsDone c.args.service.now c.args.script.now c.args.q l after) (sym items) (steps.same_done_at c.args.service.now c.args.script.now c.args.q _ mid after refl refl done);
+      number = done.knows.know.seated.number;
+      done = λ _. subst (λ l. IsDone c.args.service.now c.args.script.now c.args.q l after) (sym items) (steps.same_done_at c.args.service.now c.args.script.now c.args.q _ mid c.push_reserved.new.self done);
     }
 
 pub returns-in-Err-clause-ended : goal.returns-in-Err-clause-ended
 returns-in-Err-clause-ended g c = λ _. record {
-  number = c.make_line-made.ensures.kept.0 ∙ c.requires.running.at.knows.number;
+  number = c.make_line-made.ensures.kept.0 ∙ c.requires.running.at.knows.know.seated.number;
   done = λ e. absurd (cc);
 }
