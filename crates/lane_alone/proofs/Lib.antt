@@ -1,3 +1,5 @@
-pub mod Lone
-pub mod Begun
-pub mod Ended
+pub mod Facts
+pub mod Changed
+pub mod Placed
+pub mod Written
+pub mod Rows

@@ -1,5 +1,5 @@
 //! A sector of one arena of a namespace is written, and the arena's words are put back.
-ghost use Rattle.std.specs.Prelude.{◌≡◌, ◌+◌, ◌^◌, ◌<◌, ◌≤◌, IfOk, length, slice_index_or};
+ghost use Rattle.std.specs.Prelude.{◌≡◌, ◌+◌, ◌^◌, ◌<◌, ◌≤◌, length, slice_index_or};
 ghost use Rattle.arena_open.specs.declared.state.ArenaState.{ArenaState as State};
 ghost use Rattle.arena_open.specs.Writes.{IsSettled};
 ghost use Rattle.cut_words.specs.WordBytes.{put_at};
@@ -12,7 +12,6 @@ use cut_words::CutWords;
 use lane_alone::write_alone;
 use power_cut::{SetWords, beside_tells_the_place};
 use sector_namespaces::{one_arena_changes, put_words, start_of};
-use std::alloc::{AllocError, Global};
 
 /// Puts words at a place of a namespace's words, and returns the words of all modules. No word is
 /// pending, before or after.
@@ -42,20 +41,19 @@ fn arena_at(arenas: Vec<ArenaState>, which: usize) -> ArenaState
 
 /// Writes sector `own` of arena `which` of a namespace, and returns the words of all modules.
 pub(crate) fn change_sector(
-    alloc: Global,
     space: SetWords<'_>,
     chain: Chain,
     which: usize,
     own: u32,
-    words: Vec<u64>,
-) -> Result<Vec<CutWords>, AllocError>
+    words: &[u64],
+) -> Vec<CutWords>
     requires ready { IsReady space chain }
-    requires room { HasRoom chain which own (length words.items) }
-    ensures { IfOk result (λ modules. IsChanged space.entry chain which own words.items modules.items) }
+    requires room { HasRoom chain which own (length words.now) }
+    ensures { IsChanged space.entry chain which own words.now result.items }
 {
     one_arena_changes();
     let at = start_of(chain.arenas(), which);
     let arena = arena_at(chain.into_arenas(), which);
-    let left = write_alone(alloc, arena, own, words)?;
-    Ok(put_arena(space, at, &left))
+    let left = write_alone(arena, own, words);
+    put_arena(space, at, &left)
 }

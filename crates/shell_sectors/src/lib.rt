@@ -27,9 +27,8 @@
 //! saved set ◄── changed_answer ── contents ◄── put_arena ── the namespace's words
 //! ```
 //!
-//! A write goes through the log of the sector's arena, as a driver makes it. One lane alone is in a
-//! call, so it never waits, and each word that it stored is flushed at the end (`lane_alone`).
-//! Therefore the saved words are the only ones that a power loss at the end could leave.
+//! A write goes through the log of the sector's arena, as a driver makes it: the value lies in the free block of lane 0, the log names the move,
+//! and the map has it (`lane_alone`). All words that it changed are flushed, so these are the only ones that a power loss at the end could leave.
 //!
 //! | what | definition |
 //! |---|---|

@@ -70,7 +70,7 @@ fn write_fitting(
 {
     let (which, own) = place;
     let words = words_for(alloc, had, value)?;
-    change_sector(alloc, space, chain, which, own, words)
+    Ok(change_sector(space, chain, which, own, &words))
 }
 
 /// Writes sector `place.1` of arena `place.0`, if the value has the sector's length.

@@ -1,12 +1,9 @@
-use Rattle.lane_core.specs.Reopening.{first_cells}
-use Rattle.lane_alone.specs.Alone.{IsThrough}
-use Rattle.lane_alone.proofs.Ended.{written}
+use Rattle.std.proofs.Common.{List, ℕ, sym, subst}
+use Rattle.lane_alone.specs.Alone.{IsWritten}
+use Rattle.lane_alone.proofs.Written.{written}
 use Rattle.lane_alone.proofs.alone.write_alone.Goals as goal
 
-pub cut-requires : goal.cut-requires
-cut-requires c = record { core = (first_cells c.args.state, (c.end_alone.ensures c.args.state c.args.sector c.args.words.items c.in_ok-core.ensures).arena.shows) }
-
-pub returns : goal.returns
-returns c =
-    let t : IsThrough c.args.state c.args.sector c.args.words.items c.end_alone.new.core = c.end_alone.ensures c.args.state c.args.sector c.args.words.items c.in_ok-core.ensures in
-    written c.args.state c.args.sector c.args.words.items c.end_alone.new.core c.cut.result.items t c.cut.ensures.survives (c.cut.ensures.reopens c.args.state t.arena)
+pub returns-clause-written : goal.returns-clause-written
+returns-clause-written c =
+    subst (λ (left : List ℕ). IsWritten c.args.state c.args.sector c.args.value.now left) (sym c.lone_words.ensures)
+    (written c.args.state c.requires.state c.args.sector c.requires.sector c.args.value.now c.requires.words)

@@ -1,4 +1,4 @@
-use Rattle.std.proofs.Common.{◌∙◌, ℕ, ◌/◌, ap}
+use Rattle.std.proofs.Common.{◌∙◌, ℕ, ◌/◌, length, ap}
 use Rattle.shell_sectors.proofs.Answered.{eights_there}
 use Rattle.shell_sectors.proofs.write.write_fitting.Goals as goal
 
@@ -8,4 +8,4 @@ words_for-requires-clause-whole c = eights_there c.args.chain c.args.place.0 c.r
 pub change_sector-requires-clause-room : goal.change_sector-requires-clause-room
 change_sector-requires-clause-room c =
     let lies = c.requires.lies.1 in
-    record { there = lies.there; inside = lies.inside; fits = λ d. c.in_ok-words.ensures.count ∙ ap (λ (n : ℕ). n / 8) (c.requires.size d) }
+    record { there = lies.there; inside = lies.inside; fits = λ d. ap (λ ws. length ws) c.deref.ensures.value ∙ c.in_ok-words.ensures.count ∙ ap (λ (n : ℕ). n / 8) (c.requires.size d) }
