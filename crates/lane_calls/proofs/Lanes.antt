@@ -55,14 +55,14 @@ module _ (n : ℕ) (k k' : Kit) (steps : steps_in k' ≡ steps_in k + n) where
   pays_fell : (m : ℕ) → m ≤ n → Fell n k.fuse k'.fuse → Pays m k k'
   pays_fell m le f = record { made = n; least = le; counted = steps; paid = fewer_fell n k.fuse k'.fuse f }
 
+  pays_spent : (m : ℕ) → m ≤ n → Burnt n k.fuse k'.fuse → Pays m k k'
+  pays_spent m le h = record { made = n; least = le; counted = steps; paid = fewer_burnt n k.fuse k'.fuse h }
+
   pays_burnt : Burnt n k.fuse k'.fuse → Pays 0 k k' × IsBurnt k k'
   pays_burnt h = (
-    record { made = n; least = omega arith; counted = steps; paid = fewer_burnt n k.fuse k'.fuse h },
+    pays_spent 0 (omega arith) h,
     ((λ e. some_none (sym (ap (λ (s : Bool). left_by s k.fuse.left) h.0) ∙ e), ap (λ (s : Bool). left_by s k'.fuse.left) h.1 ∙ ap (λ (m : ℕ). Some m) h.3)),
   )
-
-pub pays_none : (k : Kit) → Pays 0 k k
-pays_none k = record { made = 0; least = omega arith; counted = omega arith; paid = record { fewer = λ l e. (l, e, omega arith); whole = λ e. e } }
 
 fewer_more : (m n : ℕ) (a b c : Option ℕ) → Fewer m a b → Fewer n b c → Fewer (m + n) a c
 fewer_more m n a b c f g = record {
@@ -86,9 +86,6 @@ burnt_more m k k' k'' a b = ((λ e. b.0 (a.paid.whole e)), b.1)
 pub same_more : (k k' k'' : Kit) → IsSame k k' → IsSame k' k'' → IsSame k k''
 same_more k k' k'' a b = (b.0 ∙ a.0, b.1 ∙ a.1, b.2 ∙ a.2, b.3 ∙ a.3)
 
-pub same_again : (k : Kit) → IsSame k k
-same_again k = (refl, refl, refl, refl)
-
 module _ (k k' k'' : Kit) (a : Stays k k') where
   pub stays_more : Stays k' k'' → Stays k k''
   stays_more b = (same_more k k' k'' a.0 b.0, b.1 ∙ a.1, b.2)
@@ -96,10 +93,15 @@ module _ (k k' k'' : Kit) (a : Stays k k') where
   pub adds_more : (e e' : Entry) → e ≡ e' → Adds e k' k'' → Adds e' k k''
   adds_more e e' is b = (same_more k k' k'' a.0 b.0, b.1 ∙ (λ i. map (noted (is i)) (a.1 i)), b.2)
 
-  pub cut_more : (t : Call) (words : List ℕ) → k'.number ≡ k.number → IsCutIn t words k' k'' → IsCutIn t words k k''
-  cut_more t words number (inl b) = inl (stays_more b)
-  cut_more t words number (inr (inl b)) = inr (inl (same_more k k' k'' a.0 b.0, b.1 ∙ a.1, b.2, b.3, b.4, b.5))
-  cut_more t words number (inr (inr b)) = inr (inr (adds_more (write_entry k'.number t words) (write_entry k.number t words) (ap (λ (n : ℕ). write_entry n t words) number) b))
+  -- m steps were made before
+  module _ (m n r : ℕ) (le : r ≤ m + n) (paid : Pays m k k') where
+    pub cut_more : (t : Call) (words : List ℕ) → k'.number ≡ k.number → IsCutIn n t words k' k'' → IsCutIn r t words k k''
+    cut_more t words number (inl b) = inl (stays_more b)
+    cut_more t words number (inr (inl b)) =
+        let f = b.0 in
+        inr (inl ((same_more k k' k'' a.0 f.0, f.1 ∙ a.1, f.2, f.3, f.4, f.5), pays_more m (n + 5) (r + 5) k k' k'' (omega (arith, le)) paid b.1))
+    cut_more t words number (inr (inr b)) =
+        inr (inr (adds_more (write_entry k'.number t words) (write_entry k.number t words) (ap (λ (n : ℕ). write_entry n t words) number) b.0, pays_more m (n + 7) (r + 7) k k' k'' (omega (arith, le)) paid b.1))
 
 -- a lane that is idle, and one that is staged, has no write in flight
 pub idle_rests : (l : Lane) → is_in_flight l.kit ≡ false
@@ -166,27 +168,33 @@ module _ (t : Call) (s : Staged) where
     noted_at : (n : ℕ) → map (noted (record { lane = s.kit.seat.me.0.number; tag = t.tag; sector = t.sector; act = act.Write words })) (held_in s.kit) ≡ map (noted (write_entry s.kit.number t words)) (held_in s.kit)
     noted_at n = ap (λ (l : ℕ). map (noted (record { lane = l; tag = t.tag; sector = t.sector; act = act.Write words })) (held_in s.kit)) s.kit.numbered.0
 
-    cut_at : (n : ℕ) → n < 9 → k.seat.me ≡ way t w n s.kit.seat.me → IsCutIn t words s.kit k × (steps_in k ≡ steps_in s.kit + n)
-    cut_at zero lt is = (inl (same, held_at 0 is, open_at 0 is ∙ staged_rests s), (let e = ap (λ (m : Me Call View). m.0.count.steps) is in omega (arith, e)))
-    cut_at (suc zero) lt is = (inl (same, held_at 1 is, open_at 1 is), (let e = ap (λ (m : Me Call View). m.0.count.steps) is in omega (arith, e)))
-    cut_at (suc (suc zero)) lt is = (inl (same, held_at 2 is, open_at 2 is), (let e = ap (λ (m : Me Call View). m.0.count.steps) is in omega (arith, e)))
-    cut_at (suc (suc (suc zero))) lt is = (inl (same, held_at 3 is, open_at 3 is), (let e = ap (λ (m : Me Call View). m.0.count.steps) is in omega (arith, e)))
-    cut_at (suc (suc (suc (suc zero)))) lt is = (inl (same, held_at 4 is, open_at 4 is), (let e = ap (λ (m : Me Call View). m.0.count.steps) is in omega (arith, e)))
-    cut_at (suc (suc (suc (suc (suc zero))))) lt is = (
-      inr (inl (same, held_at 5 is, open_at 5 is, ap (λ (m : Me Call View). m.0.lane.tag) is, ap (λ (m : Me Call View). m.0.lane.sector) is, ap (λ (m : Me Call View). m.0.lane.words) is)),
-      (let e = ap (λ (m : Me Call View). m.0.count.steps) is in omega (arith, e)),
-    )
-    cut_at (suc (suc (suc (suc (suc (suc zero)))))) lt is = (
-      inr (inl (same, held_at 6 is, open_at 6 is, ap (λ (m : Me Call View). m.0.lane.tag) is, ap (λ (m : Me Call View). m.0.lane.sector) is, ap (λ (m : Me Call View). m.0.lane.words) is)),
-      (let e = ap (λ (m : Me Call View). m.0.count.steps) is in omega (arith, e)),
-    )
-    cut_at (suc (suc (suc (suc (suc (suc (suc zero))))))) lt is = (inr (inr (same, held_at 7 is ∙ noted_at 7, open_at 7 is)), (let e = ap (λ (m : Me Call View). m.0.count.steps) is in omega (arith, e)))
-    cut_at (suc (suc (suc (suc (suc (suc (suc (suc zero)))))))) lt is = (inr (inr (same, held_at 8 is ∙ noted_at 8, open_at 8 is)), (let e = ap (λ (m : Me Call View). m.0.count.steps) is in omega (arith, e)))
-    cut_at (suc (suc (suc (suc (suc (suc (suc (suc (suc n))))))))) lt is = absurd (omega (arith, lt))
+    cut_at : (n : ℕ) → n < 9 → k.seat.me ≡ way t w n s.kit.seat.me → Burnt n s.kit.fuse k.fuse → IsCutIn 0 t words s.kit k × (steps_in k ≡ steps_in s.kit + n)
+    cut_at zero lt is burnt = (inl (same, held_at 0 is, open_at 0 is ∙ staged_rests s), (let e = ap (λ (m : Me Call View). m.0.count.steps) is in omega (arith, e)))
+    cut_at (suc zero) lt is burnt = (inl (same, held_at 1 is, open_at 1 is), (let e = ap (λ (m : Me Call View). m.0.count.steps) is in omega (arith, e)))
+    cut_at (suc (suc zero)) lt is burnt = (inl (same, held_at 2 is, open_at 2 is), (let e = ap (λ (m : Me Call View). m.0.count.steps) is in omega (arith, e)))
+    cut_at (suc (suc (suc zero))) lt is burnt = (inl (same, held_at 3 is, open_at 3 is), (let e = ap (λ (m : Me Call View). m.0.count.steps) is in omega (arith, e)))
+    cut_at (suc (suc (suc (suc zero)))) lt is burnt = (inl (same, held_at 4 is, open_at 4 is), (let e = ap (λ (m : Me Call View). m.0.count.steps) is in omega (arith, e)))
+    cut_at (suc (suc (suc (suc (suc zero))))) lt is burnt =
+        let steps : steps_in k ≡ steps_in s.kit + 5 = (let e = ap (λ (m : Me Call View). m.0.count.steps) is in omega (arith, e)) in (
+          inr (inl ((same, held_at 5 is, open_at 5 is, ap (λ (m : Me Call View). m.0.lane.tag) is, ap (λ (m : Me Call View). m.0.lane.sector) is, ap (λ (m : Me Call View). m.0.lane.words) is), pays_spent 5 s.kit k steps (0 + 5) (omega arith) burnt)),
+          steps,
+        )
+    cut_at (suc (suc (suc (suc (suc (suc zero)))))) lt is burnt =
+        let steps : steps_in k ≡ steps_in s.kit + 6 = (let e = ap (λ (m : Me Call View). m.0.count.steps) is in omega (arith, e)) in (
+          inr (inl ((same, held_at 6 is, open_at 6 is, ap (λ (m : Me Call View). m.0.lane.tag) is, ap (λ (m : Me Call View). m.0.lane.sector) is, ap (λ (m : Me Call View). m.0.lane.words) is), pays_spent 6 s.kit k steps (0 + 5) (omega arith) burnt)),
+          steps,
+        )
+    cut_at (suc (suc (suc (suc (suc (suc (suc zero))))))) lt is burnt =
+        let steps : steps_in k ≡ steps_in s.kit + 7 = (let e = ap (λ (m : Me Call View). m.0.count.steps) is in omega (arith, e)) in
+        (inr (inr ((same, held_at 7 is ∙ noted_at 7, open_at 7 is), pays_spent 7 s.kit k steps (0 + 7) (omega arith) burnt)), steps)
+    cut_at (suc (suc (suc (suc (suc (suc (suc (suc zero)))))))) lt is burnt =
+        let steps : steps_in k ≡ steps_in s.kit + 8 = (let e = ap (λ (m : Me Call View). m.0.count.steps) is in omega (arith, e)) in
+        (inr (inr ((same, held_at 8 is ∙ noted_at 8, open_at 8 is), pays_spent 8 s.kit k steps (0 + 7) (omega arith) burnt)), steps)
+    cut_at (suc (suc (suc (suc (suc (suc (suc (suc (suc n))))))))) lt is burnt = absurd (omega (arith, lt))
 
-  pub commit_cut : (k : Stopped) → Commits t s (commit.Cut k) → IsCutIn t words s.kit k.kit × Pays 0 s.kit k.kit × IsBurnt s.kit k.kit
+  pub commit_cut : (k : Stopped) → Commits t s (commit.Cut k) → IsCutIn 0 t words s.kit k.kit × Pays 0 s.kit k.kit × IsBurnt s.kit k.kit
   commit_cut k h =
-      let c = cut_at h.0 k.kit h.4 h.1 h.2 h.3 in
+      let c = cut_at h.0 k.kit h.4 h.1 h.2 h.3 h.5 in
       let paid = pays_burnt h.1 s.kit k.kit c.1 h.5 in
       (c.0, paid.0, paid.1)
 

@@ -100,10 +100,10 @@ module _ (t : Call) (s0 s1 : Staged) (same : Stays s0.kit s1.kit) (words : words
       let r = busy t s1 z holder h n in
       (stays_more s0.kit s1.kit z.kit same r.0, r.1 ∙ words, r.2, pays_more 0 0 0 s0.kit s1.kit z.kit (omega arith) paid r.3)
 
-  pub commit_cut_all : (z : Stopped) → Commits t s1 (commit.Cut z) → IsCutIn t (words_in s0.kit) s0.kit z.kit × Pays 0 s0.kit z.kit × IsBurnt s0.kit z.kit
+  pub commit_cut_all : (z : Stopped) → Commits t s1 (commit.Cut z) → IsCutIn 0 t (words_in s0.kit) s0.kit z.kit × Pays 0 s0.kit z.kit × IsBurnt s0.kit z.kit
   commit_cut_all z h =
       let r = commit_cut t s1 z h in (
-        cut_more s0.kit s1.kit z.kit same t (words_in s0.kit) same.0.1 (subst (λ (ws : List ℕ). IsCutIn t ws s1.kit z.kit) words r.0),
+        cut_more s0.kit s1.kit z.kit same 0 0 0 (omega arith) paid t (words_in s0.kit) same.0.1 (subst (λ (ws : List ℕ). IsCutIn 0 t ws s1.kit z.kit) words r.0),
         pays_more 0 0 0 s0.kit s1.kit z.kit (omega arith) paid r.1,
         burnt_more 0 s0.kit s1.kit z.kit paid r.2,
       )

@@ -70,9 +70,10 @@ abbrev pub Flies : Call → List ℕ → Kit → Kit → Type 0
 Flies t words k k' =
     IsSame k k' × (held_in k' ≡ held_in k) × (is_in_flight k' ≡ true) × (k'.seat.me.0.lane.tag ≡ t.tag) × (k'.seat.me.0.lane.sector ≡ t.sector) × (words_in k' ≡ words)
 
--- a write that was cut: nothing of it stands, or it is in flight, or it stands
-abbrev pub IsCutIn : Call → List ℕ → Kit → Kit → Type 0
-IsCutIn t words k k' = Stays k k' ⊎ (Flies t words k k' ⊎ Adds (write_entry k.number t words) k k')
+-- A write that was cut, n steps of which were made before its commit: nothing of it stands; or it is in flight, and the commit made its
+-- fifth step; or it stands, and the commit made its seventh.
+abbrev pub IsCutIn : ℕ → Call → List ℕ → Kit → Kit → Type 0
+IsCutIn n t words k k' = Stays k k' ⊎ ((Flies t words k k' × Pays (n + 5) k k') ⊎ (Adds (write_entry k.number t words) k k' × Pays (n + 7) k k'))
 
 -- ---- asking
 

@@ -1,5 +1,5 @@
 -- What a session knows of each arena.
-use Rattle.std.specs.Prelude.{◌≡◌, ◌≢◌, ◌⊎◌, ℕ, ◌<◌, Bool, true, false, List, [], ◌∷◌, eqb, cond, length, map, Option, Some, None, slice_get, slice_index_or, slice_set}
+use Rattle.std.specs.Prelude.{◌≡◌, ◌≢◌, ◌⊎◌, ℕ, ◌+◌, ◌<◌, ◌≤◌, Bool, true, false, List, [], ◌∷◌, eqb, cond, length, map, Option, Some, None, slice_get, slice_index_or, slice_set}
 use Rattle.atomic_table.specs.Seated.{TableId}
 use Rattle.turn_lock.specs.Passes.{IsOutside, lock_id, number_of, part_of}
 use Rattle.lane_core.specs.declared.history.Act.TheVariants as act
@@ -18,9 +18,10 @@ use Rattle.lane_table.specs.Law.{pass_now}
 use Rattle.lane_pool.specs.declared.holders.Hand.TheVariants as hand
 use Rattle.lane_pool.specs.declared.pool.PoolPart.{PoolPart}
 use Rattle.lane_pool.specs.declared.sets.LaneSet.{LaneSet}
-use Rattle.lane_pool.specs.Parts.{HasNoneOut}
-use Rattle.lane_pool.specs.Sets.{IsAtPlace, IsIdleEnd, WhichLane, lane_of, lanes_in}
+use Rattle.lane_pool.specs.Parts.{HasNoneOut, WasOn}
+use Rattle.lane_pool.specs.Sets.{IsAtPlace, IsIdleEnd, IsReady, WhichLane, lane_of, lanes_in}
 use Rattle.lane_calls.specs.declared.parts.ArenaPart.{ArenaPart}
+use Rattle.lane_calls.specs.declared.session.Kept.{Kept}
 use Rattle.lane_calls.specs.declared.session.Sectors.{Sectors}
 use Rattle.lane_calls.specs.declared.session.Session.{Session}
 use Rattle.lane_calls.specs.Lanes.{is_in_flight, steps_in, words_in}
@@ -111,26 +112,70 @@ pub record IsSeated (s : Sectors) (q : ℕ) (pool : PoolPart) (session : Session
   pub placed : pool.placed ≡ true
   pub laid : AreLaid s.arenas.items pool.first
 
--- between two calls: what session q knows of each arena
-pub record Know (s : Sectors) (q : ℕ) (parts : Parts) (session : Session) : Type 0 where
+-- ---- the set that a session has out
+
+-- how many calls it made with the set that it has out
+abbrev pub made_with : Option Kept → ℕ
+made_with None = 0
+made_with (Some kept) = kept.made
+
+-- Of the calls that it may still make, it made so many with the set that it has out: that had room for all of them, and has room for
+-- the others. Each lane has room for `spare` calls.
+pub record HasRoom (room made spare : ℕ) (m : PoolPart) : Type 0 where
+  pub enough : m.left ≤ room
+  pub few : made ≤ m.left
+  pub counted : spare + made ≡ room
+
+-- The session has this set out, and made so many calls at most with it: its lanes are idle, and have room for all others that it may
+-- make. It was told of no `PowerOff`, and didn't switch power off.
+pub record IsHeld (most : ℕ) (kept : Kept) (m : PoolPart) : Type 0 where
+  pub at : ℕ
+  pub room : ℕ
+  pub out : m.hand ≡ hand.Out at room
+  pub place : IsAtPlace m.first at kept.set
+  pub spare : ℕ
+  pub ready : IsReady spare kept.set
+  pub has_room : HasRoom room kept.made spare m
+  pub few : kept.made ≤ most
+  pub on : WasOn m
+
+-- it has this set out, or none
+abbrev pub HasOut : ℕ → Option Kept → PoolPart → Type 0
+HasOut most None m = HasNoneOut m
+HasOut most (Some kept) m = IsHeld most kept m
+
+-- ---- all that it knows
+
+-- in no call, with this set out: what session q knows of each arena
+pub record KnowWith (s : Sectors) (q : ℕ) (parts : Parts) (most : ℕ) (kept : Option Kept) (session : Session) : Type 0 where
   pub pool : PoolPart
   pub seated : IsSeated s q pool session
-  pub none_out : HasNoneOut pool
+  pub out : HasOut most kept pool
   pub handed : (x : LaneSet) → pool.handed ≡ Some x → (at : ℕ) × (pool.hand ≡ hand.Stopped at) × IsAtPlace pool.first at x
   pub each : (j : ℕ) (a : Arena) → slice_get s.arenas.items j ≡ Some a → (a.shape ≡ shape_of (parts j)) × IsKnown (arena_id a) q (pass_at session j) pool.handed j (parts j)
 
--- in a call at a place: the session has a set out, whose lane there has left it and holds the session's pass
-pub record IsOnLane (s : Sectors) (q : ℕ) (parts : Parts) (place : ℕ) (set : LaneSet) (k : Kit) (session : Session) : Type 0 where
+-- between two calls: the set that it has out is the one that it kept, if it kept one, for less than 64 calls so far
+abbrev pub Know : Sectors → ℕ → Parts → Session → Type 0
+Know s q parts session = KnowWith s q parts 63 session.kept session
+
+-- In a call at a place: the session has a set out, whose lane there has left it and holds the session's pass. This call is counted in
+-- `kept.made`.
+pub record IsOnLane (s : Sectors) (q : ℕ) (parts : Parts) (place : ℕ) (kept : Kept) (k : Kit) (session : Session) : Type 0 where
   pub pool : PoolPart
   pub seated : IsSeated s q pool session
   pub at : ℕ
-  pub floor : ℕ
-  pub out : pool.hand ≡ hand.Out at floor
+  pub room : ℕ
+  pub out : pool.hand ≡ hand.Out at room
+  pub spare : ℕ
+  pub has_room : HasRoom room kept.made spare pool
   pub first : LaneSet
   pub first_is : slice_get pool.first at ≡ Some first
-  pub number : set.number ≡ first.number
-  pub lanes : slice_set (lanes_in set) place (Some (lane_of k)) ≡ lanes_in first
-  pub others : (j : ℕ) → j ≢ place → j < length set.ends.items → IsIdleEnd floor (end_at set j)
+  pub number : kept.set.number ≡ first.number
+  pub lanes : slice_set (lanes_in kept.set) place (Some (lane_of k)) ≡ lanes_in first
+  pub others : (j : ℕ) → j ≢ place → j < length kept.set.ends.items → IsIdleEnd spare (end_at kept.set j)
+  pub few : kept.made ≤ 64
+  pub none : session.kept ≡ None
+  pub handed : pool.handed ≡ None
   pub arena : Arena
   pub arena_is : slice_get s.arenas.items place ≡ Some arena
   pub of : IsOf arena k

@@ -48,7 +48,7 @@ fn finish<R: Wait>(
     ensures may_ask { MayAsk (lock_id pool.now.turn) pass.new }
     ensures done { (l : AnyLane) → result ≡ ended.Done l → Adds (write_entry staged.kit.number call (words_in staged.kit)) staged.kit l.kit × (spare_in l.kit ≡ spare_in staged.kit) × Pays 9 staged.kit l.kit × (part_of pass.new ≡ part_of pass.old) }
     ensures off { (e : AnyEnd) (p : Off) → result ≡ ended.Off e p → Stays staged.kit (kit_in e) × Pays 0 staged.kit (kit_in e) × PartBecomes (told_of p) pass.old pass.new }
-    ensures cut { (e : AnyEnd) → result ≡ ended.Cut e → IsCutIn call (words_in staged.kit) staged.kit (kit_in e) × Pays 0 staged.kit (kit_in e) × IsBurnt staged.kit (kit_in e) × (part_of pass.new ≡ part_of pass.old) }
+    ensures cut { (e : AnyEnd) → result ≡ ended.Cut e → IsCutIn 0 call (words_in staged.kit) staged.kit (kit_in e) × Pays 0 staged.kit (kit_in e) × IsBurnt staged.kit (kit_in e) × (part_of pass.new ≡ part_of pass.old) }
 {
     match commit_until(rt, pool, pass, arena, staged, call) {
         Committed::Done(lane) => WriteEnd::Done(lane),
@@ -79,7 +79,7 @@ pub fn write_on_lane<R: Wait, G: Gate>(
     ensures done { (l : AnyLane) → result ≡ ended.Done l
         → Adds (write_entry lane.kit.number call words.now) lane.kit l.kit × (spare_in lane.kit ≡ suc (spare_in l.kit)) × Pays (stage_steps arena.now.shape + 9) lane.kit l.kit × (part_of pass.new ≡ part_of pass.old) }
     ensures off { (e : AnyEnd) (p : Off) → result ≡ ended.Off e p → Stays lane.kit (kit_in e) × Pays 0 lane.kit (kit_in e) × PartBecomes (told_of p) pass.old pass.new }
-    ensures cut { (e : AnyEnd) → result ≡ ended.Cut e → IsCutIn call words.now lane.kit (kit_in e) × Pays 0 lane.kit (kit_in e) × IsBurnt lane.kit (kit_in e) × (part_of pass.new ≡ part_of pass.old) }
+    ensures cut { (e : AnyEnd) → result ≡ ended.Cut e → IsCutIn (stage_steps arena.now.shape) call words.now lane.kit (kit_in e) × Pays 0 lane.kit (kit_in e) × IsBurnt lane.kit (kit_in e) × (part_of pass.new ≡ part_of pass.old) }
 {
     match stage_until(waiting.rt, pool, pass, arena, lane, words) {
         StagedOrNot::Staged(staged) => {

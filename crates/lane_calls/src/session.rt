@@ -1,5 +1,5 @@
 //! A session, and what all sessions share.
-use lane_pool::{LanePool, Pool};
+use lane_pool::{LanePool, LaneSet, Pool};
 use lane_table::{Arena, Pass};
 use turn_lock::TurnPass;
 
@@ -9,6 +9,16 @@ use turn_lock::TurnPass;
 pub struct Sectors {
     pub arenas: Vec<Arena>,
     pub pool: LanePool,
+}
+
+/// How many calls a session makes with a set of lanes before it gives the set back, at most.
+pub const KEPT_CALLS: u64 = 64;
+
+/// A set of lanes that a session has out, and how many calls it made with it.
+#[derive(Drop)]
+pub struct Kept {
+    pub set: LaneSet,
+    pub made: u64,
 }
 
 /// What a session has beside its passes of arenas.
@@ -31,4 +41,6 @@ pub struct Session {
     /// A pass of each arena, in the order of the arenas. A lane whose call was cut keeps it.
     pub passes: Vec<Option<Pass>>,
     pub caller: Caller,
+    /// The set that it has out between two calls.
+    pub kept: Option<Kept>,
 }

@@ -44,7 +44,7 @@ pub fn commit_until<R: Wait>(
     ensures may_ask { MayAsk (lock_id pool.now.turn) pass.new }
     ensures done { (l : AnyLane) → result ≡ ended.Done l → Adds (write_entry staged.kit.number call (words_in staged.kit)) staged.kit l.kit × (spare_in l.kit ≡ spare_in staged.kit) × Pays 9 staged.kit l.kit × (part_of pass.new ≡ part_of pass.old) }
     ensures off { (s : AnyStaged) (p : Off) → result ≡ ended.Off s p → Stays staged.kit s.kit × Pays 0 staged.kit s.kit × PartBecomes (told_of p) pass.old pass.new }
-    ensures cut { (k : AnyStopped) → result ≡ ended.Cut k → IsCutIn call (words_in staged.kit) staged.kit k.kit × Pays 0 staged.kit k.kit × IsBurnt staged.kit k.kit × (part_of pass.new ≡ part_of pass.old) }
+    ensures cut { (k : AnyStopped) → result ≡ ended.Cut k → IsCutIn 0 call (words_in staged.kit) staged.kit k.kit × Pays 0 staged.kit k.kit × IsBurnt staged.kit k.kit × (part_of pass.new ≡ part_of pass.old) }
 {
     let mut staged = staged;
     for _ in rt.forever() {

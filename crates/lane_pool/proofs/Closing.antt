@@ -1,19 +1,18 @@
 -- What the pool leaves when its lock is closed.
-use Rattle.std.proofs.Common.{◌≡◌, inl, inr, ℕ, zero, suc, ◌<◌, ◌≤◌, true, false, List, [], ◌∷◌, length, get_or, map, Option, Some, None, Result, Ok, Err, refl, sym, ap, ◌∙◌, subst, arith}
-use Rattle.std.specs.Prelude.{◌⊎◌, All, Any, IfOk, Vec, nat_lt, slice_get}
+use Rattle.std.proofs.Common.{◌≡◌, inl, inr, ℕ, zero, suc, ◌≤◌, List, [], ◌∷◌, length, get_or, map, Option, Some, None, Result, Ok, Err, refl, sym, ap, ◌∙◌, subst, arith}
+use Rattle.std.specs.Prelude.{All, Any, IfOk, Vec, nat_lt, slice_get}
 use Rattle.std.proofs.lemmas.List.{get_or_past, length-map}
 use Rattle.turn_lock.specs.declared.parted.Parted.{Ghosts}
 use Rattle.turn_lock.specs.declared.pass.TurnPass.{TurnPass}
 use Rattle.turn_lock.specs.Passes.{HasEach, number_of, part_of}
 use Rattle.lane_pool.specs.declared.holders.Hand.TheVariants as hand
-use Rattle.lane_pool.specs.declared.holders.Holder.{Holder}
 use Rattle.lane_pool.specs.declared.pool.PoolPart.{PoolPart}
 use Rattle.lane_pool.specs.declared.sets.LaneSet.{LaneSet}
 use Rattle.lane_pool.specs.declared.sets.PowerOff.{PowerOff}
 use Rattle.lane_pool.specs.Parts.{HasPart, IsClosed, NoneOut}
 use Rattle.lane_pool.specs.Pools.{Has, IsPool, NobodyOut, Now, handed_in, holder_at, left_in, nobody, part_at, set_at}
-use Rattle.lane_pool.specs.Sets.{IsAtPlace, IsReady}
-use Rattle.lane_pool.proofs.Keeping.{in_list, weaker}
+use Rattle.lane_pool.specs.Sets.{IsAtPlace}
+use Rattle.lane_pool.proofs.Keeping.{weaker}
 
 in_some : {A : Type 0} {x y : A} → Some x ≡ Some y → x ≡ y
 in_some e = cc
@@ -67,12 +66,12 @@ module _ {g : Ghosts Now PoolPart} (x first : Now) (n : ℕ) (few : length first
 
   module _ (none : NoneOut ps) where
     pub nobody_out : NobodyOut x.holders
-    nobody_out q at floor is =
+    nobody_out q at room is =
         let below : (n ≤ q) → ⊥ = λ over. empty_out (sym (their_hand q over) ∙ is) in
         let w = pass_of q below in
-        let h = subst (λ p. HasPart (λ m. (at floor : ℕ) → m.hand ≡ hand.Out at floor → ⊥) p) w.3 (none w.0 w.1 w.2) in
+        let h = subst (λ p. HasPart (λ m. (at room : ℕ) → m.hand ≡ hand.Out at room → ⊥) p) w.3 (none w.0 w.1 w.2) in
         let same : h.0 ≡ part_at x q = in_some (sym h.1 ∙ w.4) in
-        h.2 at floor (ap (λ (m : PoolPart). m.hand) same ∙ is)
+        h.2 at room (ap (λ (m : PoolPart). m.hand) same ∙ is)
 
     pub is_closed : IsPool x → (sets : List LaneSet) (off : Option PowerOff) → map (λ s. Some s) sets ≡ x.sets → off ≡ x.off → IsClosed first.first ps sets off
     is_closed is_pool sets off home is_off = record {

@@ -3,13 +3,12 @@ use Rattle.std.proofs.Common.{◌≡◌, inl, ℕ, zero, suc, ◌+◌, ◌<◌, 
 use Rattle.std.specs.Prelude.{All, slice_get, sum}
 use Rattle.std.proofs.lemmas.List.{length-map}
 use Rattle.std.proofs.lemmas.List.Sums.{sum_by-cons}
-use Rattle.std.proofs.lemmas.Option.{get_or_from_slice_get, slice_get-get_or, slice_get_within}
+use Rattle.std.proofs.lemmas.Option.{get_or_from_slice_get, slice_get_within}
 use Rattle.lane_pool.specs.declared.holders.Hand.{Hand}
 use Rattle.lane_pool.specs.declared.holders.Hand.TheVariants as hand
 use Rattle.lane_pool.specs.declared.holders.Holder.{Holder}
 use Rattle.lane_pool.specs.declared.sets.LaneSet.{LaneSet}
-use Rattle.lane_pool.specs.declared.sets.PowerOff.{PowerOff}
-use Rattle.lane_pool.specs.Pools.{Has, IsInside, IsPool, Now, fresh, holder_at, left_in, left_of, new_holder, pool_now, set_at}
+use Rattle.lane_pool.specs.Pools.{Has, IsInside, IsPool, fresh, holder_at, left_in, left_of, new_holder, pool_now, set_at}
 use Rattle.lane_pool.specs.Sets.{IsReady}
 use Rattle.lane_pool.proofs.Closing.{set_of}
 

@@ -1,6 +1,6 @@
 -- What a caller's turn does to the pool keeps the pool's rule, and the parts of all other callers.
-use Rattle.std.proofs.Common.{◌≡◌, ◌≢◌, inl, inr, ℕ, zero, suc, [], ◌∷◌, ◌+◌, ◌-◌, ◌<◌, ◌≤◌, true, false, List, length, length-set, get_or, set, Option, Some, None, refl, sym, ap, ◌∙◌, subst, arith, get_or-set_other, get_or-set_same}
-use Rattle.std.specs.Prelude.{◌⊎◌, All, is_some, nat_lt}
+use Rattle.std.proofs.Common.{◌≡◌, ◌≢◌, inl, inr, ℕ, zero, suc, [], ◌∷◌, ◌+◌, ◌-◌, ◌<◌, ◌≤◌, false, List, length, length-set, get_or, set, Option, Some, None, refl, sym, ap, ◌∙◌, subst, arith, get_or-set_other, get_or-set_same}
+use Rattle.std.specs.Prelude.{◌⊎◌, nat_lt}
 use Rattle.std.proofs.lemmas.List.Sums.{sum_by-set}
 use mathlib.Core.Logic.{dite}
 use native.Mathlib.Decide.{ℕ_discrete}
@@ -24,13 +24,13 @@ in_some e = cc
 some_none : {A : Type 0} {x : A} → Some x ≡ None → ⊥
 some_none e = cc
 
-out_parts : {at i floor f : ℕ} → hand.Out at floor ≡ hand.Out i f → (at ≡ i) × (floor ≡ f)
+out_parts : {at i room f : ℕ} → hand.Out at room ≡ hand.Out i f → (at ≡ i) × (room ≡ f)
 out_parts e = (cc, cc)
 
 stopped_part : {at i : ℕ} → hand.Stopped at ≡ hand.Stopped i → at ≡ i
 stopped_part e = cc
 
-out_stopped : {at floor i : ℕ} → hand.Out at floor ≡ hand.Stopped i → ⊥
+out_stopped : {at room i : ℕ} → hand.Out at room ≡ hand.Stopped i → ⊥
 out_stopped e = cc
 
 empty_out : {i f : ℕ} → hand.Empty ≡ hand.Out i f → ⊥
@@ -69,6 +69,10 @@ module _ (hs : List Holder) (q : ℕ) (h : Holder) (inside : q < length hs) wher
 
   pub left_set : left_in (set hs q h) + (holder_at hs q).left ≡ left_in hs + h.left
   left_set = sum_by-set left_of hs q h nobody inside
+
+-- a caller may make no more calls than all callers
+pub left_within : (hs : List Holder) (q : ℕ) → q < length hs → (holder_at hs q).left ≤ left_in hs
+left_within hs q inside = let e = left_set hs q nobody inside in omega (arith, e)
 
 -- ---- one set changes
 
@@ -109,7 +113,7 @@ rest_same v w q h inside first holders sets r ne =
 -- a set that another handed in stands at another place than one that isn't at home, or that nobody has to do with
 handed_same : (sets sets' : List (Option LaneSet)) (x : Hand) → ((i : ℕ) → x ≡ hand.Stopped i → set_at sets' i ≡ set_at sets i) → handed_in sets' x ≡ handed_in sets x
 handed_same sets sets' hand.Empty h = refl
-handed_same sets sets' (hand.Out at floor) h = refl
+handed_same sets sets' (hand.Out at room) h = refl
 handed_same sets sets' (hand.Stopped at) h = h at refl
 
 -- ---- power goes off
@@ -198,12 +202,12 @@ module _ (v : Now) (p : IsPool v) (q : ℕ) (inside : q < length v.holders) wher
 
   -- ---- it takes a set
 
-  module _ (entries at : ℕ) (s : LaneSet) (on : v.off ≡ None) (home : set_at v.sets at ≡ Some s) (free : was.hand ≡ hand.Empty) (enough : entries ≤ was.left) where
-    abbrev pub took_floor : ℕ
-    took_floor = left_in v.holders - entries
+  module _ (at : ℕ) (s : LaneSet) (on : v.off ≡ None) (home : set_at v.sets at ≡ Some s) (free : was.hand ≡ hand.Empty) where
+    abbrev pub took_room : ℕ
+    took_room = left_in v.holders
 
     abbrev pub took_holder : Holder
-    took_holder = record { left = was.left - entries; hand = hand.Out at took_floor; stop = was.stop; told = was.told }
+    took_holder = record { left = was.left; hand = hand.Out at took_room; stop = was.stop; told = was.told }
 
     abbrev took_holders : List Holder
     took_holders = set v.holders q took_holder
@@ -211,14 +215,12 @@ module _ (v : Now) (p : IsPool v) (q : ℕ) (inside : q < length v.holders) wher
     abbrev pub took_now : Now
     took_now = pool_now v.first (set v.sets at None) took_holders v.off
 
-    own_left : was.left ≤ left_in v.holders
-    own_left = let e = left_set v.holders q (record { left = 0; hand = hand.Empty; stop = None; told = None }) inside in omega (arith, e)
+    -- the set has room for all calls that the caller may still make
+    pub own_left : was.left ≤ took_room
+    own_left = left_within v.holders q inside
 
-    pub took_left : left_in took_holders ≡ left_in v.holders - entries
-    took_left = let e = left_set v.holders q took_holder inside in let l = own_left in omega (arith, e, l, enough)
-
-    less : left_in took_holders ≤ left_in v.holders
-    less = let e = took_left in omega (arith, e)
+    pub took_left : left_in took_holders ≡ left_in v.holders
+    took_left = let e = left_set v.holders q took_holder inside in omega (arith, e)
 
     in_sets : at < length v.sets
     in_sets = in_list v.sets at s home
@@ -244,11 +246,11 @@ module _ (v : Now) (p : IsPool v) (q : ℕ) (inside : q < length v.holders) wher
       count = length-set v.sets at None ∙ p.count;
       home = λ i x e. p.home i x (sym (still i (not_at i x e)) ∙ e);
       ready = λ i x e. (elim (p.ready i x (sym (still i (not_at i x e)) ∙ e)) [
-        | inl r ↦ inl (weaker (left_in took_holders) (left_in v.holders) less x r)
+        | inl r ↦ inl (subst (λ (n : ℕ). IsReady n x) (sym took_left) r)
         | inr r ↦ absurd (none_stopped r.0 i r.1)
       ]);
       away = λ i lt none. dite (ℕ_discrete i at)
-          (λ is. (q, took_floor, ap (λ (h : Holder). h.hand) (own v.holders q took_holder inside) ∙ (λ j. hand.Out (sym is j) took_floor)))
+          (λ is. (q, took_room, ap (λ (h : Holder). h.hand) (own v.holders q took_holder inside) ∙ (λ j. hand.Out (sym is j) took_room)))
           (λ ne.
           let a = p.away i (omega (arith, lt, length-set v.sets at None)) (sym (still i ne) ∙ none) in
           let not_q : a.0 ≢ q = λ e. empty_out (sym free ∙ ap (λ (k : ℕ). (holder_at v.holders k).hand) (sym e) ∙ a.2) in
@@ -259,13 +261,13 @@ module _ (v : Now) (p : IsPool v) (q : ℕ) (inside : q < length v.holders) wher
           let lt = in_sets in
           let l = took_left in
           let same_at = parts.0 in
-          let same_floor = parts.1 in
-          (omega (arith, lt, same_at, length-set v.sets at None), ap (λ (k : ℕ). set_at (set v.sets at None) k) (sym same_at) ∙ set_same v.sets at None in_sets, omega (arith, l, same_floor)))
+          let same_room = parts.1 in
+          (omega (arith, lt, same_at, length-set v.sets at None), ap (λ (k : ℕ). set_at (set v.sets at None) k) (sym same_at) ∙ set_same v.sets at None in_sets, omega (arith, l, same_room)))
           (λ r ne i f e.
           let o = p.out r i f e in
           let lt = o.0 in
           let le = o.2 in
-          let l = less in
+          let l = took_left in
           let apart : i ≢ at = λ is. some_none (sym home ∙ ap (λ (k : ℕ). set_at v.sets k) (sym is) ∙ o.1) in
           (omega (arith, lt, length-set v.sets at None), still i apart ∙ o.1, omega (arith, le, l)));
       stopped = by_holder v.holders q took_holder inside (λ r h. (i : ℕ) → h.hand ≡ hand.Stopped i → (v.off ≢ None) × ((x : LaneSet) × (set_at (set v.sets at None) i ≡ Some x)))
@@ -289,10 +291,9 @@ module _ (v : Now) (p : IsPool v) (q : ℕ) (inside : q < length v.holders) wher
     pub took_rest : KeepsRest v took_now q
     took_rest = rest_same v took_now q took_holder inside refl refl (λ r ne. handed_same v.sets (set v.sets at None) (holder_at v.holders r).hand (λ i is. absurd (none_stopped r i is)))
 
-    -- the set is ready for the entries above the floor
-    pub took_ready : IsReady (took_floor + entries) s
+    pub took_ready : IsReady took_room s
     took_ready = elim (p.ready at s home) [
-      | inl r ↦ (let l = own_left in let same : took_floor + entries ≡ left_in v.holders = omega (arith, l, enough) in subst (λ (n : ℕ). IsReady n s) (sym same) r)
+      | inl r ↦ r
       | inr r ↦ absurd (none_stopped r.0 at r.1)
     ]
 
@@ -301,9 +302,9 @@ module _ (v : Now) (p : IsPool v) (q : ℕ) (inside : q < length v.holders) wher
 
   -- ---- it has a set out
 
-  module _ (at floor : ℕ) (out : was.hand ≡ hand.Out at floor) (s : LaneSet) (place : IsAtPlace v.first at s) where
-    out_facts : (at < length v.sets) × (set_at v.sets at ≡ None) × (left_in v.holders ≤ floor)
-    out_facts = p.out q at floor out
+  module _ (at room : ℕ) (out : was.hand ≡ hand.Out at room) (s : LaneSet) (place : IsAtPlace v.first at s) where
+    out_facts : (at < length v.sets) × (set_at v.sets at ≡ None) × (left_in v.holders ≤ room)
+    out_facts = p.out q at room out
 
     abbrev back : List (Option LaneSet)
     back = set v.sets at (Some s)
@@ -341,9 +342,9 @@ module _ (v : Now) (p : IsPool v) (q : ℕ) (inside : q < length v.holders) wher
     handed_rest r ne = handed_same v.sets back (holder_at v.holders r).hand (λ i is. back_other i (apart r i ne (stopped_has r i is)))
 
     -- with any new state that has the set out no more
-    module _ (h : Holder) (left_is : h.left ≡ was.left) where
-      back_left : left_in (set v.holders q h) ≡ left_in v.holders
-      back_left = let e = left_set v.holders q h inside in omega (arith, e, left_is)
+    module _ (h : Holder) (less : h.left ≤ was.left) where
+      back_left : left_in (set v.holders q h) ≤ left_in v.holders
+      back_left = let e = left_set v.holders q h inside in omega (arith, e, less)
 
       away_back : ((i f : ℕ) → h.hand ≡ hand.Out i f → ⊥) → (i : ℕ) → i < length back → set_at back i ≡ None → (r : ℕ) × (f : ℕ) × ((holder_at (set v.holders q h) r).hand ≡ hand.Out i f)
       away_back none i lt e =
@@ -374,16 +375,19 @@ module _ (v : Now) (p : IsPool v) (q : ℕ) (inside : q < length v.holders) wher
 
     -- ---- it gives it back
 
-    abbrev pub gave_holder : Holder
-    gave_holder = record { left = was.left; hand = hand.Empty; stop = was.stop; told = was.told }
+    module _ (made : ℕ) (few : made ≤ was.left) (ready : IsReady (room - made) s) where
+      abbrev pub gave_holder : Holder
+      gave_holder = record { left = was.left - made; hand = hand.Empty; stop = was.stop; told = was.told }
 
-    abbrev pub gave_now : Now
-    gave_now = pool_now v.first back (set v.holders q gave_holder) v.off
+      abbrev pub gave_now : Now
+      gave_now = pool_now v.first back (set v.holders q gave_holder) v.off
 
-    pub gave_left : left_in (set v.holders q gave_holder) ≡ left_in v.holders
-    gave_left = back_left gave_holder refl
+      fewer : gave_holder.left ≤ was.left
+      fewer = omega arith
 
-    module _ (ready : IsReady floor s) where
+      pub gave_left : left_in (set v.holders q gave_holder) ≡ left_in v.holders - made
+      gave_left = let e = left_set v.holders q gave_holder inside in omega (arith, e, few)
+
       pub gave_pool : IsPool gave_now
       gave_pool = record {
         count = length-set v.sets at (Some s) ∙ p.count;
@@ -391,16 +395,16 @@ module _ (v : Now) (p : IsPool v) (q : ℕ) (inside : q < length v.holders) wher
         ready = λ i x e. dite (ℕ_discrete i at)
             (λ is.
             let same : s ≡ x = in_some (sym back_same ∙ ap (λ (k : ℕ). set_at back k) (sym is) ∙ e) in
-            let le : left_in (set v.holders q gave_holder) ≤ floor = let l = gave_left in let f = out_facts.2 in omega (arith, l, f) in
-            inl (subst (λ (y : LaneSet). IsReady (left_in (set v.holders q gave_holder)) y) same (weaker (left_in (set v.holders q gave_holder)) floor le s ready)))
+            let le : left_in (set v.holders q gave_holder) ≤ room - made = let l = gave_left in let f = out_facts.2 in omega (arith, l, f) in
+            inl (subst (λ (y : LaneSet). IsReady (left_in (set v.holders q gave_holder)) y) same (weaker (left_in (set v.holders q gave_holder)) (room - made) le s ready)))
             (λ ne. elim (p.ready i x (sym (back_other i ne) ∙ e)) [
-              | inl r ↦ inl (subst (λ (n : ℕ). IsReady n x) (sym gave_left) r)
+              | inl r ↦ inl (weaker (left_in (set v.holders q gave_holder)) (left_in v.holders) (back_left gave_holder fewer) x r)
               | inr r ↦ inr (r.0, ap (λ (y : Holder). y.hand) (other v.holders q gave_holder inside r.0 (not_mine r.0 i r.1)) ∙ r.1)
             ]);
-        away = away_back gave_holder refl (λ i f e. empty_out e);
-        out = out_back gave_holder refl (λ i f e. empty_out e);
-        stopped = by_holder v.holders q gave_holder inside (λ r x. (i : ℕ) → x.hand ≡ hand.Stopped i → (v.off ≢ None) × ((y : LaneSet) × (set_at back i ≡ Some y))) (λ i e. absurd (empty_stopped e)) (stopped_back gave_holder refl);
-        one = one_back gave_holder refl (λ i has. absurd has);
+        away = away_back gave_holder fewer (λ i f e. empty_out e);
+        out = out_back gave_holder fewer (λ i f e. empty_out e);
+        stopped = by_holder v.holders q gave_holder inside (λ r x. (i : ℕ) → x.hand ≡ hand.Stopped i → (v.off ≢ None) × ((y : LaneSet) × (set_at back i ≡ Some y))) (λ i e. absurd (empty_stopped e)) (stopped_back gave_holder fewer);
+        one = one_back gave_holder fewer (λ i has. absurd has);
         by_one = λ x e. let o = p.by_one x e in (o.0, same_of v.holders q gave_holder inside (λ y. y.stop) refl o.0 ∙ o.1);
         told = by_holder v.holders q gave_holder inside (λ r y. (x : PowerOff) → y.told ≡ Some x → v.off ≡ Some x) (p.told q) (λ r ne. p.told r);
         stops = by_holder v.holders q gave_holder inside (λ r y. (x : Stop) → y.stop ≡ Some x → v.off ≢ None) (p.stops q) (λ r ne. p.stops r);
@@ -419,7 +423,10 @@ module _ (v : Now) (p : IsPool v) (q : ℕ) (inside : q < length v.holders) wher
       stop_now = pool_now v.first back (set v.holders q stop_holder) (Some first)
 
       pub stop_left : left_in (set v.holders q stop_holder) ≡ left_in v.holders
-      stop_left = back_left stop_holder refl
+      stop_left = let e = left_set v.holders q stop_holder inside in omega (arith, e)
+
+      no_fewer : stop_holder.left ≤ was.left
+      no_fewer = omega arith
 
       pub stop_pool : IsPool stop_now
       stop_pool = record {
@@ -431,12 +438,12 @@ module _ (v : Now) (p : IsPool v) (q : ℕ) (inside : q < length v.holders) wher
               | inl r ↦ inl (subst (λ (n : ℕ). IsReady n x) (sym stop_left) r)
               | inr r ↦ inr (r.0, ap (λ (y : Holder). y.hand) (other v.holders q stop_holder inside r.0 (not_mine r.0 i r.1)) ∙ r.1)
             ]);
-        away = away_back stop_holder refl (λ i f e. out_stopped (sym e));
-        out = out_back stop_holder refl (λ i f e. out_stopped (sym e));
+        away = away_back stop_holder no_fewer (λ i f e. out_stopped (sym e));
+        out = out_back stop_holder no_fewer (λ i f e. out_stopped (sym e));
         stopped = by_holder v.holders q stop_holder inside (λ r x. (i : ℕ) → x.hand ≡ hand.Stopped i → (Some first ≢ None) × ((y : LaneSet) × (set_at back i ≡ Some y)))
             (λ i e. (λ none. some_none none, (s, ap (λ (k : ℕ). set_at back k) (sym (stopped_part e)) ∙ back_same)))
-            (λ r ne i e. (λ none. some_none none, (stopped_back stop_holder refl r ne i e).1));
-        one = one_back stop_holder refl (λ i has. subst (λ (x : Hand). Has x i) (sym out) has);
+            (λ r ne i e. (λ none. some_none none, (stopped_back stop_holder no_fewer r ne i e).1));
+        one = one_back stop_holder no_fewer (λ i has. subst (λ (x : Hand). Has x i) (sym out) has);
         by_one = first_stops v p q inside off first first_is stop_holder refl;
         told = told_first v p q inside off first first_is stop_holder refl;
         stops = λ r x e none. some_none none;

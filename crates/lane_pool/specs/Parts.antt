@@ -1,5 +1,5 @@
 -- What a caller's turn does to its part of the pool.
-use Rattle.std.specs.Prelude.{◌≡◌, ◌⊎◌, ℕ, ◌+◌, ◌-◌, ◌<◌, ◌≤◌, true, false, cond, List, length, Option, Some, None, IsSome, is_some, All, Any, slice_get, slice_index_or}
+use Rattle.std.specs.Prelude.{◌≡◌, ◌⊎◌, ℕ, ◌-◌, ◌<◌, ◌≤◌, true, false, cond, List, length, Option, Some, None, IsSome, is_some, All, Any, slice_get, slice_index_or}
 use Rattle.atomic_table.specs.Seated.{TableId}
 use Rattle.turn_lock.specs.declared.parted.Parted.{Ghosts}
 use Rattle.turn_lock.specs.declared.pass.TurnPass.{TurnPass}
@@ -14,49 +14,51 @@ use Rattle.lane_pool.specs.Sets.{IsAtPlace, IsReady}
 
 -- ---- a caller's part
 
--- it may take a set for so many calls
-pub record MayTake (entries : ℕ) (m : PoolPart) : Type 0 where
+-- it may take a set
+pub record MayTake (m : PoolPart) : Type 0 where
   pub placed : m.placed ≡ true
   pub free : m.hand ≡ hand.Empty
-  pub left : entries ≤ m.left
 
 -- it neither switched power off nor was told that it is off
 abbrev pub WasOn : PoolPart → Type 0
 WasOn m = (m.told ≡ None) × (m.stop ≡ None)
 
--- it took this one: its lanes are idle, and have room for these calls above the floor; and power was on
-pub record Takes (entries : ℕ) (s : LaneSet) (m m' : PoolPart) : Type 0 where
+-- it took this one: its lanes are idle, and have room for all calls that it may still make; and power was on
+pub record Takes (s : LaneSet) (m m' : PoolPart) : Type 0 where
   pub at : ℕ
-  pub floor : ℕ
-  pub becomes : m' ≡ record m { left = m.left - entries; hand = hand.Out at floor; handed = None }
+  pub room : ℕ
+  pub becomes : m' ≡ record m { hand = hand.Out at room; handed = None }
   pub place : IsAtPlace m.first at s
-  pub ready : IsReady (floor + entries) s
+  pub ready : IsReady room s
+  pub enough : m.left ≤ room
   pub on : WasOn m
 
 -- it was told that power is off
 abbrev pub told_of : PowerOff → PoolPart → PoolPart
 told_of p m = record m { told = Some p }
 
--- it may give this set back: the one that it has out, with idle lanes that have room for as many calls as the floor says
-pub record MayGive (s : LaneSet) (m : PoolPart) : Type 0 where
+-- It may give this set back after so many calls, no more than it could make: the one that it has out, with idle lanes that have room
+-- for all calls but these.
+pub record MayGive (made : ℕ) (s : LaneSet) (m : PoolPart) : Type 0 where
   pub placed : m.placed ≡ true
   pub at : ℕ
-  pub floor : ℕ
-  pub out : m.hand ≡ hand.Out at floor
+  pub room : ℕ
+  pub out : m.hand ≡ hand.Out at room
+  pub few : made ≤ m.left
   pub place : IsAtPlace m.first at s
-  pub ready : IsReady floor s
+  pub ready : IsReady (room - made) s
 
-abbrev pub given : PoolPart → PoolPart
-given m = record m { hand = hand.Empty; handed = None }
+abbrev pub given : ℕ → PoolPart → PoolPart
+given made m = record m { left = m.left - made; hand = hand.Empty; handed = None }
 
 -- it has no set out
 abbrev pub HasNoneOut : PoolPart → Type 0
-HasNoneOut m = (at floor : ℕ) → m.hand ≡ hand.Out at floor → ⊥
+HasNoneOut m = (at room : ℕ) → m.hand ≡ hand.Out at room → ⊥
 
 -- the set that it has out, whatever its lanes are doing; or it has none out, and hands none in
 abbrev pub IsOut : Option LaneSet → PoolPart → Type 0
 IsOut None m = HasNoneOut m
-IsOut (Some s) m = (at : ℕ) × (floor : ℕ) × (m.hand ≡ hand.Out at floor) × IsAtPlace m.first at s
+IsOut (Some s) m = (at : ℕ) × (room : ℕ) × (m.hand ≡ hand.Out at room) × IsAtPlace m.first at s
 
 pub record MayStop (given_in : Option LaneSet) (m : PoolPart) : Type 0 where
   pub placed : m.placed ≡ true
@@ -80,7 +82,7 @@ switched_by (Some s) = cond s.told None (Some s.off)
 -- it handed this set in, which it had out at that place; or none, and has to do with the same set as before
 abbrev pub Hands : Option LaneSet → PoolPart → PoolPart → Type 0
 Hands None m m' = (m'.hand ≡ m.hand) × (m'.handed ≡ m.handed)
-Hands (Some s) m m' = (at : ℕ) × (floor : ℕ) × (m.hand ≡ hand.Out at floor) × (m'.hand ≡ hand.Stopped at) × (m'.handed ≡ Some s)
+Hands (Some s) m m' = (at : ℕ) × (room : ℕ) × (m.hand ≡ hand.Out at room) × (m'.hand ≡ hand.Stopped at) × (m'.handed ≡ Some s)
 
 -- it stopped the power, handed this set in, and was told the first `PowerOff`
 pub record Stops (given_in : Option LaneSet) (p first : PowerOff) (m m' : PoolPart) : Type 0 where

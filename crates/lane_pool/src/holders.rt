@@ -5,8 +5,8 @@ use crate::sets::PowerOff;
 #[derive(Clone, Copy, Debug, PartialEq, Eq)]
 pub enum Hand {
     Empty,
-    /// It has the set at `at` out. Each lane that it gives back has room for `floor` calls.
-    Out { at: usize, floor: u64 },
+    /// It has the set at `at` out. Each lane had room for `room` calls when it went out.
+    Out { at: usize, room: u64 },
     /// It handed the set at this place to `stop`.
     Stopped(usize),
 }
@@ -23,7 +23,7 @@ pub struct Stop {
 /// A caller.
 #[derive(Clone, Copy, Debug, PartialEq, Eq)]
 pub struct Holder {
-    /// The entries that it has left.
+    /// The calls that it may still make: those with a set that it has out count once the set is back.
     pub left: u64,
     pub hand: Hand,
     pub stop: Option<Stop>,

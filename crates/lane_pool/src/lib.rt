@@ -11,14 +11,15 @@
 //! ```
 //!
 //! A caller knows its **part** of the pool (`PoolPart`): whatever others do, the set that it has out,
-//! the entries that it has left, what it said of the power and what it was told are as its own turns
-//! left them.
+//! the calls that it may still make, what it said of the power and what it was told are as its own
+//! turns left them.
 //!
 //! - **Sets.** A set that is at home is ready: each lane is there, idle, holds no session's pass, and is
 //!   the same lane of the same arena as at first. A set that is out is with one caller.
-//! - **Entries.** A lane's log has room for a number of calls, its spare. A caller states at `take`
-//!   how many calls it may make with the set. Each lane that comes out has at least that many, above
-//!   a **floor**; each lane that comes back has at least the floor. So no call takes memory.
+//! - **Room.** A caller may make a number of calls in all. A lane's log has room for a number of calls,
+//!   its spare. Each lane that comes out has room for all calls that all callers may still make; a caller
+//!   says at `give_back` how many it made, and each lane that comes back has room for all but these. So no
+//!   call takes memory, however many calls a caller makes with one set.
 //! - **Power.** Once a caller called `stop`, `take` gives no set, and each caller that asks is told
 //!   the first caller's `PowerOff`. A caller that has a set out then hands it to `stop` too, whatever
 //!   its lanes are doing, and its part has the set as it was. A caller **switched** power off if it
@@ -27,8 +28,8 @@
 //! | call | promise | definition |
 //! |---|---|---|
 //! | [`LanePool::of`] | every set is at home, and each pass knows that its caller did nothing | `fresh` of specs/Pools.antt |
-//! | [`LanePool::take`] | the set that comes out is in no other hand, its lanes are ready, with the entries above the floor, and power was on; or power is off | `Takes` of specs/Parts.antt, `IsPool` of specs/Pools.antt |
-//! | [`LanePool::give_back`] | the set is at home again, and the parts of all others are as they were | `given` of specs/Parts.antt |
+//! | [`LanePool::take`] | the set that comes out is in no other hand, its lanes are ready, with room for all calls that the caller may still make, and power was on; or power is off | `Takes` of specs/Parts.antt, `IsPool` of specs/Pools.antt |
+//! | [`LanePool::give_back`] | the set is at home again, the caller may make so many calls less, and the parts of all others are as they were | `given` of specs/Parts.antt |
 //! | [`LanePool::stop`] | power is off, the set is kept as it was handed in, and the caller is told who was first | `Stops` of specs/Parts.antt |
 //! | [`LanePool::power`], [`is_off`] | a caller that was told that power is off, or switched it off, is never told that it is on | `Asks`, `IsOn` of specs/Parts.antt |
 //! | [`go_off`] | the caller switched power off, and was told so | `HasStopped`, `IsTold` of specs/Parts.antt |

@@ -18,7 +18,7 @@ pub struct PoolPart {
     pub first: LinkedList<LaneSet>,
     /// Whether the pool has a place for the caller.
     pub placed: bool,
-    /// The entries that it has left.
+    /// The calls that it may still make. Those with a set that it has out count once the set is back.
     pub left: u64,
     pub hand: Hand,
     /// The set that it handed to `stop`.
@@ -41,7 +41,7 @@ pub(crate) enum Offer {
 pub struct Pool {
     sets: Vec<Option<LaneSet>>,
     holders: Vec<Holder>,
-    /// The entries that all callers have left.
+    /// The calls that all callers may still make.
     total: u64,
     off: Option<PowerOff>,
     first: Snapshot<Vec<LaneSet>>,
@@ -89,7 +89,7 @@ fn at_home(alloc: Global, sets: Vec<LaneSet>) -> Result<Vec<Option<LaneSet>>, Al
     Ok(home)
 }
 
-/// A caller for each number of entries, and the sum of these.
+/// A caller for each number of calls, and the sum of these.
 fn callers(alloc: Global, entries: &[u32]) -> Result<(Vec<Holder>, u64), AllocError>
     requires few { sum entries.now < 2 ^ 64 }
     ensures holders { IfOk result (λ r. r.0.items ≡ map new_holder entries.now) }
@@ -193,10 +193,10 @@ impl Pool {
     }
 
     /// Takes a set that is at home. Power is on.
-    fn take_home(&mut self, q: usize, entries: u64) -> Option<LaneSet>
-        requires may { MayTake entries (part_at self.old q) }
+    fn take_home(&mut self, q: usize) -> Option<LaneSet>
+        requires may { MayTake (part_at self.old q) }
         requires on { self.old.off ≡ None }
-        ensures got { IfSome result (λ s. Takes entries s (part_at self.old q) (part_at self.new q)) }
+        ensures got { IfSome result (λ s. Takes s (part_at self.old q) (part_at self.new q)) }
         ensures none { result ≡ None → self.new ≡ self.old }
         ensures others { KeepsOthers part_at q self.old self.new }
     {
@@ -205,12 +205,11 @@ impl Pool {
         let Some(set) = self.sets[at].take() else {
             unreachable!()
         };
-        self.total -= entries;
         self.holders[q] = Holder {
-            left: holder.left - entries,
+            left: holder.left,
             hand: Hand::Out {
                 at,
-                floor: self.total,
+                room: self.total,
             },
             stop: holder.stop,
             told: holder.told,
@@ -219,9 +218,9 @@ impl Pool {
     }
 
     /// Takes a set that is at home, unless power is off.
-    pub(crate) fn take(&mut self, q: usize, entries: u64) -> Offer
-        requires { MayTake entries (part_at self.old q) }
-        ensures got { (s : Lanes) → result ≡ offer.Got s → Takes entries s (part_at self.old q) (part_at self.new q) }
+    pub(crate) fn take(&mut self, q: usize) -> Offer
+        requires { MayTake (part_at self.old q) }
+        ensures got { (s : Lanes) → result ≡ offer.Got s → Takes s (part_at self.old q) (part_at self.new q) }
         ensures off { (p : Off) → result ≡ offer.Off p → part_at self.new q ≡ told_of p (part_at self.old q) }
         ensures nothing { result ≡ offer.Nothing → self.new ≡ self.old }
         ensures others { KeepsOthers part_at q self.old self.new }
@@ -230,25 +229,26 @@ impl Pool {
             self.tell(q, off);
             return Offer::Off(off);
         }
-        match self.take_home(q, entries) {
+        match self.take_home(q) {
             Some(set) => Offer::Got(set),
             None => Offer::Nothing,
         }
     }
 
-    /// Takes a set back from the caller that has it out.
-    pub(crate) fn give_back(&mut self, q: usize, set: LaneSet)
-        requires { MayGive set (part_at self.old q) }
-        ensures own { part_at self.new q ≡ given (part_at self.old q) }
+    /// Takes a set back from the caller that has it out and made so many calls with it.
+    pub(crate) fn give_back(&mut self, q: usize, set: LaneSet, made: u64)
+        requires { MayGive made set (part_at self.old q) }
+        ensures own { part_at self.new q ≡ given made (part_at self.old q) }
         ensures others { KeepsOthers part_at q self.old self.new }
     {
         let holder = self.holders[q];
-        let Hand::Out { at, floor: _ } = holder.hand else {
+        let Hand::Out { at, room: _ } = holder.hand else {
             unreachable!()
         };
+        self.total -= made;
         self.sets[at] = Some(set);
         self.holders[q] = Holder {
-            left: holder.left,
+            left: holder.left - made,
             hand: Hand::Empty,
             stop: holder.stop,
             told: holder.told,
@@ -288,7 +288,7 @@ impl Pool {
         ensures others { KeepsOthers part_at q self.old self.new }
     {
         let holder = self.holders[q];
-        let Hand::Out { at, floor: _ } = holder.hand else {
+        let Hand::Out { at, room: _ } = holder.hand else {
             unreachable!()
         };
         let first = first_of(self.off, off);

@@ -31,32 +31,27 @@ pub struct LanePool {
 }
 
 // A set that is at home, in one turn.
-fn take_in_turn<R: Wait>(
-    rt: &R,
-    turn: &Turn<Pool>,
-    pass: &mut TurnPass<Pool>,
-    entries: u64,
-) -> Offer
+fn take_in_turn<R: Wait>(rt: &R, turn: &Turn<Pool>, pass: &mut TurnPass<Pool>) -> Offer
     requires outside { IsOutside (lock_id turn.now) pass.old }
-    requires may { HasPart (MayTake entries) pass.old }
+    requires may { HasPart MayTake pass.old }
     ensures pass { IsSamePass pass.old pass.new }
     ensures outside { out_of pass.new ≡ None }
-    ensures got { (s : Lanes) → result ≡ offer.Got s → PartGoes (Takes entries s) pass.old pass.new }
+    ensures got { (s : Lanes) → result ≡ offer.Got s → PartGoes (Takes s) pass.old pass.new }
     ensures off { (p : Off) → result ≡ offer.Off p → PartBecomes (told_of p) pass.old pass.new }
     ensures nothing { result ≡ offer.Nothing → part_of pass.new ≡ part_of pass.old }
 {
     let q = pass.number() as usize;
     let mut pool = turn.enter(rt, pass);
-    let offer = pool.take(q, entries);
+    let offer = pool.take(q);
     turn.leave(pass, pool);
     offer
 }
 
 impl LanePool {
-    /// A pool of these sets, and a pass for each caller; caller q may need `entries[q]` entries.
+    /// A pool of these sets, and a pass for each caller; caller q may make `entries[q]` calls.
     ///
     /// The one refusal is out of memory. Conditions: every lane is idle, and has room for all
-    /// entries together.
+    /// calls together.
     pub fn of(
         alloc: Global,
         sets: Vec<LaneSet>,
@@ -75,21 +70,20 @@ impl LanePool {
         Ok((LanePool { turn }, passes))
     }
 
-    /// Waits for a set, and takes it for so many calls of each of its lanes. Power is off if it
-    /// gets none.
+    /// Waits for a set, and takes it. Power is off if it gets none.
     ///
     /// Only other callers that have sets out keep a caller waiting. The lanes are idle, and have
-    /// room for these calls above the floor.
-    pub fn take<R: Wait>(&self, rt: &R, pass: &mut TurnPass<Pool>, entries: u64) -> Taken
+    /// room for all calls that the caller may still make.
+    pub fn take<R: Wait>(&self, rt: &R, pass: &mut TurnPass<Pool>) -> Taken
         requires outside { IsOutside (lock_id self.now.turn) pass.old }
-        requires may { HasPart (MayTake entries) pass.old }
+        requires may { HasPart MayTake pass.old }
         ensures pass { IsSamePass pass.old pass.new }
         ensures outside { out_of pass.new ≡ None }
-        ensures got { (s : Lanes) → result ≡ taken.Got s → PartGoes (Takes entries s) pass.old pass.new }
+        ensures got { (s : Lanes) → result ≡ taken.Got s → PartGoes (Takes s) pass.old pass.new }
         ensures off { (p : Off) → result ≡ taken.Off p → PartBecomes (told_of p) pass.old pass.new }
     {
         for _ in rt.forever() {
-            match take_in_turn(rt, &self.turn, pass, entries) {
+            match take_in_turn(rt, &self.turn, pass) {
                 Offer::Got(set) => return Taken::Got(set),
                 Offer::Off(off) => return Taken::Off(off),
                 Offer::Nothing => thread::yield_now(),
@@ -98,18 +92,19 @@ impl LanePool {
         unreachable!()
     }
 
-    /// Takes back the set that the caller has out. Its lanes are idle, and have room for as many
-    /// calls as the floor says.
-    pub fn give_back<R: Wait>(&self, rt: &R, pass: &mut TurnPass<Pool>, set: LaneSet)
+    /// Takes back the set that the caller has out, after `made` calls with it, no more than the
+    /// caller could make. The lanes are idle, and have room for all calls that they had room for,
+    /// but for these.
+    pub fn give_back<R: Wait>(&self, rt: &R, pass: &mut TurnPass<Pool>, set: LaneSet, made: u64)
         requires outside { IsOutside (lock_id self.now.turn) pass.old }
-        requires may { HasPart (MayGive set) pass.old }
+        requires may { HasPart (MayGive made set) pass.old }
         ensures pass { IsSamePass pass.old pass.new }
         ensures outside { out_of pass.new ≡ None }
-        ensures own { PartBecomes given pass.old pass.new }
+        ensures own { PartBecomes (given made) pass.old pass.new }
     {
         let q = pass.number() as usize;
         let mut pool = self.turn.enter(rt, pass);
-        pool.give_back(q, set);
+        pool.give_back(q, set, made);
         self.turn.leave(pass, pool);
     }
 

@@ -1,12 +1,14 @@
 -- What sessions may do once they are made, and when they are closed.
-use Rattle.std.proofs.Common.{◌≡◌, ℕ, zero, suc, ◌/◌, ◌^◌, ◌<◌, List, [], ◌∷◌, length, Some, refl, sym, ap, ◌∙◌, subst, arith}
-use Rattle.std.specs.Prelude.{slice_get}
+use Rattle.std.proofs.Common.{◌≡◌, ℕ, zero, suc, ◌/◌, ◌^◌, ◌<◌, List, [], ◌∷◌, length, Option, Some, None, refl, sym, ap, ◌∙◌, subst, arith}
+use Rattle.std.specs.Prelude.{All, slice_get}
 use Rattle.arena_open.specs.declared.state.ArenaState.{ArenaState}
 use Rattle.lane_core.specs.Arenas.{shape_in}
+use Rattle.lane_pool.specs.declared.holders.Hand.TheVariants as hand
 use Rattle.lane_pool.specs.declared.pool.PoolPart.{PoolPart}
+use Rattle.lane_calls.specs.declared.session.Kept.{Kept}
 use Rattle.lane_calls.specs.declared.session.Sectors.{Sectors}
 use Rattle.lane_calls.specs.declared.session.Session.{Session}
-use Rattle.lane_calls.specs.Sessions.{Know, Parts}
+use Rattle.lane_calls.specs.Sessions.{Know, Parts, made_with}
 use Rattle.lane_sessions.specs.declared.making.SessionLimits.{SessionLimits}
 use Rattle.lane_sessions.specs.Ending.{KnowAll}
 use Rattle.lane_sessions.specs.Sets.{AreMadeOf}
@@ -15,6 +17,9 @@ use Rattle.lane_session_tests.specs.More.{IsBetween, MayCallMore}
 use Rattle.lane_session_tests.proofs.Going.{in_some}
 
 -- ---- a new session
+
+empty_stopped : {at : ℕ} → hand.Empty ≡ hand.Stopped at → ⊥
+empty_stopped e = cc
 
 module _ (s : Sectors) (state : ArenaState) (some : 0 < length s.arenas.items) (wide : (shape_in state).width ≡ 64) (high : 60 < (shape_in state).sectors)
     (limits : SessionLimits) (q : ℕ) (session : Session) (new : IsNewSession s (state ∷ []) limits q session) (few : limits.calls < 2 ^ 32) where
@@ -29,8 +34,8 @@ module _ (s : Sectors) (state : ArenaState) (some : 0 < length s.arenas.items) (
     place_in = some;
     parts = new_parts state (state ∷ []);
     know = know;
-    empty = ap (λ (m : PoolPart). m.hand) pool_is;
-    left = (let a = ap (λ (m : PoolPart). m.left) pool_is in omega (arith, a));
+    going = λ at e. empty_stopped (sym (ap (λ (m : PoolPart). m.hand) pool_is) ∙ e);
+    left = (let a = ap (λ (m : PoolPart). m.left) pool_is in let b = ap (λ (o : Option Kept). made_with o) new.kept in omega (arith, a, b));
     may = record { free = refl; later = tt };
     calls = (let a = new.call in omega (arith, a, few));
     width = wide;
@@ -85,3 +90,9 @@ know_three s a b c pa pb pc na nb nc ka kb kc (suc (suc (suc q))) x e = absurd (
 
 pub all_between : (s : Sectors) (a b c : Session) → (a.number ≡ 0) × IsBetween s a → (b.number ≡ 1) × IsBetween s b → (c.number ≡ 2) × IsBetween s c → (parts : ℕ → Parts) × KnowAll s parts (a ∷ b ∷ c ∷ [])
 all_between s a b c ha hb hc = (by_three ha.1.0 hb.1.0 hc.1.0, know_three s a b c ha.1.0 hb.1.0 hc.1.0 ha.0 hb.0 hc.0 ha.1.1 hb.1.1 hc.1.1)
+
+pub all_rest : (a b c : Session) → a.kept ≡ None → b.kept ≡ None → c.kept ≡ None → All (λ (s : Session). s.kept ≡ None) (a ∷ b ∷ c ∷ [])
+all_rest a b c ra rb rc zero d lt = ra
+all_rest a b c ra rb rc (suc zero) d lt = rb
+all_rest a b c ra rb rc (suc (suc zero)) d lt = rc
+all_rest a b c ra rb rc (suc (suc (suc q))) d lt = absurd (omega (arith, lt))

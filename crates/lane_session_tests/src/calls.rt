@@ -1,9 +1,9 @@
 //! A session's calls on the first of its arenas.
 ghost use Rattle.std.specs.Prelude.{◌≡◌, ◌+◌, ◌≤◌, ℕ, Some, true};
-ghost use Rattle.lane_session_tests.specs.More.{IsBetween, MayCallMore};
+ghost use Rattle.lane_session_tests.specs.More.{IsBetween, IsResting, MayCallMore};
 
 use arena_open::CellKind;
-use lane_calls::{Heard, Sectors, Session, Waiting, Wrote, read, write};
+use lane_calls::{Heard, Sectors, Session, Waiting, Wrote, read, rest, write};
 use nvd_media::NoGate;
 use std::sync::Wait;
 
@@ -43,4 +43,14 @@ pub fn get<R: Wait>(rt: &R, sectors: &Sectors, session: &mut Session, sector: u3
         Heard::Got(_) => Some(0),
         Heard::Cut => None,
     }
+}
+
+/// The session gives back the set that it keeps.
+pub fn pause<R: Wait>(rt: &R, sectors: &Sectors, session: &mut Session)
+    requires between { IsBetween sectors.now session.old }
+    ensures number { session.new.number ≡ session.old.number }
+    ensures more { (n : ℕ) → MayCallMore sectors.now n session.old → MayCallMore sectors.now n session.new }
+    ensures resting { IsResting sectors.now session.new }
+{
+    rest(rt, sectors, session);
 }

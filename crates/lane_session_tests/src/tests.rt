@@ -6,7 +6,7 @@ ghost use Rattle.lane_sessions.specs.Ending.{lists_of};
 ghost use Rattle.lane_sessions.specs.Sets.{AreSets};
 ghost use Rattle.lane_session_tests.specs.More.{IsBetween, MayCallMore};
 
-use crate::calls::{get, put};
+use crate::calls::{get, pause, put};
 use crate::words::{new_words, parent};
 use arena_open::{ArenaState, CellKind, cell_of, open_arena};
 use cut_words::{CutWords, Fuse, WordSpace};
@@ -69,7 +69,7 @@ fn begin(alloc: Global) -> Result<Run, Fail>
     ensures sets { IfOk result (λ r. AreSets 3 r.sectors.arenas.items (first_of r.sectors.pool.turn).first (lists_of r.aside.items)) }
     ensures first { IfOk result (λ r. (r.first.number ≡ 0) × MayCallMore r.sectors 601 r.first) }
     ensures second { IfOk result (λ r. (r.second.number ≡ 1) × MayCallMore r.sectors 20 r.second) }
-    ensures third { IfOk result (λ r. (r.third.number ≡ 2) × MayCallMore r.sectors 2 r.third) }
+    ensures third { IfOk result (λ r. (r.third.number ≡ 2) × MayCallMore r.sectors 3 r.third) }
 {
     let state = opened(alloc, new_words(alloc)?)?;
     let mut states = Vec::new(alloc);
@@ -85,7 +85,7 @@ fn begin(alloc: Global) -> Result<Run, Fail>
         },
         SessionLimits {
             cut: None,
-            calls: 2,
+            calls: 3,
         },
     ];
     let made = make_sectors(alloc, states, 4, &limits)?;
@@ -105,13 +105,14 @@ fn begin(alloc: Global) -> Result<Run, Fail>
 }
 
 /// Closes the sectors.
-fn finish(
+fn finish<R: Wait>(
+    rt: &R,
     alloc: Global,
     sectors: Sectors,
     aside: Vec<Vec<LaneEnd>>,
-    first: Session,
-    second: Session,
-    third: Session,
+    mut first: Session,
+    mut second: Session,
+    mut third: Session,
 ) -> Result<Ended, AllocError>
     requires callers { callers_of sectors.pool.turn ≡ 3 }
     requires sets { AreSets 3 sectors.arenas.items (first_of sectors.pool.turn).first (lists_of aside.items) }
@@ -119,6 +120,9 @@ fn finish(
     requires second { (second.number ≡ 1) × IsBetween sectors second }
     requires third { (third.number ≡ 2) × IsBetween sectors third }
 {
+    pause(rt, &sectors, &mut first);
+    pause(rt, &sectors, &mut second);
+    pause(rt, &sectors, &mut third);
     let mut sessions = Vec::new(alloc);
     sessions.push(first)?;
     sessions.push(second)?;
@@ -192,8 +196,10 @@ fn write_until_cut<R: Wait>(rt: &R, sectors: &Sectors, session: &mut Session) ->
     20
 }
 
-/// The first session writes and reads, and the third one reads what it wrote. Then the second one
-/// cuts power in its eighth write, and both others are told so.
+/// The first session writes and reads, and the third one reads what it wrote. The first one gives
+/// its set back; the arena has two lanes, so the second one would wait for ever. Then the second
+/// one cuts power in its eighth write. The first one is told so, and the third one once it has no
+/// set.
 #[test]
 fn sessions_go_on_until_one_cuts_power(rt: HostRuntime) -> Result<(), Fail> {
     let alloc = rt.alloc();
@@ -209,10 +215,16 @@ fn sessions_go_on_until_one_cuts_power(rt: HostRuntime) -> Result<(), Fail> {
         return Err(AllocError)?;
     };
     assert_eq!(rt; found, 300);
+    pause(&rt, &sectors, &mut first);
     assert_eq!(rt; write_until_cut(&rt, &sectors, &mut second), 7);
     assert!(rt; !put(&rt, &sectors, &mut first, 1, 5));
+    let Some(found) = get(&rt, &sectors, &mut third, 1) else {
+        return Err(AllocError)?;
+    };
+    assert_eq!(rt; found, 252);
+    pause(&rt, &sectors, &mut third);
     assert_eq!(rt; get(&rt, &sectors, &mut third, 1), None);
-    let ended = finish(alloc, sectors, aside, first, second, third)?;
+    let ended = finish(&rt, alloc, sectors, aside, first, second, third)?;
     assert!(rt; ended.off.is_some());
     assert_eq!(rt; ended.words.len(), 1);
     assert_eq!(rt; left_in(alloc, &ended, 1)?, Some(252));

@@ -2,6 +2,7 @@
 use Rattle.std.proofs.Common.{◌≡◌, ◌⊎◌, inl, inr, ℕ, zero, suc, ◌+◌, ◌<◌, true, false, List, [], ◌∷◌, ◌++◌, length, length-append, get_or, map, Option, Some, None, refl, sym, ap, ◌∙◌, subst, arith}
 use Rattle.std.specs.Prelude.{All, Vec, slice_get}
 use Rattle.std.proofs.lemmas.List.{length-map}
+use Rattle.std.proofs.lemmas.Option.{get_or_from_slice_get, slice_get_within}
 use mathlib.Core.Option.{some}
 use lib.ListN.{get_elem?}
 use Rattle.turn_lock.specs.declared.pass.TurnPass.{TurnPass}
@@ -21,10 +22,11 @@ use Rattle.lane_pool.specs.declared.sets.PowerOff.{PowerOff}
 use Rattle.lane_pool.specs.Parts.{HasPart, IsClosed, NoneOut}
 use Rattle.lane_pool.specs.Pools.{Now}
 use Rattle.lane_pool.specs.Sets.{IsIdleEnd, WhichLane, lane_in, lane_of}
+use Rattle.lane_calls.specs.declared.session.Kept.{Kept}
 use Rattle.lane_calls.specs.declared.session.Sectors.{Sectors}
 use Rattle.lane_calls.specs.declared.session.Session.{Session}
 use Rattle.lane_calls.specs.Lanes.{is_in_flight}
-use Rattle.lane_calls.specs.Sessions.{Holds, Parts, end_at, handed_at, pass_at}
+use Rattle.lane_calls.specs.Sessions.{HasOut, Holds, Parts, end_at, handed_at, pass_at}
 use Rattle.lane_sessions.specs.Closing.{AreHandedIn, IsHandedIn}
 use Rattle.lane_sessions.specs.Ending.{AreAllIn, IsOffBy, KnowAll, column, lists_of, there}
 use Rattle.lane_sessions.specs.Sets.{AreSets, which}
@@ -90,8 +92,13 @@ module _ (sectors : Sectors) (sessions : List Session) (parts : ℕ → Parts) (
       let s = get_some sessions q (omega (arith, h, count)) in
       (q, s.0.caller.pool, omega (arith, h, count, length-map sessions (λ (s : Session). s.caller.pool)), map_get (λ (s : Session). s.caller.pool) sessions q s.0 s.0.caller.pool s.1, (know q s.0 s.1).seated.turn)
 
-  pub none_out : NoneOut turns
-  none_out = all_map (HasPart {g = ghosts} (λ m. (at floor : ℕ) → m.hand ≡ hand.Out at floor → ⊥)) (λ (s : Session). s.caller.pool) sessions (λ q s is. let k = know q s is in (k.pool, k.seated.pool_is, k.none_out))
+  -- what each session rests for
+  module _ (rest : All (λ (s : Session). s.kept ≡ None) sessions) where
+    rests_at : (q : ℕ) (s : Session) → slice_get sessions q ≡ Some s → s.kept ≡ None
+    rests_at q s is = subst (λ (x : Session). x.kept ≡ None) (get_or_from_slice_get sessions q s s is) (rest q s (slice_get_within sessions q s is))
+
+    pub none_out : NoneOut turns
+    none_out = all_map (HasPart {g = ghosts} (λ m. (at room : ℕ) → m.hand ≡ hand.Out at room → ⊥)) (λ (s : Session). s.caller.pool) sessions (λ q s is. let k = know q s is in (k.pool, k.seated.pool_is, subst (λ (o : Option Kept). HasOut 63 o k.pool) (rests_at q s is) k.out))
 
   -- ---- what it gives
 

@@ -23,6 +23,7 @@ use Rattle.lane_pool.specs.contracts.pool.PoolPart as PoolPart
 use Rattle.lane_pool.specs.contracts.pool.PoolParted.TheImpl as parted
 use Rattle.lane_pool.specs.contracts.sets.LaneSet as LaneSet
 use Rattle.lane_pool.specs.contracts.turns.LanePool as LanePool
+use Rattle.lane_calls.proofs.session.Kept.TheSendSync as kept
 use Rattle.lane_calls.specs.contracts.session.Caller as Caller
 use Rattle.lane_calls.specs.contracts.session.Sectors as Sectors
 use Rattle.lane_calls.specs.contracts.session.Session as Session
@@ -49,7 +50,7 @@ caller_field_send : IsSend (Caller.the_field).row
 caller_field_send = struct_send (shape Caller.the_type) (pass_field_send, (search (sendable, crosses) depth 20, (plain_send _ _ _ _ _, (plain_send _ _ _ _ _, tt))))
 
 pub session_field_send : IsSend (Session.the_field).row
-session_field_send = struct_send (shape Session.the_type) (plain_send _ _ _ _ _, (search (lane_pass.the_send, sendable, crosses) depth 20, (caller_field_send, tt)))
+session_field_send = struct_send (shape Session.the_type) (plain_send _ _ _ _ _, (search (lane_pass.the_send, sendable, crosses) depth 20, (caller_field_send, (search (kept.the_send, sendable, crosses) depth 20, tt))))
 
 pub session_send : IsSend Session.the_row
 session_send = recorded_send (Session.the_field).row _ _ (Session.the_type).to_one session_field_send

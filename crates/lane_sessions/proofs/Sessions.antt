@@ -21,9 +21,10 @@ use Rattle.lane_pool.specs.declared.pool.PoolPart.{PoolPart}
 use Rattle.lane_pool.specs.declared.sets.LaneSet.{LaneSet}
 use Rattle.lane_pool.specs.Pools.{Now, fresh, holder_at, new_holder, nobody, part_at, part_of_caller}
 use Rattle.lane_pool.specs.Sets.{IsReady, lane_in}
+use Rattle.lane_calls.specs.declared.session.Kept.{Kept}
 use Rattle.lane_calls.specs.declared.session.Sectors.{Sectors}
 use Rattle.lane_calls.specs.declared.session.Session.{Session}
-use Rattle.lane_calls.specs.Sessions.{AreLaid as Fits, InHand, IsKnown, pass_at, shape_of}
+use Rattle.lane_calls.specs.Sessions.{AreLaid as Fits, HasOut, InHand, IsKnown, pass_at, shape_of}
 use Rattle.lane_sessions.specs.declared.arenas.Laid.{Laid}
 use Rattle.lane_sessions.specs.declared.arenas.Plan.{Plan}
 use Rattle.lane_sessions.specs.declared.making.SessionLimits.{SessionLimits}
@@ -127,6 +128,7 @@ module _ (p : Plan) (states : List ArenaState) (x : Laid) (laid : AreLaid p stat
         left = at.left.0;
         steps = at.left.1;
         call = at.call;
+        kept = at.kept;
         pool = pool_is ∙ ap (λ (v : Now). Some (new_caller v.first l.calls)) (sym first);
         know = λ past. record {
           pool = new_caller sets l.calls;
@@ -139,7 +141,7 @@ module _ (p : Plan) (states : List ArenaState) (x : Laid) (laid : AreLaid p stat
             placed = refl;
             laid = subst (λ l. Fits l sets) (sym arenas) fits;
           };
-          none_out = λ i f e. absurd (empty_out e);
+          out = subst (λ (o : Option Kept). HasOut 63 o (new_caller sets l.calls)) (sym at.kept) (λ i f e. empty_out e);
           handed = λ y e. absurd (none_some e);
           each = λ j a is. knows past j a (ap (λ l. slice_get l j) (sym arenas) ∙ is);
         };

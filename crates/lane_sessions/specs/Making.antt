@@ -77,6 +77,7 @@ pub record IsNewSession (s : Sectors) (states : List ArenaState) (limits : Sessi
   pub left : session.caller.left ≡ limits.cut
   pub steps : session.caller.steps ≡ or_zero limits.cut
   pub call : session.caller.call ≡ 0
+  pub kept : session.kept ≡ None
   pub pool : part_of session.caller.pool ≡ Some (new_caller (first_sets s) limits.calls)
   pub know : (past : ArenaState) → Know s q (new_parts past states) session
 
@@ -127,13 +128,14 @@ pub record AreLaid (p : Plan) (states : List ArenaState) (x : Laid) : Type 0 whe
   pub sessions : length x.passes.items ≡ p.sessions
   pub passes : AreRows IsPassOf x.arenas.items x.passes.items
 
--- session q has the limits, the pass of the pool and the row of passes at its place
+-- session q has the limits, the pass of the pool and the row of passes at its place, and keeps no set
 pub record IsSeatedAt {Z : Type 0} (limits : SessionLimits) (pool : TurnPass Now PoolPart ghosts) (row : Vec (Option Pass) Z) (session : Session) : Type 0 where
   pub number : session.number ≡ number_of pool
   pub passes : session.passes.items ≡ row.items
   pub pool_is : session.caller.pool ≡ pool
   pub left : (session.caller.left ≡ limits.cut) × (session.caller.steps ≡ or_zero limits.cut)
   pub call : session.caller.call ≡ 0
+  pub kept : session.kept ≡ None
 
 abbrev pub AreSeated : {Z : Type 0} → List SessionLimits → List (TurnPass Now PoolPart ghosts) → List (Vec (Option Pass) Z) → List Session → Type 0
 AreSeated {Z} limits pool rows sessions = (q : ℕ) (l : SessionLimits) (p : TurnPass Now PoolPart ghosts) (row : Vec (Option Pass) Z) (s : Session) → q < length sessions

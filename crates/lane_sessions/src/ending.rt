@@ -1,5 +1,5 @@
 //! Closes the arenas of sessions, with the pool of their lanes.
-ghost use Rattle.std.specs.Prelude.{◌≡◌, ℕ, ◌<◌, List, [], ◌∷◌, ◌++◌, length, map, All, IfOk};
+ghost use Rattle.std.specs.Prelude.{◌≡◌, ℕ, ◌<◌, List, [], ◌∷◌, ◌++◌, length, map, All, IfOk, None};
 ghost use Rattle.turn_lock.specs.Passes.{callers_of, first_of};
 ghost use Rattle.arena_open.specs.declared.state.ArenaState.{ArenaState};
 ghost use Rattle.arena_open.specs.Moves.{IsOpenState};
@@ -99,7 +99,8 @@ fn close_row(
     Ok(words)
 }
 
-/// Closes the arenas of sessions, which are all between two calls, and the pool of their lanes.
+/// Closes the arenas of sessions, which are all between two calls and rest, and the pool of their
+/// lanes.
 ///
 /// The one refusal is out of memory. Then the arenas, their lanes and all passes are dropped.
 pub fn close_sectors(
@@ -111,6 +112,7 @@ pub fn close_sectors(
     requires every { length sessions.items ≡ callers_of sectors.pool.turn }
     requires sets { AreSets (length sessions.items) sectors.arenas.items (first_of sectors.pool.turn).first (lists_of aside.items) }
     requires known { (parts : ℕ → Parts) × KnowAll sectors parts sessions.items }
+    requires rest { All (λ s. s.kept ≡ None) sessions.items }
     ensures left { (states : List ArenaState) (parts : ℕ → Parts) → AreMadeOf states sectors.arenas.items → All IsOpenState states → KnowAll sectors parts sessions.items → IfOk result (λ e. AreArenasLeft (length sessions.items) states parts (length sectors.arenas.items) e.words.items) }
     ensures off { IfOk result (λ e. IsOffBy sessions.items e.off) }
 {

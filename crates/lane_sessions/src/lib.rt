@@ -23,15 +23,16 @@
 //! | the same | place j of set i is lane i of arena j, and each lane is in a set or aside | `sets`, `AreSets` of specs/Sets.antt |
 //! | the same | there are as many sets as workers, or as the arena with the fewest lanes has, if these are fewer; and at least one | `count`, `some` |
 //! | the same | nobody did anything at the pool | `pool` |
-//! | the same | session q has its number, its steps and a pass of each arena; it knows that it did nothing there, has no set out, and may make as many calls as its limit says | `sessions`, `IsNewSession` of specs/Making.antt |
+//! | the same | session q has its number, its steps and a pass of each arena; it knows that it did nothing there, keeps no set, and may make as many calls as its limit says | `sessions`, `IsNewSession` of specs/Making.antt |
 //! | the same | each lane of a set has room for all calls of all sessions, so no call takes memory | `room`, `IsReady` of lane_pool's specs/Sets.antt |
 //!
 //! # Closing
 //!
-//! Between two calls a session has its pass of each arena in hand, but for the arena in which its last
-//! call was cut: there the stopped lane has it. Closing takes every lane and every pass back. The lanes
-//! of an arena come from the sets of the pool, lane i from set i, and from those that were left aside.
-//! Lane 0 carries the passes that are in hand into the arena's `close` (`lane_table`):
+//! Each session has to rest: it keeps no set of lanes (`lane_calls`). Between two calls it has its
+//! pass of each arena in hand, but for the arena in which its last call was cut: there the stopped
+//! lane has it. Closing takes every lane and every pass back. The lanes of an arena come from the
+//! sets of the pool, lane i from set i, and from those that were left aside. Lane 0 carries the
+//! passes that are in hand into the arena's `close` (`lane_table`):
 //!
 //! ```text
 //!   set 0    set 1    aside          session 0    session 1    session 2

@@ -1,5 +1,5 @@
 //! Sets of lanes and sessions are made, when all arenas are.
-ghost use Rattle.std.specs.Prelude.{◌≡◌, ◌<◌, length, map, slice_index_or, sum, IfOk};
+ghost use Rattle.std.specs.Prelude.{◌≡◌, ◌<◌, length, map, slice_index_or, sum, None, IfOk};
 ghost use Rattle.turn_lock.specs.Passes.{AreInOrder, number_of};
 ghost use Rattle.lane_sessions.specs.declared.making.SessionLimits.{SessionLimits as Limits};
 ghost use Rattle.lane_sessions.specs.Making.{AreNumbered, AreSeated, calls_in, or_zero};
@@ -70,6 +70,7 @@ fn session_of(limits: SessionLimits, pool: TurnPass<Pool>, passes: Vec<Option<Pa
     ensures pool { result.caller.pool ≡ pool }
     ensures left { (result.caller.left ≡ limits.cut) × (result.caller.steps ≡ or_zero limits.cut) }
     ensures call { result.caller.call ≡ 0 }
+    ensures kept { result.kept ≡ None }
 {
     let number = pool.number();
     let caller = Caller {
@@ -82,6 +83,7 @@ fn session_of(limits: SessionLimits, pool: TurnPass<Pool>, passes: Vec<Option<Pa
         number,
         passes,
         caller,
+        kept: None,
     }
 }
 

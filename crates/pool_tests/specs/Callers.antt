@@ -9,7 +9,7 @@ use Rattle.lane_pool.specs.declared.pool.PoolPart.{PoolPart}
 use Rattle.lane_pool.specs.Parts.{HasNoneOut, HasPart}
 use Rattle.lane_pool.specs.Pools.{Now}
 
--- it may take a set so many times
+-- it has no set out, and may make so many calls
 pub record HasTurns (n : ℕ) (m : PoolPart) : Type 0 where
   pub placed : m.placed ≡ true
   pub free : m.hand ≡ hand.Empty

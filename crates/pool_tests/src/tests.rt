@@ -35,7 +35,7 @@ fn empty_sets(alloc: Global, count: u32) -> Result<Vec<LaneSet>, AllocError>
     Ok(sets)
 }
 
-/// Takes a set and gives it back, so often.
+/// Takes a set and gives it back after one call, so often.
 fn take_turns<R: Wait>(rt: &R, pool: &LanePool, pass: &mut TurnPass<Pool>, turns: u32)
     requires outside { IsOutside (lock_id pool.now.turn) pass.old }
     requires may { HasPart (HasTurns turns) pass.old }
@@ -44,8 +44,8 @@ fn take_turns<R: Wait>(rt: &R, pool: &LanePool, pass: &mut TurnPass<Pool>, turns
     ensures place { HasPart HasPlace pass.new }
 {
     for _turn in 0..turns {
-        match pool.take(rt, pass, 1) {
-            Taken::Got(set) => pool.give_back(rt, pass, set),
+        match pool.take(rt, pass) {
+            Taken::Got(set) => pool.give_back(rt, pass, set, 1),
             Taken::Off(_) => return,
         }
     }
@@ -135,6 +135,6 @@ fn the_first_power_off_stays(rt: HostRuntime) -> Result<(), Fail> {
     };
     assert!(rt; pool.stop(&rt, &mut passes[0], None, OFF) == OFF);
     assert!(rt; pool.stop(&rt, &mut passes[1], None, later) == OFF);
-    assert!(rt; matches!(pool.take(&rt, &mut passes[0], 1), Taken::Off(OFF)));
+    assert!(rt; matches!(pool.take(&rt, &mut passes[0]), Taken::Off(OFF)));
     Ok(())
 }

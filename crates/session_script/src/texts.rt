@@ -12,7 +12,7 @@ use std::alloc::{AllocError, Global};
 fn bytes_of(alloc: Global, words: &[u64]) -> Result<Vec<u8>, AllocError>
     ensures { IfOk result (λ bytes. bytes.items ≡ bytes_of words.now) }
 {
-    let mut bytes = Vec::new(alloc);
+    let mut bytes = Vec::with_capacity(alloc, words.len() * 8)?;
     for word in words {
         bytes.extend_from_slice(&word.to_le_bytes())?;
     }

@@ -59,8 +59,9 @@ use Rattle.session_service.specs.declared.service.Service.{Service}
 use Rattle.session_service.specs.Ends.{HaveBoth, two_valued, words_of}
 use Rattle.session_service.specs.Made.{IsMade, states_in}
 use Rattle.session_service.specs.Namespaces.{arenas_in, number_at, serving_of, servings_of, shape_by}
-use Rattle.session_service.specs.Ran.{HasServed, IsRunArena, in_row, journal_of, replies_of}
-use Rattle.session_service.specs.Runners.{AreEnded, IsDone, calls_by, power_by, stands_by, who_by, who_if}
+use Rattle.session_texts.specs.Texts.{replies_text}
+use Rattle.session_service.specs.Ran.{HasServed, IsRunArena, in_row, journal_of, texts_of}
+use Rattle.session_service.specs.Runners.{AreEnded, IsDone, IsThrough, calls_by, power_by, stands_by, who_by, who_if}
 use Rattle.session_service.specs.Services.{all_of, arena_at, arenas_of, no_arena, orders_of}
 use Rattle.session_service.proofs.Ends.{either_left, pending_differ}
 use Rattle.session_service.proofs.Numbers.{behind, number_there}
@@ -151,6 +152,29 @@ reopens_weaker state May Might weaker left r = record {
       };
 }
 
+-- ---- a list of what stands at each place
+
+pub tabulate : {A : Type 0} → ℕ → (ℕ → A) → List A
+tabulate zero f = []
+tabulate (suc n) f = f 0 ∷ tabulate n (λ i. f (suc i))
+
+length_tabulate : {A : Type 0} (n : ℕ) (f : ℕ → A) → length (tabulate n f) ≡ n
+unfolding tabulate
+length_tabulate zero f = refl
+length_tabulate (suc n) f = let l = length_tabulate n (λ i. f (suc i)) in omega (arith, l)
+
+tabulate_at : {A : Type 0} (n : ℕ) (f : ℕ → A) (q : ℕ) (d : A) → q < n → get_or (tabulate n f) q d ≡ f q
+unfolding tabulate
+tabulate_at zero f q d lt = absurd (omega (arith, lt))
+tabulate_at (suc n) f zero d lt = refl
+tabulate_at (suc n) f (suc q) d lt = tabulate_at n (λ i. f (suc i)) q d (omega (arith, lt))
+
+-- the lines of all sessions
+texts_tabulated : (rs : List Runner) (f : ℕ → List Reply) → ((q : ℕ) (d : Runner) → q < length rs → (get_or rs q d).text.items ≡ replies_text (f q)) → texts_of (map (λ r. r.text) rs) ≡ map replies_text (tabulate (length rs) f)
+unfolding tabulate
+texts_tabulated [] f each = refl
+texts_tabulated (r ∷ rs) f each = λ i. each 0 r (omega arith) i ∷ texts_tabulated rs (λ n. f (suc n)) (λ q d lt. each (suc q) d (omega (arith, lt))) i
+
 -- ---- sessions that have come to their end
 
 -- what stands for the parts of a session that there isn't
@@ -177,10 +201,21 @@ module _ (service : Service) (script : Script) (rs : List Runner) (ended : AreEn
   abbrev runner_at : (q : ℕ) → q < length rs → Runner
   runner_at q lt = (there rs q lt).0
 
-  done_at : (q : ℕ) (lt : q < length rs) → IsDone service script q (runner_at q lt).replies.items (runner_at q lt)
-  done_at q lt =
+  through_at : (q : ℕ) (lt : q < length rs) → IsThrough service script q (runner_at q lt)
+  through_at q lt =
       let d = there rs q lt in
-      subst (λ (r : Runner). IsDone service script q r.replies.items r) d.1 ((ended q d.0 lt).done (lasted q d.0 lt))
+      subst (λ (r : Runner). IsThrough service script q r) d.1 ((ended q d.0 lt).done (lasted q d.0 lt))
+
+  done_at : (q : ℕ) (lt : q < length rs) → IsDone service script q (through_at q lt).replies (runner_at q lt)
+  done_at q lt = (through_at q lt).done
+
+  -- what a session was answered
+  replies_if : (q : ℕ) → (q < length rs) ⊎ (length rs ≤ q) → List Reply
+  replies_if q (inl lt) = (through_at q lt).replies
+  replies_if q (inr over) = []
+
+  pub replies_by : ℕ → List Reply
+  replies_by q = replies_if q (either q (length rs))
 
   -- what a session knows of each arena, and its part of the pool
   parts_if : (q : ℕ) → (q < length rs) ⊎ (length rs ≤ q) → Parts
@@ -201,12 +236,15 @@ module _ (service : Service) (script : Script) (rs : List Runner) (ended : AreEn
   pub record Ending (journal : List JournalEntry) (q : ℕ) : Type 0 where
     pub runner : Runner
     pub is : (d : Runner) → get_or rs q d ≡ runner
-    pub done : IsDone service script q runner.replies.items runner
+    pub replies : List Reply
+    pub said : runner.text.items ≡ replies_text replies
+    pub done : IsDone service script q replies runner
+    pub replies_is : replies_by q ≡ replies
     pub parts_is : parts_of q ≡ done.known
     pub power_is : powers journal q ≡ power_by done.knows.know.pool (own_entries q journal)
 
   pub ending : (journal : List JournalEntry) (q : ℕ) → q < length rs → Ending journal q
-  unfolding parts_of parts_if powers power_if
+  unfolding parts_of parts_if powers power_if replies_by replies_if
   ending journal q h = by (either q (length rs)) refl
     where
       default_same : (xs : List Runner) (i : ℕ) (x d : Runner) → i < length xs → get_or xs i x ≡ x → get_or xs i d ≡ x
@@ -218,7 +256,10 @@ module _ (service : Service) (script : Script) (rs : List Runner) (ended : AreEn
       by (inl lt) is = record {
         runner = runner_at q lt;
         is = λ d. default_same rs q (runner_at q lt) d lt (there rs q lt).1;
+        replies = (through_at q lt).replies;
+        said = (through_at q lt).said;
         done = done_at q lt;
+        replies_is = ap (replies_if q) is;
         parts_is = ap (parts_if q) is;
         power_is = ap (power_if journal q) is;
       }
@@ -236,6 +277,22 @@ module _ (service : Service) (script : Script) (rs : List Runner) (ended : AreEn
   order_facts q d h =
       let e = ending [] q h in
       subst (λ (r : Runner). IsOutside (orders_of service) r.orders × (number_of r.orders ≡ q)) (sym (e.is d)) (e.done.knows.outside, e.done.knows.orders_number)
+
+  -- no session keeps a set of lanes
+  pub all_rest : (sessions : List Session) → sessions ≡ map (λ r. r.session) rs → All (λ s. s.kept ≡ None) sessions
+  all_rest sessions are q s h =
+      let l = ap length are ∙ length-map rs (λ (r : Runner). r.session) in
+      let inside : q < length rs = omega (arith, h, l) in
+      let e = ending [] q inside in
+      let same : get_or sessions q s ≡ e.runner.session =
+      ap (λ (ss : List Session). get_or ss q s) are ∙ get_or-map (λ (r : Runner). r.session) rs q e.runner s inside ∙ ap (λ (r : Runner). r.session) (e.is e.runner) in
+      subst (λ (x : Session). x.kept ≡ None) (sym same) e.done.rests
+
+  -- the lines of all sessions are those of what they were answered
+  pub all_said : texts_of (map (λ r. r.text) rs) ≡ map replies_text (tabulate (length rs) replies_by)
+  all_said = texts_tabulated rs replies_by (λ q d lt.
+      let e = ending [] q lt in
+      ap (λ (r : Runner). r.text.items) (e.is d) ∙ e.said ∙ ap replies_text (sym e.replies_is))
 
   -- who was told was told of the one that a session itself switched off
   pub told_of_one : (n : ℕ) → length rs ≡ n → (journal : List JournalEntry) (sessions : List Session) → sessions ≡ map (λ r. r.session) rs → (off : Option PowerOff) → IsOffBy sessions off → ToldOfOne n (powers journal)
@@ -369,7 +426,7 @@ many_arenas registry served_all script service made = sym (ap (λ (xs : List Sha
 
 module _ (registry : Registered) (served_all : List ServedNamespace) (script : Script) (service : Service) (made : IsMade registry served_all script service) (rs : List Runner) (count : length rs ≡ length script.sessions) (ended : AreEnded service script rs) (lasted : All (λ r. r.refused ≡ false) rs)
     (words : List ArenaWords) (left : AreArenasLeft (length script.sessions) (arenas_of service) (parts_of service script rs ended lasted) (length service.sectors.arenas.items) words) (ran : Ran) (in_row_is : in_row ran.arenas.items ≡ words_of words)
-    (counts : map (λ c. length c.items) ran.arenas.items ≡ map (λ s. length s.arenas) (all_of service)) (replies_is : ran.replies.items ≡ map (λ r. r.replies) rs)
+    (counts : map (λ c. length c.items) ran.arenas.items ≡ map (λ s. length s.arenas) (all_of service)) (texts_are : ran.texts.items ≡ map (λ r. r.text) rs)
     (owns : All (λ p. KnowsOwn ran.registry p) (map (λ r. r.orders) rs)) (strangers : (q : ℕ) → length script.sessions ≤ q → own_entries q (journal_of ran) ≡ [])
     (told : ToldOfOne (length script.sessions) (powers service script rs ended lasted (journal_of ran))) where
   abbrev all : List Serving
@@ -382,7 +439,7 @@ module _ (registry : Registered) (served_all : List ServedNamespace) (script : S
   journal = journal_of ran
 
   abbrev all_replies : List (List Reply)
-  all_replies = replies_of ran.replies.items
+  all_replies = tabulate (length rs) (replies_by service script rs ended lasted)
 
   abbrev states : List ArenaState
   states = arenas_of service
@@ -413,7 +470,7 @@ module _ (registry : Registered) (served_all : List ServedNamespace) (script : S
   at place k is = closing n states parts_by (length service.sectors.arenas.items) words left row (number_at all place k) (near place k is)
 
   len : length all_replies ≡ n
-  len = length-map ran.replies.items (λ v. v.items) ∙ ap (λ vs. length vs) replies_is ∙ length-map rs (λ (r : Runner). r.replies) ∙ count
+  len = length_tabulate (length rs) (replies_by service script rs ended lasted) ∙ count
 
   closed : AreClosed all n journal ran.registry.room histories calls power
   closed = record {
@@ -435,12 +492,9 @@ module _ (registry : Registered) (served_all : List ServedNamespace) (script : S
       let its : registry_part journal ran.registry.room q ≡ known_registry e.done.orders.entries e.done.orders.room =
       ap (λ (i : ℕ). registry_part journal ran.registry.room i) (sym e.done.knows.orders_number) ∙ own e.done.orders e.done.knows.orders_is in
       let entries : own_entries q journal ≡ e.done.orders.entries = ap (λ (p : RegistryPart). p.entries) its in
-      let replies : replies_at all_replies q ≡ r.replies.items =
-      ap (λ vs. get_or (map (λ v. v.items) vs) q []) replies_is
-      ∙ get_or-map (λ v. v.items) (map (λ (x : Runner). x.replies) rs) q r.replies [] (let l = length-map rs (λ (x : Runner). x.replies) in omega (arith, l, inside))
-      ∙ ap (λ v. v.items) (get_or-map (λ (x : Runner). x.replies) rs q r r.replies inside ∙ ap (λ (x : Runner). x.replies) here) in
+      let replies : replies_at all_replies q ≡ e.replies = tabulate_at (length rs) (replies_by service script rs ended lasted) q [] inside ∙ e.replies_is in
       subst (λ (l : List Reply). parts.IsDone all script q l (registry_part journal ran.registry.room q) (λ place k. part_by (histories place k) (calls place k) q) (power q)) (sym replies)
-      (same_done all script q r.replies.items (known_registry e.done.orders.entries e.done.orders.room) (registry_part journal ran.registry.room q) (known_cores (stands_by all e.done.known) (calls_by all e.done.known)) (λ place k. part_by (histories place k) (calls place k) q) (power_by e.done.knows.know.pool e.done.orders.entries) (power q)
+      (same_done all script q e.replies (known_registry e.done.orders.entries e.done.orders.room) (registry_part journal ran.registry.room q) (known_cores (stands_by all e.done.known) (calls_by all e.done.known)) (λ place k. part_by (histories place k) (calls place k) q) (power_by e.done.knows.know.pool e.done.orders.entries) (power q)
       (sym its)
       (λ place k is.
       let x = at place k is in
@@ -514,6 +568,8 @@ module _ (registry : Registered) (served_all : List ServedNamespace) (script : S
       → (ran.registry.stopped ≡ true → (rows : List (Option (List ℕ))) → AreasLeft ran.registry.areas rows → AreLeft registry.sets (opening_of registry) script.labelcut journal (areas_shown rows))
       → (AreHeld registry.opening → AreasHold registry.sets (opening_of registry) (rows_of registry.opening) script.labelcut journal (map words_in ran.registry.areas)) → HasServed registry served_all script ran
   has_served kept commands on off held = record {
+    replies = all_replies;
+    texts = ap (λ vs. texts_of vs) texts_are ∙ all_said service script rs ended lasted;
     histories = histories;
     sets = kept.0;
     areas = subst (λ (o : List Area). AreKept o ran.registry.areas ran.registry.stopped) made.areas kept.1;

@@ -6,6 +6,7 @@ use mathlib.Core.Logic.{dite}
 use native.Mathlib.Decide.{ℕ_discrete}
 use Rattle.arena_open.specs.declared.cell.Cell.{Cell}
 use Rattle.lane_core.specs.declared.history.Act.{Act}
+use Rattle.lane_core.specs.declared.shape.Shape.{Shape as LaneShape}
 use Rattle.lane_core.specs.declared.history.Act.TheVariants as act
 use Rattle.lane_core.specs.declared.in_call.InCall.{InCall}
 use Rattle.namespace_ops.specs.Entries.{JournalEntry}
@@ -151,7 +152,7 @@ module _ (all : List Serving) (held : Option (List ℕ)) (sector : ℕ) (f : Fou
 
   -- ---- a call that was cut
 
-  module _ (script : Script) (q : ℕ) (replies : List Reply) (orders : OrdersPart) (pool : PoolPart) (left : Option ℕ) (held_is : held ≡ orders.held) (s : Standing all script q replies orders known pool left) (l : Line) (next : NextIs (session_at script q) replies l) where
+  module _ (script : Script) (q : ℕ) (replies : List Reply) (orders : OrdersPart) (pool : PoolPart) (used : ℕ) (left : Option ℕ) (held_is : held ≡ orders.held) (s : Standing all script q replies orders known pool used left) (l : Line) (next : NextIs (session_at script q) replies l) where
     abbrev pub at_cut : Made
     at_cut = made (length replies) held l reply.Cut
 
@@ -207,7 +208,7 @@ module _ (all : List Serving) (held : Option (List ℕ)) (sector : ℕ) (f : Fou
       read_still = still_at m (none_here m (ap (λ (x : CorePart). x.calls) same ∙ s.free j))
 
     -- a write stands or doesn't
-    module _ (value : Payload) (fits : wrong_length (size_of value f.bytes) f.bytes ≡ None) (m : ArenaPart) (at : l ≡ line.Write sector value) (goes : lanes.IsStopped q (length replies) f.sector (words value fits) (known j).mine m.mine) where
+    module _ (value : Payload) (fits : wrong_length (size_of value f.bytes) f.bytes ≡ None) (m : ArenaPart) (x : LaneShape) (steps : ℕ) (at : l ≡ line.Write sector value) (goes : lanes.IsStopped q (length replies) f.sector (words value fits) x steps (known j).mine m.mine) where
       abbrev its : Act
       its = act.Write (words value fits)
 
@@ -222,12 +223,12 @@ module _ (all : List Serving) (held : Option (List ℕ)) (sector : ℕ) (f : Fou
           call_stops all q at_cut found.spot entries (stands_by all known) (stands_by all (with_part known j m)) spot_here
           (ap (λ (x : Line). entry_for q (made (length replies) held x reply.Cut)) at) refl (by goes) (others m)
         where
-          by : lanes.IsStopped q (length replies) f.sector (words value fits) (known j).mine m.mine
+          by : lanes.IsStopped q (length replies) f.sector (words value fits) x steps (known j).mine m.mine
               → (stands_by all (with_part known j m) found.spot.place found.spot.arena ≡ stands_by all known found.spot.place found.spot.arena)
               ⊎ (stands_by all (with_part known j m) found.spot.place found.spot.arena ≡ stands_by all known found.spot.place found.spot.arena ++ option_to_list (stand_of all found.spot.place found.spot.arena at_cut))
           by (inl is) = inl (here m ∙ ap (λ (x : CorePart). x.stands) is)
-          by (inr (inl h)) = inl (here m ∙ ap (λ (x : CorePart). x.stands) h.2)
-          by (inr (inr is)) = inr (here m ∙ ap (λ (x : CorePart). x.stands) is ∙ ap (λ (o : Option Stand). (known j).mine.stands ++ option_to_list o) (sym flies))
+          by (inr (inl h)) = inl (here m ∙ ap (λ (x : CorePart). x.stands) h.1.2)
+          by (inr (inr h)) = inr (here m ∙ ap (λ (x : CorePart). x.stands) h.1 ∙ ap (λ (o : Option Stand). (known j).mine.stands ++ option_to_list o) (sym flies))
 
       pub write_still : (p n : ℕ) → IsArena all p n → AllByRecursion (IsOfCut all p n calls (stands_by all (with_part known j m) p n)) (calls_by all (with_part known j m) p n)
       write_still = still_at m (by goes)
@@ -242,7 +243,7 @@ module _ (all : List Serving) (held : Option (List ℕ)) (sector : ℕ) (f : Fou
             not_yet = λ _. stands_so found.spot.place found.spot.arena found.there;
           }
 
-          by : lanes.IsStopped q (length replies) f.sector (words value fits) (known j).mine m.mine → AllByRecursion (IsOfCut all found.spot.place found.spot.arena calls m.mine.stands) m.mine.calls
+          by : lanes.IsStopped q (length replies) f.sector (words value fits) x steps (known j).mine m.mine → AllByRecursion (IsOfCut all found.spot.place found.spot.arena calls m.mine.stands) m.mine.calls
           by (inl is) = none_here m (ap (λ (x : CorePart). x.calls) is ∙ s.free j)
-          by (inr (inl h)) = subst (λ (x : CorePart). AllByRecursion (IsOfCut all found.spot.place found.spot.arena calls x.stands) x.calls) (sym h.2) (lane h.0 h.1, tt)
-          by (inr (inr is)) = none_here m (ap (λ (x : CorePart). x.calls) is)
+          by (inr (inl h)) = subst (λ (x : CorePart). AllByRecursion (IsOfCut all found.spot.place found.spot.arena calls x.stands) x.calls) (sym h.1.2) (lane h.1.0 h.1.1, tt)
+          by (inr (inr h)) = none_here m (ap (λ (x : CorePart). x.calls) h.1)

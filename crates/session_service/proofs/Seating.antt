@@ -7,9 +7,10 @@ use Rattle.turn_lock.specs.declared.pass.TurnPass.{TurnPass}
 use Rattle.turn_lock.specs.Passes.{number_of, part_of, AreFresh, IsFresh, IsOutside}
 use Rattle.turn_lock.proofs.Places.{each_push, there}
 use Rattle.arena_open.specs.declared.state.ArenaState.{ArenaState}
+use Rattle.lane_pool.specs.declared.holders.Hand.TheVariants as hand
 use Rattle.lane_pool.specs.declared.pool.PoolPart.{PoolPart}
 use Rattle.lane_calls.specs.declared.session.Session.{Session}
-use Rattle.lane_calls.specs.Sessions.{Know, Parts}
+use Rattle.lane_calls.specs.Sessions.{Know, Parts, made_with}
 use Rattle.lane_sessions.specs.Making.{AreNewSessions, IsNewSession, first_sets, new_caller, new_parts}
 use Rattle.namespace_ops.specs.Registered.{Registered}
 use Rattle.session_script.specs.declared.script.Script.{Script}
@@ -17,6 +18,7 @@ use Rattle.session_script.specs.declared.script.SessionLines.{SessionLines}
 use Rattle.session_script.specs.Names.{ScriptHasText}
 use Rattle.session_account.specs.Account.{no_lines, session_at}
 use Rattle.session_account.proofs.Going.{begins_so}
+use Rattle.session_texts.proofs.Adding.{replies_none}
 use Rattle.registry_service.specs.contracts.served.ServedRegistryParted.TheImpl.{ghosts}
 use Rattle.registry_service.specs.declared.served.OrdersPart.{OrdersPart}
 use Rattle.registry_service.specs.Served.{Served, began_of, fresh, part_of_session}
@@ -38,12 +40,15 @@ default_same (x ∷ xs) (suc i) d e h = default_same xs i d e (omega (arith, h))
 some_same : {A : Type 0} {x y : A} → Some x ≡ Some y → x ≡ y
 some_same e = cc
 
+empty_runs : (at : ℕ) → hand.Empty ≡ hand.Stopped at → ⊥
+empty_runs at e = cc
+
 -- ---- one runner more
 
-pub seated_push : (sessions : List Session) (orders : List (TurnPass Served OrdersPart ghosts)) (lines : List SessionLines) (rs : List Runner) (r : Runner) → AreSeated sessions orders lines rs
-    → ((s : Session) (p : TurnPass Served OrdersPart ghosts) (l : SessionLines) → IsSeatedAt (get_or sessions (length rs) s) (get_or orders (length rs) p) (get_or lines (length rs) l) r) → AreSeated sessions orders lines (rs ++ r ∷ [])
-seated_push sessions orders lines rs r are here q s p l d h =
-    each_push (λ k x. (s : Session) (p : TurnPass Served OrdersPart ghosts) (l : SessionLines) → IsSeatedAt (get_or sessions k s) (get_or orders k p) (get_or lines k l) x) rs r (λ k d h s p l. are k s p l d h) here q d h s p l
+pub seated_push : (sessions : List Session) (orders : List (TurnPass Served OrdersPart ghosts)) (rs : List Runner) (r : Runner) → AreSeated sessions orders rs
+    → ((s : Session) (p : TurnPass Served OrdersPart ghosts) → IsSeatedAt (get_or sessions (length rs) s) (get_or orders (length rs) p) r) → AreSeated sessions orders (rs ++ r ∷ [])
+seated_push sessions orders rs r are here q s p d h =
+    each_push (λ k x. (s : Session) (p : TurnPass Served OrdersPart ghosts) → IsSeatedAt (get_or sessions k s) (get_or orders k p) x) rs r (λ k d h s p. are k s p d h) here q d h s p
 
 -- ---- before the first call
 
@@ -55,7 +60,7 @@ no_steps past states (suc n) = ap (λ (k : ℕ). k + 0) (no_steps past states n)
 module _ (service : Service) (registry : Registered) (script : Script) (empty : registry.journal ≡ []) (roomless : registry.room ≡ []) where
   -- session q, with its pass of the registry
   start_at : (q : ℕ) (session : Session) (o : TurnPass Served OrdersPart ghosts) (r : Runner) → q < length script.sessions → IsNewSession service.sectors (arenas_of service) (limits_by (session_at script q)) q session
-      → IsFresh (orders_of service) (fresh registry script.labelcut (rooms_of script.sessions)) q o → IsSeatedAt session o (session_at script q) r → IsAt service script q [] r
+      → IsFresh (orders_of service) (fresh registry script.labelcut (rooms_of script.sessions)) q o → IsSeatedAt session o r → IsAt service script q [] r
   start_at q session o r lt new fresh_pass at =
       let lines = session_at script q in
       let rooms = rooms_of script.sessions in
@@ -80,10 +85,10 @@ module _ (service : Service) (registry : Registered) (script : Script) (empty : 
         call = mine.call;
         steps = mine.steps;
         held = at.held;
-        stands = subst (λ (left : Option ℕ). Standing (all_of service) script q [] orders known know.pool left) (sym mine.left) (record {
+        stands = subst (λ (left : Option ℕ). Standing (all_of service) script q [] orders known know.pool (made_with r.session.kept) left) (sym mine.left) (record {
           free = λ j. refl;
-          empty = ap (λ (m : PoolPart). m.hand) pool;
-          calls = omega (arith, left);
+          going = λ at e. empty_runs at (sym (ap (λ (m : PoolPart). m.hand) pool) ∙ e);
+          calls = let none = ap made_with mine.kept in omega (arith, left, none);
           held = refl;
           labelcut = refl;
           room = omega (arith, room);
@@ -96,7 +101,7 @@ module _ (service : Service) (registry : Registered) (script : Script) (empty : 
       }
 
   module _ (laid : IsLaid service) (sessions : List Session) (orders : List (TurnPass Served OrdersPart ghosts)) (rs : List Runner) (new : AreNewSessions service.sectors (arenas_of service) (limits_of script.sessions) sessions) (count_orders : length orders ≡ length script.sessions)
-      (fresh_orders : AreFresh (orders_of service) (fresh registry script.labelcut (rooms_of script.sessions)) orders) (count : length rs ≡ length script.sessions) (seated : AreSeated sessions orders script.sessions rs) (short : All (λ s. length s.calls + 1 < 2 ^ 32) script.sessions) (text : ScriptHasText script) where
+      (fresh_orders : AreFresh (orders_of service) (fresh registry script.labelcut (rooms_of script.sessions)) orders) (count : length rs ≡ length script.sessions) (seated : AreSeated sessions orders rs) (short : All (λ s. length s.calls + 1 < 2 ^ 32) script.sessions) (text : ScriptHasText script) where
     pub all_ready : AreRunnersReady service script rs
     all_ready q d h =
         let near : q < length script.sessions = omega (arith, h, count) in
@@ -106,18 +111,15 @@ module _ (service : Service) (registry : Registered) (script : Script) (empty : 
         let o = there orders q (omega (arith, near, count_orders)) in
         let limits_are : slice_get (limits_of script.sessions) q ≡ Some limits = slice_get-get_or (limits_of script.sessions) q limits (omega (arith, near, many)) ∙ ap Some (get_or-map limits_by script.sessions q no_lines limits near) in
         let session_is : slice_get sessions q ≡ Some (get_or sessions q s.0) = slice_get-get_or sessions q s.0 (omega (arith, near, many, new.count)) in
-        let at = seated q s.0 o.0 no_lines d h in
+        let at = seated q s.0 o.0 d h in
         let start = start_at q (get_or sessions q s.0) (get_or orders q o.0) (get_or rs q d) near (new.each q limits (get_or sessions q s.0) limits_are session_is) (fresh_orders q o.0 (omega (arith, near, count_orders))) at in (
           near,
-          (
-            record {
-              laid = laid;
-              at = subst (λ l. IsAt service script q l (get_or rs q d)) (sym at.replies) start;
-              short = short q no_lines near;
-              text = text q no_lines near;
-              room = at.room;
-              memory = at.memory;
-            },
-            at.replies,
-          ),
+          record {
+            laid = laid;
+            at = start;
+            short = short q no_lines near;
+            text = text q no_lines near;
+            said = at.text ∙ sym replies_none;
+            memory = at.memory;
+          },
         )

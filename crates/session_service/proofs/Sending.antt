@@ -11,7 +11,6 @@ use denote.Struct.Declared.{shape}
 use Rattle.std.proofs.Crossing.{crosses}
 use Rattle.std.proofs.vec.Vec.TheSendSync as vec
 use Rattle.std.proofs.alloc.Global.TheSendSync as heap
-use Rattle.std.below.std_heap.proofs.GlobalAllocator.TheSendSync.{the_frees}
 use Rattle.std.specs.contracts.alloc.Global as Heap
 use Rattle.std.specs.contracts.impls.GlobalAllocator.TheImpl as allocator
 use Rattle.arena_open.specs.contracts.state.ArenaState as ArenaState
@@ -50,8 +49,6 @@ use Rattle.namespace_ops.specs.contracts.registry.Registry as Registry
 use Rattle.registry_service.specs.contracts.served.OrdersPart as OrdersPart
 use Rattle.registry_service.specs.contracts.served.ServedRegistry as ServedRegistry
 use Rattle.registry_service.specs.contracts.served.ServedRegistryParted.TheImpl as orders_parted
-use Rattle.session_account.specs.contracts.reply.Reply as Reply
-use Rattle.session_account.proofs.reply.Reply.TheSendSync as reply
 use Rattle.session_service.specs.contracts.namespaces.NamespaceArenas as NamespaceArenas
 use Rattle.session_service.specs.contracts.runner.Runner as Runner
 use Rattle.session_service.specs.contracts.service.Orders as Orders
@@ -111,7 +108,7 @@ runner_field_send = struct_send (shape Runner.the_type) (
     orders_pass_send,
     (
       search (sendable, crosses) depth 20,
-      (vec.the_send Reply.the_row Heap.the_row allocator.ghosts reply.the_send heap.the_send the_frees, (plain_send _ _ _ _ _, tt)),
+      (search (sendable, crosses) depth 20, (plain_send _ _ _ _ _, tt)),
     ),
   ),
 )

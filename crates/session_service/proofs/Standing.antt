@@ -27,14 +27,13 @@ use Rattle.session_account.proofs.Going.{goes_on, stops_so, ends_so}
 use Rattle.registry_service.specs.declared.served.OrdersPart.{OrdersPart}
 use Rattle.registry_service.proofs.Laws.{open_goes_on}
 use Rattle.session_parts.specs.declared.parts.CorePart.{CorePart}
-use Rattle.lane_pool.specs.declared.holders.Hand.TheVariants as hand
 use Rattle.lane_pool.specs.declared.holders.Stop.{Stop}
 use Rattle.lane_pool.specs.declared.pool.PoolPart.{PoolPart}
 use Rattle.lane_pool.specs.declared.sets.PowerOff.{PowerOff}
 use Rattle.lane_pool.specs.declared.sets.Who.TheVariants as who
 use Rattle.lane_pool.specs.Parts.{switched_by}
 use Rattle.lane_calls.specs.declared.parts.ArenaPart.{ArenaPart}
-use Rattle.lane_calls.specs.Calls.{after}
+use Rattle.lane_calls.specs.Calls.{IsGoing, Spends, after}
 use Rattle.lane_calls.specs.Lanes.{Fewer}
 use Rattle.lane_calls.specs.Sessions.{Parts, with_part}
 use Rattle.lane_calls.proofs.Sessions.{with_other, with_same}
@@ -132,17 +131,17 @@ or_two false b e f = f
 
 -- ---- one call more
 
-module _ (all : List Serving) (script : Script) (q : ℕ) (replies : List Reply) (orders orders' : OrdersPart) (known known' : Parts) (pool pool' : PoolPart) (left left' : Option ℕ) (line : Line) (answer : Reply)
-    (s : Standing all script q replies orders known pool left) (next : NextIs (session_at script q) replies line) where
+module _ (all : List Serving) (script : Script) (q : ℕ) (replies : List Reply) (orders orders' : OrdersPart) (known known' : Parts) (pool pool' : PoolPart) (used used' : ℕ) (left left' : Option ℕ) (line : Line) (answer : Reply)
+    (s : Standing all script q replies orders known pool used left) (next : NextIs (session_at script q) replies line) where
   abbrev call : Made
   call = made (length replies) orders.held line answer
 
   pub next_standing : IsAnswered all q call orders.entries orders'.entries (stands_by all known) (stands_by all known') left left' → ((j : ℕ) → (known' j).mine.calls ≡ [])
-      → orders'.held ≡ on_after orders.held line answer → orders'.began ≡ orders.began → orders.room ≤ orders'.room + 1 → pool'.hand ≡ hand.Empty → pool.left ≤ pool'.left + 1 → pool'.stop ≡ pool.stop → StaysWhole left left'
-      → Counts all known known' left left' → Standing all script q (more replies answer) orders' known' pool' left'
-  next_standing answered free held began room empty calls stopped whole counts = record {
+      → orders'.held ≡ on_after orders.held line answer → orders'.began ≡ orders.began → orders.room ≤ orders'.room + 1 → IsGoing pool' → pool.left + used' ≤ pool'.left + used + 1 → pool'.stop ≡ pool.stop → StaysWhole left left'
+      → Counts all known known' left left' → Standing all script q (more replies answer) orders' known' pool' used' left'
+  next_standing answered free held began room going calls stopped whole counts = record {
     free = free;
-    empty = empty;
+    going = going;
     calls = let l = length-append replies (answer ∷ []) in let c = s.calls in omega (arith, l, c, calls);
     held = held ∙ ap (λ (on : Option (List ℕ)). on_after on line answer) s.held ∙ sym (open_goes_on (session_at script q) replies line answer next);
     labelcut = ap (λ b. b.labelcut) began ∙ s.labelcut;
@@ -167,6 +166,24 @@ module _ (all : List Serving) (script : Script) (q : ℕ) (replies : List Reply)
       stops_so all script q replies orders.entries orders'.entries (stands_by all known) (stands_by all known') left line answer orders'.room (calls_by all known') (power_by pool' orders'.entries) s.at next
       (subst (λ (on : Option (List ℕ)). IsStopped all q (made (length replies) on line answer) orders.entries orders'.entries (stands_by all known) (stands_by all known')) s.held stopped)
       still told cause
+
+-- ---- it gives its set of lanes back
+
+module _ (all : List Serving) (script : Script) (q : ℕ) (replies : List Reply) (orders : OrdersPart) (known : Parts) (pool pool' : PoolPart) (used used' : ℕ) (left : Option ℕ) (s : Standing all script q replies orders known pool used left) where
+  pub rested_standing : Spends 0 used used' pool pool' → Standing all script q replies orders known pool' used' left
+  rested_standing spends = record {
+    free = s.free;
+    going = λ at e. s.going at (spends.power.going at e);
+    calls = let c = s.calls in let e = spends.counted in omega (arith, c, e);
+    held = s.held;
+    labelcut = s.labelcut;
+    room = s.room;
+    unstopped = spends.power.stop ∙ s.unstopped;
+    uncut = s.uncut;
+    whole = s.whole;
+    counted = s.counted;
+    at = s.at;
+  }
 
 -- ---- causes
 
@@ -224,7 +241,7 @@ own_spent all script q steps known known' pool' left left' is steps_are whole so
 
 -- ---- the end
 
-module _ (all : List Serving) (script : Script) (q : ℕ) (replies : List Reply) (orders orders' : OrdersPart) (known : Parts) (pool : PoolPart) (left : Option ℕ) (s : Standing all script q replies orders known pool left) where
+module _ (all : List Serving) (script : Script) (q : ℕ) (replies : List Reply) (orders orders' : OrdersPart) (known : Parts) (pool : PoolPart) (used : ℕ) (left : Option ℕ) (s : Standing all script q replies orders known pool used left) where
   pub ended_standing : length replies ≡ length (session_at script q).calls → (last : List JournalEntry) → orders'.entries ≡ orders.entries ++ last → IsGivenBack q (length (session_at script q).calls) orders.held last
       → parts.IsDone all script q replies (known_registry orders'.entries orders'.room) (known_cores (stands_by all known) (calls_by all known)) (power_by pool orders'.entries)
   ended_standing whole last is given =

@@ -4,7 +4,7 @@ use Rattle.std.specs.Prelude.{Vec, ◌==◌, ◌*◌, ◌%◌, ◌&&◌, not, if
 use Rattle.std.specs.List.{AllByRecursion, cons_option}
 use Rattle.std.proofs.lemmas.List.{length-map, get_or-map, get_or_default}
 use Rattle.turn_lock.specs.declared.pass.TurnPass.{TurnPass}
-use Rattle.turn_lock.specs.Passes.{lock_id, number_of, out_of, part_of, IsOutside, IsSamePass, PartBecomes}
+use Rattle.turn_lock.specs.Passes.{lock_id, number_of, out_of, part_of, IsOutside, IsSamePass}
 use Rattle.arena_open.specs.declared.cell.Cell.{Cell}
 use Rattle.lane_core.specs.declared.history.Act.TheVariants as act
 use Rattle.lane_core.specs.declared.shape.Shape.{Shape as LaneShape}
@@ -20,14 +20,16 @@ use Rattle.lane_pool.specs.declared.holders.Stop.{Stop}
 use Rattle.lane_pool.specs.declared.pool.PoolPart.{PoolPart}
 use Rattle.lane_pool.specs.declared.sets.LaneSet.{LaneSet}
 use Rattle.lane_pool.specs.declared.sets.Who.TheVariants as who
-use Rattle.lane_pool.specs.Parts.{CanAsk, IsAsked, IsTold, KeepsStopped, switched_by}
+use Rattle.lane_pool.specs.declared.sets.PowerOff.{PowerOff}
+use Rattle.lane_pool.specs.Parts.{CanAsk, HasNoneOut, IsAsked, IsTold, KeepsStopped, switched_by}
 use Rattle.lane_pool.specs.Sets.{IsAtPlace}
 use Rattle.lane_calls.specs.declared.parts.ArenaPart.{ArenaPart}
 use Rattle.lane_calls.specs.declared.session.Sectors.{Sectors}
+use Rattle.lane_calls.specs.declared.session.Kept.{Kept}
 use Rattle.lane_calls.specs.declared.session.Session.{Session}
 use Rattle.lane_calls.specs.Calls as lanes
-use Rattle.lane_calls.specs.Calls.{CallGoes, Called, IsNextCall, MayCallAt, MayRead, MayTakeOne, MayWrite, StopsWhenSpent, after, answered, none_at_least, one_at_least, spent_one, write_at_least}
-use Rattle.lane_calls.specs.Sessions.{AreLaid, IsKnown, Know, Parts, shape_of, with_part}
+use Rattle.lane_calls.specs.Calls.{CallGoes, Called, IsNextCall, MayCallAt, MayMakeOne, MayRead, MayWrite, Rests, Spends, SpendsOne, StopsWhenSpent, after, answered, none_at_least, one_at_least, whichever, write_at_least}
+use Rattle.lane_calls.specs.Sessions.{AreLaid, HasOut, IsKnown, Know, Parts, made_with, shape_of, with_part}
 use Rattle.lane_calls.proofs.Sessions.{with_other, with_same}
 use Rattle.session_script.specs.declared.payload.Payload.{Payload}
 use Rattle.session_script.specs.declared.payload.Payload.TheVariants as payload
@@ -51,6 +53,7 @@ use Rattle.registry_service.specs.Served.{Served}
 use Rattle.registry_service.specs.Parts.{GivesBack, IsOrdered, MayOrder, PartGoes}
 use Rattle.registry_service.specs.Switch.{IsCutShort}
 use Rattle.registry_service.proofs.Laws.{cuts_have_cause, open_goes_on, orders_answer, orders_stop}
+use Rattle.session_texts.specs.Texts.{replies_text}
 use Rattle.session_service.specs.declared.finding.FoundSector.{FoundSector}
 use Rattle.session_service.specs.declared.runner.Runner.{Runner}
 use Rattle.session_service.specs.declared.service.Service.{Service}
@@ -60,7 +63,7 @@ use Rattle.session_service.specs.Services.{IsLaid, all_of, arena_at, arenas_of, 
 use Rattle.session_script.specs.Names.{LineHasText}
 use Rattle.session_service.proofs.Calls as sectors
 use Rattle.session_service.proofs.Numbers.{number_shape, number_there}
-use Rattle.session_service.proofs.Standing.{Counts, cause_none, cause_some, counts_fewer, counts_same, cut_behind, ended_standing, labels_spent, next_standing, none_spent, own_spent, steps_more, stopped_standing, whole_fewer}
+use Rattle.session_service.proofs.Standing.{Counts, cause_none, cause_some, counts_fewer, counts_same, cut_behind, ended_standing, labels_spent, next_standing, none_spent, own_spent, rested_standing, steps_more, stopped_standing, whole_fewer}
 use mathlib.Core.Logic.{dite}
 use native.Mathlib.Decide.{ℕ_discrete}
 
@@ -73,11 +76,23 @@ some_if (Some n) h = refl
 
 -- ---- the passes
 
+-- a session that keeps no set has none out
+pub none_out : (s : Sectors) (q : ℕ) (parts : Parts) (session : Session) (k : Know s q parts session) → session.kept ≡ None → HasNoneOut k.pool
+none_out s q parts session k rests = subst (λ (kept : Option Kept). HasOut 63 kept k.pool) rests k.out
+
+-- one that was told that power is off keeps none
+pub told_rests : (s : Sectors) (q : ℕ) (parts : Parts) (session : Session) (k : Know s q parts session) → IsSome k.pool.told → session.kept ≡ None
+told_rests s q parts session k told = by session.kept k.out
+  where
+    by : (kept : Option Kept) → HasOut 63 kept k.pool → kept ≡ None
+    by None out = refl
+    by (Some kept) held = absurd (let x : false ≡ true = subst (λ (o : Option PowerOff). IsSome o) held.on.0 told in cc)
+
 -- the pool's pass changed, and its part knows the same of sets
 abbrev pub know_same : (s : Sectors) (q : ℕ) (parts : Parts) (session session' : Session) (k : Know s q parts session) → session'.number ≡ session.number → session'.passes ≡ session.passes
     → IsSamePass session.caller.pool session'.caller.pool → out_of session'.caller.pool ≡ None → (m' : PoolPart) → part_of session'.caller.pool ≡ Some m'
-    → m'.first ≡ k.pool.first → m'.placed ≡ k.pool.placed → m'.hand ≡ k.pool.hand → m'.handed ≡ k.pool.handed → Know s q parts session'
-know_same s q parts session session' k number passes pass out m' is first placed hand handed = record {
+    → m'.first ≡ k.pool.first → m'.placed ≡ k.pool.placed → m'.hand ≡ k.pool.hand → m'.handed ≡ k.pool.handed → session.kept ≡ None → session'.kept ≡ None → Know s q parts session'
+know_same s q parts session session' k number passes pass out m' is first placed hand handed rests rests' = record {
   pool = m';
   seated = record {
     number = number ∙ k.seated.number;
@@ -88,7 +103,7 @@ know_same s q parts session session' k number passes pass out m' is first placed
     placed = placed ∙ k.seated.placed;
     laid = subst (λ (sets : List LaneSet). AreLaid s.arenas.items sets) (sym first) k.seated.laid;
   };
-  none_out = λ at floor e. k.none_out at floor (sym hand ∙ e);
+  out = subst (λ (kept : Option Kept). HasOut 63 kept m') (sym rests') (λ at room e. none_out s q parts session k rests at room (sym hand ∙ e));
   handed = λ x e. let h = k.handed x (sym handed ∙ e) in (h.0, hand ∙ h.1, subst (λ (sets : List LaneSet). IsAtPlace sets h.0 x) (sym first) h.2);
   each = λ j a there.
       let e = k.each j a there in (
@@ -98,22 +113,19 @@ know_same s q parts session session' k number passes pass out m' is first placed
 }
 
 -- a session may ask for the power between two calls
-pub can_ask : (s : Sectors) (q : ℕ) (parts : Parts) (session : Session) → Know s q parts session → CanAsk (lock_id s.pool.turn) session.caller.pool
-can_ask s q parts session k = (k.seated.outside, (k.pool, k.seated.pool_is, (k.seated.placed, k.none_out)))
+pub can_ask : (s : Sectors) (q : ℕ) (parts : Parts) (session : Session) → Know s q parts session → session.kept ≡ None → CanAsk (lock_id s.pool.turn) session.caller.pool
+can_ask s q parts session k rests = (k.seated.outside, (k.pool, k.seated.pool_is, (k.seated.placed, none_out s q parts session k rests)))
 
 -- ---- a call
 
-module _ (service : Service) (script : Script) (q : ℕ) (l : Line) (r r' : Runner) (next : IsNext service script q l r) where
+module _ (service : Service) (script : Script) (q : ℕ) (replies : List Reply) (l : Line) (r r' : Runner) (next : IsNext service script q replies l r) where
   abbrev session : SessionLines
   session = session_at script q
-
-  abbrev replies : List Reply
-  replies = r.replies.items
 
   abbrev all : List Serving
   all = all_of service
 
-  abbrev at : IsAt service script q r.replies.items r
+  abbrev at : IsAt service script q replies r
   at = next.at
 
   abbrev before : PoolPart
@@ -125,7 +137,7 @@ module _ (service : Service) (script : Script) (q : ℕ) (l : Line) (r r' : Runn
   module _ (steps : r'.session.caller.steps ≡ r.session.caller.steps) where
     -- it goes on
     pub goes_on : (answer : Reply) (orders' : OrdersPart) (known' : Parts) → is_cut answer ≡ false → (knows : Knows service q orders' known' r') → r'.session.caller.call ≡ r.session.caller.call + 1 → r'.held ≡ on_after r.held l answer
-        → Standing all script q (more replies answer) orders' known' knows.know.pool r'.session.caller.left → Goes service script q replies answer r'
+        → Standing all script q (more replies answer) orders' known' knows.know.pool (made_with r'.session.kept) r'.session.caller.left → Goes service script q replies answer r'
     goes_on answer orders' known' uncut knows call held stands = record {
       on = λ _. record {
         orders = orders';
@@ -151,8 +163,9 @@ module _ (service : Service) (script : Script) (q : ℕ) (l : Line) (r r' : Runn
       orders = orders';
       known = known';
       knows = knows;
+      rests = told_rests service.sectors q known' r'.session knows.know told;
       spent = spent;
-      done = stopped_standing all script q replies at.orders orders' at.known known' at.knows.know.pool knows.know.pool r.session.caller.left r'.session.caller.left l reply.Cut at.stands next.next stopped still told cause;
+      done = stopped_standing all script q replies at.orders orders' at.known known' at.knows.know.pool knows.know.pool (made_with r.session.kept) (made_with r'.session.kept) r.session.caller.left r'.session.caller.left l reply.Cut at.stands next.next stopped still told cause;
     };
   }
 
@@ -188,11 +201,11 @@ module _ (service : Service) (script : Script) (q : ℕ) (l : Line) (r r' : Runn
 
   module _ (passes : r'.session.passes ≡ r.session.passes) (number : r'.session.number ≡ r.session.number) (steps : r'.session.caller.steps ≡ r.session.caller.steps) (left : r'.session.caller.left ≡ r.session.caller.left)
       (pass : IsSamePass r.session.caller.pool r'.session.caller.pool) (outside : out_of r'.session.caller.pool ≡ None)
-      (order_pass : IsSamePass r.orders r'.orders) (order_outside : IsOutside (orders_of service) r'.orders) where
+      (order_pass : IsSamePass r.orders r'.orders) (order_outside : IsOutside (orders_of service) r'.orders) (rests : r.session.kept ≡ None) (rests' : r'.session.kept ≡ None) where
     abbrev knows_then : (orders' : OrdersPart) → part_of r'.orders ≡ Some orders' → (pool' : PoolPart) → part_of r'.session.caller.pool ≡ Some pool'
         → pool'.first ≡ before.first → pool'.placed ≡ before.placed → pool'.hand ≡ before.hand → pool'.handed ≡ before.handed → Knows service q orders' at.known r'
     knows_then orders' orders_is pool' is first placed hand handed = record {
-      know = know_same service.sectors q at.known r.session r'.session at.knows.know number passes pass outside pool' is first placed hand handed;
+      know = know_same service.sectors q at.known r.session r'.session at.knows.know number passes pass outside pool' is first placed hand handed rests rests';
       first = at.knows.first;
       outside = order_outside;
       orders_number = order_pass.1 ∙ at.knows.orders_number;
@@ -226,10 +239,11 @@ module _ (service : Service) (script : Script) (q : ℕ) (l : Line) (r r' : Runn
       answered_goes orders' orders_is holds began room answers kept =
           let k = kept before before_is in
           goes_on steps answer orders' at.known uncut (knows_asked orders' orders_is k.0 k.1 k.2) call held
-          (next_standing all script q replies at.orders orders' at.known at.known before k.0 r.session.caller.left r'.session.caller.left l answer at.stands next.next
+          (next_standing all script q replies at.orders orders' at.known at.known before k.0 (made_with r.session.kept) (made_with r'.session.kept) r.session.caller.left r'.session.caller.left l answer at.stands next.next
           (subst (λ (n : Option ℕ). IsAnswered all q (made (length replies) at.orders.held l answer) at.orders.entries orders'.entries (stands_by all at.known) (stands_by all at.known) r.session.caller.left n) (sym left) answers)
           at.stands.free holds began room
-          (ap (λ (m : PoolPart). m.hand) k.2 ∙ at.stands.empty) (let same = ap (λ (m : PoolPart). m.left) k.2 in omega (arith, same)) (ap (λ (m : PoolPart). m.stop) k.2)
+          (λ n e. at.stands.going n (sym (ap (λ (m : PoolPart). m.hand) k.2) ∙ e))
+          (let same = ap (λ (m : PoolPart). m.left) k.2 in let none = ap made_with rests in let none' = ap made_with rests' in omega (arith, same, none, none')) (ap (λ (m : PoolPart). m.stop) k.2)
           (λ e. left ∙ e) (counts_same all at.known r.session.caller.left r'.session.caller.left left))
 
     -- ---- an order
@@ -354,20 +368,20 @@ misfit_check said had why = by (said == had)
     by false e = ap is_check (sym (in_some e))
 
 -- of a session that asked for the power, and was told that it is on
-module _ (service : Service) (script : Script) (q : ℕ) (l : Line) (r r' : Runner) (next : IsNext service script q l r) (session : r'.session.passes ≡ r.session.passes) (number : r'.session.number ≡ r.session.number)
+module _ (service : Service) (script : Script) (q : ℕ) (replies : List Reply) (l : Line) (r r' : Runner) (next : IsNext service script q replies l r) (session : r'.session.passes ≡ r.session.passes) (number : r'.session.number ≡ r.session.number)
     (steps : r'.session.caller.steps ≡ r.session.caller.steps) (left : r'.session.caller.left ≡ r.session.caller.left) (pass : IsSamePass r.session.caller.pool r'.session.caller.pool) (outside : out_of r'.session.caller.pool ≡ None)
-    (orders : r'.orders ≡ r.orders) (held : r'.held ≡ r.held) (call : r'.session.caller.call ≡ r.session.caller.call + 1) (kept : KeepsStopped r.session.caller.pool r'.session.caller.pool) where
+    (orders : r'.orders ≡ r.orders) (rests : r.session.kept ≡ None) (rests' : r'.session.kept ≡ None) (held : r'.held ≡ r.held) (call : r'.session.caller.call ≡ r.session.caller.call + 1) (kept : KeepsStopped r.session.caller.pool r'.session.caller.pool) where
   check_goes : (why : Reply) → is_check why ≡ true → check_of (all_of service) r.held l ≡ Some why → StandsNever l why → ((call : ℕ) (held : Option (List ℕ)) → entry_for q (made call held l why) ≡ None) → ((held : Option (List ℕ)) → on_after held l why ≡ held)
-      → Goes service script q r.replies.items why r'
+      → Goes service script q replies why r'
   check_goes why is check never none same =
       let at = next.at in
       let held_is : r.held ≡ at.orders.held = at.held ∙ sym at.stands.held in
       let check' = subst (λ (on : Option (List ℕ)). check_of (all_of service) on l ≡ Some why) held_is check in
-      answered_goes service script q l r r' next session number steps left pass outside (subst (λ p. IsSamePass r.orders p) (sym orders) (refl, refl)) (subst (λ p. IsOutside (orders_of service) p) (sym orders) at.knows.outside)
+      answered_goes service script q replies l r r' next session number steps left pass outside (subst (λ p. IsSamePass r.orders p) (sym orders) (refl, refl)) (subst (λ p. IsOutside (orders_of service) p) (sym orders) at.knows.outside) rests rests'
       why (checked_uncut why is) call (held ∙ sym (same r.held)) at.orders (ap (λ p. part_of p) orders ∙ at.knows.orders_is) (sym (same at.orders.held)) refl (omega arith)
-      (check_answers (all_of service) q (length r.replies.items) at.orders.held l why at.orders.entries (stands_by (all_of service) at.known) r.session.caller.left is check' never (none (length r.replies.items) at.orders.held)) kept
+      (check_answers (all_of service) q (length replies) at.orders.held l why at.orders.entries (stands_by (all_of service) at.known) r.session.caller.left is check' never (none (length replies) at.orders.held)) kept
 
-  pub refused_goes : (why : Reply) (x : Line) → x ≡ l → IsRefusedBy (all_of service) r.held x why → Goes service script q r.replies.items why r'
+  pub refused_goes : (why : Reply) (x : Line) → x ≡ l → IsRefusedBy (all_of service) r.held x why → Goes service script q replies why r'
   refused_goes why (line.Read sector) is h =
       check_goes why h.0 (subst (λ (x : Line). check_of (all_of service) r.held x ≡ Some why) is h.1) (subst (λ (x : Line). StandsNever x why) is (read_never sector why h.0))
       (λ call held. subst (λ (x : Line). entry_for q (made call held x why) ≡ None) is refl) (λ held. subst (λ (x : Line). on_after held x why ≡ held) is refl)
@@ -419,11 +433,11 @@ layout_is service laid held sector f found =
       sym (get_or-map shape_by arenas j _ d inside) ∙ ap (λ (xs : List Shape). get_or xs j d) laid.shapes ∙ number_shape all found.spot.place found.spot.arena d found.there ∙ found.shape_is d,
     )
 
-module _ (service : Service) (script : Script) (q : ℕ) (l : Line) (r : Runner) (next : IsNext service script q l r) (sector : ℕ) (f : FoundSector) (found : IsFound (all_of service) r.held sector f) where
+module _ (service : Service) (script : Script) (q : ℕ) (replies : List Reply) (l : Line) (r : Runner) (next : IsNext service script q replies l r) (sector : ℕ) (f : FoundSector) (found : IsFound (all_of service) r.held sector f) where
   abbrev pub j : ℕ
   j = number_at (all_of service) found.spot.place found.spot.arena
 
-  abbrev standing : IsAt service script q r.replies.items r
+  abbrev standing : IsAt service script q replies r
   standing = next.at
 
   held_same : r.held ≡ standing.orders.held
@@ -437,13 +451,13 @@ module _ (service : Service) (script : Script) (q : ℕ) (l : Line) (r : Runner)
     free = standing.stands.free j;
     later =
         subst (λ ss. AllByRecursion (λ s. s.call < r.session.caller.call) ss) (sym (standing.stands.at.arenas found.spot.place found.spot.arena found.there))
-        (earlier (all_of service) found.spot.place found.spot.arena r.session.caller.call 0 None (session_at script q).calls r.replies.items (let c = standing.call in omega (arith, c)));
+        (earlier (all_of service) found.spot.place found.spot.arena r.session.caller.call 0 None (session_at script q).calls replies (let c = standing.call in omega (arith, c)));
   }
 
-  -- it knows each arena, and may take a set
-  know_here : (k : Know service.sectors r.session.number standing.known r.session) × MayTakeOne k.pool
-  know_here = subst (λ (n : ℕ). (k : Know service.sectors n standing.known r.session) × MayTakeOne k.pool) (sym standing.knows.know.seated.number)
-      (standing.knows.know, (standing.stands.empty, let c = standing.stands.calls in let n = next.next.0 in omega (arith, c, n)))
+  -- it knows each arena, and may make a call
+  know_here : (k : Know service.sectors r.session.number standing.known r.session) × MayMakeOne r.session.kept k.pool
+  know_here = subst (λ (n : ℕ). (k : Know service.sectors n standing.known r.session) × MayMakeOne r.session.kept k.pool) (sym standing.knows.know.seated.number)
+      (standing.knows.know, (let c = standing.stands.calls in let n = next.next.0 in omega (arith, c, n), standing.stands.going))
 
   few : r.session.caller.call + 1 < 2 ^ 32
   few = let c = standing.call in let n = next.next.0 in let s = next.short in omega (arith, c, n, s)
@@ -507,106 +521,143 @@ module _ (service : Service) (script : Script) (q : ℕ) (l : Line) (r : Runner)
           (λ other. ap (λ (x : ArenaPart). x.mine.calls) (with_other standing.known j i (after (standing.known j) mine made_steps) other) ∙ standing.stands.free i)
 
     -- what is known of the arena of the sector
-    its_call : {least : LaneShape → ℕ} {P : CorePart → CorePart → Type 0} → CallGoes service.sectors f.arena least P r.session r'.session → Called service.sectors j least P standing.known r.session r'.session
+    its_call : {least : LaneShape → ℕ} {P : LaneShape → ℕ → CorePart → CorePart → Type 0} → CallGoes service.sectors f.arena least P r.session r'.session → Called service.sectors j least P standing.known r.session r'.session
     its_call {least} {P} goes = subst (λ (i : ℕ). Called service.sectors i least P standing.known r.session r'.session) found.number_is (goes standing.known know_here.0)
 
     -- it was answered, and stands
-    module _ (answer : Reply) (s : Stand) (least : LaneShape → ℕ) (uncut : is_cut answer ≡ false) (stays : (on : Option (List ℕ)) → on_after on l answer ≡ on) (spent : PartBecomes spent_one r.session.caller.pool r'.session.caller.pool)
-        (c : Called service.sectors j least (λ m m'. m' ≡ answered s m) standing.known r.session r'.session) where
-      answers : IsAnswered (all_of service) q (made (length r.replies.items) r.held l answer) standing.orders.entries standing.orders.entries (stands_by (all_of service) standing.known) (stands_by (all_of service) (mid c.mine c.made)) r.session.caller.left r'.session.caller.left
-          → Goes service script q r.replies.items answer r'
+    module _ (answer : Reply) (s : Stand) (least : LaneShape → ℕ) (uncut : is_cut answer ≡ false) (stays : (on : Option (List ℕ)) → on_after on l answer ≡ on) (spent : SpendsOne r.session r'.session)
+        (c : Called service.sectors j least (whichever (λ m m'. m' ≡ answered s m)) standing.known r.session r'.session) where
+      answers : IsAnswered (all_of service) q (made (length replies) r.held l answer) standing.orders.entries standing.orders.entries (stands_by (all_of service) standing.known) (stands_by (all_of service) (mid c.mine c.made)) r.session.caller.left r'.session.caller.left
+          → Goes service script q replies answer r'
       answers stood =
           let knows = knows_more c.mine c.made c.know in
-          let pool_is : knows.know.pool ≡ spent_one standing.knows.know.pool = in_some (sym knows.know.seated.pool_is ∙ spent standing.knows.know.pool standing.knows.know.seated.pool_is) in
-          goes_on service script q l r r' next step.steps answer standing.orders (mid c.mine c.made) uncut (knows_more c.mine c.made c.know) step.call (held ∙ sym (stays r.held))
-          (next_standing (all_of service) script q r.replies.items standing.orders standing.orders standing.known (mid c.mine c.made) standing.knows.know.pool knows.know.pool r.session.caller.left r'.session.caller.left l answer standing.stands next.next
-          (subst (λ (on : Option (List ℕ)). IsAnswered (all_of service) q (made (length r.replies.items) on l answer) standing.orders.entries standing.orders.entries (stands_by (all_of service) standing.known) (stands_by (all_of service) (mid c.mine c.made)) r.session.caller.left r'.session.caller.left) held_same stood)
+          let went = spent standing.knows.know.pool standing.knows.know.seated.pool_is in
+          let its : Spends 1 (made_with r.session.kept) (made_with r'.session.kept) standing.knows.know.pool knows.know.pool =
+          subst (λ (m : PoolPart). Spends 1 (made_with r.session.kept) (made_with r'.session.kept) standing.knows.know.pool m) (in_some (sym went.1 ∙ knows.know.seated.pool_is)) went.2 in
+          goes_on service script q replies l r r' next step.steps answer standing.orders (mid c.mine c.made) uncut (knows_more c.mine c.made c.know) step.call (held ∙ sym (stays r.held))
+          (next_standing (all_of service) script q replies standing.orders standing.orders standing.known (mid c.mine c.made) standing.knows.know.pool knows.know.pool (made_with r.session.kept) (made_with r'.session.kept) r.session.caller.left r'.session.caller.left l answer standing.stands next.next
+          (subst (λ (on : Option (List ℕ)). IsAnswered (all_of service) q (made (length replies) on l answer) standing.orders.entries standing.orders.entries (stands_by (all_of service) standing.known) (stands_by (all_of service) (mid c.mine c.made)) r.session.caller.left r'.session.caller.left) held_same stood)
           (free_still c.mine c.made (ap (λ (x : CorePart). x.calls) c.goes)) (sym (stays standing.orders.held)) refl (omega arith)
-          (ap (λ (m : PoolPart). m.hand) pool_is) (let e = ap (λ (m : PoolPart). m.left) pool_is in omega (arith, e)) (ap (λ (m : PoolPart). m.stop) pool_is)
+          (λ n e. standing.stands.going n (its.power.going n e)) (let e = its.counted in omega (arith, e)) its.power.stop
           (whole_fewer c.paid)
           (counts_fewer (all_of service) standing.known (mid c.mine c.made) r.session.caller.left r'.session.caller.left c.made c.paid (more_steps c.mine c.made)))
 
-    pub got_goes : (cell : Cell) → l ≡ line.Read sector → CallGoes service.sectors f.arena one_at_least (λ m m'. m' ≡ answered (stand_at r.session.caller.call f.sector (act.Read cell)) m) r.session r'.session
-        → PartBecomes spent_one r.session.caller.pool r'.session.caller.pool → Goes service script q r.replies.items (reply.Value cell) r'
+    pub got_goes : (cell : Cell) → l ≡ line.Read sector → CallGoes service.sectors f.arena one_at_least (whichever (λ m m'. m' ≡ answered (stand_at r.session.caller.call f.sector (act.Read cell)) m)) r.session r'.session
+        → SpendsOne r.session r'.session → Goes service script q replies (reply.Value cell) r'
     got_goes cell is goes spent =
-        let c = subst (λ (n : ℕ). Called service.sectors j one_at_least (λ m m'. m' ≡ answered (stand_at n f.sector (act.Read cell)) m) standing.known r.session r'.session) standing.call (its_call goes) in
-        answers (reply.Value cell) (stand_at (length r.replies.items) f.sector (act.Read cell)) one_at_least refl (λ on. ap (λ (x : Line). on_after on x (reply.Value cell)) is) spent c
-        (subst (λ (x : Line). IsAnswered (all_of service) q (made (length r.replies.items) r.held x (reply.Value cell)) standing.orders.entries standing.orders.entries (stands_by (all_of service) standing.known) (stands_by (all_of service) (mid c.mine c.made)) r.session.caller.left r'.session.caller.left) (sym is)
-        (sectors.read_answered (all_of service) r.held sector f found standing.known q (length r.replies.items) cell standing.orders.entries r.session.caller.left r'.session.caller.left (after (standing.known j) c.mine c.made) c.goes
+        let c = subst (λ (n : ℕ). Called service.sectors j one_at_least (whichever (λ m m'. m' ≡ answered (stand_at n f.sector (act.Read cell)) m)) standing.known r.session r'.session) standing.call (its_call goes) in
+        answers (reply.Value cell) (stand_at (length replies) f.sector (act.Read cell)) one_at_least refl (λ on. ap (λ (x : Line). on_after on x (reply.Value cell)) is) spent c
+        (subst (λ (x : Line). IsAnswered (all_of service) q (made (length replies) r.held x (reply.Value cell)) standing.orders.entries standing.orders.entries (stands_by (all_of service) standing.known) (stands_by (all_of service) (mid c.mine c.made)) r.session.caller.left r'.session.caller.left) (sym is)
+        (sectors.read_answered (all_of service) r.held sector f found standing.known q (length replies) cell standing.orders.entries r.session.caller.left r'.session.caller.left (after (standing.known j) c.mine c.made) c.goes
         (sectors.paid_least 1 c.made r.session.caller.left r'.session.caller.left c.enough c.paid)))
 
     pub done_goes : (value : Payload) (fits : wrong_length (size_of value f.bytes) f.bytes ≡ None) → l ≡ line.Write sector value
-        → CallGoes service.sectors f.arena write_at_least (λ m m'. m' ≡ answered (stand_at r.session.caller.call f.sector (act.Write (words_of value f.bytes))) m) r.session r'.session
-        → PartBecomes spent_one r.session.caller.pool r'.session.caller.pool → Goes service script q r.replies.items reply.Done r'
+        → CallGoes service.sectors f.arena write_at_least (whichever (λ m m'. m' ≡ answered (stand_at r.session.caller.call f.sector (act.Write (words_of value f.bytes))) m)) r.session r'.session
+        → SpendsOne r.session r'.session → Goes service script q replies reply.Done r'
     done_goes value fits is goes spent =
-        let c = subst (λ (n : ℕ). Called service.sectors j write_at_least (λ m m'. m' ≡ answered (stand_at n f.sector (act.Write (words_of value f.bytes))) m) standing.known r.session r'.session) standing.call (its_call goes) in
-        answers reply.Done (stand_at (length r.replies.items) f.sector (act.Write (words_of value f.bytes))) write_at_least refl (λ on. ap (λ (x : Line). on_after on x reply.Done) is) spent c
-        (subst (λ (x : Line). IsAnswered (all_of service) q (made (length r.replies.items) r.held x reply.Done) standing.orders.entries standing.orders.entries (stands_by (all_of service) standing.known) (stands_by (all_of service) (mid c.mine c.made)) r.session.caller.left r'.session.caller.left) (sym is)
-        (sectors.write_answered (all_of service) r.held sector f found standing.known value fits q (length r.replies.items) standing.orders.entries r.session.caller.left r'.session.caller.left (after (standing.known j) c.mine c.made) shape_here c.goes
+        let c = subst (λ (n : ℕ). Called service.sectors j write_at_least (whichever (λ m m'. m' ≡ answered (stand_at n f.sector (act.Write (words_of value f.bytes))) m)) standing.known r.session r'.session) standing.call (its_call goes) in
+        answers reply.Done (stand_at (length replies) f.sector (act.Write (words_of value f.bytes))) write_at_least refl (λ on. ap (λ (x : Line). on_after on x reply.Done) is) spent c
+        (subst (λ (x : Line). IsAnswered (all_of service) q (made (length replies) r.held x reply.Done) standing.orders.entries standing.orders.entries (stands_by (all_of service) standing.known) (stands_by (all_of service) (mid c.mine c.made)) r.session.caller.left r'.session.caller.left) (sym is)
+        (sectors.write_answered (all_of service) r.held sector f found standing.known value fits q (length replies) standing.orders.entries r.session.caller.left r'.session.caller.left (after (standing.known j) c.mine c.made) shape_here c.goes
         (sectors.paid_least (write_at_least (shape_of (standing.known j))) c.made r.session.caller.left r'.session.caller.left c.enough c.paid)))
 
     -- it was cut
-    module _ (least : LaneShape → ℕ) (P : CorePart → CorePart → Type 0) (c : Called service.sectors j least P standing.known r.session r'.session) (told : IsTold r'.session.caller.pool × StopsWhenSpent r.session r'.session) where
-      cut_goes : IsStopped (all_of service) q (made (length r.replies.items) r.held l reply.Cut) standing.orders.entries standing.orders.entries (stands_by (all_of service) standing.known) (stands_by (all_of service) (mid c.mine c.made))
-          → ((p n : ℕ) → IsArena (all_of service) p n → AllByRecursion (IsOfCut (all_of service) p n (made_by (session_at script q).calls (more r.replies.items reply.Cut)) (stands_by (all_of service) (mid c.mine c.made) p n)) (calls_by (all_of service) (mid c.mine c.made) p n))
-          → Goes service script q r.replies.items reply.Cut r'
+    module _ (least : LaneShape → ℕ) (P : LaneShape → ℕ → CorePart → CorePart → Type 0) (c : Called service.sectors j least P standing.known r.session r'.session) (told : IsTold r'.session.caller.pool × StopsWhenSpent r.session r'.session) where
+      cut_goes : IsStopped (all_of service) q (made (length replies) r.held l reply.Cut) standing.orders.entries standing.orders.entries (stands_by (all_of service) standing.known) (stands_by (all_of service) (mid c.mine c.made))
+          → ((p n : ℕ) → IsArena (all_of service) p n → AllByRecursion (IsOfCut (all_of service) p n (made_by (session_at script q).calls (more replies reply.Cut)) (stands_by (all_of service) (mid c.mine c.made) p n)) (calls_by (all_of service) (mid c.mine c.made) p n))
+          → Goes service script q replies reply.Cut r'
       cut_goes stopped still =
           let knows = knows_more c.mine c.made c.know in
-          stops_at service script q l r r' next standing.orders (mid c.mine c.made) (knows_more c.mine c.made c.know)
-          (subst (λ (on : Option (List ℕ)). IsStopped (all_of service) q (made (length r.replies.items) on l reply.Cut) standing.orders.entries standing.orders.entries (stands_by (all_of service) standing.known) (stands_by (all_of service) (mid c.mine c.made))) held_same stopped)
+          stops_at service script q replies l r r' next standing.orders (mid c.mine c.made) (knows_more c.mine c.made c.know)
+          (subst (λ (on : Option (List ℕ)). IsStopped (all_of service) q (made (length replies) on l reply.Cut) standing.orders.entries standing.orders.entries (stands_by (all_of service) standing.known) (stands_by (all_of service) (mid c.mine c.made))) held_same stopped)
           still
           (subst (λ (m : PoolPart). IsSome m.told) (in_some (sym told.0.1 ∙ knows.know.seated.pool_is)) told.0.2)
-          (its_cause service script q l r r' next knows.know.pool knows.know.seated.pool_is told.1)
-          (its_spent service script q l r r' next (mid c.mine c.made) knows.know.pool knows.know.seated.pool_is told.1
+          (its_cause service script q replies l r r' next knows.know.pool knows.know.seated.pool_is told.1)
+          (its_spent service script q replies l r r' next (mid c.mine c.made) knows.know.pool knows.know.seated.pool_is told.1
           (counts_fewer (all_of service) standing.known (mid c.mine c.made) r.session.caller.left r'.session.caller.left c.made c.paid (more_steps c.mine c.made)))
 
-    pub read_cut_goes : l ≡ line.Read sector → CallGoes service.sectors f.arena none_at_least (λ m m'. m' ≡ m) r.session r'.session → IsTold r'.session.caller.pool × StopsWhenSpent r.session r'.session → Goes service script q r.replies.items reply.Cut r'
+    pub read_cut_goes : l ≡ line.Read sector → CallGoes service.sectors f.arena none_at_least (whichever (λ m m'. m' ≡ m)) r.session r'.session → IsTold r'.session.caller.pool × StopsWhenSpent r.session r'.session → Goes service script q replies reply.Cut r'
     read_cut_goes is goes told =
         let c = its_call goes in
-        cut_goes none_at_least (λ m m'. m' ≡ m) c told
-        (sectors.read_stops (all_of service) r.held sector f found standing.known script q r.replies.items standing.orders standing.knows.know.pool r.session.caller.left held_same standing.stands l next.next (after (standing.known j) c.mine c.made) is c.goes standing.orders.entries)
-        (sectors.read_still (all_of service) r.held sector f found standing.known script q r.replies.items standing.orders standing.knows.know.pool r.session.caller.left held_same standing.stands l next.next (after (standing.known j) c.mine c.made) is c.goes)
+        cut_goes none_at_least (whichever (λ m m'. m' ≡ m)) c told
+        (sectors.read_stops (all_of service) r.held sector f found standing.known script q replies standing.orders standing.knows.know.pool (made_with r.session.kept) r.session.caller.left held_same standing.stands l next.next (after (standing.known j) c.mine c.made) is c.goes standing.orders.entries)
+        (sectors.read_still (all_of service) r.held sector f found standing.known script q replies standing.orders standing.knows.know.pool (made_with r.session.kept) r.session.caller.left held_same standing.stands l next.next (after (standing.known j) c.mine c.made) is c.goes)
 
     pub write_cut_goes : (value : Payload) (fits : wrong_length (size_of value f.bytes) f.bytes ≡ None) → l ≡ line.Write sector value
         → CallGoes service.sectors f.arena none_at_least (lanes.IsStopped r.session.number r.session.caller.call f.sector (words_of value f.bytes)) r.session r'.session
-        → IsTold r'.session.caller.pool × StopsWhenSpent r.session r'.session → Goes service script q r.replies.items reply.Cut r'
+        → IsTold r'.session.caller.pool × StopsWhenSpent r.session r'.session → Goes service script q replies reply.Cut r'
     write_cut_goes value fits is goes told =
         let c = subst (λ (z : ℕ × ℕ). Called service.sectors j none_at_least (lanes.IsStopped z.0 z.1 f.sector (words_of value f.bytes)) standing.known r.session r'.session) (λ i. (standing.knows.know.seated.number i, standing.call i)) (its_call goes) in
-        cut_goes none_at_least (lanes.IsStopped q (length r.replies.items) f.sector (words_of value f.bytes)) c told
-        (sectors.write_stops (all_of service) r.held sector f found standing.known script q r.replies.items standing.orders standing.knows.know.pool r.session.caller.left held_same standing.stands l next.next value fits (after (standing.known j) c.mine c.made) is c.goes standing.orders.entries)
-        (sectors.write_still (all_of service) r.held sector f found standing.known script q r.replies.items standing.orders standing.knows.know.pool r.session.caller.left held_same standing.stands l next.next value fits (after (standing.known j) c.mine c.made) is c.goes)
+        cut_goes none_at_least (lanes.IsStopped q (length replies) f.sector (words_of value f.bytes)) c told
+        (sectors.write_stops (all_of service) r.held sector f found standing.known script q replies standing.orders standing.knows.know.pool (made_with r.session.kept) r.session.caller.left held_same standing.stands l next.next value fits (after (standing.known j) c.mine c.made) (shape_of (standing.known j)) c.made is c.goes standing.orders.entries)
+        (sectors.write_still (all_of service) r.held sector f found standing.known script q replies standing.orders standing.knows.know.pool (made_with r.session.kept) r.session.caller.left held_same standing.stands l next.next value fits (after (standing.known j) c.mine c.made) (shape_of (standing.known j)) c.made is c.goes)
 
 -- ---- the registry's pass
 
-pub may_order : (service : Service) (script : Script) (q : ℕ) (r : Runner) → IsAt service script q r.replies.items r → length r.replies.items ≤ length (session_at script q).calls → MayOrder (orders_of service) r.orders
-may_order service script q r at few = (at.knows.outside, (at.orders, at.knows.orders_is, let room = at.stands.room in omega (arith, room, few)))
+pub may_order : (service : Service) (script : Script) (q : ℕ) (replies : List Reply) (r : Runner) → IsAt service script q replies r → length replies ≤ length (session_at script q).calls → MayOrder (orders_of service) r.orders
+may_order service script q replies r at few = (at.knows.outside, (at.orders, at.knows.orders_is, let room = at.stands.room in omega (arith, room, few)))
 
 -- a session gives back what it has open, and has come to its end
-pub ends_at : (service : Service) (script : Script) (q : ℕ) (r : Runner) (p : TurnPass Served OrdersPart ghosts) → IsRunning service script q r → length r.replies.items ≡ length (session_at script q).calls
-    → IsSamePass r.orders p → out_of p ≡ None → PartGoes (GivesBack (number_of r.orders) r.session.caller.call) r.orders p → IsEnded service script q (record r { orders = p })
-ends_at service script q r p running last pass outside goes =
-    let at = running.at in
+pub ends_at : (service : Service) (script : Script) (q : ℕ) (replies : List Reply) (r : Runner) (p : TurnPass Served OrdersPart ghosts) → IsAt service script q replies r → r.text.items ≡ replies_text replies → r.session.kept ≡ None
+    → length replies ≡ length (session_at script q).calls → IsSamePass r.orders p → out_of p ≡ None → PartGoes (GivesBack (number_of r.orders) r.session.caller.call) r.orders p → IsEnded service script q (record r { orders = p })
+ends_at service script q replies r p at said rests last pass outside goes =
     let g = goes at.orders at.knows.orders_is in
     let given : GivesBack q (length (session_at script q).calls) at.orders g.0 = subst (λ (z : ℕ × ℕ). GivesBack z.0 z.1 at.orders g.0) (λ i. (at.knows.orders_number i, (at.call ∙ last) i)) g.2 in
     record {
       number = at.knows.know.seated.number;
+      rests = rests;
       done = λ _. record {
-        orders = g.0;
-        known = at.known;
-        knows = record {
-          know = at.knows.know;
-          first = at.knows.first;
-          outside = (pass.0 ∙ at.knows.outside.0, outside);
-          orders_number = pass.1 ∙ at.knows.orders_number;
-          orders_is = g.1;
+        replies = replies;
+        said = said;
+        done = record {
+          orders = g.0;
+          known = at.known;
+          knows = record {
+            know = at.knows.know;
+            first = at.knows.first;
+            outside = (pass.0 ∙ at.knows.outside.0, outside);
+            orders_number = pass.1 ∙ at.knows.orders_number;
+            orders_is = g.1;
+          };
+          rests = rests;
+          spent = none_spent (all_of service) script q at.known at.knows.know.pool (ap switched_by at.stands.unstopped);
+          done = ended_standing (all_of service) script q replies at.orders g.0 at.known at.knows.know.pool (made_with r.session.kept) r.session.caller.left at.stands last given.last given.entries given.given;
         };
-        spent = none_spent (all_of service) script q at.known at.knows.know.pool (ap switched_by at.stands.unstopped);
-        done = ended_standing (all_of service) script q r.replies.items at.orders g.0 at.known at.knows.know.pool r.session.caller.left at.stands last given.last given.entries given.given;
       };
     }
 
-pub asks : (service : Service) (script : Script) (q : ℕ) (l : Line) (r : Runner) → IsNext service script q l r → CanAsk (lock_id service.sectors.pool.turn) r.session.caller.pool
-asks service script q l r next = can_ask service.sectors q next.at.known r.session next.at.knows.know
+pub asks : (service : Service) (script : Script) (q : ℕ) (replies : List Reply) (r : Runner) → IsAt service script q replies r → r.session.kept ≡ None → CanAsk (lock_id service.sectors.pool.turn) r.session.caller.pool
+asks service script q replies r at rests = can_ask service.sectors q at.known r.session at.knows.know rests
+
+-- ---- it gives its set of lanes back
+
+module _ (service : Service) (script : Script) (q : ℕ) (replies : List Reply) (r : Runner) (session' : Session) where
+  pub rested_at : IsAt service script q replies r → ((parts : Parts) → Know service.sectors r.session.number parts r.session → Know service.sectors r.session.number parts session') → Rests r.session session' → IsAt service script q replies (record r { session = session' })
+  rested_at at knows rests =
+      let know : Know service.sectors q at.known session' = subst (λ (n : ℕ). Know service.sectors n at.known session') at.knows.know.seated.number
+      (knows at.known (subst (λ (n : ℕ). Know service.sectors n at.known r.session) (sym at.knows.know.seated.number) at.knows.know)) in
+      let went = rests.pool at.knows.know.pool at.knows.know.seated.pool_is in
+      let none : made_with session'.kept ≡ 0 = ap made_with rests.same.kept in
+      let spends : Spends 0 (made_with r.session.kept) (made_with session'.kept) at.knows.know.pool know.pool =
+      subst (λ (n : ℕ). Spends 0 (made_with r.session.kept) n at.knows.know.pool know.pool) (sym none)
+      (subst (λ (m : PoolPart). Spends 0 (made_with r.session.kept) 0 at.knows.know.pool m) (in_some (sym went.1 ∙ know.seated.pool_is)) went.2) in
+      record {
+        orders = at.orders;
+        known = at.known;
+        knows = record { know = know; first = at.knows.first; outside = at.knows.outside; orders_number = at.knows.orders_number; orders_is = at.knows.orders_is };
+        call = rests.same.call ∙ at.call;
+        steps = rests.same.steps ∙ at.steps;
+        held = at.held;
+        stands = subst (λ (left : Option ℕ). Standing (all_of service) script q replies at.orders at.known know.pool (made_with session'.kept) left) (sym rests.same.left)
+            (rested_standing (all_of service) script q replies at.orders at.known at.knows.know.pool know.pool (made_with r.session.kept) (made_with session'.kept) r.session.caller.left at.stands spends);
+      }
+
+pub refused_still : (service : Service) (l : Line) (why : Reply) (r r' : Runner) → r'.held ≡ r.held → IsRefusedBy (all_of service) r.held l why → IsRefusedBy (all_of service) r'.held l why
+refused_still service l why r r' held refused = subst (λ (on : Option (List ℕ)). IsRefusedBy (all_of service) on l why) (sym held) refused
+
+-- its next call is still the same
+pub still_next : (service : Service) (script : Script) (q : ℕ) (replies : List Reply) (l : Line) (r r' : Runner) → IsNext service script q replies l r → IsAt service script q replies r' → IsNext service script q replies l r'
+still_next service script q replies l r r' next at = record { laid = next.laid; at = at; next = next.next; short = next.short; text = next.text }
 
 -- ---- what a checked call on a sector comes to
 
@@ -621,13 +672,13 @@ write_misfits all held sector value why f found e = (misfit_check (size_of value
 
 -- ---- an order, whatever its reply is
 
-pub order_comes : (service : Service) (script : Script) (q : ℕ) (o : Order) (r r' : Runner) → IsNext service script q (line.Order o) r → (answer : Reply) → r'.session.passes ≡ r.session.passes → r'.session.number ≡ r.session.number → r'.session.caller.steps ≡ r.session.caller.steps
+pub order_comes : (service : Service) (script : Script) (q : ℕ) (replies : List Reply) (o : Order) (r r' : Runner) → IsNext service script q replies (line.Order o) r → r.session.kept ≡ None → r'.session.kept ≡ None → (answer : Reply) → r'.session.passes ≡ r.session.passes → r'.session.number ≡ r.session.number → r'.session.caller.steps ≡ r.session.caller.steps
     → r'.session.caller.left ≡ r.session.caller.left → IsSamePass r.orders r'.orders → out_of r'.orders ≡ None → IsSamePass r.session.caller.pool r'.session.caller.pool → out_of r'.session.caller.pool ≡ None
     → r'.session.caller.call ≡ r.session.caller.call + 1 → r'.held ≡ on_after r.held (line.Order o) answer
     → (is_cut answer ≡ false → PartGoes (IsOrdered (number_of r.orders) r.session.caller.call o answer) r.orders r'.orders × KeepsStopped r.session.caller.pool r'.session.caller.pool)
     → (answer ≡ reply.Cut → IsCutShort (number_of r.orders) r.session.caller.call o r.orders r'.orders r.session.caller.pool r'.session.caller.pool × IsTold r'.session.caller.pool)
-    → Goes service script q r.replies.items answer r'
-order_comes service script q o r r' next answer passes number steps left order_pass order_outside pass outside call held answered cut = by (is_cut answer) refl
+    → Goes service script q replies answer r'
+order_comes service script q replies o r r' next rests rests' answer passes number steps left order_pass order_outside pass outside call held answered cut = by (is_cut answer) refl
   where
     out : IsOutside (orders_of service) r'.orders
     out = (order_pass.0 ∙ next.at.knows.outside.0, order_outside)
@@ -642,28 +693,28 @@ order_comes service script q o r r' next answer passes number steps left order_p
     is_a_cut reply.IsOpen e = absurd (cc)
     is_a_cut (reply.Op f) e = absurd (cc)
 
-    by : (b : Bool) → is_cut answer ≡ b → Goes service script q r.replies.items answer r'
+    by : (b : Bool) → is_cut answer ≡ b → Goes service script q replies answer r'
     by false e =
         let a = answered e in
-        order_goes service script q (line.Order o) r r' next passes number steps left pass outside order_pass out o refl answer e call held a.0 a.1
+        order_goes service script q replies (line.Order o) r r' next passes number steps left pass outside order_pass out rests rests' o refl answer e call held a.0 a.1
     by true e =
         let is = is_a_cut answer e in
         let c = cut is in
-        subst (λ (a : Reply). Goes service script q r.replies.items a r') (sym is) (order_stops service script q (line.Order o) r r' next passes number steps left pass outside order_pass out o refl c.0 c.1)
+        subst (λ (a : Reply). Goes service script q replies a r') (sym is) (order_stops service script q replies (line.Order o) r r' next passes number steps left pass outside order_pass out rests rests' o refl c.0 c.1)
 
 -- ---- a session's loop
 
-pub line_next : (service : Service) (script : Script) (q : ℕ) (r : Runner) (lines : SessionLines) (calls : List Line) (at : ℕ) (l : Line) → IsRunning service script q r → q < length script.sessions → lines ≡ get_or script.sessions q lines → calls ≡ lines.calls
-    → at ≡ length r.replies.items → l ≡ get_or calls at l → length r.replies.items < length (session_at script q).calls → IsNext service script q l r
-line_next service script q r lines calls at l running near lines_is calls_is at_is is lt =
+pub line_next : (service : Service) (script : Script) (q : ℕ) (replies : List Reply) (r : Runner) (lines : SessionLines) (calls : List Line) (at : ℕ) (l : Line) → IsRunning service script q replies r → q < length script.sessions → lines ≡ get_or script.sessions q lines → calls ≡ lines.calls
+    → at ≡ length replies → l ≡ get_or calls at l → length replies < length (session_at script q).calls → IsNext service script q replies l r
+line_next service script q replies r lines calls at l running near lines_is calls_is at_is is lt =
     let session : calls ≡ (session_at script q).calls = calls_is ∙ ap (λ (s : SessionLines). s.calls) (lines_is ∙ get_or_default script.sessions q lines no_lines near) in
-    let here : get_or (session_at script q).calls (length r.replies.items) l ≡ l = sym (is ∙ ap (λ (ls : List Line). get_or ls at l) session ∙ ap (λ (n : ℕ). get_or (session_at script q).calls n l) at_is) in
+    let here : get_or (session_at script q).calls (length replies) l ≡ l = sym (is ∙ ap (λ (ls : List Line). get_or ls at l) session ∙ ap (λ (n : ℕ). get_or (session_at script q).calls n l) at_is) in
     record {
       laid = running.laid;
       at = running.at;
       next = (lt, here);
       short = running.short;
-      text = subst LineHasText here (running.text (length r.replies.items) l lt);
+      text = subst LineHasText here (running.text (length replies) l lt);
     }
 
 -- ---- values
@@ -691,12 +742,12 @@ pub a_cut : (b : Bool) → not b ≡ false → b ≡ true
 a_cut true e = refl
 a_cut false e = absurd (cc)
 
--- only its replies changed
-module _ (service : Service) (script : Script) (q : ℕ) (replies : List Reply) (r : Runner) (given : Vec Reply Global) where
-  abbrev known_still : (orders : OrdersPart) (known : Parts) → Knows service q orders known r → Knows service q orders known (record r { replies = given })
+-- only its text changed, and whether memory ran out
+module _ (service : Service) (script : Script) (q : ℕ) (replies : List Reply) (r : Runner) (said : Vec ℕ Global) (refused : Bool) where
+  abbrev known_still : (orders : OrdersPart) (known : Parts) → Knows service q orders known r → Knows service q orders known (record r { text = said; refused = refused })
   known_still orders known k = record { know = k.know; first = k.first; outside = k.outside; orders_number = k.orders_number; orders_is = k.orders_is }
 
-  pub same_at : IsAt service script q replies r → IsAt service script q replies (record r { replies = given })
+  pub same_at : IsAt service script q replies r → IsAt service script q replies (record r { text = said; refused = refused })
   same_at at = record {
     orders = at.orders;
     known = at.known;
@@ -707,11 +758,12 @@ module _ (service : Service) (script : Script) (q : ℕ) (replies : List Reply) 
     stands = at.stands;
   }
 
-  pub same_done_at : IsDone service script q replies r → IsDone service script q replies (record r { replies = given })
+  pub same_done_at : IsDone service script q replies r → IsDone service script q replies (record r { text = said; refused = refused })
   same_done_at d = record {
     orders = d.orders;
     known = d.known;
     knows = known_still d.orders d.known d.knows;
+    rests = d.rests;
     spent = d.spent;
     done = d.done;
   }

@@ -17,6 +17,7 @@ use Rattle.session_account.specs.Journal.{AreLeft, IsJournal}
 use Rattle.session_account.specs.Survival.{Flight}
 use Rattle.session_account.specs.Words.{AreasHold}
 use Rattle.registry_service.specs.Served.{AreKept, answered}
+use Rattle.session_texts.specs.Texts.{replies_text}
 use Rattle.session_service.specs.declared.ending.Ran.{Ran}
 use Rattle.session_service.specs.declared.namespaces.ServedNamespace.{ServedNamespace}
 use Rattle.session_service.specs.Ends.{IsAtCut}
@@ -27,8 +28,8 @@ abbrev pub in_row : {X Z : Type 0} → List (Vec X Z) → List X
 in_row [] = []
 in_row (v ∷ arenas) = v.items ++ in_row arenas
 
-abbrev pub replies_of : {Z : Type 0} → List (Vec Reply Z) → List (List Reply)
-replies_of replies = map (λ v. v.items) replies
+abbrev pub texts_of : {Z : Type 0} → List (Vec ℕ Z) → List (List ℕ)
+texts_of texts = map (λ v. v.items) texts
 
 -- the entries of the calls that were answered
 abbrev pub journal_of : Ran → List JournalEntry
@@ -41,6 +42,9 @@ pub record IsRunArena (state : ArenaState) (history : List HistoryEntry) (flight
 
 -- What the sessions of a script came to, on a registry and on namespaces that were opened.
 pub record HasServed (registry : Registered) (served : List ServedNamespace) (script : Script) (ran : Ran) : Type 0 where
+  -- what each session was answered, and its lines
+  pub replies : List (List Reply)
+  pub texts : texts_of ran.texts.items ≡ map replies_text replies
   -- of each arena the calls that stand, by namespace and then by arena
   pub histories : Histories
   pub sets : ran.registry.sets ≡ registry.sets
@@ -56,10 +60,10 @@ pub record HasServed (registry : Registered) (served : List ServedNamespace) (sc
   -- change at first
   pub words : AreHeld registry.opening → AreasHold registry.sets (opening_of registry) (rows_of registry.opening) script.labelcut (journal_of ran) (map words_of ran.registry.areas)
   -- each session's replies are those of what stands of it
-  pub accounts : Accounts (servings_of served) script (replies_of ran.replies.items) (journal_of ran) histories
+  pub accounts : Accounts (servings_of served) script replies (journal_of ran) histories
   pub places : length ran.arenas.items ≡ length served
   pub counts : (place : ℕ) (n : ServedNamespace) → place < length served → length (items_at ran.arenas.items place) ≡ length (slice_index_or served place n).arenas.items
   pub arenas : (place k : ℕ) (n : ServedNamespace) (state : ArenaState) (words : Words) → place < length served → k < length (slice_index_or served place n).arenas.items
       → IsRunArena (slice_index_or (slice_index_or served place n).arenas.items k state) (histories place k)
-      (flights_on (servings_of served) place k script (replies_of ran.replies.items) histories)
+      (flights_on (servings_of served) place k script replies histories)
       (slice_index_or (items_at ran.arenas.items place) k words)

@@ -1,5 +1,5 @@
 -- A session between two of its calls, and at its end: what it knows, held against the account.
-use Rattle.std.specs.Prelude.{◌≡◌, ℕ, zero, suc, ◌+◌, ◌^◌, ◌<◌, ◌≤◌, Bool, true, false, List, [], All, length, vec_capacity, slice_index_or, Option, Some, None, is_some}
+use Rattle.std.specs.Prelude.{◌≡◌, ℕ, zero, suc, ◌+◌, ◌^◌, ◌<◌, ◌≤◌, Bool, true, false, List, [], All, length, slice_index_or, Option, Some, None, is_some}
 use Rattle.turn_lock.specs.Passes.{number_of, part_of, IsOutside}
 use Rattle.namespace_ops.specs.Entries.{JournalEntry}
 use Rattle.session_script.specs.declared.script.Line.{Line}
@@ -15,12 +15,13 @@ use Rattle.session_account.specs.Parts.{Calls, PowerPart, Who, itself, labels, m
 use Rattle.session_account.specs.Sectors.{check_of, is_check}
 use Rattle.session_account.specs.Serving.{Serving}
 use Rattle.registry_service.specs.declared.served.OrdersPart.{OrdersPart}
-use Rattle.lane_pool.specs.declared.holders.Hand.TheVariants as hand
 use Rattle.lane_pool.specs.declared.pool.PoolPart.{PoolPart}
 use Rattle.lane_pool.specs.declared.sets.Who.TheVariants as who
 use Rattle.lane_pool.specs.Parts.{switched_by}
-use Rattle.lane_calls.specs.Sessions.{Know, Parts}
+use Rattle.lane_calls.specs.Calls.{IsGoing}
+use Rattle.lane_calls.specs.Sessions.{Know, Parts, made_with}
 use Rattle.lane_sessions.specs.Making.{or_zero}
+use Rattle.session_texts.specs.Texts.{replies_text}
 use Rattle.session_service.specs.declared.runner.Runner.{Runner}
 use Rattle.session_service.specs.declared.service.Service.{Service}
 use Rattle.session_script.specs.Names.{LineHasText}
@@ -71,13 +72,13 @@ pub record Knows (service : Service) (q : ℕ) (orders : OrdersPart) (known : Pa
 abbrev pub StaysWhole : Option ℕ → Option ℕ → Type 0
 StaysWhole left left' = left ≡ None → left' ≡ None
 
--- session q after some of its calls, none of which was cut, by what it knows
-pub record Standing (all : List Serving) (script : Script) (q : ℕ) (replies : List Reply) (orders : OrdersPart) (known : Parts) (pool : PoolPart) (left : Option ℕ) : Type 0 where
+-- session q after some of its calls, none of which was cut, by what it knows; it made so many calls with the set of lanes that it keeps
+pub record Standing (all : List Serving) (script : Script) (q : ℕ) (replies : List Reply) (orders : OrdersPart) (known : Parts) (pool : PoolPart) (made : ℕ) (left : Option ℕ) : Type 0 where
   -- it is in no call
   pub free : (j : ℕ) → (known j).mine.calls ≡ []
-  -- it has no set out, and may take one for each call that it has left
-  pub empty : pool.hand ≡ hand.Empty
-  pub calls : length (session_at script q).calls ≤ pool.left + length replies
+  -- it handed no set to `stop`, and may make each call that it has left
+  pub going : IsGoing pool
+  pub calls : length (session_at script q).calls + made ≤ pool.left + length replies
   pub held : orders.held ≡ on_end (session_at script q).calls replies
   pub labelcut : orders.began.labelcut ≡ script.labelcut
   -- it has room for its orders, and to give back what it has open at its end
@@ -96,7 +97,7 @@ pub record IsAt (service : Service) (script : Script) (q : ℕ) (replies : List 
   pub call : r.session.caller.call ≡ length replies
   pub steps : r.session.caller.steps ≡ or_zero (session_at script q).cut
   pub held : r.held ≡ on_end (session_at script q).calls replies
-  pub stands : Standing (all_of service) script q replies orders known knows.know.pool r.session.caller.left
+  pub stands : Standing (all_of service) script q replies orders known knows.know.pool (made_with r.session.kept) r.session.caller.left
 
 -- ---- at the end
 
@@ -104,21 +105,22 @@ pub record IsAt (service : Service) (script : Script) (q : ℕ) (replies : List 
 abbrev pub IsSpent : List Serving → Script → ℕ → Parts → PoolPart → Type 0
 IsSpent all script q known pool = (n : ℕ) → switched_by pool.stop ≡ Some (record { who = who.Session q; steps = n }) → ((session_at script q).cut ≡ Some n) × (steps_by all known ≡ n)
 
--- session q has made its last call and given back what it had open, or a call was cut
+-- session q has made its last call and given back what it had open, or a call was cut; it keeps no set of lanes
 pub record IsDone (service : Service) (script : Script) (q : ℕ) (replies : List Reply) (r : Runner) : Type 0 where
   pub orders : OrdersPart
   pub known : Parts
   pub knows : Knows service q orders known r
+  pub rests : r.session.kept ≡ None
   pub spent : IsSpent (all_of service) script q known knows.know.pool
   pub done : parts.IsDone (all_of service) script q replies (known_registry orders.entries orders.room) (known_cores (stands_by (all_of service) known) (calls_by (all_of service) known)) (power_by knows.know.pool orders.entries)
 
 -- ---- one call
 
 -- its next call is this line, and can be made
-pub record IsNext (service : Service) (script : Script) (q : ℕ) (line : Line) (r : Runner) : Type 0 where
+pub record IsNext (service : Service) (script : Script) (q : ℕ) (replies : List Reply) (line : Line) (r : Runner) : Type 0 where
   pub laid : IsLaid service
-  pub at : IsAt service script q r.replies.items r
-  pub next : NextIs (session_at script q) r.replies.items line
+  pub at : IsAt service script q replies r
+  pub next : NextIs (session_at script q) replies line
   pub short : length (session_at script q).calls + 1 < 2 ^ 32
   pub text : LineHasText line
 
@@ -133,29 +135,45 @@ IsRefusedBy all held (line.Read sector) why = (is_check why ≡ true) × (check_
 IsRefusedBy all held (line.Write sector value) why = (is_check why ≡ true) × (check_of all held (line.Write sector value) ≡ Some why)
 IsRefusedBy all held (line.Order o) why = ⊥
 
--- the replies that were given before are kept
-abbrev pub KeepsReplies : Runner → Runner → Type 0
-KeepsReplies r r' = (r'.session.number ≡ r.session.number) × (r'.replies ≡ r.replies) × (r'.refused ≡ r.refused)
+-- the lines of the replies that were given before are kept
+abbrev pub KeepsText : Runner → Runner → Type 0
+KeepsText r r' = (r'.session.number ≡ r.session.number) × (r'.text ≡ r.text) × (r'.refused ≡ r.refused)
 
 -- ---- a session's loop
 
--- its calls can be made, and there is room for their replies
-pub record IsRunning (service : Service) (script : Script) (q : ℕ) (r : Runner) : Type 0 where
+-- it has these replies, whose lines are its text, and its further calls can be made
+pub record IsRunning (service : Service) (script : Script) (q : ℕ) (replies : List Reply) (r : Runner) : Type 0 where
   pub laid : IsLaid service
-  pub at : IsAt service script q r.replies.items r
+  pub at : IsAt service script q replies r
   pub short : length (session_at script q).calls + 1 < 2 ^ 32
   pub text : All LineHasText (session_at script q).calls
-  pub room : length (session_at script q).calls ≤ vec_capacity r.replies
+  pub said : r.text.items ≡ replies_text replies
+  pub memory : r.refused ≡ false
+
+-- a call was answered, and the line of its reply isn't in the text yet
+pub record HasAnswer (service : Service) (script : Script) (q : ℕ) (replies : List Reply) (answer : Reply) (r : Runner) : Type 0 where
+  pub laid : IsLaid service
+  pub goes : Goes service script q replies answer r
+  pub short : length (session_at script q).calls + 1 < 2 ^ 32
+  pub text : All LineHasText (session_at script q).calls
+  pub said : r.text.items ≡ replies_text replies
   pub memory : r.refused ≡ false
 
 -- and it has made none
 abbrev pub IsRunnerReady : Service → Script → ℕ → Runner → Type 0
-IsRunnerReady service script q r = IsRunning service script q r × (r.replies.items ≡ [])
+IsRunnerReady service script q r = IsRunning service script q [] r
 
--- it has come to its end, so far as memory lasted
+-- it is done with some replies, whose lines are its text
+pub record IsThrough (service : Service) (script : Script) (q : ℕ) (r : Runner) : Type 0 where
+  pub replies : List Reply
+  pub said : r.text.items ≡ replies_text replies
+  pub done : IsDone service script q replies r
+
+-- it has come to its end, so far as memory lasted, and keeps no set of lanes
 pub record IsEnded (service : Service) (script : Script) (q : ℕ) (r : Runner) : Type 0 where
   pub number : r.session.number ≡ q
-  pub done : r.refused ≡ false → IsDone service script q r.replies.items r
+  pub rests : r.session.kept ≡ None
+  pub done : r.refused ≡ false → IsThrough service script q r
 
 -- ---- all sessions
 

@@ -15,7 +15,6 @@ use lane_calls::Session;
 use lane_sessions::close_sectors;
 use namespace_ops::Registry;
 use registry_service::{ServedRegistry, close_registry};
-use session_account::Reply;
 use session_script::Script;
 use std::alloc::{AllocError, Global};
 use turn_lock::TurnPass;
@@ -26,8 +25,8 @@ pub struct Ran {
     pub registry: Registry,
     /// The words of each arena, by namespace in the order in which they were given, and then by arena.
     pub arenas: Vec<Vec<ArenaEnd>>,
-    /// By session, in the order of its calls.
-    pub replies: Vec<Vec<Reply>>,
+    /// By session, a line for each reply, in the order of its calls.
+    pub texts: Vec<Vec<u8>>,
 }
 
 // What runners hand in.
@@ -35,7 +34,7 @@ pub struct Ran {
 pub(crate) struct HandedIn {
     pub(crate) sessions: Vec<Session>,
     pub(crate) orders: Vec<TurnPass<ServedRegistry>>,
-    pub(crate) replies: Vec<Vec<Reply>>,
+    pub(crate) texts: Vec<Vec<u8>>,
 }
 
 // Whether memory lasted for all sessions.
@@ -45,30 +44,30 @@ fn lasted(runners: &[Runner]) -> bool
     runners.iter().all(|runner| !runner.refused)
 }
 
-// The sessions, the passes of the registry and the replies of all runners.
+// The sessions, the passes of the registry and the lines of all runners.
 fn hand_in(alloc: Global, runners: Vec<Runner>) -> Result<HandedIn, AllocError>
     ensures sessions { IfOk result (λ h. h.sessions.items ≡ map (λ r. r.session) runners.items) }
     ensures orders { IfOk result (λ h. h.orders.items ≡ map (λ r. r.orders) runners.items) }
-    ensures replies { IfOk result (λ h. h.replies.items ≡ map (λ r. r.replies) runners.items) }
+    ensures texts { IfOk result (λ h. h.texts.items ≡ map (λ r. r.text) runners.items) }
 {
     let mut sessions = Vec::new(alloc);
     let mut orders = Vec::new(alloc);
-    let mut replies = Vec::new(alloc);
+    let mut texts = Vec::new(alloc);
     for runner in runners {
         let Runner {
             session,
             orders: pass,
-            replies: own,
+            text,
             ..
         } = runner;
         sessions.push(session)?;
         orders.push(pass)?;
-        replies.push(own)?;
+        texts.push(text)?;
     }
     Ok(HandedIn {
         sessions,
         orders,
-        replies,
+        texts,
     })
 }
 
@@ -95,7 +94,7 @@ fn split(
 /// Closes the arenas and the registry, and hands back the registry and the arenas' words. The one refusal is
 /// out of memory, also if it ran out in a session or in an order; then all of them are dropped.
 ///
-/// Each session's replies belong to its own entries in the registry's journal and in the arenas'
+/// Each session's lines are those of its replies (`texts`), which belong to its own entries in the registry's journal and in the arenas'
 /// histories, in order, and power was cut only if a session's own steps or those on labels ended
 /// (`accounts`). The journal is one run of its commands on the registry as it was handed over,
 /// and gives its label areas and their words (`commands`, `on`, `off`, `words`). Each history is
@@ -128,7 +127,7 @@ pub fn close(
     let HandedIn {
         sessions,
         orders,
-        replies,
+        texts,
     } = handed;
     let ended = close_sectors(alloc, sectors, aside, sessions)?;
     let row = ends_of(alloc, ended.words)?;
@@ -138,6 +137,6 @@ pub fn close(
     Ok(Ran {
         registry,
         arenas,
-        replies,
+        texts,
     })
 }

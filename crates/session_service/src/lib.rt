@@ -1,6 +1,6 @@
 //! Whole sessions of a script: orders to the registry, and calls on sectors of the namespaces that it names, by many sessions at once.
 //!
-//! A session makes its calls one after another, and keeps a reply for each:
+//! A session makes its calls one after another, and has a line for each reply:
 //!
 //! ```text
 //!   session 0   open A -> Done    write 9 -> Done     rename A -> Op(Busy)   close -> Done
@@ -39,6 +39,7 @@ mod finding;
 mod laying;
 mod lines;
 mod namespaces;
+mod resting;
 mod runner;
 mod running;
 mod seats;

@@ -1,16 +1,18 @@
 //! A session makes one call of its script.
-ghost use Rattle.std.specs.Prelude.{◌≡◌, ℕ, ◌+◌, ◌^◌, ◌<◌, IfOk};
+ghost use Rattle.std.specs.Prelude.{◌≡◌, ℕ, ◌+◌, ◌^◌, ◌<◌, List, IfErr, IfOk, None};
 ghost use Rattle.lane_table.specs.Reads.{cell_of_kind};
+ghost use Rattle.session_account.specs.declared.reply.Reply.{Reply as Replied};
 ghost use Rattle.session_account.specs.declared.reply.Reply.TheVariants as reply;
 ghost use Rattle.session_account.specs.Made.{on_after};
 ghost use Rattle.session_account.specs.Sectors.{wrong_length, size_of};
 ghost use Rattle.session_script.specs.declared.script.Line.{Line};
 ghost use Rattle.session_script.specs.declared.script.Line.TheVariants as line;
 ghost use Rattle.session_script.specs.declared.script.Script.{Script};
-ghost use Rattle.session_service.specs.Runners.{Goes, IsNext, IsRefusedBy, KeepsReplies};
+ghost use Rattle.session_service.specs.Runners.{Goes, IsNext, IsRefusedBy, KeepsText};
 ghost use Rattle.session_service.specs.Services.{all_of};
 
 use crate::finding::find;
+use crate::resting::rest_session;
 use crate::runner::Runner;
 use crate::service::Service;
 use arena_open::{Cell, CellKind};
@@ -28,10 +30,11 @@ use uuid::Uuid;
 
 /// The reply to a call that its checks refuse: that, or that power is off.
 fn refuse<R: Wait>(rt: &R, service: &Service, runner: &mut Runner, why: Reply) -> Reply
-    requires { (script : Script) × (q : ℕ) × (l : Line) × IsNext service.now script q l runner.old × IsRefusedBy (all_of service.now) runner.old.held l why }
-    ensures kept { KeepsReplies runner.old runner.new }
-    ensures goes { (script : Script) (q : ℕ) (l : Line) → IsNext service.now script q l runner.old → IsRefusedBy (all_of service.now) runner.old.held l why → Goes service.now script q runner.old.replies.items result runner.new }
+    requires { (script : Script) × (q : ℕ) × (replies : List Replied) × (l : Line) × IsNext service.now script q replies l runner.old × IsRefusedBy (all_of service.now) runner.old.held l why }
+    ensures kept { KeepsText runner.old runner.new }
+    ensures goes { (script : Script) (q : ℕ) (replies : List Replied) (l : Line) → IsNext service.now script q replies l runner.old → IsRefusedBy (all_of service.now) runner.old.held l why → Goes service.now script q replies result runner.new }
 {
+    rest_session(rt, service, runner);
     let caller = &mut runner.session.caller;
     if is_off(rt, &service.sectors.pool, &mut caller.pool) {
         return Reply::Cut;
@@ -57,9 +60,10 @@ fn make_read<R: Wait>(
     runner: &mut Runner,
     sector: u64,
 ) -> Result<Reply, AllocError>
-    requires { (script : Script) × (q : ℕ) × IsNext service.now script q (line.Read sector) runner.old }
-    ensures kept { KeepsReplies runner.old runner.new }
-    ensures goes { (script : Script) (q : ℕ) → IsNext service.now script q (line.Read sector) runner.old → IfOk result (λ r. Goes service.now script q runner.old.replies.items r runner.new) }
+    requires { (script : Script) × (q : ℕ) × (replies : List Replied) × IsNext service.now script q replies (line.Read sector) runner.old }
+    ensures kept { KeepsText runner.old runner.new }
+    ensures goes { (script : Script) (q : ℕ) (replies : List Replied) → IsNext service.now script q replies (line.Read sector) runner.old → IfOk result (λ r. Goes service.now script q replies r runner.new) }
+    ensures rests { IfErr result (λ _. runner.new.session.kept ≡ None) }
 {
     let places = service.places.as_slice();
     let found = match find(places, runner.held, sector) {
@@ -67,7 +71,13 @@ fn make_read<R: Wait>(
         Err(why) => return Ok(refuse(rt, service, runner, why)),
     };
     let width = (found.bytes / 8) as usize;
-    let mut words = vec![in service.alloc; 0; width]?;
+    let mut words = match vec![in service.alloc; 0; width] {
+        Ok(words) => words,
+        Err(fault) => {
+            rest_session(rt, service, runner);
+            return Err(fault);
+        }
+    };
     let session = &mut runner.session;
     let into = words.as_mut_slice();
     let sectors = &service.sectors;
@@ -98,9 +108,10 @@ fn make_write<R: Wait, G: Gate>(
     sector: u64,
     value: &Payload,
 ) -> Result<Reply, AllocError>
-    requires { (script : Script) × (q : ℕ) × IsNext service.now script q (line.Write sector value.now) runner.old }
-    ensures kept { KeepsReplies runner.old runner.new }
-    ensures goes { (script : Script) (q : ℕ) → IsNext service.now script q (line.Write sector value.now) runner.old → IfOk result (λ r. Goes service.now script q runner.old.replies.items r runner.new) }
+    requires { (script : Script) × (q : ℕ) × (replies : List Replied) × IsNext service.now script q replies (line.Write sector value.now) runner.old }
+    ensures kept { KeepsText runner.old runner.new }
+    ensures goes { (script : Script) (q : ℕ) (replies : List Replied) → IsNext service.now script q replies (line.Write sector value.now) runner.old → IfOk result (λ r. Goes service.now script q replies r runner.new) }
+    ensures rests { IfErr result (λ _. runner.new.session.kept ≡ None) }
 {
     let places = service.places.as_slice();
     let found = match find(places, runner.held, sector) {
@@ -111,7 +122,13 @@ fn make_write<R: Wait, G: Gate>(
         Some(why) => return Ok(refuse(waiting.rt, service, runner, why)),
         None => {}
     }
-    let words = value_words(service.alloc, value, found.bytes as usize)?;
+    let words = match value_words(service.alloc, value, found.bytes as usize) {
+        Ok(words) => words,
+        Err(fault) => {
+            rest_session(waiting.rt, service, runner);
+            return Err(fault);
+        }
+    };
     let slice = words.as_slice();
     let session = &mut runner.session;
     let sectors = &service.sectors;
@@ -139,10 +156,12 @@ fn make_order<R: Wait>(
     runner: &mut Runner,
     asked: &Order,
 ) -> Result<Reply, AllocError>
-    requires { (script : Script) × (q : ℕ) × IsNext service.now script q (line.Order asked.now) runner.old }
-    ensures kept { KeepsReplies runner.old runner.new }
-    ensures goes { (script : Script) (q : ℕ) → IsNext service.now script q (line.Order asked.now) runner.old → IfOk result (λ r. Goes service.now script q runner.old.replies.items r runner.new) }
+    requires { (script : Script) × (q : ℕ) × (replies : List Replied) × IsNext service.now script q replies (line.Order asked.now) runner.old }
+    ensures kept { KeepsText runner.old runner.new }
+    ensures goes { (script : Script) (q : ℕ) (replies : List Replied) → IsNext service.now script q replies (line.Order asked.now) runner.old → IfOk result (λ r. Goes service.now script q replies r runner.new) }
+    ensures rests { IfErr result (λ _. runner.new.session.kept ≡ None) }
 {
+    rest_session(rt, service, runner);
     let caller = &mut runner.session.caller;
     let reply = order(
         rt,
@@ -162,16 +181,17 @@ fn make_order<R: Wait>(
 ///
 /// The checks come in this order: `NotOpen`, `Range`, `Length`; of an `open` `IsOpen`. They look at nothing
 /// that other sessions change, so the session asks for the power only if one of them refuses the call, or where the call
-/// takes its lanes. The one error is out of memory.
+/// takes its lanes. The one error is out of memory; then the session keeps no set of lanes.
 pub(crate) fn make_line<R: Wait, G: Gate>(
     waiting: &Waiting<R, G>,
     service: &Service,
     runner: &mut Runner,
     line: &Line,
 ) -> Result<Reply, AllocError>
-    requires { (script : Script) × (q : ℕ) × IsNext service.now script q line.now runner.old }
-    ensures kept { KeepsReplies runner.old runner.new }
-    ensures goes { (script : Script) (q : ℕ) → IsNext service.now script q line.now runner.old → IfOk result (λ r. Goes service.now script q runner.old.replies.items r runner.new) }
+    requires { (script : Script) × (q : ℕ) × (replies : List Replied) × IsNext service.now script q replies line.now runner.old }
+    ensures kept { KeepsText runner.old runner.new }
+    ensures goes { (script : Script) (q : ℕ) (replies : List Replied) → IsNext service.now script q replies line.now runner.old → IfOk result (λ r. Goes service.now script q replies r runner.new) }
+    ensures rests { IfErr result (λ _. runner.new.session.kept ≡ None) }
 {
     let rt = waiting.rt;
     match line {

@@ -1,10 +1,15 @@
 //! A session makes its calls, and all sessions do at once.
-ghost use Rattle.std.specs.Prelude.{◌≡◌, ◌+◌, ◌^◌, ◌<◌, length, true, false, IsTrue};
+ghost use Rattle.std.specs.Prelude.{◌≡◌, ℕ, ◌++◌, ◌^◌, ◌<◌, List, length, true, false, IsTrue};
 ghost use Rattle.session_account.specs.Account.{session_at};
 ghost use Rattle.session_account.specs.Made as made;
-ghost use Rattle.session_service.specs.Runners.{AreEnded, AreRunnersReady, IsEnded, IsRunnerReady, IsRunning};
+ghost use Rattle.session_account.specs.declared.reply.Reply.{Reply as Replied};
+ghost use Rattle.session_account.specs.Parts.{more};
+ghost use Rattle.session_script.specs.declared.script.Script.{Script as AnyScript};
+ghost use Rattle.session_texts.specs.Texts.{reply_text};
+ghost use Rattle.session_service.specs.Runners.{AreEnded, AreRunnersReady, HasAnswer, IsEnded, IsRunnerReady, IsRunning};
 
 use crate::lines::make_line;
+use crate::resting::rest_session;
 use crate::runner::Runner;
 use crate::service::Service;
 use lane_calls::Waiting;
@@ -12,6 +17,8 @@ use nvd_media::Gate;
 use registry_service::give_back;
 use session_account::Reply;
 use session_script::{Script, SessionLines};
+use session_texts::add_reply;
+use std::alloc::Global;
 use std::sync::Wait;
 use std::thread;
 use std::thread::Threads;
@@ -23,6 +30,35 @@ fn is_cut(reply: &Reply) -> bool
     matches!(reply, Reply::Cut)
 }
 
+/// Adds the line of a reply to the session's text, or notes that memory ran out.
+fn add_line(alloc: Global, runner: &mut Runner, reply: &Reply)
+    requires { runner.old.refused ≡ false }
+    ensures same { runner.new ≡ record runner.old { text = runner.new.text; refused = runner.new.refused } }
+    ensures said { runner.new.refused ≡ false → runner.new.text.items ≡ runner.old.text.items ++ reply_text reply.now }
+{
+    if add_reply(alloc, reply, &mut runner.text).is_err() {
+        runner.refused = true;
+    }
+}
+
+/// Adds the line of a reply to the session's text. False if the session makes no call more: it was cut, or memory ran out.
+fn note<R: Wait>(rt: &R, service: &Service, runner: &mut Runner, reply: &Reply) -> bool
+    requires { (script : AnyScript) × (q : ℕ) × (replies : List Replied) × HasAnswer service.now script q replies reply.now runner.old }
+    ensures on { IsTrue result → (script : AnyScript) (q : ℕ) (replies : List Replied) → HasAnswer service.now script q replies reply.now runner.old → IsRunning service.now script q (more replies reply.now) runner.new }
+    ensures ended { result ≡ false → (script : AnyScript) (q : ℕ) (replies : List Replied) → HasAnswer service.now script q replies reply.now runner.old → IsEnded service.now script q runner.new }
+{
+    add_line(service.alloc, runner, reply);
+    if is_cut(reply) {
+        return false;
+    }
+    let full = runner.refused;
+    if full {
+        rest_session(rt, service, runner);
+        return false;
+    }
+    true
+}
+
 /// Makes the next call of session q. False if it makes no more: it was cut, or memory ran out.
 fn next_call<R: Wait, G: Gate>(
     waiting: &Waiting<R, G>,
@@ -31,26 +67,20 @@ fn next_call<R: Wait, G: Gate>(
     q: usize,
     runner: &mut Runner,
 ) -> bool
-    requires running { IsRunning service.now script.now q runner.old }
-    requires next { length runner.old.replies.items < length (session_at script.now q).calls }
+    requires next { (replies : List Replied) × IsRunning service.now script.now q replies runner.old × (length replies < length (session_at script.now q).calls) }
     requires there { q < length script.now.sessions }
-    ensures on { IsTrue result → IsRunning service.now script.now q runner.new × (length runner.new.replies.items ≡ length runner.old.replies.items + 1) }
+    ensures on { IsTrue result → (replies : List Replied) → IsRunning service.now script.now q replies runner.old → (answer : Replied) × IsRunning service.now script.now q (more replies answer) runner.new }
     ensures ended { result ≡ false → IsEnded service.now script.now q runner.new }
 {
     let sessions = script.sessions.as_slice();
     let calls = sessions[q].calls.as_slice();
-    let at = runner.replies.len();
     let session = runner.session.number;
     let call = runner.session.caller.call;
     waiting.gate.enter(session, call);
-    let made = make_line(waiting, service, runner, &calls[at]);
+    let made = make_line(waiting, service, runner, &calls[call as usize]);
     waiting.gate.answered(session, call);
     match made {
-        Ok(reply) => {
-            let cut = is_cut(&reply);
-            runner.replies.push_reserved(reply);
-            !cut
-        }
+        Ok(reply) => note(waiting.rt, service, runner, &reply),
         Err(_) => {
             runner.refused = true;
             false
@@ -60,10 +90,10 @@ fn next_call<R: Wait, G: Gate>(
 
 /// Gives back what a session has open, after its last call.
 fn end_session<R: Wait>(rt: &R, service: &Service, script: &Script, q: usize, runner: &mut Runner)
-    requires running { IsRunning service.now script.now q runner.old }
-    requires last { length runner.old.replies.items ≡ length (session_at script.now q).calls }
+    requires { (replies : List Replied) × IsRunning service.now script.now q replies runner.old × (length replies ≡ length (session_at script.now q).calls) }
     ensures { IsEnded service.now script.now q runner.new }
 {
+    rest_session(rt, service, runner);
     let call = runner.session.caller.call;
     give_back(rt, &service.registry.turn, &mut runner.orders, call);
 }
@@ -98,8 +128,8 @@ pub(crate) fn run_at<R: Wait, G: Gate>(
 ///
 /// A session makes its calls one after another. It ends behind its last call, when it gives back
 /// what it has open, or at the first that is answered `Cut`. Condition: each session is ready, as
-/// `of_namespaces` made it. Then the replies of each agree with its account, whatever the threads
-/// did (`AreEnded`); [`close`](crate::close) asks for that.
+/// `of_namespaces` made it. Then the replies of each, whose lines are its text, agree with its account, whatever the
+/// threads did (`AreEnded`); [`close`](crate::close) asks for that.
 pub fn run_sessions<R: Threads + Wait + Sync, G: Gate>(
     waiting: &Waiting<R, G>,
     service: &Service,

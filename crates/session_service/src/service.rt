@@ -88,7 +88,7 @@ fn fuse_for(labelcut: Option<u64>) -> Fuse
 
 /// Makes the arenas of all namespaces into sectors, with sets of their lanes for so many workers; puts a
 /// lock around the registry with the fuse of its commands; and makes the sessions of a script, with their
-/// passes, room for their replies and for their entries in the journal.
+/// passes, and room for their entries in the journal.
 ///
 /// Session q of the list has number q. It has made no call, has nothing open, and may make as many
 /// steps as its `cut` line says. The one refusal is out of memory, also if the script has 2^32 - 1
@@ -123,7 +123,7 @@ pub fn of_namespaces(
     } = made;
     let calls = rooms.as_slice();
     let (orders, passes) = lock_registry(alloc, registry, fuse_for(script.labelcut), calls)?;
-    let runners = seat(alloc, sessions, passes, lines)?;
+    let runners = seat(alloc, sessions, passes)?;
     let service = Service {
         alloc,
         places,

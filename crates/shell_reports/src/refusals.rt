@@ -7,9 +7,8 @@ use crate::{Ending, Report};
 use namespace_map::OpRefused;
 use std::alloc::{AllocError, Global};
 
-/// Returns the text of a refusal: its name and its numbers. Power wasn't cut. Out of memory isn't a finding.
+/// Returns the text of a refusal: its name and its numbers. A power cut has none. Out of memory isn't a finding.
 pub fn refusal_text(alloc: Global, refused: OpRefused) -> Result<String, AllocError>
-    requires { refused ≢ OpRefused.PowerCut }
     ensures text { IfOk result (λ text. string_bytes text ≡ refusal_text refused) }
     ensures finding { IfOk result (λ _. refused ≢ OpRefused.OutOfMemory) }
 {
@@ -26,7 +25,7 @@ pub fn refusal_text(alloc: Global, refused: OpRefused) -> Result<String, AllocEr
         OpRefused::BadName { bytes } => format!(in alloc; "BadName {}", bytes),
         OpRefused::ModuleLabels { module } => format!(in alloc; "ModuleLabels {}", module),
         OpRefused::ReadOnlyLabel { module } => format!(in alloc; "ReadOnlyLabel {}", module),
-        OpRefused::PowerCut => unreachable!(),
+        OpRefused::PowerCut => Ok(String::new(alloc)),
         OpRefused::OutOfMemory => Err(AllocError),
     }
 }

@@ -29,7 +29,6 @@ use Rattle.session_account.specs.Account.{flights_on}
 use Rattle.session_account.specs.Journal.{AreLeft}
 use Rattle.session_account.specs.Words.{AreasHold}
 use Rattle.session_script.specs.declared.script.Script.{Script}
-use Rattle.session_service.specs.Ran.{replies_of}
 use Rattle.session_account.proofs.Recovering.{journals_recover}
 use Rattle.shell_changes.specs.Namespaces.{sets_in}
 use Rattle.shell_reports.specs.declared.outcome.Report.{Report}
@@ -58,12 +57,12 @@ module _ (leaves first behind : List (Option Words) → List (Option (List ℕ))
     (join : (words pending : List (Option Words)) (own labels : List (Option (List ℕ))) → first words own → behind pending labels → leaves (words ++ pending) (own ++ labels))
     (text : List (List Reply) → List ℕ) (loaded : ImageSet) (rest : Unchanged) (r : IsRecoveredIn loaded rest) (namespaces : List OpenedNamespace) (script : Script) (served : Served)
     (i : IsServed first loaded rest.registry.sets (areas_seen rest.registry.areas) (label_rows rest.registry.areas) namespaces script served) where
-  pub serves : (report : Report) (outcome : Outcome) → report.ending ≡ ending.Done → report.text.items ≡ text (replies_of served.replies.items) → SavesLeft behind report served.rest served.modules.items outcome
+  pub serves : (report : Report) (outcome : Outcome) → report.ending ≡ ending.Done → report.text.items ≡ text i.replies → SavesLeft behind report served.rest served.modules.items outcome
       → Serves leaves text rest.registry.sets loaded (areas_seen rest.registry.areas) (label_rows rest.registry.areas) namespaces script outcome
   serves report outcome ends says s =
       let same : map settled s.rows ≡ served.modules.items = rows_settled served.modules.items s.rows i.settled s.words in
       record {
-        replies = replies_of served.replies.items;
+        replies = i.replies;
         journal = i.journal;
         histories = i.histories;
         left = areas_shown s.labels;
@@ -77,15 +76,15 @@ module _ (leaves first behind : List (Option Words) → List (Option (List ℕ))
         disjoint = left_apart rest.registry.sets r.regions i.journal _ script.labelcut (areas_shown s.labels) r.read r.apart (i.labels s.labels s.areas);
         survive = λ place d lt.
             subst (λ (ws : List Words). ArenasSurvive (slice_index_or namespaces place d) (words_at rest.registry.sets (slice_index_or namespaces place d).place.found ws) (i.histories place)
-            (λ k. flights_on (servings_of namespaces) place k script (replies_of served.replies.items) i.histories)) (sym same) (i.survive place d lt);
+            (λ k. flights_on (servings_of namespaces) place k script i.replies i.histories)) (sym same) (i.survive place d lt);
         beside = subst (λ (ws : List Words). KeepsBeside rest.registry.sets namespaces (rows_of loaded.contents) ws) (sym same) i.beside;
         chosen =
             all_chosen leaves first behind join (AreasHold rest.registry.sets (unclaimed (areas_seen rest.registry.areas)) (label_rows rest.registry.areas) script.labelcut i.journal) (AreLeft rest.registry.sets (unclaimed (areas_seen rest.registry.areas)) script.labelcut i.journal) rest.registry.sets namespaces i.histories
-            (λ place k. flights_on (servings_of namespaces) place k script (replies_of served.replies.items) i.histories) (map settled s.rows) (map area_words served.rest.registry.areas) s.labels
-            (subst (λ (ws : List Words). ArenasChosen first rest.registry.sets namespaces i.histories (λ place k. flights_on (servings_of namespaces) place k script (replies_of served.replies.items) i.histories) ws) (sym same) i.chosen)
+            (λ place k. flights_on (servings_of namespaces) place k script i.replies i.histories) (map settled s.rows) (map area_words served.rest.registry.areas) s.labels
+            (subst (λ (ws : List Words). ArenasChosen first rest.registry.sets namespaces i.histories (λ place k. flights_on (servings_of namespaces) place k script i.replies i.histories) ws) (sym same) i.chosen)
             s.chosen i.hold i.labels;
         saved =
-            saves_parts loaded served.rest.registry.areas i.keeps s.labels s.rows report.ending report.text.items (text (replies_of served.replies.items)) outcome s.areas ends says
+            saves_parts loaded served.rest.registry.areas i.keeps s.labels s.rows report.ending report.text.items (text i.replies) outcome s.areas ends says
             (s.saves loaded i.nfit i.bad);
       }
 

@@ -12,4 +12,3 @@ pub mod TextLines
 pub mod Parting
 pub mod ScriptLines
 pub mod Opens
-pub mod Told

@@ -12,7 +12,8 @@ use Rattle.session_script.specs.declared.script.Line.TheVariants.{Order}
 use Rattle.session_script.specs.declared.script.Order.TheVariants.{Open}
 use Rattle.session_script.specs.Load.{load_script}
 use Rattle.shell_serve.specs.Scripts.{opened_by}
-use Rattle.shell_serve.specs.Texts.{replies_text, serve_text, sessions_text, summary}
+use Rattle.session_texts.specs.Texts.{replies_text}
+use Rattle.shell_serve.specs.Texts.{serve_text, sessions_text, summary}
 
 abbrev u : List ℕ
 u = replicate 16 0x11

@@ -43,7 +43,7 @@ use Rattle.session_script.specs.declared.script.Script.{Script}
 use Rattle.session_service.specs.declared.ending.Ran.{Ran}
 use Rattle.session_service.specs.declared.namespaces.ServedNamespace.{ServedNamespace}
 use Rattle.session_service.specs.Namespaces as service
-use Rattle.session_service.specs.Ran.{HasServed, IsRunArena, journal_of, replies_of}
+use Rattle.session_service.specs.Ran.{HasServed, IsRunArena, journal_of}
 use Rattle.shell_sectors.specs.declared.finding.Unchanged.{Unchanged}
 use Rattle.shell_serve.specs.Answering.{AreSame, IsOpen, IsServed}
 use Rattle.shell_serve.specs.Chosen.{ArenasAtCut, ArenasChosen, all_words, words_left}
@@ -108,7 +108,7 @@ sectors_left state new May part r from sector lt =
 
 module _ (namespaces : List OpenedNamespace) (served : List ServedNamespace) (same : AreSame namespaces served) (registry : Registered) (script : Script) (ran : Ran) (has : HasServed registry served script ran) where
   abbrev flights : ℕ → ℕ → List Flight
-  flights place k = flights_on (servings_of namespaces) place k script (replies_of ran.replies.items) has.histories
+  flights place k = flights_on (servings_of namespaces) place k script has.replies has.histories
 
   -- the words of an arena
   arena_there : (place k : ℕ) (o : OpenedNamespace) (state : ArenaState) → slice_get namespaces place ≡ Some o → slice_get o.states k ≡ Some state → (own : Vec Words Global) → slice_get ran.arenas.items place ≡ Some own
@@ -121,10 +121,10 @@ module _ (namespaces : List OpenedNamespace) (served : List ServedNamespace) (sa
       let run = has.arenas place k n state words (slice_get_within served place n at_n) inside in
       let state_is : slice_index_or (slice_index_or served place n).arenas.items k state ≡ state = ap (λ (states : List ArenaState). slice_index_or states k state) states_is ∙ get_or_from_slice_get o.states k state state at_state in
       let words_is : slice_index_or (items_at ran.arenas.items place) k words ≡ words = ap (λ (ws : List Words). slice_index_or ws k words) (items_there ran.arenas.items place own at_own) ∙ get_or_from_slice_get own.items k words words at_words in
-      subst (λ (all : List Serving). IsRunArena state (has.histories place k) (flights_on all place k script (replies_of ran.replies.items) has.histories) words) (same_servings namespaces served same)
-      (subst (λ (s : ArenaState). IsRunArena s (has.histories place k) (flights_on (service.servings_of served) place k script (replies_of ran.replies.items) has.histories) words) state_is
+      subst (λ (all : List Serving). IsRunArena state (has.histories place k) (flights_on all place k script has.replies has.histories) words) (same_servings namespaces served same)
+      (subst (λ (s : ArenaState). IsRunArena s (has.histories place k) (flights_on (service.servings_of served) place k script has.replies has.histories) words) state_is
       (subst (λ (w : Words). IsRunArena (slice_index_or (slice_index_or served place n).arenas.items k state) (has.histories place k)
-      (flights_on (service.servings_of served) place k script (replies_of ran.replies.items) has.histories) w) words_is run))
+      (flights_on (service.servings_of served) place k script has.replies has.histories) w) words_is run))
 
   -- each namespace has the words of as many arenas as it has
   arena_count : (place : ℕ) (o : OpenedNamespace) → slice_get namespaces place ≡ Some o → (own : Vec Words Global) → slice_get ran.arenas.items place ≡ Some own → length own.items ≡ length o.states
@@ -262,16 +262,18 @@ module _ (loaded : ImageSet) (rest : Unchanged) (set : OpenedSet) (is : IsOpen l
   pub is_served : (leaves : List (Option Words) → List (Option (List ℕ)) → Type 0) → leaves (all_words (map items_of ran.arenas.items)) (words_left words) → (now : Vec Words Global) (sets : List (List Mapping)) → sets ≡ ran.registry.sets
       → put.AreLeft sets (rows_of loaded.contents) set.namespaces words now.items
       → IsServed leaves loaded rest.registry.sets (areas_seen rest.registry.areas) (label_rows rest.registry.areas) set.namespaces script
-      (record { replies = ran.replies; rest = record { registry = ran.registry; nfit_bytes = rest.nfit_bytes; bad = rest.bad }; modules = now })
+      (record { texts = ran.texts; rest = record { registry = ran.registry; nfit_bytes = rest.nfit_bytes; bad = rest.bad }; modules = now })
   is_served leaves chosen now sets held left =
       let here : put.AreLeft rest.registry.sets (rows_of loaded.contents) set.namespaces words now.items = subst (λ (s : List (List Mapping)). put.AreLeft s (rows_of loaded.contents) set.namespaces words now.items) (held ∙ has.sets) left in
       let r = is.recovered in
       record {
+        replies = has.replies;
+        texts = has.texts;
         journal = journal_of ran;
         histories = has.histories;
         commands = subst (λ (xs : List Area). IsJournal rest.registry.sets (unclaimed (areas_seen xs)) script.labelcut (journal_of ran)) r.opening has.commands;
         legal = legal set.namespaces served same rest.registry script ran has words cut rest.registry.sets (rows_of loaded.contents) now.items here;
-        accounts = subst (λ (all : List Serving). Accounts all script (replies_of ran.replies.items) (journal_of ran) has.histories) (same_servings set.namespaces served same) has.accounts;
+        accounts = subst (λ (all : List Serving). Accounts all script has.replies (journal_of ran) has.histories) (same_servings set.namespaces served same) has.accounts;
         labels = labels_left set.namespaces served same rest.registry script ran has r.opening r.held;
         hold = labels_hold set.namespaces served same rest.registry script ran has r.opening r.held;
         survive = survives set.namespaces served same rest.registry script ran has words cut rest.registry.sets (rows_of loaded.contents) now.items here;

@@ -17,12 +17,14 @@ use Rattle.served_namespaces.specs.declared.places.NotOpened.TheVariants.{Broken
 use Rattle.served_namespaces.specs.Opening.{Broken as ABroken, opened_each}
 use Rattle.served_namespaces.specs.Places.{KeepsBeside, words_at}
 use Rattle.served_namespaces.specs.Serving.{AreServing}
+use Rattle.session_account.specs.declared.reply.Reply.{Reply}
 use Rattle.session_account.specs.Account.{Accounts, Histories, flights_on}
 use Rattle.session_account.specs.Journal.{AreLeft, IsJournal}
 use Rattle.session_account.specs.Words.{AreasHold}
 use Rattle.session_script.specs.declared.script.Script.{Script}
 use Rattle.session_service.specs.declared.namespaces.ServedNamespace.{ServedNamespace}
-use Rattle.session_service.specs.Ran.{replies_of}
+use Rattle.session_service.specs.Ran.{texts_of}
+use Rattle.session_texts.specs.Texts.{replies_text}
 use Rattle.shell_reports.specs.Faults.{arena_outcome}
 use Rattle.shell_reports.specs.Saved.{outcome_of}
 use Rattle.shell_sectors.specs.declared.finding.Unchanged.{Unchanged}
@@ -65,19 +67,22 @@ pub record AreSame (namespaces : List OpenedNamespace) (served : List ServedName
 
 -- What sessions have come to on namespaces that are open, in place of what was loaded. `leaves` says what their words may be after the cut.
 pub record IsServed (leaves : List (Option Words) → List (Option (List ℕ)) → Type 0) (loaded : ImageSet) (sets : List (List Mapping)) (areas : List (Option SeenArea)) (words : Rows) (namespaces : List OpenedNamespace) (script : Script) (served : Served) : Type 0 where
+  -- what each session was answered, and its lines
+  pub replies : List (List Reply)
+  pub texts : texts_of served.texts.items ≡ map replies_text replies
   pub journal : List JournalEntry
   pub histories : Histories
   pub commands : IsJournal sets (unclaimed areas) script.labelcut journal
   pub legal : (place : ℕ) (d : OpenedNamespace) → place < length namespaces → AreLegal (slice_index_or namespaces place d).states (histories place)
-  pub accounts : Accounts (servings_of namespaces) script (replies_of served.replies.items) journal histories
+  pub accounts : Accounts (servings_of namespaces) script replies journal histories
   -- whatever the label areas' state after a crash
   pub labels : (rows : List (Option (List ℕ))) → AreasLeft served.rest.registry.areas rows → AreLeft sets (unclaimed areas) script.labelcut journal (areas_shown rows)
   pub hold : AreasHold sets (unclaimed areas) words script.labelcut journal (map words_of served.rest.registry.areas)
   pub survive : (place : ℕ) (d : OpenedNamespace) → place < length namespaces
       → ArenasSurvive (slice_index_or namespaces place d) (words_at sets (slice_index_or namespaces place d).place.found served.modules.items) (histories place)
-      (λ k. flights_on (servings_of namespaces) place k script (replies_of served.replies.items) histories)
+      (λ k. flights_on (servings_of namespaces) place k script replies histories)
   pub beside : KeepsBeside sets namespaces (rows_of loaded.contents) served.modules.items
-  pub chosen : ArenasChosen leaves sets namespaces histories (λ place k. flights_on (servings_of namespaces) place k script (replies_of served.replies.items) histories) served.modules.items
+  pub chosen : ArenasChosen leaves sets namespaces histories (λ place k. flights_on (servings_of namespaces) place k script replies histories) served.modules.items
   pub settled : AreSettled served.modules.items
   pub keeps : KeepsLabels loaded.labels served.rest.registry.areas
   pub nfit : loaded.nfit_bytes ≡ served.rest.nfit_bytes

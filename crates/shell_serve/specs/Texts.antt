@@ -1,40 +1,17 @@
--- The texts of sessions: a line for each reply, and the summary of a load. This project's rules.
-use Rattle.std.specs.Prelude.{◌≢◌, ℕ, ◌+◌, ◌-◌, ◌%◌, Bool, true, false, List, [], ◌∷◌, ◌++◌, length, count_by, sum_by, replicate, codes}
+-- The texts of sessions: their lines one session after another, and the summary of a load. This project's rules.
+use Rattle.std.specs.Prelude.{ℕ, ◌+◌, ◌-◌, ◌%◌, Bool, true, false, List, [], ◌∷◌, ◌++◌, length, count_by, sum_by, replicate, codes}
 use Rattle.std.specs.Int.{w64, to_be_bytes}
 use Rattle.std.specs.Fmt.{decimal}
 use Rattle.hex.specs.Hex.{encode_lower}
 use Rattle.nvd_words.specs.Fletcher.{fletcher64_of}
-use Rattle.namespace_map.specs.declared.refused.OpRefused.TheVariants.{PowerCut}
 use Rattle.session_account.specs.declared.reply.Reply.{Reply}
-use Rattle.session_account.specs.declared.reply.Reply.TheVariants as reply
 use Rattle.session_script.specs.declared.script.Line.{Line}
 use Rattle.session_script.specs.declared.script.Line.TheVariants.{Read, Write}
 use Rattle.session_script.specs.declared.script.Script.{Script}
-use Rattle.session_script.specs.Texts.{cell_text}
-use Rattle.shell_reports.specs.Faults.{refusal_text}
+use Rattle.session_texts.specs.Texts.{replies_text}
 use Rattle.shell_reports.specs.Outcome.{joined, lf}
 
 -- ---- the text of `serve`
-
--- a reply to a session: of a power cut it is told by `Cut` alone
-abbrev pub IsTold : Reply → Type 0
-IsTold answer = answer ≢ reply.Op PowerCut
-
--- the line of a reply
-abbrev pub reply_text : Reply → List ℕ
-reply_text reply.Done = codes "ok" ++ lf
-reply_text (reply.Value cell) = cell_text cell
-reply_text (reply.Range count) = joined (codes "refused Range " ∷ decimal count ∷ lf ∷ [])
-reply_text (reply.Length said had) = joined (codes "refused Length " ∷ decimal said ∷ codes " " ∷ decimal had ∷ lf ∷ [])
-reply_text reply.NotOpen = codes "refused NotOpen" ++ lf
-reply_text reply.IsOpen = codes "refused IsOpen" ++ lf
-reply_text (reply.Op refused) = joined (codes "refused " ∷ refusal_text refused ∷ lf ∷ [])
-reply_text reply.Cut = codes "cut" ++ lf
-
--- the lines of replies, in order
-unfoldable pub replies_text : List Reply → List ℕ
-replies_text [] = []
-replies_text (reply ∷ replies) = reply_text reply ++ replies_text replies
 
 -- session Q
 abbrev pub session_line : ℕ → List ℕ

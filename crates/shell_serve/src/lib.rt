@@ -24,8 +24,8 @@
 //! | label areas hold the words that the commands stored and flushed, as far as `labelcut` lasted, and no other | `hold` of `chosen` |
 //!
 //! Definitions are in `specs/Serving.antt` and `specs/Chosen.antt`, and the order of refusals in `specs/Serve.antt` and
-//! `specs/Load.antt`. `session_service` runs the sessions, `served_namespaces` opens their namespaces and puts the arenas back, and
-//! `session_account` defines journals and accounts. Scripts and texts are this project's own.
+//! `specs/Load.antt`. `session_service` runs the sessions, `served_namespaces` opens their namespaces and puts the arenas back,
+//! `session_account` defines journals and accounts, and `session_texts` the line of a reply. Scripts and texts are this project's own.
 #![tactic(auto)]
 
 mod cutting;

@@ -86,11 +86,11 @@ fn script_answer<R: Threads + Wait + Sync, C: Chooser, G: Gate>(
 {
     let served = serve_opened(waiting, alloc, running, script, opened, rest, choose)?;
     let Served {
-        replies,
+        texts,
         rest,
         modules,
     } = served;
-    let lines = serve_text(alloc, &replies)?;
+    let lines = serve_text(alloc, texts)?;
     let text = summary(alloc, script, lines)?;
     left_answer(alloc, printed_answer(text), rest, modules, choose)
 }

@@ -50,11 +50,11 @@ fn opened_answer<R: Threads + Wait + Sync, C: Chooser, G: Gate>(
 {
     let served = serve_opened(waiting, alloc, running, script, opened, rest, choose)?;
     let Served {
-        replies,
+        texts,
         rest,
         modules,
     } = served;
-    let text = serve_text(alloc, &replies)?;
+    let text = serve_text(alloc, texts)?;
     left_answer(alloc, printed_answer(text), rest, modules, choose)
 }
 

@@ -17,7 +17,6 @@ use namespace_ops::Registry;
 use nvd_media::{Chooser, Gate};
 use nvd_words::Items;
 use served_namespaces::{FoundNamespace, OpenedNamespace, OpenedSet, put_each};
-use session_account::Reply;
 use session_script::Script;
 use session_service::{Ran, ServedNamespace, close, of_namespaces, run_sessions};
 use shell_sectors::Unchanged;
@@ -37,8 +36,8 @@ pub struct Running {
 /// What sessions have come to.
 #[derive(Drop)]
 pub(crate) struct Served {
-    /// The replies of each session.
-    pub(crate) replies: Vec<Vec<Reply>>,
+    /// By session, a line for each reply.
+    pub(crate) texts: Vec<Vec<u8>>,
     /// The registry after all commands, and what else is in the set.
     pub(crate) rest: Unchanged,
     /// The contents of each module, with the arenas' words after the power cut.
@@ -131,13 +130,13 @@ pub(crate) fn serve_opened<R: Threads + Wait + Sync, C: Chooser, G: Gate>(
     let Ran {
         registry,
         arenas,
-        replies,
+        texts,
     } = ran;
     choose.begin(running.seed);
     let words = cut_all(alloc, arenas, choose)?;
     let modules = put_each(alloc, registry.sets(), &places, &words, modules)?;
     Ok(Served {
-        replies,
+        texts,
         rest: Unchanged {
             registry,
             nfit_bytes,

@@ -1,45 +1,13 @@
-//! The texts of sessions: a line for each reply, and the summary of a load.
-ghost use Rattle.std.specs.Prelude.{◌≡◌, ◌<◌, ◌+◌, ◌^◌, ◌++◌, List, IfOk, OnOk, All, string_bytes, count_by};
+//! The texts of sessions: their lines one session after another, and the summary of a load.
+ghost use Rattle.std.specs.Prelude.{◌≡◌, ◌<◌, ◌+◌, ◌^◌, ◌++◌, List, IfOk, OnOk, map, string_bytes, count_by};
 ghost use Rattle.session_account.specs.declared.reply.Reply.{Reply as Replied};
-ghost use Rattle.session_service.specs.Ran.{replies_of};
-ghost use Rattle.shell_serve.specs.Texts.{IsTold, filled, is_read, is_write, reads_in, replies_sum, replies_text, reply_text, serve_text, session_line, session_text, summary, writes_in};
+ghost use Rattle.session_service.specs.Ran.{texts_of};
+ghost use Rattle.session_texts.specs.Texts.{replies_text};
+ghost use Rattle.shell_serve.specs.Texts.{filled, is_read, is_write, reads_in, replies_sum, serve_text, session_line, summary, writes_in};
 
 use nvd_words::fletcher64;
-use session_account::Reply;
-use session_script::{Line, Script, SessionLines, cell_text};
-use shell_reports::refusal_text;
+use session_script::{Line, Script, SessionLines};
 use std::alloc::{AllocError, Global};
-
-/// Returns the line of a reply.
-fn reply_text(alloc: Global, reply: &Reply) -> Result<String, AllocError>
-    requires { IsTold reply.now }
-    ensures { IfOk result (λ text. string_bytes text ≡ reply_text reply.now) }
-{
-    match reply {
-        Reply::Done => String::from_str(alloc, "ok\n"),
-        Reply::Value(cell) => cell_text(alloc, cell),
-        Reply::Range { count } => format!(in alloc; "refused Range {}\n", count),
-        Reply::Length { said, had } => format!(in alloc; "refused Length {} {}\n", said, had),
-        Reply::NotOpen => String::from_str(alloc, "refused NotOpen\n"),
-        Reply::IsOpen => String::from_str(alloc, "refused IsOpen\n"),
-        Reply::Op(refused) => {
-            let refusal = refusal_text(alloc, *refused)?;
-            format!(in alloc; "refused {}\n", refusal)
-        }
-        Reply::Cut => String::from_str(alloc, "cut\n"),
-    }
-}
-
-/// Appends the lines of replies.
-fn add_replies(alloc: Global, replies: &[Reply], text: &mut Vec<u8>) -> Result<(), AllocError>
-    requires { All IsTold replies.now }
-    ensures { OnOk result (text.new.items ≡ text.old.items ++ replies_text replies.now) }
-{
-    for reply in replies {
-        text.extend_from_slice(reply_text(alloc, reply)?.as_bytes())?;
-    }
-    Ok(())
-}
 
 /// Returns the line of session `q`.
 fn session_line(alloc: Global, q: usize) -> Result<String, AllocError>
@@ -48,28 +16,37 @@ fn session_line(alloc: Global, q: usize) -> Result<String, AllocError>
     format!(in alloc; "session {}\n", q)
 }
 
-/// Appends the lines of session `q`.
-fn add_session(
-    alloc: Global,
-    q: usize,
-    replies: &[Reply],
-    text: &mut Vec<u8>,
-) -> Result<(), AllocError>
-    requires { All IsTold replies.now }
-    ensures { OnOk result (text.new.items ≡ text.old.items ++ session_text q replies.now) }
+/// Appends the line of session `q`, and those of its replies.
+fn add_session(alloc: Global, q: usize, lines: &[u8], text: &mut Vec<u8>) -> Result<(), AllocError>
+    ensures { OnOk result (text.new.items ≡ text.old.items ++ (session_line q ++ lines.now)) }
 {
     text.extend_from_slice(session_line(alloc, q)?.as_bytes())?;
-    add_replies(alloc, replies, text)
+    text.extend_from_slice(lines)
 }
 
-/// Returns the text of `serve`: session by session, a line for each reply.
-pub(crate) fn serve_text(alloc: Global, replies: &[Vec<Reply>]) -> Result<Vec<u8>, AllocError>
-    requires { All (All IsTold) (replies_of replies.now) }
-    ensures { IfOk result (λ text. text.items ≡ serve_text (replies_of replies.now)) }
+/// The most bytes that the line of a session has.
+const LONGEST_LINE: usize = "session 18446744073709551615\n".len();
+
+/// The room that the text of `serve` needs at most, in bytes.
+fn room_for(texts: &[Vec<u8>]) -> usize {
+    let mut room: usize = 0;
+    for lines in texts {
+        room = room
+            .saturating_add(LONGEST_LINE)
+            .saturating_add(lines.len());
+    }
+    room
+}
+
+/// Returns the text of `serve`, of the lines that sessions made: session by session, a line for each reply.
+///
+/// It has its room at once, and each session's lines are freed as soon as they are copied.
+pub(crate) fn serve_text(alloc: Global, texts: Vec<Vec<u8>>) -> Result<Vec<u8>, AllocError>
+    ensures { IfOk result (λ text. (replies : List (List Replied)) → texts_of texts.items ≡ map replies_text replies → text.items ≡ serve_text replies) }
 {
-    let mut text = Vec::new(alloc);
-    for q in 0..replies.len() {
-        add_session(alloc, q, &replies[q], &mut text)?;
+    let mut text = Vec::with_capacity(alloc, room_for(&texts))?;
+    for (q, lines) in texts.into_iter().enumerate() {
+        add_session(alloc, q, &lines, &mut text)?;
     }
     Ok(text)
 }

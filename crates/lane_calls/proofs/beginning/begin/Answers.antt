@@ -1,57 +1,21 @@
-use Rattle.std.proofs.Common.{◌∙◌, refl, sym, ap, set}
-use Rattle.lane_calls.proofs.Begins.{begin_idle, begin_of, begin_pass, begin_place, begin_room, begin_table, is_began, may_take, pass_place, read_at}
-use Rattle.lane_calls.proofs.Sessions.{arena_there}
+use Rattle.std.proofs.Common.{ℕ, Some, sym, subst}
+use Rattle.lane_calls.specs.Sessions.{KnowWith}
+use Rattle.lane_calls.proofs.Begins.{began_after, may_start}
 use Rattle.lane_calls.proofs.beginning.begin.Goals as goal
 
-pub take_lane-lane-requires-clause-place : goal.take_lane-lane-requires-clause-place
-take_lane-lane-requires-clause-place g c =
-    let may = c.requires.may in
-    let o = c.in-Got.ensures.got c.in-Got.set refl may.know.pool may.know.seated.pool_is in
-    begin_place c.args.sectors.now c.args.place c.args.session.now may c.in-Got.set o.0 o.2
+pub set_for_call-requires : goal.set_for_call-requires
+set_for_call-requires g c = record { may = record { parts = c.requires.may.parts; know = c.requires.may.know; pool = c.requires.may.pool } }
 
-pub take_lane-lane-requires-clause-idle : goal.take_lane-lane-requires-clause-idle
-take_lane-lane-requires-clause-idle g c =
-    let may = c.requires.may in
-    let o = c.in-Got.ensures.got c.in-Got.set refl may.know.pool may.know.seated.pool_is in
-    begin_idle c.args.sectors.now c.args.place c.args.session.now may c.in-Got.set o.0 o.2
+pub start-requires : goal.start-requires
+start-requires g c =
+    let same = c.set_for_call.ensures.same in
+    record { may = may_start c.args.sectors.now c.args.place c.args.session.now c.set_for_call.new.session c.in-Some.kept c.requires.may same.number same.kept c.in-Some.ensures.knows c.in-Some.ensures.spends }
 
-pub unreachable-requires : goal.unreachable-requires
-unreachable-requires g c =
-    let may = c.requires.may in
-    let o = c.in-Got.ensures.got c.in-Got.set refl may.know.pool may.know.seated.pool_is in
-    begin_pass c.args.sectors.now c.args.place c.args.session.now may c.in-Got.set o.0 o.2 c.index_mut.result.now c.index_mut.result.now c.index_mut.ensures.value (sym c.take-2.ensures.value ∙ c.in-None.is)
-
-pub lend-lane-requires-clause-of : goal.lend-lane-requires-clause-of
-lend-lane-requires-clause-of g c =
-    let may = c.requires.may in
-    let o = c.in-Got.ensures.got c.in-Got.set refl may.know.pool may.know.seated.pool_is in
-    let is = arena_there c.args.sectors.now.arenas.items c.args.place c.index.result.now may.place_in c.index.ensures in
-    begin_of c.args.sectors.now c.args.place c.args.session.now may c.in-Got.set o.0 o.2 c.index.result.now is c.take_lane-lane.result c.take_lane-lane.ensures.lane
-
-pub lend-lane-requires-clause-free : goal.lend-lane-requires-clause-free
-lend-lane-requires-clause-free g c =
-    let may = c.requires.may in
-    let o = c.in-Got.ensures.got c.in-Got.set refl may.know.pool may.know.seated.pool_is in
-    let is = arena_there c.args.sectors.now.arenas.items c.args.place c.index.result.now may.place_in c.index.ensures in
-    (begin_room c.args.sectors.now c.args.place c.args.session.now may c.in-Got.set o.0 o.2 c.index.result.now is c.take_lane-lane.result c.take_lane-lane.ensures.lane).1
-
-pub lend-lane-requires-clause-pass : goal.lend-lane-requires-clause-pass
-lend-lane-requires-clause-pass g c =
-    let may = c.requires.may in
-    let o = c.in-Got.ensures.got c.in-Got.set refl may.know.pool may.know.seated.pool_is in
-    let is = arena_there c.args.sectors.now.arenas.items c.args.place c.index.result.now may.place_in c.index.ensures in
-    let mine = read_at c.args.session.now.passes.items c.args.place c.index_mut.result.now c.index_mut.result.now (pass_place c.args.sectors.now c.args.place c.args.session.now may) c.index_mut.ensures.value in
-    begin_table c.args.sectors.now c.args.place c.args.session.now may c.in-Got.set o.0 o.2 c.index.result.now is c.in-Some.pass (mine ∙ sym c.take-2.ensures.value ∙ c.in-Some.is)
-
-pub returns-clause-began : goal.returns-clause-began
-returns-clause-began g c = λ parts know.
+pub returns-in-Some-clause-began : goal.returns-in-Some-clause-began
+returns-in-Some-clause-began g c = λ parts know.
     let s = c.args.sectors.now in
     let session = c.args.session.now in
-    let may = c.requires.may in
-    let o = c.in-Got.ensures.got c.in-Got.set refl know.pool know.seated.pool_is in
-    let is = arena_there s.arenas.items c.args.place c.index.result.now may.place_in c.index.ensures in
-    let mine = read_at session.passes.items c.args.place c.index_mut.result.now c.index_mut.result.now (pass_place s c.args.place session may) c.index_mut.ensures.value in
-    is_began s c.args.place parts session _ know (may_take s c.args.place session may parts know) c.index.result.now is c.in-Got.set o.0 o.2 c.take_lane-lane.result c.take_lane-lane.ensures.lane c.in-Some.pass (mine ∙ sym c.take-2.ensures.value ∙ c.in-Some.is)
-    c.lend-lane.result c.lend-lane.ensures.same c.lend-lane.ensures.held c.lend-lane.ensures.steps c.lend-lane.ensures.spare c.lend-lane.ensures.fuse
-    c.take_lane-lane.new.set c.take_lane-lane.ensures.number c.take_lane-lane.ensures.ends refl (ap (λ p. set session.passes.items c.args.place p) c.take-2.ensures.after)
-    c.in-Got.ensures.pass.0 c.in-Got.ensures.pass.1 c.in-Got.ensures.outside o.1
+    let mid = c.set_for_call.new.session in
+    let same = c.set_for_call.ensures.same in
+    let knows : KnowWith s mid.number parts 63 (Some c.in-Some.kept) mid = subst (λ (n : ℕ). KnowWith s n parts 63 (Some c.in-Some.kept) mid) (sym same.number) (c.in-Some.ensures.knows parts know) in
+    began_after s c.args.place parts c.in-Some.kept c.start.result.kept c.start.result.lane.kit session mid c.start.new.session same.number same.left c.in-Some.ensures.spends c.start.ensures.caller.1 (c.start.ensures.on parts knows)

@@ -30,4 +30,4 @@ returns-in-Off-clause-off g c = λ e p is.
 
 pub returns-in-Cut-clause-cut : goal.returns-in-Cut-clause-cut
 returns-in-Cut-clause-cut g c = λ e is.
-    subst (λ (z : LaneEnd). IsCutIn c.args.call (words_in c.args.staged.kit) c.args.staged.kit (kit_in z) × Pays 0 c.args.staged.kit (kit_in z) × IsBurnt c.args.staged.kit (kit_in z) × (part_of c.commit_until.new.pass ≡ part_of c.args.pass.now)) (its_cut is) (c.in-Cut.ensures.cut c.in-Cut.stopped refl)
+    subst (λ (z : LaneEnd). IsCutIn 0 c.args.call (words_in c.args.staged.kit) c.args.staged.kit (kit_in z) × Pays 0 c.args.staged.kit (kit_in z) × IsBurnt c.args.staged.kit (kit_in z) × (part_of c.commit_until.new.pass ≡ part_of c.args.pass.now)) (its_cut is) (c.in-Cut.ensures.cut c.in-Cut.stopped refl)

@@ -57,7 +57,7 @@ returns-in-Staged-clause-cut g c = λ e is.
     let d = c.finish.ensures.cut e is in
     let k = c.in-Staged.staged.kit in
     let x = c.args.arena.now.shape in (
-      cut_more c.args.lane.kit k (kit_in e) s.0 c.args.call c.args.words.now s.0.0.1 (subst (λ (ws : List ℕ). IsCutIn c.args.call ws k (kit_in e)) s.1 d.0),
+      cut_more c.args.lane.kit k (kit_in e) s.0 (stage_steps x) 0 (stage_steps x) (omega arith) s.3 c.args.call c.args.words.now s.0.0.1 (subst (λ (ws : List ℕ). IsCutIn 0 c.args.call ws k (kit_in e)) s.1 d.0),
       pays_more (stage_steps x) 0 0 c.args.lane.kit k (kit_in e) (omega arith) s.3 d.1,
       burnt_more (stage_steps x) c.args.lane.kit k (kit_in e) s.3 d.2,
       d.3 ∙ s.4,
@@ -71,4 +71,4 @@ returns-in-Off-clause-off g c = λ e p is.
 pub returns-in-Cut-clause-cut : goal.returns-in-Cut-clause-cut
 returns-in-Cut-clause-cut g c = λ e is.
     let r = c.in-Cut.ensures.cut c.in-Cut.stopped refl in
-    subst (λ (z : LaneEnd). IsCutIn c.args.call c.args.words.now c.args.lane.kit (kit_in z) × Pays 0 c.args.lane.kit (kit_in z) × IsBurnt c.args.lane.kit (kit_in z) × (part_of c.stage_until.new.pass ≡ part_of c.args.pass.now)) (its_cut is) (inl r.0, r.1, r.2, r.3)
+    subst (λ (z : LaneEnd). IsCutIn (stage_steps c.args.arena.now.shape) c.args.call c.args.words.now c.args.lane.kit (kit_in z) × Pays 0 c.args.lane.kit (kit_in z) × IsBurnt c.args.lane.kit (kit_in z) × (part_of c.stage_until.new.pass ≡ part_of c.args.pass.now)) (its_cut is) (inl r.0, r.1, r.2, r.3)

@@ -54,4 +54,4 @@ pub returns-in-Cut-clause-cut : goal.returns-in-Cut-clause-cut
 returns-in-Cut-clause-cut g c = λ k is.
     let i = c.loop.invariant in
     let r = commit_cut_all c.args.call c.args.staged c.loop.staged i.same i.words i.paid c.in-Cut.stopped c.in-Cut.ensures.commits in
-    subst (λ (z : Stopped). IsCutIn c.args.call (words_in c.args.staged.kit) c.args.staged.kit z.kit × Pays 0 c.args.staged.kit z.kit × IsBurnt c.args.staged.kit z.kit × (part_of c.loop.pass ≡ part_of c.args.pass.now)) (its_stopped is) (r.0, r.1, r.2, i.part)
+    subst (λ (z : Stopped). IsCutIn 0 c.args.call (words_in c.args.staged.kit) c.args.staged.kit z.kit × Pays 0 c.args.staged.kit z.kit × IsBurnt c.args.staged.kit z.kit × (part_of c.loop.pass ≡ part_of c.args.pass.now)) (its_stopped is) (r.0, r.1, r.2, i.part)

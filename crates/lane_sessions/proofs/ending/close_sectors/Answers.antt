@@ -15,7 +15,7 @@ close-requires c =
     record {
       passes = subst (λ ps. All (λ p. IsOutside (lock_id c.args.sectors.pool.turn) p) ps) is (all_outside c.args.sectors c.args.sessions.items k.0 k.1);
       every = subst (λ ps. HasEach (callers_of c.args.sectors.pool.turn) ps) is (each_once c.args.sectors c.args.sessions.items k.0 k.1 c.requires.every);
-      none = subst (λ ps. NoneOut ps) is (none_out c.args.sectors c.args.sessions.items k.0 k.1);
+      none = subst (λ ps. NoneOut ps) is (none_out c.args.sectors c.args.sessions.items k.0 k.1 c.requires.rest);
     }
 
 pub close_row-requires : goal.close_row-requires

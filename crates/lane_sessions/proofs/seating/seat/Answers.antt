@@ -31,7 +31,7 @@ loop-pass-preserved c =
     let row : o ≡ get_or rows k o = ap (λ l. get_or l 0 o) head ∙ i.rows 0 o ∙ ap (λ (q : ℕ). get_or rows q o) zero_on in
     let lt_rows : k < length rows = let n = c.requires.rows in omega (arith, lt, n) in
     let s = c.session_of.ensures in
-    let new : IsSeatedAt session p o c.session_of.result = record { number = s.number; passes = ap (λ v. v.items) s.passes; pool_is = s.pool; left = s.left; call = s.call } in
+    let new : IsSeatedAt session p o c.session_of.result = record { number = s.number; passes = ap (λ v. v.items) s.passes; pool_is = s.pool; left = s.left; call = s.call; kept = s.kept } in
     let items = c.in_ok-push.ensures.items in
     let longer = length-append done (p ∷ []) in
     record {

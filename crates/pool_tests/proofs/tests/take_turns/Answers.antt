@@ -3,12 +3,12 @@ use Rattle.pool_tests.proofs.Turns.{has_place, has_turns, may_give, may_take, to
 use Rattle.pool_tests.proofs.tests.take_turns.Goals as goal
 
 pub take-requires-clause-may : goal.take-requires-clause-may
-take-requires-clause-may g c =
-    let lt = c.loop-turn-test.true in may_take (c.args.turns - c.loop-turn._turn) (omega (arith, lt)) c.loop-turn.pass c.loop-turn.invariant.may
+take-requires-clause-may g c = may_take (c.args.turns - c.loop-turn._turn) c.loop-turn.pass c.loop-turn.invariant.may
 
 pub give_back-requires-clause-may : goal.give_back-requires-clause-may
 give_back-requires-clause-may g c =
-    may_give (c.args.turns - c.loop-turn._turn) c.in-Got.set c.loop-turn.pass c.take.new.pass c.loop-turn.invariant.may (c.take.ensures.got c.in-Got.set (let is = c.in-Got.is in cc))
+    let lt = c.loop-turn-test.true in
+    may_give (c.args.turns - c.loop-turn._turn) (omega (arith, lt)) c.in-Got.set c.loop-turn.pass c.take.new.pass c.loop-turn.invariant.may (c.take.ensures.got c.in-Got.set (let is = c.in-Got.is in cc))
 
 pub returns-in-Off-clause-place : goal.returns-in-Off-clause-place
 returns-in-Off-clause-place g c =

@@ -37,6 +37,11 @@ close_sectors-requires-clause-known c =
     let rs = c.args.runners.items in
     (all.parts_of c.args.service c.args.script.now rs c.requires.ended lasted, all.know_all c.args.service c.args.script.now rs c.requires.ended lasted c.in_ok-handed.handed.sessions.items c.in_ok-handed.ensures.sessions)
 
+pub close_sectors-requires-clause-rest : goal.close_sectors-requires-clause-rest
+close_sectors-requires-clause-rest c =
+    let lasted = subst (λ rs. All (λ r. r.refused ≡ false) rs) c.as_slice.ensures.value (c.lasted.ensures c.if-not-lasted.false) in
+    all.all_rest c.args.service c.args.script.now c.args.runners.items c.requires.ended lasted c.in_ok-handed.handed.sessions.items c.in_ok-handed.ensures.sessions
+
 pub ends_of-requires : goal.ends_of-requires
 ends_of-requires c =
     let service = c.args.service in
@@ -87,11 +92,11 @@ returns c = λ registry served made.
     (c.in_ok-ended.ensures.left (arenas_of service) parts made.made made.opened (all.know_all service script rs c.requires.ended lasted sessions h.sessions)) in
     let cl = c.close_registry-registry.ensures in
     let journal = answered c.close_registry-registry.result.0.journal in
-    let ran : Ran = record { registry = c.close_registry-registry.result.0; arenas = c.in_ok-arenas.arenas; replies = c.in_ok-handed.handed.replies } in
+    let ran : Ran = record { registry = c.close_registry-registry.result.0; arenas = c.in_ok-arenas.arenas; texts = c.in_ok-handed.handed.texts } in
     let split = c.in_ok-arenas.ensures in
     all.has_served registry served script service made rs c.requires.count c.requires.ended lasted words left ran
     (split.arenas ∙ c.in_ok-row.ensures)
-    (subst (λ ps. map (λ c. length c.items) c.in_ok-arenas.arenas.items ≡ map (λ s. length s.arenas) (servings_at ps)) c.as_slice-places.ensures.value split.counts) h.replies
+    (subst (λ ps. map (λ c. length c.items) c.in_ok-arenas.arenas.items ≡ map (λ s. length s.arenas) (servings_at ps)) c.as_slice-places.ensures.value split.counts) h.texts
     (subst (λ ps. All (λ p. KnowsOwn c.close_registry-registry.result.0 p) ps) h.orders cl.callers)
     (λ q over. cl.strangers q (subst (λ (n : ℕ). n ≤ q) (sym made.orders) over))
     (all.told_of_one service script rs c.requires.ended lasted (length script.sessions) c.requires.count journal sessions h.sessions c.in_ok-ended.ended.off c.in_ok-ended.ensures.off)

@@ -5,5 +5,5 @@ abbrev pub invariant-loop-runner : goal.invariant-loop-runner
 invariant-loop-runner l = record {
   sessions : l.sessions.items ≡ map (λ r. r.session) l.yielded;
   orders : l.orders.items ≡ map (λ r. r.orders) l.yielded;
-  replies : l.replies.items ≡ map (λ r. r.replies) l.yielded;
+  texts : l.texts.items ≡ map (λ r. r.text) l.yielded;
 }

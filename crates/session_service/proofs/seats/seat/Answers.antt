@@ -11,26 +11,21 @@ loop-session-preserved c =
     let o = c.in-Some-next.pass in
     let sessions = c.args.sessions.items in
     let orders = c.args.orders.items in
-    let lines = c.args.lines.now in
     let done = c.loop-session.yielded in
     let behind = ap (λ r. done ++ r) (sym c.in-Some.ensures.steps.0) ∙ i.whole in
     let at = at_seam sessions done c.next.new.self.rest.items s s behind in
     let runners = c.loop-session.runners.items in
     let k : ℕ = length runners in
     let lt_sessions : k < length sessions = let a = at.0 in let m = i.count in omega (arith, a, m) in
-    let lt : k < length lines = let n = c.requires.count in omega (arith, lt_sessions, n) in
-    let lt_orders : k < length orders = let n = c.requires.orders in omega (arith, lt, n) in
+    let lt_orders : k < length orders = let n = c.requires in omega (arith, lt_sessions, n) in
     let mine : s ≡ get_or sessions k s = sym (ap (λ (q : ℕ). get_or sessions q s) i.count ∙ at.1) in
-    let own = c.index-lines-len.result in
-    let number : c.len.result ≡ k = omega (arith, c.len.ensures, c.loop-session.runners.ok.0) in
-    let read : own ≡ get_or lines k own = c.index-lines-len.is ∙ ap (λ (q : ℕ). get_or lines q own) number in
     let rest = c.loop-session.rest.rest.items in
     let rest' = c.next-in-loop-session.new.self.rest.items in
     let head : o ∷ rest' ≡ rest = sym c.in-Some-next.ensures.items in
     let zero_on : length done + 0 ≡ k = let m = i.count in omega (arith, m) in
     let its : o ≡ get_or orders k o = ap (λ l. get_or l 0 o) head ∙ i.orders 0 o ∙ ap (λ (q : ℕ). get_or orders q o) zero_on in
-    let r = c.in_ok-stool.field-0 in
-    let new : IsSeatedAt s o own r = c.in_ok-stool.ensures in
+    let r = c.stool.result in
+    let new : IsSeatedAt s o r = c.stool.ensures in
     let items = c.in_ok-push.ensures.items in
     let longer = length-append done (s ∷ []) in
     record {
@@ -38,8 +33,7 @@ loop-session-preserved c =
       count = let a = ap length items in let b = length-append runners (r ∷ []) in let m = i.count in omega (arith, a, b, longer, m);
       behind = let a = ap (λ l. length l) head in let m = i.behind in omega (arith, a, longer, m);
       orders = λ n d. ap (λ l. get_or l (suc n) d) head ∙ i.orders (suc n) d ∙ ap (λ (q : ℕ). get_or orders q d) (omega (arith, longer));
-      seated = subst (λ l. AreSeated sessions orders lines l) (sym items) (seated_push sessions orders lines runners r i.seated (λ t p l.
-          subst (λ x. IsSeatedAt x (get_or orders k p) (get_or lines k l) r) (mine ∙ default_same sessions k s t lt_sessions)
-          (subst (λ x. IsSeatedAt s x (get_or lines k l) r) (its ∙ default_same orders k o p lt_orders)
-          (subst (λ x. IsSeatedAt s o x r) (read ∙ default_same lines k own l lt) new))));
+      seated = subst (λ l. AreSeated sessions orders l) (sym items) (seated_push sessions orders runners r i.seated (λ t p.
+          subst (λ x. IsSeatedAt x (get_or orders k p) r) (mine ∙ default_same sessions k s t lt_sessions)
+          (subst (λ x. IsSeatedAt s x r) (its ∙ default_same orders k o p lt_orders) new)));
     }

@@ -8,5 +8,5 @@ invariant-loop-session l = record {
   count : length l.runners.items ≡ length l.yielded;
   behind : length l.yielded + length l.rest.rest.items ≡ length l.fn.orders.items;
   orders : (i : ℕ) (d : _) → get_or l.rest.rest.items i d ≡ get_or l.fn.orders.items (length l.yielded + i) d;
-  seated : AreSeated l.fn.sessions.items l.fn.orders.items l.lines l.runners.items;
+  seated : AreSeated l.fn.sessions.items l.fn.orders.items l.runners.items;
 }

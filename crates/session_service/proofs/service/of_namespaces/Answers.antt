@@ -8,7 +8,6 @@ use Rattle.lane_sessions.specs.Making.{AreNewSessions, first_sets}
 use Rattle.lane_sessions.specs.Sets.{AreMadeOf, AreSets}
 use Rattle.registry_service.specs.Served.{fresh}
 use Rattle.session_service.specs.Made.{limits_of, rooms_of}
-use Rattle.session_service.specs.Seated.{AreSeated}
 use Rattle.session_service.proofs.Making as making
 use Rattle.session_service.proofs.Seating.{all_ready}
 use Rattle.session_service.proofs.service.of_namespaces.Goals as goal
@@ -61,6 +60,6 @@ returns-clause-ready c =
     (subst (λ ss. AreNewSessions sectors ss (limits_of sessions) c.in_ok-made.made.sessions.items) (sym same) (subst (λ ls. AreNewSessions sectors c.in_ok-places.states.items ls c.in_ok-made.made.sessions.items) limits made.sessions))
     orders
     (subst (λ s. AreFresh (lock_id c.in_ok-orders.orders) s passes.items) (λ i. fresh c.args.registry (c.fuse_for.ensures i) (rooms i)) c.in_ok-orders.ensures.passes)
-    (c.in_ok-runners.ensures.count ∙ n)
-    (subst (λ ss. AreSeated c.in_ok-made.made.sessions.items passes.items ss c.in_ok-runners.runners.items) lines c.in_ok-runners.ensures.seated)
+    (c.in_ok-runners.ensures.count ∙ made.sessions.count ∙ making.limits_length _ _ (c.as_slice.ensures.value ∙ c.in_ok-limits.ensures) ∙ n)
+    c.in_ok-runners.ensures.seated
     (subst (λ ss. All (λ (s : SessionLines). length s.calls + 1 < 2 ^ 32) ss) lines c.in_ok-rooms.ensures.short) c.requires.text

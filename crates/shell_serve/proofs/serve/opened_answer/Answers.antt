@@ -1,10 +1,7 @@
-use Rattle.std.proofs.Common.{◌∙◌, List, Vec, Global, ap, sym, subst}
-use Rattle.std.specs.List.{All}
+use Rattle.std.proofs.Common.{◌∙◌, ap}
 use Rattle.image_set.specs.Load.{ImageSet}
 use Rattle.namespace_areas.specs.Seen.{areas_seen}
 use Rattle.namespace_areas.specs.Steps.{rows_of as label_rows}
-use Rattle.session_account.specs.declared.reply.Reply.{Reply}
-use Rattle.session_service.specs.Ran.{replies_of}
 use Rattle.shell_changes.specs.declared.answer.Answer.{Answer}
 use Rattle.shell_changes.specs.Answers.{whole_outcome}
 use Rattle.shell_reports.specs.Outcome.{Outcome}
@@ -13,17 +10,11 @@ use Rattle.shell_changes.specs.Remains.{LeavesBy}
 use Rattle.shell_sectors.specs.Saving.{LeavesOn}
 use Rattle.shell_serve.specs.Answering.{IsOpen}
 use Rattle.shell_serve.specs.Serving.{Serves}
-use Rattle.shell_serve.specs.Texts.{IsTold, serve_text}
+use Rattle.shell_serve.specs.Texts.{serve_text}
 use Rattle.shell_serve.specs.Chosen.{LeavesTo}
 use Rattle.shell_serve.proofs.Choosing.{joined}
 use Rattle.shell_serve.proofs.Coming.{serves}
-use Rattle.shell_serve.proofs.Told.{all_told}
 use Rattle.shell_serve.proofs.serve.opened_answer.Goals as goal
-
-pub serve_text-requires : goal.serve_text-requires
-serve_text-requires g c =
-    subst (λ (rs : List (Vec Reply Global)). All (All IsTold) (replies_of rs)) (sym c.deref.ensures.value)
-    (all_told _ _ _ _ _ (c.in_ok-served.ensures c.requires.open.0 c.requires.open.1).accounts)
 
 pub left_answer-requires : goal.left_answer-requires
 left_answer-requires g c = record { modules = (c.in_ok-served.ensures c.requires.open.0 c.requires.open.1).modules }
@@ -36,5 +27,5 @@ returns-clause-comes g c =
     (λ answer saves loaded is.
     serves leaves (LeavesTo g.C.Chooser.begins g.C.Chooser.picks c.args.choose.now c.args.running.seed c.serve_opened.new.choose) (LeavesOn g.C.Chooser.picks c.serve_opened.new.choose)
     (joined g.C.Chooser.picks g.C.Chooser.begins c.args.choose.now c.serve_opened.new.choose c.args.running.seed) serve_text loaded c.args.rest is.recovered c.args.opened.namespaces c.args.script.now c.in_ok-served.served (c.in_ok-served.ensures loaded is) c.printed_answer.result (whole_outcome answer)
-    (ap (λ (o : Outcome). o.ending) c.printed_answer.ensures) (ap (λ (o : Outcome). o.text) c.printed_answer.ensures ∙ c.in_ok-text.ensures ∙ ap (λ (rs : List (Vec Reply Global)). serve_text (replies_of rs)) c.deref.ensures.value) saves)
+    (ap (λ (o : Outcome). o.ending) c.printed_answer.ensures) (ap (λ (o : Outcome). o.text) c.printed_answer.ensures ∙ c.in_ok-text.ensures (c.in_ok-served.ensures loaded is).replies (c.in_ok-served.ensures loaded is).texts) saves)
     c.left_answer.ensures.saved

@@ -1,7 +1,7 @@
-use Rattle.std.proofs.Common.{◌≡◌, ◌++◌, drop}
-use Rattle.session_service.specs.Ran.{replies_of}
-use Rattle.shell_serve.specs.Texts.{serve_text, sessions_text}
+use Rattle.std.proofs.Common.{◌≡◌, ◌++◌}
+use Rattle.session_service.specs.Ran.{texts_of}
+use Rattle.shell_serve.proofs.TextLines.{lines_text}
 use Rattle.shell_serve.proofs.texts.serve_text.Given as goal
 
 abbrev pub invariant-loop-q : goal.invariant-loop-q
-invariant-loop-q l = l.text.items ++ sessions_text l.q (replies_of (drop l.q l.replies)) ≡ serve_text (replies_of l.replies)
+invariant-loop-q l = l.text.items ++ lines_text l.q-iterator.count (texts_of l.q-iterator.iter.rest.items) ≡ lines_text 0 (texts_of l.fn.texts.items)

@@ -6,4 +6,4 @@ pub invariant_of-self : goal.invariant_of-self
 invariant_of-self c =
     let s = c.self.inside in
     gave_inside s.total (pool_now s.first.value.items s.sets.items s.holders.items s.off) c.args.self.now c.args.q c.index-holder.result.now c.self.view_is c.self.invariant c.index-holder.ensures
-    c.args.set c.in-Out.at c.in-Out.floor c.requires c.in-Out.is
+    c.args.set c.args.made c.in-Out.at c.in-Out.room c.requires c.in-Out.is

@@ -1,5 +1,4 @@
-use Rattle.std.proofs.Common.{subst}
-use Rattle.lane_pool.specs.Pools.{IsPool, pool_now}
+use Rattle.lane_pool.specs.Pools.{pool_now}
 use Rattle.lane_pool.proofs.Inside.{all_at_home}
 use Rattle.lane_pool.proofs.pool.Pool.into_sets.Goals as goal
 

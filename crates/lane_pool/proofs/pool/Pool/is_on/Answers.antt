@@ -1,6 +1,4 @@
-use Rattle.std.proofs.Common.{◌≡◌, Some, None, Option, ap, ◌∙◌, subst, refl, sym}
-use Rattle.lane_pool.specs.Parts.{Asks}
-use Rattle.lane_pool.specs.Pools.{Now, part_at, pool_now}
+use Rattle.lane_pool.specs.Pools.{pool_now}
 use Rattle.lane_pool.proofs.Inside.{asked_on}
 use Rattle.lane_pool.proofs.pool.Pool.is_on.Goals as goal
 

@@ -1,4 +1,4 @@
-use Rattle.std.proofs.Common.{◌≡◌, Some, subst, sym, ap, ◌∙◌}
+use Rattle.std.proofs.Common.{ap, ◌∙◌}
 use Rattle.lane_pool.specs.Pools.{Now, pool_now}
 use Rattle.lane_pool.proofs.Inside.{told_inside}
 use Rattle.lane_pool.proofs.pool.Pool.tell.Goals as goal
