@@ -52,7 +52,7 @@ cells_split (suc n) size sizes bytes long =
 
 -- ---- arenas further on
 
-links_same : (words now parent : List ℕ) (at : ℕ) (links : List Link) → length now ≡ length words → drop at now ≡ drop at words → Linked words parent at links → Linked now parent at links
+pub links_same : (words now parent : List ℕ) (at : ℕ) (links : List Link) → length now ≡ length words → drop at now ≡ drop at words → Linked words parent at links → Linked now parent at links
 links_same words now parent at [] size same l = tt
 links_same words now parent at (link ∷ links) size same l = (
   l.0,
@@ -68,7 +68,7 @@ links_same words now parent at (link ∷ links) size same l = (
   ],
 )
 
-states_same : (words now parent : List ℕ) (at : ℕ) (links : List Link) → drop at now ≡ drop at words → Linked words parent at links → map (state_at now) links ≡ map (state_at words) links
+pub states_same : (words now parent : List ℕ) (at : ℕ) (links : List Link) → drop at now ≡ drop at words → Linked words parent at links → map (state_at now) links ≡ map (state_at words) links
 states_same words now parent at [] same l = refl
 states_same words now parent at (link ∷ links) same l =
     let here : state_at now link ≡ state_at words link =

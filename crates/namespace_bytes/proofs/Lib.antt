@@ -13,5 +13,7 @@ pub mod SectorWords
 pub mod SectorChain
 pub mod SectorPuts
 pub mod SectorRuns
+pub mod RunBytes
+pub mod RunWords
 mod Rows
 mod SectorRows

@@ -57,7 +57,7 @@ two_halves byte = omega arith
 pub half_of : (n : ℕ) → n < 2 ^ 32 → half_by (λ i. get_or (to_le_bytes w32 n) i 0) ≡ n
 half_of n lt = from_le_bytes-to_le_bytes_4 n lt
 
-halves_below : (byte : ℕ → ℕ) → ((i : ℕ) → i < 4 → byte i < 256) → half_by byte < 2 ^ 32
+pub halves_below : (byte : ℕ → ℕ) → ((i : ℕ) → i < 4 → byte i < 256) → half_by byte < 2 ^ 32
 halves_below byte small = omega (arith, small 0 (omega arith), small 1 (omega arith), small 2 (omega arith), small 3 (omega arith))
 
 pub bytes_below : (byte : ℕ → ℕ) → ((i : ℕ) → i < 8 → byte i < 256) → word_by byte < 2 ^ 64

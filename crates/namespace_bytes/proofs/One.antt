@@ -14,7 +14,7 @@ use Rattle.namespace_bytes.specs.Putting.{put_sector}
 
 -- ---- words that are put
 
-put_inside : (words : List ℕ) (at : ℕ) (others : List ℕ) (i : ℕ) → at + length others ≤ length words → i < length others → get_or (put_at words at others) (at + i) 0 ≡ get_or others i 0
+pub put_inside : (words : List ℕ) (at : ℕ) (others : List ℕ) (i : ℕ) → at + length others ≤ length words → i < length others → get_or (put_at words at others) (at + i) 0 ≡ get_or others i 0
 put_inside words at others i fits lt =
     get_or-append_right (take at words) (others ++ drop (at + length others) words) at (at + i) 0 (length-take-le at words (omega arith)) (omega arith)
     ∙ ap (λ (k : ℕ). get_or (others ++ drop (at + length others) words) k 0) (omega arith)

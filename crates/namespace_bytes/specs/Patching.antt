@@ -11,8 +11,9 @@ use Rattle.image_set.specs.Patches.{patched_contents}
 use Rattle.power_cut.specs.Namespace.{IsLaid, beside_of, over, place_of, words_of}
 use Rattle.sector_namespaces.specs.View.{rows_of}
 use Rattle.namespace_bytes.specs.declared.new_bytes.NewBytes.{NewBytes}
-use Rattle.namespace_bytes.specs.declared.new_bytes.NewBytes.TheVariants.{Raw, Sectors}
+use Rattle.namespace_bytes.specs.declared.new_bytes.NewBytes.TheVariants.{Raw, Runs, Sectors}
 use Rattle.namespace_bytes.specs.Changed.{changed_from}
+use Rattle.namespace_bytes.specs.Runs.{runs_byte}
 use Rattle.namespace_bytes.specs.SectorBytes.{sector_byte}
 
 -- ---- the new bytes of a namespace
@@ -21,11 +22,13 @@ use Rattle.namespace_bytes.specs.SectorBytes.{sector_byte}
 abbrev pub new_of : NewBytes → ℕ → ℕ → ℕ
 new_of (Raw bytes) i old = slice_index bytes i
 new_of (Sectors put) i old = sector_byte put.links put.bytes i old
+new_of (Runs runs) i old = runs_byte runs i old
 
 -- they are those of a namespace of so many bytes
 abbrev pub IsFor : NewBytes → ℕ → Type 0
 IsFor (Raw bytes) size = length bytes ≡ size
 IsFor (Sectors put) size = ⊤
+IsFor (Runs runs) size = ⊤
 
 -- ---- their places
 

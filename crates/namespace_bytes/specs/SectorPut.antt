@@ -1,9 +1,11 @@
 -- The bytes of all sectors of a namespace, as they are kept to be put into the namespace's bytes piece by piece: this project's rules over
 -- UEFI 2.10, section 6.2 (BTT data structures).
-use Rattle.std.specs.Prelude.{◌≡◌, ℕ, ◌+◌, ◌-◌, ◌/◌, ◌^◌, ◌<◌, ◌≤◌, List, length, map, slice_index, sum_by, Option, Some, None}
+use Rattle.std.specs.Prelude.{◌≡◌, ℕ, ◌+◌, ◌-◌, ◌/◌, ◌^◌, ◌<◌, ◌≤◌, List, length, map, slice_index, sum_by, Option, Some, None, Ok}
 use Rattle.std.specs.List.{All}
 use Rattle.arena_layout.specs.Layout.{IsLayout}
 use Rattle.arena_open.specs.Chain.{Link}
+use Rattle.arena_open.specs.Halves.{AreMoves}
+use Rattle.arena_open.specs.Reading.{groups_in}
 use Rattle.namespace_bytes.specs.declared.block_owners.ArenaOwners.{ArenaOwners}
 use Rattle.namespace_bytes.specs.Putting.{block_at, link_bytes}
 use Rattle.namespace_bytes.specs.SectorBytes.{owner_of}
@@ -26,6 +28,9 @@ pub record HasBlocks (link : Link) : Type 0 where
   pub entries : length link.opened.entries ≡ link.opened.info.layout.external
   pub below : (own : ℕ) → own < link.opened.info.layout.external → block_at link.opened.entries own < link.opened.info.layout.internal
   pub small : link.at + link.opened.info.layout.size / 8 ≤ 2 ^ 52
+  -- its lanes are those of a log
+  pub lanes : (words : List ℕ) × (groups_in link.opened.info.layout words ≡ Ok link.opened.groups)
+  pub moves : AreMoves link.opened.info.layout.external link.opened.moves
 
 -- an arena as it was read
 abbrev pub link_of : ArenaOwners → Link

@@ -1,9 +1,10 @@
-//! The new bytes of a whole namespace, raw or of sectors, put into the contents of its modules while these are copied.
+//! The new bytes of a namespace, raw or of sectors, put into the contents of its modules while these are copied.
 //!
 //! ```text
 //! bytes ──┬── raw ────────────────────────► NewBytes ──► NamespacePatch ──► each piece of a module's contents
-//!         └── sectors ──► SectorBytes ──────────┘
-//! arenas ─────────────────────┘
+//!         └── sectors ──► SectorBytes ────────▲ ▲
+//! arenas ─────────────────────┘                 │
+//! runs of bytes ────────────────────────────────┘
 //! ```
 //!
 //! Crate `shell_export` says what the bytes of a namespace are: those of a raw one by place, those of one of sectors sector by
@@ -40,15 +41,20 @@
 //! becomes         |      | sector's bytes         | normal entries |     |      |
 //! ```
 //!
+//! **Runs.** A command that changes little of a namespace gives runs of bytes: a map entry, a half of the log, the bytes of a
+//! sector. They are put there one after another, so a later run may change a byte of an earlier one.
+//!
 //! | what | definition |
 //! |---|---|
 //! | a byte of a module's contents, patched | `byte_patched` of `specs/Patching.antt` |
 //! | a byte of a namespace of sectors, patched | `sector_byte` of `specs/SectorBytes.antt` |
+//! | a byte of a namespace after runs of bytes | `runs_byte` of `specs/Runs.antt` |
 //! | the words of its sectors, put one sector after another | `put_links` of `specs/Putting.antt` |
 //! | what its words are afterwards | `HasContents` of `specs/Contents.antt` |
 //! | its first bad sector | `first_bad` of `specs/Bad.antt` |
 //!
-//! `sector_words` and `sector_contents` of `proofs/SectorChain.antt` prove that the second, third and fourth agree.
+//! `sector_words` and `sector_contents` of `proofs/SectorChain.antt` prove that the second, fourth and fifth agree. `whole_run` and
+//! `entry_put` of `proofs/RunWords.antt` say which words a run changes.
 //! All are this project's rules over UEFI 2.10, section 6.2 (BTT data structures).
 #![tactic(auto)]
 
@@ -57,10 +63,12 @@ mod block_owners;
 mod new_bytes;
 mod patch;
 mod reading;
+mod runs;
 mod sector_bytes;
 
 pub use bad::first_bad;
 pub use new_bytes::NewBytes;
 pub use patch::NamespacePatch;
 pub use reading::{ArenaAt, read_arenas, size_of_all};
+pub use runs::Run;
 pub use sector_bytes::SectorBytes;

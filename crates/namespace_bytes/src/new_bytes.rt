@@ -3,6 +3,7 @@ ghost use Rattle.std.specs.Prelude.{◌≡◌, ℕ, ◌+◌, ◌^◌, ◌<◌, �
 ghost use Rattle.namespace_bytes.specs.Changed.{IsFree, changed_from};
 ghost use Rattle.namespace_bytes.specs.Patching.{IsFor, new_of};
 
+use crate::runs::{Run, put_runs};
 use crate::sector_bytes::SectorBytes;
 use nvd_words::Items;
 
@@ -13,6 +14,8 @@ pub enum NewBytes {
     Raw(Items<u8>),
     /// The sectors get these. What is no sector's stays, but each sector's map entry becomes the normal one of its block.
     Sectors(SectorBytes),
+    /// Runs of them get these, one run after another. What is in no run stays.
+    Runs(Items<Run>),
 }
 
 impl NewBytes {
@@ -24,6 +27,8 @@ impl NewBytes {
         match self {
             NewBytes::Raw(_) => true,
             NewBytes::Sectors(put) => put.covers(from, count),
+            // A piece is longer than a run.
+            NewBytes::Runs(_) => false,
         }
     }
 
@@ -39,6 +44,7 @@ impl NewBytes {
                 piece.copy_from_slice(&bytes.as_slice()[from..from + piece.len()]);
             }
             NewBytes::Sectors(put) => put.patch(from, piece),
+            NewBytes::Runs(runs) => put_runs(runs.as_slice(), from, piece),
         }
     }
 }

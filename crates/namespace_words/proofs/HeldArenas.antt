@@ -19,7 +19,7 @@ use Rattle.nvd_words.specs.Checks.{Answers}
 use Rattle.flog.specs.declared.group.Group.{Group}
 use Rattle.arena_open.specs.declared.refused.OpenRefused.{OpenRefused}
 use Rattle.arena_open.specs.declared.refused.OpenRefused.TheVariants as refused
-use Rattle.arena_open.specs.Halves.{AreInRange}
+use Rattle.arena_open.specs.Halves.{AreInRange, AreMoves}
 use Rattle.arena_open.specs.Reading.{free_of, groups_in, info_bytes, moved, moves_of, on_blocks, on_map, opened_with}
 use Rattle.arena_open.specs.declared.opened.Opened.{Opened}
 use Rattle.flog.specs.declared.half.Half.{Half}
@@ -36,6 +36,7 @@ use Rattle.sector_namespaces.proofs.Views.{some_words}
 use Rattle.namespace_bytes.specs.Putting.{AreAll, Linked, block_at, link_bytes}
 use Rattle.namespace_bytes.proofs.Sizes.{all_of, bytes_fit}
 use Rattle.arena_open.proofs.Opening.{lanes_in_range}
+use Rattle.arena_open.proofs.Pending.{moves_fit}
 use Rattle.arena_open.proofs.Bytes.{length_words, word_index}
 use Rattle.namespace_bytes.specs.SectorBytes.{HaveMapsOfBytes}
 use Rattle.namespace_bytes.specs.SectorPut.{HasBlocks}
@@ -129,6 +130,13 @@ groups_in_range l log (Err fault) ok answers = tt
 groups_in_range l log (Ok groups) ok answers =
     lanes_in_range l (log_alone (l.flog_off / 8) log) groups ok (sym (answers (log_alone (l.flog_off / 8) log) (log_is (l.flog_off / 8) log) (λ e. cc)))
 
+-- they are those of some log
+pub groups_of_log : (l : Layout) (log : List ℕ) (groups : Result (List Group) OpenRefused)
+    → ((words : List ℕ) → AreBytesOf words (l.flog_off / 8) log → Answers refused.OutOfMemory groups (groups_in l words)) → IfOk groups (λ groups. (words : List ℕ) × (groups_in l words ≡ Ok groups))
+groups_of_log l log (Err fault) answers = tt
+groups_of_log l log (Ok groups) answers =
+    (log_alone (l.flog_off / 8) log, sym (answers (log_alone (l.flog_off / 8) log) (log_is (l.flog_off / 8) log) (λ e. cc)))
+
 -- ---- the whole arena
 
 -- what was decoded, and the check that it passed
@@ -142,23 +150,27 @@ checked_by opened found (Err f) check is = absurd (let h = is in cc)
 checked_by opened found (Ok u) check is = record { same = cc; check = check }
 
 -- what a map with this info block and these entries opens as
-pub record Decoded (info : Info) (entries : List ℕ) (found : Opened) : Type 0 where
+pub record Decoded (info : Info) (groups : List Group) (entries : List ℕ) (found : Opened) : Type 0 where
   pub info_is : info ≡ found.info
+  pub groups_are : groups ≡ found.groups
+  pub moves_are : moves_of entries groups ≡ found.moves
   pub long : length found.entries ≡ length entries
   pub once : NamesEachOnce found.info.layout.internal (blocks_of found.entries (free_of found.groups))
 
-decoded_as : (info : Info) (groups : List Group) (entries : List ℕ) (found : Opened) → on_map info groups entries ≡ Ok found → Decoded info entries found
+decoded_as : (info : Info) (groups : List Group) (entries : List ℕ) (found : Opened) → on_map info groups entries ≡ Ok found → Decoded info groups entries found
 decoded_as info groups entries found is =
     let moves : List Half = moves_of entries groups in
     let opened : Opened = opened_with info groups (moved entries moves) moves in
     let c : Checked opened found = checked_by opened found (block_check info.layout.internal (blocks_of (moved entries moves) (free_of groups))) refl is in
-    subst (λ (o : Opened). Decoded info entries o) c.same (record {
+    subst (λ (o : Opened). Decoded info groups entries o) c.same (record {
       info_is = refl;
+      groups_are = refl;
+      moves_are = refl;
       long = length_moved entries moves;
       once = names_once info.layout.internal (blocks_of (moved entries moves) (free_of groups)) c.check;
     })
 
-pub decoded_found : (info : Info) (groups : List Group) (entries : List ℕ) (r : Result Opened OpenRefused) → Answers refused.OutOfMemory r (on_map info groups entries) → IfOk r (Decoded info entries)
+pub decoded_found : (info : Info) (groups : List Group) (entries : List ℕ) (r : Result Opened OpenRefused) → Answers refused.OutOfMemory r (on_map info groups entries) → IfOk r (Decoded info groups entries)
 decoded_found info groups entries (Err f) answers = tt
 decoded_found info groups entries (Ok opened) answers = decoded_as info groups entries opened (sym (answers (λ e. cc)))
 
@@ -170,7 +182,7 @@ ok_to P Q (Err e) h holds = tt
 pub decoded_with : (P : Info → Type 0) (info : Info) (groups : List Group) (entries : List ℕ) (r : Result Opened OpenRefused) → Answers refused.OutOfMemory r (on_map info groups entries) → P info
     → IfOk r (λ opened. P opened.info)
 decoded_with P info groups entries r answers holds =
-    ok_to (Decoded info entries) (λ opened. P opened.info) r (λ opened d. subst P d.info_is holds) (decoded_found info groups entries r answers)
+    ok_to (Decoded info groups entries) (λ opened. P opened.info) r (λ opened d. subst P d.info_is holds) (decoded_found info groups entries r answers)
 
 -- its blocks
 block_below : (o : Opened) → length o.entries ≡ o.info.layout.external → NamesEachOnce o.info.layout.internal (blocks_of o.entries (free_of o.groups))
@@ -184,9 +196,10 @@ block_below o long once own lt =
     subst (λ (b : ℕ). b < o.info.layout.internal) named (once.below own 0 (omega (arith, lt, front, all)))
 
 pub blocks_found : (at bytes : ℕ) (parent : List ℕ) (info : Info) (groups : List Group) (entries : List ℕ) (r : Result Opened OpenRefused) → Answers refused.OutOfMemory r (on_map info groups entries)
-    → IsArenaOf parent (bytes - 8 * at) info → length entries ≡ info.layout.external → 8 * at ≤ bytes → bytes ≤ 2 ^ 55 → IfOk r (λ opened. HasBlocks (record { at = at; opened = opened }))
-blocks_found at bytes parent info groups entries r answers arena long inside few =
-    ok_to (Decoded info entries) (λ opened. HasBlocks (record { at = at; opened = opened })) r (λ opened d.
+    → IsArenaOf parent (bytes - 8 * at) info → length entries ≡ info.layout.external → (words : List ℕ) × (groups_in info.layout words ≡ Ok groups) → 8 * at ≤ bytes → bytes ≤ 2 ^ 55
+    → IfOk r (λ opened. HasBlocks (record { at = at; opened = opened }))
+blocks_found at bytes parent info groups entries r answers arena long lanes inside few =
+    ok_to (Decoded info groups entries) (λ opened. HasBlocks (record { at = at; opened = opened })) r (λ opened d.
     let own : IsArenaOf parent (bytes - 8 * at) opened.info = subst (λ (i : Info). IsArenaOf parent (bytes - 8 * at) i) d.info_is arena in
     let count : length opened.entries ≡ opened.info.layout.external = d.long ∙ long ∙ ap (λ (i : Info). i.layout.external) d.info_is in
     record {
@@ -194,6 +207,10 @@ blocks_found at bytes parent info groups entries r answers arena long inside few
       entries = count;
       below = block_below opened count d.once;
       small = omega (arith, own.size_inside, inside, few);
+      lanes = (lanes.0, ap (λ (i : Info). groups_in i.layout lanes.0) (sym d.info_is) ∙ lanes.1 ∙ ap (λ (gs : List Group). Ok gs) d.groups_are);
+      moves = subst (λ (i : Info). AreMoves i.layout.external opened.moves) d.info_is
+          (subst (λ (ms : List Half). AreMoves info.layout.external ms) d.moves_are
+          (moves_fit info.layout.external entries groups (lanes_in_range info.layout lanes.0 groups arena.sound.layout lanes.1)));
     }) (decoded_found info groups entries r answers)
 
 -- ---- where the next arena begins

@@ -1,3 +1,4 @@
 pub mod HeldArenas
 pub mod HeldBytes
 pub mod HeldCells
+pub mod MadeMoves

@@ -115,6 +115,7 @@ fn read_log<S: ImageSource>(
     requires there { HasEnds (S.held images.old) extent.now.set }
     ensures told { (contents : List (List ℕ)) → Reveals (S.held images.old) extent.now.set contents → IfOk result (λ groups. Answers OpenRefused.OutOfMemory groups (groups_in layout.now (drop at (words_by extent.now contents)))) }
     ensures in_range { IfOk result (λ groups. IfOk groups (AreInRange layout.now.external)) }
+    ensures lanes { IfOk result (λ groups. IfOk groups (λ groups. (words : List ℕ) × (groups_in layout.now words ≡ Ok groups))) }
     ensures running { IfOk result (λ groups. groups ≢ Err OpenRefused.PowerCut) }
     ensures same { S.held images.new ≡ S.held images.old }
     ensures cause { HasCause (S.faults images.old) (S.faults images.new) result }

@@ -39,7 +39,7 @@ pub fn sectors_of_all(arenas: &[ArenaRead]) -> u64
 }
 
 /// Returns the arena of a sector, and the sector's number in this arena. It returns `None` exactly if there is no such sector.
-fn locate(arenas: &[ArenaRead], sector: u64) -> Option<(usize, u32)>
+pub fn locate(arenas: &[ArenaRead], sector: u64) -> Option<(usize, u32)>
     ensures { MatchOption result (sum_by external_in arenas.now ≤ sector) (λ place. LiesInLink arenas.now sector place.0 place.1) }
 {
     let mut own = sector;
@@ -53,8 +53,8 @@ fn locate(arenas: &[ArenaRead], sector: u64) -> Option<(usize, u32)>
     None
 }
 
-/// Returns an arena of some.
-fn arena_at(arenas: &[ArenaRead], k: usize) -> &ArenaRead
+/// Returns arena `k` of some, which must exist.
+pub fn arena_at(arenas: &[ArenaRead], k: usize) -> &ArenaRead
     requires { k < length arenas.now }
     ensures { (d : Link) → result.now ≡ slice_index_or arenas.now k d }
 {

@@ -10,7 +10,8 @@
 //!
 //! A source has the contents of all modules (`nvd_media::ImageSource`). Nothing is in memory here but what a caller asks for: of
 //! the arenas their info blocks, lanes and maps, of a sector its own bytes. Nothing is written. Pending moves are applied to
-//! the maps in memory, so a sector's block is the one that it has once its moves are made.
+//! the maps in memory, so a sector's block is the one that it has once its moves are made. `move_runs` says which bytes of the
+//! namespace make them there: for each move the four bytes of its sector's map entry.
 //!
 //! A source may reveal what it holds, or not (a directory doesn't). What depends on the contents is said of the contents that
 //! it reveals (`Reveals`). What callers need whatever the source reveals, as that an arena lies in the namespace, is said
@@ -23,6 +24,8 @@
 //! | all arenas in its words | `AreAll` of `namespace_bytes` |
 //! | the arenas are sound and lie in it | `AreSized` of `namespace_bytes`, `AreWithin` of `specs/Source.antt` |
 //! | a sector's cell | `contents_of` of `arena_open` |
+//! | the runs of pending moves | `move_runs` of `specs/Moves.antt` |
+//! | the namespace's bytes once they are made | `HaveMoves` of `specs/Moves.antt`, by `moves_are_made` of `proofs/MadeMoves.antt` |
 //!
 //! The formats are those of UEFI 2.10, section 6.2 (BTT data structures); the places those of ACPI 6.5, section 5.2.25.4.
 #![tactic(auto)]
@@ -31,8 +34,10 @@ mod arena_read;
 mod arenas;
 mod cell;
 mod extent;
+mod moves;
 
 pub use arena_read::{ArenaRead, into_arenas};
 pub use arenas::read_arenas_from;
-pub use cell::{read_cell, sectors_of_all};
+pub use cell::{arena_at, locate, read_cell, sectors_of_all};
 pub use extent::read_extent;
+pub use moves::{entry_run, move_runs};

@@ -1,5 +1,5 @@
 -- A session goes from call to call, and comes to its end, by what its passes know.
-use Rattle.std.proofs.Common.{◌≡◌, ◌≢◌, ℕ, zero, suc, ◌+◌, ◌<◌, ◌≤◌, Bool, true, false, ◌||◌, List, [], ◌∷◌, ◌++◌, length, length-append, Option, Some, None, refl, sym, ap, ◌∙◌, subst, arith}
+use Rattle.std.proofs.Common.{◌≡◌, ◌≢◌, ◌⊎◌, inl, inr, ℕ, zero, suc, ◌+◌, ◌<◌, ◌≤◌, Bool, true, false, ◌||◌, List, [], ◌∷◌, ◌++◌, length, length-append, Option, Some, None, refl, sym, ap, ◌∙◌, subst, arith}
 use Rattle.std.specs.Prelude.{option_to_list, option_map, option_and_then, IsSome, is_some}
 use mathlib.Core.Logic.{dite}
 use native.Mathlib.Decide.{ℕ_discrete}
@@ -216,28 +216,31 @@ cut_behind replies = true_last replies
 
 -- nobody: it didn't
 pub none_spent : (all : List Serving) (script : Script) (q : ℕ) (known : Parts) (pool : PoolPart) → switched_by pool.stop ≡ None → IsSpent all script q known pool
-none_spent all script q known pool none n e = absurd (none_some (sym none ∙ e))
+none_spent all script q known pool none off e = absurd (none_some (sym none ∙ e))
 
 -- the side of the labels
 pub labels_spent : (all : List Serving) (script : Script) (q steps : ℕ) (known : Parts) (pool : PoolPart) → switched_by pool.stop ≡ Some (record { who = who.Labels; steps = steps }) → IsSpent all script q known pool
-labels_spent all script q steps known pool is n e = absurd (let x : who.Labels ≡ who.Session q = ap (λ (p : PowerOff). p.who) (some_in (sym is ∙ e)) in cc)
+labels_spent all script q steps known pool is off e = inl (ap (λ (p : PowerOff). p.who) (some_in (sym e ∙ is)))
 
 -- the session itself, with all its steps made
 pub own_spent : (all : List Serving) (script : Script) (q steps : ℕ) (known known' : Parts) (pool' : PoolPart) (left left' : Option ℕ)
     → switched_by pool'.stop ≡ Some (record { who = who.Session q; steps = steps }) → steps ≡ or_zero (session_at script q).cut → StaysWhole (session_at script q).cut left → left ≢ None → left' ≡ Some 0
     → ((n m : ℕ) → (session_at script q).cut ≡ Some n → left ≡ Some m → steps_by all known + m ≡ n) → Counts all known known' left left' → IsSpent all script q known' pool'
-own_spent all script q steps known known' pool' left left' is steps_are whole some over counted counts n e = by (session_at script q).cut refl
+own_spent all script q steps known known' pool' left left' is steps_are whole some over counted counts off e = by (session_at script q).cut refl
   where
-    same : n ≡ steps
-    same = ap (λ (p : PowerOff). p.steps) (some_in (sym e ∙ is))
+    off_is : off ≡ record { who = who.Session q; steps = steps }
+    off_is = some_in (sym e ∙ is)
 
-    by : (o : Option ℕ) → (session_at script q).cut ≡ o → ((session_at script q).cut ≡ Some n) × (steps_by all known' ≡ n)
+    same : off.steps ≡ steps
+    same = ap (λ (p : PowerOff). p.steps) off_is
+
+    by : (o : Option ℕ) → (session_at script q).cut ≡ o → (off.who ≡ who.Labels) ⊎ ((off.who ≡ who.Session q) × ((session_at script q).cut ≡ Some off.steps) × (steps_by all known' ≡ off.steps))
     by None cut = absurd (some (whole cut))
     by (Some k) cut =
-        let here : n ≡ k = same ∙ steps_are ∙ ap or_zero cut in
+        let here : off.steps ≡ k = same ∙ steps_are ∙ ap or_zero cut in
         let c = counts 0 over in
         let sum = c.2 in
-        let due = counted k c.0 cut c.1 in (cut ∙ ap (λ (x : ℕ). Some x) (sym here), omega (arith, here, sum, due))
+        let due = counted k c.0 cut c.1 in inr (ap (λ (p : PowerOff). p.who) off_is, cut ∙ ap (λ (x : ℕ). Some x) (sym here), omega (arith, here, sum, due))
 
 -- ---- the end
 

@@ -1,5 +1,5 @@
 -- A session between two of its calls, and at its end: what it knows, held against the account.
-use Rattle.std.specs.Prelude.{◌≡◌, ℕ, zero, suc, ◌+◌, ◌^◌, ◌<◌, ◌≤◌, Bool, true, false, List, [], All, length, slice_index_or, Option, Some, None, is_some}
+use Rattle.std.specs.Prelude.{◌≡◌, ◌⊎◌, ℕ, zero, suc, ◌+◌, ◌^◌, ◌<◌, ◌≤◌, Bool, true, false, List, [], All, length, slice_index_or, Option, Some, None, is_some}
 use Rattle.turn_lock.specs.Passes.{number_of, part_of, IsOutside}
 use Rattle.namespace_ops.specs.Entries.{JournalEntry}
 use Rattle.session_script.specs.declared.script.Line.{Line}
@@ -16,6 +16,7 @@ use Rattle.session_account.specs.Sectors.{check_of, is_check}
 use Rattle.session_account.specs.Serving.{Serving}
 use Rattle.registry_service.specs.declared.served.OrdersPart.{OrdersPart}
 use Rattle.lane_pool.specs.declared.pool.PoolPart.{PoolPart}
+use Rattle.lane_pool.specs.declared.sets.PowerOff.{PowerOff}
 use Rattle.lane_pool.specs.declared.sets.Who.TheVariants as who
 use Rattle.lane_pool.specs.Parts.{switched_by}
 use Rattle.lane_calls.specs.Calls.{IsGoing}
@@ -101,9 +102,11 @@ pub record IsAt (service : Service) (script : Script) (q : ℕ) (replies : List 
 
 -- ---- at the end
 
--- If session q itself switched power off, it has a `cut` line, and lanes made exactly so many steps for it.
+-- If session q switched power off, it did so in an order, for the side of the labels; or itself: then it has a `cut` line, and lanes made
+-- exactly so many steps for it.
 abbrev pub IsSpent : List Serving → Script → ℕ → Parts → PoolPart → Type 0
-IsSpent all script q known pool = (n : ℕ) → switched_by pool.stop ≡ Some (record { who = who.Session q; steps = n }) → ((session_at script q).cut ≡ Some n) × (steps_by all known ≡ n)
+IsSpent all script q known pool = (off : PowerOff) → switched_by pool.stop ≡ Some off
+    → (off.who ≡ who.Labels) ⊎ ((off.who ≡ who.Session q) × ((session_at script q).cut ≡ Some off.steps) × (steps_by all known ≡ off.steps))
 
 -- session q has made its last call and given back what it had open, or a call was cut; it keeps no set of lanes
 pub record IsDone (service : Service) (script : Script) (q : ℕ) (replies : List Reply) (r : Runner) : Type 0 where

@@ -1,6 +1,5 @@
 pub mod Lengths
 pub mod Loaded
-pub mod SavedImport
 pub mod RawImport
 pub mod SectorsImport
 pub mod Causes

@@ -39,12 +39,13 @@ use Rattle.shell_reports.specs.List.{open_outcome}
 use Rattle.shell_sectors.specs.Found.{SavesNamespace}
 use Rattle.shell_sectors.specs.Write.{length_refusal}
 use Rattle.shell_sectors.specs.Opening.{HaveSizes, IsOpenOutline}
-use Rattle.shell_import.specs.Beginning.{Imports, Patches, PutsRaw, SavesPatched, patch_of}
+use Rattle.shell_sectors.specs.Patched.{Patches, SavesPatched, patch_of}
+use Rattle.shell_import.specs.Beginning.{Imports, PutsRaw}
 use Rattle.shell_import.specs.Import.{ImportFits, OnMode, place_in}
 use Rattle.shell_import.proofs.Loaded.{placed_comes, unplaced_comes}
 use Rattle.shell_sectors.proofs.Outlined.{whole_rows}
 use Rattle.shell_import.proofs.Lengths.{same_length}
-use Rattle.shell_import.proofs.SavedImport.{saves, sizes_saved}
+use Rattle.shell_sectors.proofs.Patched.{saves, sizes_saved}
 
 -- ---- refusals
 

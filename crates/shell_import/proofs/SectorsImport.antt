@@ -34,7 +34,7 @@ use Rattle.shell_reports.specs.Faults.{refused_outcome}
 use Rattle.shell_sectors.specs.Found.{SavesNamespace}
 use Rattle.shell_sectors.specs.Write.{length_refusal, length_text}
 use Rattle.shell_sectors.specs.Opening.{HaveSizes, IsOpenOutline}
-use Rattle.shell_import.specs.Beginning.{Patches, SavesPatched, patch_of}
+use Rattle.shell_sectors.specs.Patched.{Patches, SavesPatched, patch_of}
 use Rattle.shell_import.specs.Import.{ImportComes, OnMode}
 use Rattle.shell_import.proofs.Loaded.{placed_comes}
 use Rattle.shell_sectors.proofs.Outlined.{whole_rows}
@@ -71,7 +71,7 @@ use Rattle.shell_sectors.proofs.Asked.{found_few, found_pages}
 use Rattle.namespace_words.specs.Source.{Reveals}
 use Rattle.shell_import.proofs.Lengths.{misfit, no_misfit, same_length}
 use Rattle.shell_import.proofs.RawImport.{place_is}
-use Rattle.shell_import.proofs.SavedImport.{saves, sizes_saved}
+use Rattle.shell_sectors.proofs.Patched.{saves, sizes_saved}
 
 module _ (outline : Outline) (registry : Registered) (rest : OutlineRest) (o : IsOpenOutline outline registry rest) (uuid bytes : List ℕ) (found : Found) (lies : LiesInSet registry.sets found)
     (is : place_of registry.sets (lookup uuid (namespaces_in (state_of registry)).entries) ≡ Ok found) (sector : is_sector found.mode ≡ true) (answer : Answer) where
@@ -153,11 +153,6 @@ module _ (outline : Outline) (registry : Registered) (rest : OutlineRest) (o : I
             (saves outline registry rest o found lies (Sectors (record { links = links; bytes = bytes })) answer s contents have puts (HasContents uuid bytes states was) has))
 
 -- ---- as the bytes are put in
-
--- of three facts of a result another one follows
-pub three : {E : Type 0} (P Q R S : Answer → Type 0) (result : Result Answer E) → ((answer : Answer) → P answer → Q answer → R answer → S answer) → IfOk result P → IfOk result Q → IfOk result R → IfOk result S
-three P Q R S (Ok answer) more p q r = more answer p q r
-three P Q R S (Err e) more p q r = tt
 
 module _ (uuid bytes : List ℕ) (outline : Outline) (s : SectorImport) (it : IsSectorImport uuid bytes outline s) where
   abbrev parts : IsOpenOutline outline it.registry s.rest

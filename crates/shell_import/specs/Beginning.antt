@@ -1,8 +1,6 @@
 -- How `import` begins, on a set that was loaded without its contents: this project's rules.
 use Rattle.std.specs.Prelude.{◌≡◌, ℕ, ◌*◌, ◌%◌, ◌<◌, ◌≤◌, true, false, List, length, map, MatchOption, Option, None, Some, Ok}
-use Rattle.std.specs.Option.{ForSome, option_map}
-use Rattle.cut_words.specs.Words.{Words}
-use Rattle.image_set.specs.declared.changing.OutlineLeft.{OutlineLeft}
+use Rattle.std.specs.Option.{ForSome}
 use Rattle.image_set.specs.declared.changing.OutlineRest.{OutlineRest}
 use Rattle.image_set.specs.declared.outline.Outline.{Outline}
 use Rattle.image_set.specs.Outline.{IsOutlineRest, contents_in, image_set_with}
@@ -10,36 +8,31 @@ use Rattle.nvd_media.specs.Images.{Images}
 use Rattle.arena_open.specs.Chain.{Link}
 use Rattle.namespace_bytes.specs.Putting.{AreAll}
 use Rattle.namespace_bytes.specs.SectorBytes.{HaveMapsOfBytes}
-use Rattle.nfit_reader.specs.declared.table.Mapping.{Mapping}
 use Rattle.interleave.specs.Places.{unit_of}
 use Rattle.interleave.specs.Sound.{span_of}
 use Rattle.namespace_areas.specs.declared.found.Found.{Found}
 use Rattle.namespace_areas.specs.Finding.{LiesInSet, set_at}
 use Rattle.namespace_areas.specs.Opening.{AreWhole}
 use Rattle.namespace_areas.specs.Seen.{AreHeld, words_of}
-use Rattle.namespace_bytes.specs.declared.new_bytes.NewBytes.{NewBytes}
 use Rattle.namespace_bytes.specs.declared.new_bytes.NewBytes.TheVariants.{Raw}
-use Rattle.namespace_bytes.specs.Patching.{ArePatched, BytePatch, bytes_by_place}
-use Rattle.namespace_bytes.specs.Patching.{AreWhole as AreWholeRows}
+use Rattle.namespace_bytes.specs.Patching.{bytes_by_place}
 use Rattle.namespace_map.specs.Commands.{is_sector}
 use Rattle.namespace_map.specs.Namespaces.{entry_at, lookup}
 use Rattle.namespace_ops.specs.Counted.{namespaces_in}
 use Rattle.namespace_ops.specs.Opening.{sets_of}
 use Rattle.namespace_ops.specs.Registered.{Registered, state_of}
-use Rattle.power_cut.specs.Namespace.{ReachEnds, over}
+use Rattle.power_cut.specs.Namespace.{over}
 use Rattle.power_cut.specs.Namespace.{words_of as namespace_words}
 use Rattle.sector_namespaces.specs.View.{rows_of}
 use Rattle.shell_changes.specs.declared.answer.Answer.{Answer}
-use Rattle.shell_changes.specs.declared.answer.Left.TheVariants.{Patched}
 use Rattle.shell_changes.specs.Answers.{HasSizes, outcome_with}
 use Rattle.shell_changes.specs.Saved.{AreWholeSizes}
 use Rattle.shell_export.specs.Export.{place_of}
-use Rattle.shell_reports.specs.declared.status.Ending.TheVariants as ending
 use Rattle.shell_reports.specs.Causes.{fault_in}
-use Rattle.shell_reports.specs.Cut.{done_text}
 use Rattle.shell_reports.specs.Faults.{refused_outcome}
 use Rattle.shell_reports.specs.List.{labels_in_set}
 use Rattle.shell_sectors.specs.Opening.{HaveSizes, IsOpenOutline}
+use Rattle.shell_sectors.specs.Patched.{Patches, SavesPatched, patch_of}
 use Rattle.shell_sectors.specs.Write.{length_refusal}
 use Rattle.shell_import.specs.declared.beginning.Begun.{Begun}
 use Rattle.shell_import.specs.declared.beginning.Begun.TheVariants as begun
@@ -55,25 +48,6 @@ pub record IsPlacedOn (outline : Outline) (uuid : List ℕ) (found : Found) (reg
   pub lies : LiesInSet registry.sets found
 
 -- ---- bytes for a namespace
-
--- a namespace that was found gets these
-abbrev pub patch_of : List (List Mapping) → Found → NewBytes → BytePatch
-patch_of sets found bytes = record { set = set_at sets found.region; offset = found.offset; raw = found.raw; bytes = bytes }
-
--- An answer is `ok`, and saves a set of which these are the words of the label areas, and whose contents are copied and patched.
-pub record SavesPatched (patch : BytePatch) (rest : OutlineRest) (labels : List (Option Words)) (answer : Answer) : Type 0 where
-  pub ends : answer.report.ending ≡ ending.Done
-  pub says : answer.report.text.items ≡ done_text
-  pub left : OutlineLeft
-  pub saves : answer.saved ≡ Some (Patched left patch)
-  pub nfit : left.nfit ≡ rest.nfit_bytes
-  pub kept : left.labels ≡ map (option_map (λ w. w.kept)) labels
-  pub sizes : left.sizes ≡ rest.sizes
-  pub bad : left.bad ≡ rest.bad
-
--- the patch puts the bytes there and nowhere else
-abbrev pub Patches : List (List Mapping) → Found → BytePatch → Type 0
-Patches sets found patch = (contents : List (List ℕ)) → AreWholeRows contents → ReachEnds (set_at sets found.region) (rows_of contents) → ArePatched patch contents
 
 -- bytes are put into a raw namespace; or they are refused, since it has another number of them
 abbrev pub PutsRaw : Registered → Found → OutlineRest → List ℕ → Answer → Type 0

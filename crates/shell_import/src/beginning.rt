@@ -8,21 +8,19 @@ ghost use Rattle.namespace_areas.specs.Opening.{AreWhole};
 ghost use Rattle.namespace_areas.specs.Seen.{words_of};
 ghost use Rattle.shell_changes.specs.Saved.{AreWholeSizes};
 ghost use Rattle.shell_sectors.specs.Opening.{IsOpenOutline};
-ghost use Rattle.shell_import.specs.Beginning.{Begins, IsPlacedOn, PutsRaw, SavesPatched};
+ghost use Rattle.shell_import.specs.Beginning.{Begins, IsPlacedOn, PutsRaw};
 
 use crate::import::length_answer;
 use crate::sectors::SectorImport;
 use image_set::{Outline, OutlineRest};
-use interleave::InterleaveSet;
-use namespace_areas::{Area, Found, into_words};
+use namespace_areas::Found;
 use namespace_bytes::{NamespacePatch, NewBytes};
 use namespace_ops::Registry;
-use nvd_media::ListChooser;
 use nvd_words::Items;
-use shell_changes::{Answer, Left, SavedSet, without_set};
+use shell_changes::{Answer, without_set};
 use shell_export::{find_place, is_sector};
-use shell_reports::{done_answer, op_refused_answer};
-use shell_sectors::{OutlineOpened, open_outline};
+use shell_reports::op_refused_answer;
+use shell_sectors::{OutlineOpened, open_outline, patched_answer, set_of};
 use std::alloc::{AllocError, Global};
 use uuid::Uuid;
 
@@ -33,38 +31,6 @@ pub(crate) enum Begun {
     Done(Answer),
     /// The namespace is one of sectors, whose arenas are needed.
     Sectors(SectorImport),
-}
-
-/// Takes one interleave set out of all, which are dropped.
-fn set_of(sets: Items<InterleaveSet>, region: u32) -> InterleaveSet
-    requires { region < length sets }
-    ensures { result ≡ set_at sets region }
-{
-    let mut sets = sets.into_vec();
-    sets.swap_remove(region as usize)
-}
-
-/// Answers with `ok` and with a set whose label areas are these and whose contents are copied and patched.
-pub(crate) fn patched_answer(
-    alloc: Global,
-    patch: NamespacePatch,
-    rest: OutlineRest,
-    areas: Vec<Area>,
-) -> Result<Answer, AllocError>
-    requires rest { IsOutlineRest rest }
-    requires count { length areas.items ≡ length rest.sizes }
-    requires sizes { AreWholeSizes rest.sizes }
-    requires settled { AreWhole (map words_of areas.items) }
-    ensures { IfOk result (SavesPatched patch rest (map words_of areas.items)) }
-{
-    let labels = into_words(alloc, areas)?;
-    let mut chooser = ListChooser::new(Vec::new(alloc));
-    let left = rest.leave_areas(alloc, labels, &mut chooser)?;
-    let report = done_answer(alloc)?;
-    Ok(Answer {
-        report,
-        saved: Some(SavedSet::new(Left::Patched(left, patch))),
-    })
 }
 
 /// Puts bytes into a raw namespace, if it has as many.

@@ -1,19 +1,13 @@
 //! Bytes are put into a namespace of sectors, whose arenas are read from the source of the set.
-ghost use Rattle.std.specs.Prelude.{◌≡◌, ◌≢◌, ◌≤◌, ℕ, List, IfOk, Ok, Err};
+ghost use Rattle.std.specs.Prelude.{◌≡◌, ◌≤◌, ℕ, List, IfOk, Err};
 ghost use Rattle.std.specs.Option.{ForSome};
 ghost use Rattle.nvd_media.specs.Causes.{Rose};
 ghost use Rattle.image_set.specs.declared.outline.Outline.{Outline as OutlineRead};
 ghost use Rattle.image_set.specs.Outline.{HasContents};
-ghost use Rattle.arena_open.specs.declared.refused.OpenRefused.TheVariants as open_refused;
 ghost use Rattle.namespace_bytes.specs.SectorPut.{AreSized};
-ghost use Rattle.sector_namespaces.specs.Changing.{IsFinding};
-ghost use Rattle.shell_reports.specs.Faults.{arena_outcome};
-ghost use Rattle.shell_changes.specs.Answers.{outcome_with};
 ghost use Rattle.shell_import.specs.Beginning.{Fills, ImportsFrom, IsSectorImport};
 
-use crate::beginning::patched_answer;
 use crate::import::length_answer;
-use arena_open::ChainRefused;
 use image_set::OutlineRest;
 use interleave::InterleaveSet;
 use namespace_areas::{Area, Found};
@@ -22,7 +16,8 @@ use namespace_words::{ArenaRead, into_arenas, read_arenas_from};
 use nvd_media::{Failed, ImageSource};
 use nvd_words::Items;
 use shell_changes::{Answer, in_memory, without_set};
-use shell_reports::{RunStop, arena_answer};
+use shell_reports::RunStop;
+use shell_sectors::{patched_answer, unopened_answer};
 use std::alloc::{AllocError, Global};
 use uuid::Uuid;
 
@@ -36,16 +31,6 @@ pub(crate) struct SectorImport {
     pub(crate) areas: Vec<Area>,
     pub(crate) rest: OutlineRest,
     pub(crate) bytes: Vec<u8>,
-}
-
-/// The answer that nothing is imported, since the arenas aren't opened.
-fn unopened(alloc: Global, uuid: &Uuid, refused: ChainRefused) -> Result<Answer, AllocError>
-    requires { refused.fault ≢ open_refused.PowerCut }
-    ensures text { IfOk result (λ answer. (contents : List (List ℕ)) → outcome_with answer contents ≡ arena_outcome uuid.now refused) }
-    ensures saved { IfOk result (λ answer. answer.saved ≡ None) }
-    ensures finding { IfOk result (λ _. IsFinding refused) }
-{
-    Ok(without_set(arena_answer(alloc, uuid, refused)?))
 }
 
 impl SectorImport {
@@ -106,7 +91,7 @@ impl SectorImport {
             uuid,
         ) {
             Ok(Ok(arenas)) => in_memory(self.fill_read(alloc, arenas)),
-            Ok(Err(refused)) => in_memory(unopened(alloc, uuid, refused)),
+            Ok(Err(refused)) => in_memory(unopened_answer(alloc, uuid, refused)),
             Err(Failed) => Err(RunStop::ReadFault),
         }
     }

@@ -144,7 +144,7 @@ fn needs_contents(command: &CommandLine) -> bool
         CommandLine::Change(change, _) => makes_sectors(change),
         CommandLine::Info(_) => false,
         CommandLine::Read(_, _) => false,
-        CommandLine::Write(_, _, _) => true,
+        CommandLine::Write(_, _, _) => false,
         CommandLine::Replay(_, _) => true,
         CommandLine::Export(_, _) => true,
         CommandLine::Import(_) => false,
@@ -229,7 +229,9 @@ fn outlined_answer<S: ImageSource, C: Chooser>(
         }
         CommandLine::Info(uuid) => arenas_found(alloc, &uuid, outline, images),
         CommandLine::Read(uuid, sector) => sector_found(alloc, &uuid, sector, outline, images),
-        CommandLine::Write(_, _, _) => unreachable!(),
+        CommandLine::Write(uuid, sector, value) => {
+            write_answer(alloc, &uuid, sector, value, outline, images)
+        }
         CommandLine::Replay(_, _) => unreachable!(),
         CommandLine::Export(_, _) => unreachable!(),
         CommandLine::Import(_) => unreachable!(),
@@ -263,9 +265,7 @@ fn loaded_answer<C: Chooser>(
         }
         CommandLine::Info(_) => unreachable!(),
         CommandLine::Read(_, _) => unreachable!(),
-        CommandLine::Write(uuid, sector, value) => write_answer(
-            alloc, &uuid, sector, value, loaded,
-        ),
+        CommandLine::Write(_, _, _) => unreachable!(),
         CommandLine::Replay(_, _) => unreachable!(),
         CommandLine::Export(_, _) => unreachable!(),
         CommandLine::Import(_) => unreachable!(),

@@ -116,6 +116,10 @@ module _ (W : List ℕ) (states : List ArenaState) (which : ℕ) (state : ArenaS
   size : state.info.layout.size ≡ at.opened.info.layout.size
   size = ap (λ (s : ArenaState). s.info.layout.size) at.is
 
+  -- its words, with its pending moves made
+  pub found_words : take (state.info.layout.size / 8) (drop (start_of (take which states)) W) ≡ state.words
+  found_words = ap (λ (k : ℕ). take (k / 8) (drop p W)) size ∙ sym own_words
+
   -- the words behind the arena
   abbrev pub behind_of : List ℕ
   behind_of = drop (p + state.info.layout.size / 8) W

@@ -1,5 +1,5 @@
 -- From a loaded set to what a command on the arenas of one of its namespaces comes to.
-use Rattle.std.proofs.Common.{◌≡◌, ℕ, List, [], ◌∷◌, Option, Result, refl, sym, subst, inl, inr}
+use Rattle.std.proofs.Common.{◌≡◌, ℕ, List, [], ◌∷◌, Option, None, Result, Ok, refl, sym, subst, inl, inr}
 use Rattle.std.specs.Prelude.{MatchOption}
 use Rattle.std.proofs.lemmas.List.Elements.{All-cons, All-nil}
 use Rattle.cut_words.specs.Words.{settled}
@@ -13,7 +13,7 @@ use Rattle.namespace_areas.specs.declared.found.Found.{Found}
 use Rattle.namespace_ops.specs.declared.registry.OpenFault.{OpenFault}
 use Rattle.sector_namespaces.specs.Creation.{AreSettled}
 use Rattle.sector_namespaces.specs.View.{opened_view, rows_of, view_words}
-use Rattle.shell_reports.specs.Causes.{found_in, opened_in}
+use Rattle.shell_reports.specs.Causes.{fault_in, found_in, opened_in}
 use Rattle.shell_reports.specs.List.{open_outcome}
 use Rattle.shell_reports.specs.Outcome.{Outcome}
 use Rattle.shell_sectors.specs.declared.finding.FoundSet.{FoundSet}
@@ -30,9 +30,12 @@ module _ (on : Found → List ArenaState → Type 0) (uuid : List ℕ) (loaded :
   unfound_comes (inr (none, (refusal, is, said))) =
       subst (λ (f : Option OpenFault). OnFault f) (sym none) (subst (λ (r : Result Found OpRefused). OnFound on uuid loaded outcome r) (sym is) said)
 
+  pub named_comes : (found : Found) → fault_in loaded ≡ None → found_in loaded uuid ≡ Ok found → OnArenas (on found) uuid outcome (opened_in loaded uuid found) → OnSet on uuid loaded outcome
+  named_comes found none is arenas =
+      subst (λ (o : Option OpenFault). OnFault o) (sym none) (subst (λ (r : Result Found OpRefused). OnFound on uuid loaded outcome r) (sym is) arenas)
+
   pub found_comes : (set : FoundSet) → IsFoundIn loaded uuid set → OnArenas (on set.found) uuid outcome (opened_in loaded uuid set.found) → OnSet on uuid loaded outcome
-  found_comes set f arenas =
-      subst (λ (o : Option OpenFault). OnFault o) (sym f.none) (subst (λ (r : Result Found OpRefused). OnFound on uuid loaded outcome r) (sym f.is) arenas)
+  found_comes set f arenas = named_comes set.found f.none f.is arenas
 
   -- the arenas are those in the namespace's words
   pub on_words : (found : Found) (r : Result (List ArenaState) ChainRefused) → opened_view (words_of (place_of loaded found (rows_of loaded.contents))).kept uuid ≡ r

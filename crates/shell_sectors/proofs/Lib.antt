@@ -8,3 +8,8 @@ pub mod Loaded
 pub mod Causes
 pub mod Outlined
 pub mod Asked
+pub mod LaneFacts
+pub mod LonePuts
+pub mod Runs
+pub mod Patched
+pub mod Written

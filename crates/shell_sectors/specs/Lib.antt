@@ -5,6 +5,8 @@ pub mod Saving
 pub mod Write
 pub mod Causes
 pub mod Changed
-pub mod Answering
 pub mod Opening
 pub mod Asked
+pub mod LoneRuns
+pub mod Patched
+pub mod Writing

@@ -1,5 +1,5 @@
 -- The set that is saved after a namespace was changed: this project's rules.
-use Rattle.std.specs.Prelude.{◌≡◌, ⊤, ℕ, Bool, List, length, map, Option}
+use Rattle.std.specs.Prelude.{◌≡◌, ℕ, Bool, List, map, Option}
 use Rattle.std.specs.Option.{option_map}
 use Rattle.cut_words.specs.Words.{Words, IsLeft}
 use Rattle.cut_words.specs.WordBytes.{bytes_of}
@@ -9,14 +9,10 @@ use Rattle.image_set.specs.Changed.{objects_of}
 use Rattle.image_set.specs.Load.{ImageSet}
 use Rattle.shell_changes.specs.Areas.{with_labels}
 use Rattle.shell_reports.specs.declared.outcome.Report.{Report}
-use Rattle.shell_reports.specs.declared.status.Ending.TheVariants as ending
-use Rattle.shell_reports.specs.Cut.{done_text}
 use Rattle.shell_reports.specs.Outcome.{Outcome}
-use Rattle.shell_reports.specs.Saved.{IsSaving, outcome_of}
+use Rattle.shell_reports.specs.Saved.{IsSaving}
 use Rattle.shell_sectors.specs.declared.finding.Unchanged.{Unchanged}
-use Rattle.shell_sectors.specs.declared.saving.Changed.{Changed}
-use Rattle.shell_sectors.specs.declared.saving.Changed.TheVariants as changed
-use Rattle.shell_sectors.specs.Found.{HasModules, IsUnchanged, with_contents}
+use Rattle.shell_sectors.specs.Found.{IsUnchanged, with_contents}
 
 -- rows of words by a chooser that goes on
 abbrev pub LeavesOn : {C : Type 0} → (C → ℕ → Bool → C → Type 0) → C → List (Option Words) → List (Option (List ℕ)) → Type 0
@@ -37,14 +33,3 @@ abbrev pub SavesWith : Report → Unchanged → List Words → Outcome → Type 
 SavesWith report rest contents outcome =
     (rows : List (List ℕ)) × Each IsLeft contents rows
     × ((loaded : ImageSet) → IsUnchanged loaded rest → IsSaving report.ending report.text.items (objects_of (with_contents loaded rows)) outcome)
-
--- changed contents are those of all modules
-abbrev pub FitsWith : Unchanged → Changed → Type 0
-FitsWith rest (changed.Done contents) = HasModules rest (length contents.items)
-FitsWith rest (changed.Not report) = ⊤
-
--- a command is done, and the set is saved with the changed contents; or it is refused, and nothing is saved
-abbrev pub AnswersWith : Changed → Unchanged → Outcome → Type 0
-AnswersWith (changed.Done contents) rest outcome =
-    (report : Report) × (report.ending ≡ ending.Done) × (report.text.items ≡ done_text) × SavesWith report rest contents.items outcome
-AnswersWith (changed.Not report) rest outcome = outcome ≡ outcome_of report

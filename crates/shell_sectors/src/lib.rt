@@ -20,21 +20,33 @@
 //! # Writing
 //!
 //! ```text
-//! loaded set ── find_in_set ──► namespace ── open_kept ──► its words, pending moves completed; all of its arenas
-//!                                                               │
-//!                            Range, Length ◄────────────────────┤ the sector's arena ── write_alone ──► its new words
-//!                                                               ▼
-//! saved set ◄── changed_answer ── contents ◄── put_arena ── the namespace's words
+//! outline ── open_outline ──► labels ──► namespace ──┐
+//!                                                    ▼
+//! image source ──────────────────────────► read_arenas_from ──► all arenas ──► Range, Length
+//!                                                                   │
+//!                     move_runs: the pending moves of all ◄─────────┤
+//!     push_write: the value, the log's half, the map entry ◄────────┘ the sector's arena
+//!                                    │
+//!                                    ▼
+//! saved set ◄── put in while contents are copied ◄── NewBytes::Runs
 //! ```
 //!
 //! A write goes through the log of the sector's arena, as a driver makes it: the value lies in the free block of lane 0, the log names the move,
-//! and the map has it (`lane_alone`). All words that it changed are flushed, so these are the only ones that a power loss at the end could leave.
+//! and the map has it (`lane_alone`). No power is cut in it, so its end alone counts: the runs of bytes that it changes. They are put in while the
+//! contents are copied from the source (crate `namespace_bytes`). In memory are the arenas' maps and the value.
 //!
 //! | what | definition |
 //! |---|---|
 //! | which refusal comes first | `OnSet` of `specs/Found.antt`, `write_refusal` of `specs/Write.antt` |
+//! | what `write` comes to, with the contents that the source reveals | `WritesFrom` of `specs/Writing.antt` |
+//! | the runs of a write | `lone_runs` of `specs/LoneRuns.antt`; of pending moves, `move_runs` of `namespace_words` |
 //! | the namespace's words after a write | `HasSector` of `specs/Write.antt` |
-//! | the set that is saved | `SavesNamespace` of `specs/Found.antt` |
+//! | the set that is saved | `SavesNamespace` of `specs/Found.antt`, `SavesPatched` of `specs/Patched.antt` |
+//!
+//! # Steps for other commands
+//!
+//! `import` saves by `patched_answer` too. `replay`, `serve` and `load` have the whole set in memory: `find_in_set` and `read_labels` begin on it,
+//! and `put_arena`, `saved_answer` and `left_answer` end there.
 //!
 //! Labels, the firmware's table and bad ranges are saved as read. The order of refusals and the texts
 //! are this project's rules over UEFI 2.10, chapter 6.
@@ -44,7 +56,9 @@ mod asking;
 mod changing;
 mod finding;
 mod info;
+mod lone;
 mod opening;
+mod patching;
 mod read;
 mod saving;
 mod value;
@@ -54,6 +68,7 @@ pub use changing::put_arena;
 pub use finding::{FoundSet, LabelsRead, OpenSet, SetFound, Unchanged, find_in_set, read_labels};
 pub use info::info_answer;
 pub use opening::{OutlineOpened, open_outline};
+pub use patching::{patched_answer, set_of, unopened_answer};
 pub use read::read_answer;
-pub use saving::{Changed, changed_answer, left_answer, saved_answer};
+pub use saving::{left_answer, saved_answer};
 pub use write::write_answer;

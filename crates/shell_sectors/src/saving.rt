@@ -5,7 +5,7 @@ ghost use Rattle.namespace_areas.specs.Seen.{words_of};
 ghost use Rattle.shell_changes.specs.Answers.{whole_outcome};
 ghost use Rattle.shell_changes.specs.Saved.{copies_contents};
 ghost use Rattle.shell_sectors.specs.Found.{HasModules};
-ghost use Rattle.shell_sectors.specs.Saving.{AnswersWith, FitsWith, LeavesOn, SavesLeft, SavesWith};
+ghost use Rattle.shell_sectors.specs.Saving.{LeavesOn, SavesLeft, SavesWith};
 
 use crate::finding::Unchanged;
 use cut_words::CutWords;
@@ -14,18 +14,9 @@ use namespace_areas::into_words;
 use nvd_media::{Chooser, ListChooser};
 use nvd_words::Items;
 use power_cut::leave_all;
-use shell_changes::{Answer, Left, SavedSet, without_set};
-use shell_reports::{Report, done_answer};
+use shell_changes::{Answer, Left, SavedSet};
+use shell_reports::Report;
 use std::alloc::{AllocError, Global};
-
-/// What a command on a namespace comes to before anything is saved.
-#[derive(Drop)]
-pub enum Changed {
-    /// The words of all modules, with what it changed.
-    Done(Vec<CutWords>),
-    /// It is refused.
-    Not(Report),
-}
 
 /// Answers with a report, and with the set that has these label areas and contents, as a power cut leaves them.
 ///
@@ -79,25 +70,4 @@ pub fn saved_answer(
 {
     let mut chooser = ListChooser::new(Vec::new(alloc));
     left_answer(alloc, report, rest, contents, &mut chooser)
-}
-
-/// Answers with `ok` and with the loaded set in which the modules have the changed contents, as `saved_answer` does; or with
-/// the refusal, and without a set. The call fails only if memory runs out.
-pub fn changed_answer(
-    alloc: Global,
-    changed: Changed,
-    rest: Unchanged,
-) -> Result<Answer, AllocError>
-    requires whole { AreWhole (map words_of rest.registry.areas) }
-    requires fits { FitsWith rest changed }
-    ensures answers { IfOk result (λ answer. AnswersWith changed rest (whole_outcome answer)) }
-    ensures whole { IfOk result (λ answer. copies_contents answer.saved ≡ false) }
-{
-    match changed {
-        Changed::Done(contents) => {
-            let report = done_answer(alloc)?;
-            saved_answer(alloc, report, rest, contents)
-        }
-        Changed::Not(report) => Ok(without_set(report)),
-    }
 }

@@ -48,4 +48,5 @@ returns-in-Ok-3-clause-blocks g c =
     blocks_found c.args.at (raw_bytes c.args.extent.now) c.args.parent.now c.in-Ok.info c.in-Ok-2.groups c.in-Ok-3.entries.items c.decode_arena.result c.decode_arena.ensures
     (ok_holds (IsArenaOf c.args.parent.now (raw_bytes c.args.extent.now - 8 * c.args.at)) c.in_ok-info.field-0 c.in-Ok.info c.in-Ok.is c.in_ok-info.ensures.sound)
     (ok_holds (λ es. length es.items ≡ c.in-Ok.info.layout.external) c.in_ok-entries.field-0 c.in-Ok-3.entries c.in-Ok-3.is c.in_ok-entries.ensures.count)
+    (ok_holds (λ groups. (words : List ℕ) × (groups_in c.in-Ok.info.layout words ≡ Ok groups)) c.in_ok-groups.field-0 c.in-Ok-2.groups c.in-Ok-2.is c.in_ok-groups.ensures.lanes)
     (omega (arith, c.requires.inside)) c.requires.few

@@ -1,10 +1,6 @@
-use Rattle.std.proofs.Common.{◌≡◌, ◌≤◌, ◌<◌, ◌+◌, ◌*◌, ◌/◌, ◌%◌, ◌^◌, ◌∙◌, ℕ, List, drop, length, ap, sym, subst, arith}
+use Rattle.std.proofs.Common.{◌≡◌, ◌+◌, ◌*◌, ◌%◌, ℕ, List, length, ap, subst, arith}
 use Rattle.std.specs.Prelude.{IfOk}
-use Rattle.power_cut.specs.Namespace.{raw_bytes}
-use Rattle.cut_words.specs.WordBytes.{words_in}
-use Rattle.arena_layout.specs.declared.layout.Layout.{Layout}
 use Rattle.arena_open.specs.declared.cell.Cell.TheVariants as cell
-use Rattle.arena_open.specs.Places.{block_words}
 use Rattle.namespace_words.specs.Source.{words_by}
 use Rattle.namespace_words.proofs.HeldCells.{block_bytes, block_first, block_read}
 use Rattle.namespace_words.proofs.cell.read_block.Goals as goal

@@ -15,7 +15,8 @@ use Rattle.namespace_bytes.specs.Patching.{ArePatched, BytePatch}
 use Rattle.shell_changes.specs.Answers.{outcome_with}
 use Rattle.shell_reports.specs.Faults.{refused_outcome}
 use Rattle.shell_reports.proofs.More.{if_more}
-use Rattle.shell_import.specs.Beginning.{Patches, PutsRaw, SavesPatched, patch_of}
+use Rattle.shell_sectors.specs.Patched.{Patches, SavesPatched, patch_of}
+use Rattle.shell_import.specs.Beginning.{PutsRaw}
 use Rattle.shell_import.proofs.Lengths.{misfit, no_misfit}
 use Rattle.shell_import.proofs.beginning.raw_answer.Goals as goal
 

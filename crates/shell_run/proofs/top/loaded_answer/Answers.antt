@@ -5,7 +5,7 @@ use Rattle.shell_changes.specs.Remains.{LeavesBy}
 use Rattle.shell_changes.specs.Saved.{copies_contents}
 use Rattle.shell_changes.proofs.Remains.{copies_none}
 use Rattle.image_set.specs.Load.{image_set_in}
-use Rattle.shell_run.specs.declared.words.CommandLine.TheVariants.{Change, Write}
+use Rattle.shell_run.specs.declared.words.CommandLine.TheVariants.{Change}
 use Rattle.shell_changes.specs.Answers.{whole_outcome}
 use Rattle.shell_run.specs.Run.{LoadedComes, has_sessions, needs_contents, reads_script, streams}
 use Rattle.shell_run.specs.Words.{HasGoodValues}
@@ -42,15 +42,16 @@ unreachable-requires-in-Read g c =
     let both = sym c.requires.whole ∙ ap needs_contents c.in-Read.is in
     (let e = both in cc)
 
-pub returns-in-Change-clause-comes : goal.returns-in-Change-clause-comes
-returns-in-Change-clause-comes g c =
+pub unreachable-requires-in-Write : goal.unreachable-requires-in-Write
+unreachable-requires-in-Write g c =
+    let both = sym c.requires.whole ∙ ap needs_contents c.in-Write.is in
+    (let e = both in cc)
+
+pub returns-clause-comes : goal.returns-clause-comes
+returns-clause-comes g c =
     let leaves = LeavesBy g.C.Chooser.begins g.C.Chooser.picks c.args.choose.now in
     loaded_by leaves c.args.command (Change c.in-Change.change c.in-Change.power) c.in-Change.is (image_set_in c.args.loaded) c.change_answer.result
     (if_more _ (λ (answer : Answer). LoadedComes leaves (Change c.in-Change.change c.in-Change.power) (image_set_in c.args.loaded) (whole_outcome answer)) c.change_answer.result (λ answer comes. comes []) c.change_answer.ensures.comes)
-
-pub returns-in-Write-clause-comes : goal.returns-in-Write-clause-comes
-returns-in-Write-clause-comes g c =
-    loaded_by (LeavesBy g.C.Chooser.begins g.C.Chooser.picks c.args.choose.now) c.args.command (Write c.in-Write.uuid c.in-Write.sector c.in-Write.value) c.in-Write.is (image_set_in c.args.loaded) c.write_answer.result c.write_answer.ensures.comes
 
 pub change_answer-requires-clause-name : goal.change_answer-requires-clause-name
 change_answer-requires-clause-name g c = subst HasGoodValues c.in-Change.is c.requires.name

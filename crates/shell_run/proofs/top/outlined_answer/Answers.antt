@@ -6,9 +6,9 @@ use Rattle.shell_changes.specs.Answers.{HasSizes}
 use Rattle.shell_changes.specs.Remains.{LeavesBy}
 use Rattle.shell_changes.specs.Saved.{copies_contents}
 use Rattle.shell_changes.proofs.Remains.{copies_none, no_sizes}
-use Rattle.shell_run.specs.declared.words.CommandLine.TheVariants.{Labels, Nfit, Init, Change, Info, Read}
+use Rattle.shell_run.specs.declared.words.CommandLine.TheVariants.{Labels, Nfit, Init, Change, Info, Read, Write}
 use Rattle.shell_run.specs.declared.words.CommandLine.TheVariants as command
-use Rattle.shell_run.specs.Run.{copies, needs_contents, reads_script}
+use Rattle.shell_run.specs.Run.{LoadedComes, OnSource, copies, needs_contents, reads_script}
 use Rattle.shell_run.specs.Words.{HasGoodValues}
 use Rattle.shell_run.proofs.Comes.{copies_by_it, if_same, none_copied, source_by, source_of}
 use Rattle.shell_run.proofs.top.outlined_answer.Goals as goal
@@ -97,6 +97,20 @@ pub returns-in-Read-clause-copying : goal.returns-in-Read-clause-copying
 returns-in-Read-clause-copying g c =
     if_more _ (λ (answer : Answer). IsTrue (copies_contents answer.saved) → IsTrue (copies c.args.command)) c.sector_found.result (λ answer none. none_copied answer.saved (IsTrue (copies c.args.command)) (copies_none answer none)) c.sector_found.ensures.saved
 
+pub returns-in-Write-clause-comes : goal.returns-in-Write-clause-comes
+returns-in-Write-clause-comes g c =
+    let leaves = LeavesBy g.C.Chooser.begins g.C.Chooser.picks c.args.choose.now in
+    let held = g.S.ImageSource.held c.args.images.now in
+    source_of leaves c.args.command (Write c.in-Write.uuid c.in-Write.sector c.in-Write.value) c.in-Write.is held c.args.outline c.write_answer.result
+    (if_more _ (OnSource (LoadedComes leaves (Write c.in-Write.uuid c.in-Write.sector c.in-Write.value)) held c.args.outline) c.write_answer.result (λ answer from. from.comes) c.write_answer.ensures.writes)
+
+pub returns-in-Write-clause-sizes : goal.returns-in-Write-clause-sizes
+returns-in-Write-clause-sizes g c = if_more _ (HasSizes c.args.outline.sizes) c.write_answer.result (λ answer from. from.sizes) c.write_answer.ensures.writes
+
+pub returns-in-Write-clause-copying : goal.returns-in-Write-clause-copying
+returns-in-Write-clause-copying g c =
+    copies_by_it (LeavesBy g.C.Chooser.begins g.C.Chooser.picks c.args.choose.now) c.args.command (Write c.in-Write.uuid c.in-Write.sector c.in-Write.value) c.in-Write.is c.write_answer.result refl
+
 pub change_answer-requires-clause-name : goal.change_answer-requires-clause-name
 change_answer-requires-clause-name g c = subst HasGoodValues c.in-Change.is c.requires.name
 
@@ -105,17 +119,12 @@ change_answer-requires-clause-whole g c = sym (ap needs_contents c.in-Change.is)
 
 pub unreachable-requires : goal.unreachable-requires
 unreachable-requires g c =
-    let both = sym c.requires.outlined ∙ ap needs_contents c.in-Write.is in
+    let both = sym c.requires.outlined ∙ ap needs_contents c.in-Replay.is in
     (let e = both in cc)
 
 pub unreachable-requires-in-Export : goal.unreachable-requires-in-Export
 unreachable-requires-in-Export g c =
     let both = sym c.requires.outlined ∙ ap needs_contents c.in-Export.is in
-    (let e = both in cc)
-
-pub unreachable-requires-in-Replay : goal.unreachable-requires-in-Replay
-unreachable-requires-in-Replay g c =
-    let both = sym c.requires.outlined ∙ ap needs_contents c.in-Replay.is in
     (let e = both in cc)
 
 pub unreachable-requires-in-Import : goal.unreachable-requires-in-Import

@@ -1,4 +1,4 @@
-use Rattle.std.proofs.Common.{◌≡◌, ◌∙◌, ap, sym, subst}
+use Rattle.std.proofs.Common.{sym, subst}
 use Rattle.std.specs.Prelude.{IfOk}
 use Rattle.shell_reports.proofs.More.{if_more}
 use Rattle.shell_sectors.specs.declared.asking.Ask.{Ask}

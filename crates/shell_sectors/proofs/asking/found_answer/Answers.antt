@@ -1,4 +1,4 @@
-use Rattle.std.proofs.Common.{◌≡◌, ◌∙◌, ◌*◌, ℕ, List, length, map, Ok, Err, Option, Result, sym, ap, subst}
+use Rattle.std.proofs.Common.{◌≡◌, ◌∙◌, ◌*◌, ℕ, List, length, map, Option, Result, sym, ap, subst}
 use Rattle.std.specs.Prelude.{IfOk}
 use Rattle.arena_open.specs.declared.chain_refused.ChainRefused.{ChainRefused}
 use Rattle.arena_open.specs.declared.state.ArenaState.{ArenaState}
@@ -7,7 +7,7 @@ use Rattle.namespace_bytes.specs.Putting.{AreAll}
 use Rattle.namespace_bytes.specs.SectorPut.{AreSized}
 use Rattle.nvd_media.specs.Images.{Images}
 use Rattle.power_cut.specs.Namespace.{Namespace, over, raw_bytes, words_of}
-use Rattle.sector_namespaces.specs.View.{opened_view, rows_of}
+use Rattle.sector_namespaces.specs.View.{rows_of}
 use Rattle.shell_reports.specs.Saved.{outcome_of}
 use Rattle.shell_reports.specs.Sectors.{on_arenas}
 use Rattle.shell_reports.proofs.More.{if_both, if_more}

@@ -1,12 +1,10 @@
 use Rattle.std.proofs.Common.{◌≡◌, ◌∙◌, ◌+◌, ◌%◌, ◌≤◌, List, length, sym, subst, arith}
-use Rattle.std.specs.Prelude.{IfOk}
 use Rattle.nfit_reader.specs.declared.table.Mapping.{Mapping}
 use Rattle.interleave.specs.Places.{unit_of}
 use Rattle.interleave.specs.Sound.{span_of}
 use Rattle.image_set.specs.Outline.{contents_in}
 use Rattle.power_cut.specs.Namespace.{over, words_of}
 use Rattle.sector_namespaces.specs.View.{opened_view, rows_of}
-use Rattle.shell_reports.specs.Outcome.{Outcome}
 use Rattle.shell_reports.specs.Sectors.{on_arenas}
 use Rattle.shell_reports.proofs.More.{if_more}
 use Rattle.shell_reports.proofs.Uncut.{unfound_uncut}

@@ -9,7 +9,8 @@ use Rattle.sector_namespaces.specs.View.{rows_of}
 use Rattle.shell_import.specs.Beginning.{ImportsFrom, IsSectorImport}
 use Rattle.shell_reports.proofs.More.{if_more}
 use Rattle.shell_sectors.proofs.Asked.{kept}
-use Rattle.shell_import.proofs.SectorsImport.{few_bytes, imports_filled, imports_refused, reached, three, whole_pages}
+use Rattle.shell_sectors.proofs.Written.{three}
+use Rattle.shell_import.proofs.SectorsImport.{few_bytes, imports_filled, imports_refused, reached, whole_pages}
 use Rattle.shell_import.proofs.sectors.SectorImport.answer.Goals as goal
 
 pub read_arenas_from-requires-clause-pages : goal.read_arenas_from-requires-clause-pages
@@ -18,8 +19,8 @@ read_arenas_from-requires-clause-pages g c = whole_pages c.args.uuid.now c.requi
 pub read_arenas_from-requires-clause-few : goal.read_arenas_from-requires-clause-few
 read_arenas_from-requires-clause-few g c = few_bytes c.args.uuid.now c.requires.found.1.0 c.requires.found.0 c.args.self c.requires.found.1.1 (omega (arith, c.ways-ways.ensures.ways, c.ways-ways.ensures.few))
 
-pub unopened-requires : goal.unopened-requires
-unopened-requires g c = c.in-Ok-Err.ensures.running c.in-Ok-Err.refused c.in-Ok-Err.field-0-is
+pub unopened_answer-requires : goal.unopened_answer-requires
+unopened_answer-requires g c = c.in-Ok-Err.ensures.running c.in-Ok-Err.refused c.in-Ok-Err.field-0-is
 
 pub read_arenas_from-requires-clause-there : goal.read_arenas_from-requires-clause-there
 read_arenas_from-requires-clause-there g c = λ source told. (
@@ -41,9 +42,9 @@ returns-in-Ok-Ok-clause-imports g c =
 pub returns-in-Ok-Err-clause-imports : goal.returns-in-Ok-Err-clause-imports
 returns-in-Ok-Err-clause-imports g c =
     let held = g.S.ImageSource.held c.args.images.now in
-    kept (λ answer. (outline : Outline) (bytes : List ℕ) → IsSectorImport c.args.uuid.now bytes outline c.args.self → ImportsFrom held c.args.uuid.now bytes outline answer) c.unopened.result c.in_memory-in-Ok-Err.result c.in_memory-in-Ok-Err.ensures.same
-    (three _ _ _ _ c.unopened.result
+    kept (λ answer. (outline : Outline) (bytes : List ℕ) → IsSectorImport c.args.uuid.now bytes outline c.args.self → ImportsFrom held c.args.uuid.now bytes outline answer) c.unopened_answer.result c.in_memory-in-Ok-Err.result c.in_memory-in-Ok-Err.ensures.same
+    (three _ _ _ _ c.unopened_answer.result
     (λ answer says nothing finding outline bytes it.
     imports_refused c.args.uuid.now bytes outline c.args.self it answer held c.in-Ok-Err.refused nothing says c.requires.there
     (λ contents shown. c.in-Ok-Err.ensures.refused contents shown c.in-Ok-Err.refused c.in-Ok-Err.field-0-is finding))
-    c.unopened.ensures.text c.unopened.ensures.saved c.unopened.ensures.finding)
+    c.unopened_answer.ensures.text c.unopened_answer.ensures.saved c.unopened_answer.ensures.finding)

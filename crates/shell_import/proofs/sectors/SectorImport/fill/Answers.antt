@@ -12,7 +12,7 @@ use Rattle.namespace_bytes.specs.Putting.{link_bytes}
 use Rattle.shell_reports.specs.Faults.{refused_outcome}
 use Rattle.shell_reports.proofs.More.{if_more}
 use Rattle.shell_sectors.specs.Write.{length_text}
-use Rattle.shell_import.specs.Beginning.{Patches, SavesPatched, patch_of}
+use Rattle.shell_sectors.specs.Patched.{Patches, SavesPatched, patch_of}
 use Rattle.shell_import.proofs.SectorsImport.{all_filled, areas_whole, misfilled}
 use Rattle.shell_import.proofs.sectors.SectorImport.fill.Goals as goal
 
