@@ -88,34 +88,6 @@ in_list [] i s e = absurd (some_none (sym e))
 in_list (x ∷ xs) zero s e = omega arith
 in_list (x ∷ xs) (suc i) s e = omega (arith, in_list xs i s e)
 
--- ---- the parts of others
-
-abbrev pub KeepsRest : Now → Now → ℕ → Type 0
-KeepsRest v w q = (r : ℕ) → r ≢ q → part_at w r ≡ part_at v r
-
--- the holders but one are the same, and each set that another handed in
-rest_same : (v w : Now) (q : ℕ) (h : Holder) (inside : q < length v.holders) → w.first ≡ v.first → w.holders ≡ set v.holders q h
-    → ((r : ℕ) → r ≢ q → handed_in w.sets (holder_at v.holders r).hand ≡ handed_in v.sets (holder_at v.holders r).hand) → KeepsRest v w q
-rest_same v w q h inside first holders sets r ne =
-    let is : holder_at w.holders r ≡ holder_at v.holders r = ap (λ hs. holder_at hs r) holders ∙ other v.holders q h inside r ne in
-    let long : length w.holders ≡ length v.holders = ap (λ hs. length hs) holders ∙ length-set v.holders q h in
-    let handed : handed_in w.sets (holder_at w.holders r).hand ≡ handed_in v.sets (holder_at v.holders r).hand = ap (λ (x : Holder). handed_in w.sets x.hand) is ∙ sets r ne in
-    λ i. record {
-      first = first i;
-      placed = nat_lt r (long i);
-      left = (is i).left;
-      hand = (is i).hand;
-      handed = handed i;
-      stop = (is i).stop;
-      told = (is i).told;
-    }
-
--- a set that another handed in stands at another place than one that isn't at home, or that nobody has to do with
-handed_same : (sets sets' : List (Option LaneSet)) (x : Hand) → ((i : ℕ) → x ≡ hand.Stopped i → set_at sets' i ≡ set_at sets i) → handed_in sets' x ≡ handed_in sets x
-handed_same sets sets' hand.Empty h = refl
-handed_same sets sets' (hand.Out at room) h = refl
-handed_same sets sets' (hand.Stopped at) h = h at refl
-
 -- ---- power goes off
 
 module _ (v : Now) (p : IsPool v) (q : ℕ) (inside : q < length v.holders) (off first : PowerOff) (first_is : Some first ≡ or_first v.off off) (h : Holder) where
@@ -196,9 +168,6 @@ module _ (v : Now) (p : IsPool v) (q : ℕ) (inside : q < length v.holders) wher
       told = by_holder v.holders q (told_holder off) inside (λ r h. (x : PowerOff) → h.told ≡ Some x → v.off ≡ Some x) (λ x e. is_off ∙ e) (λ r ne. p.told r);
       stops = λ r s e. p.stops r s (sym (stops_same r) ∙ e);
     }
-
-    pub told_rest : KeepsRest v (told_now off) q
-    told_rest = rest_same v (told_now off) q (told_holder off) inside refl refl (λ r ne. refl)
 
   -- ---- it takes a set
 
@@ -288,9 +257,6 @@ module _ (v : Now) (p : IsPool v) (q : ℕ) (inside : q < length v.holders) wher
       stops = by_holder v.holders q took_holder inside (λ r h. (x : Stop) → h.stop ≡ Some x → v.off ≢ None) (p.stops q) (λ r ne. p.stops r);
     }
 
-    pub took_rest : KeepsRest v took_now q
-    took_rest = rest_same v took_now q took_holder inside refl refl (λ r ne. handed_same v.sets (set v.sets at None) (holder_at v.holders r).hand (λ i is. absurd (none_stopped r i is)))
-
     pub took_ready : IsReady took_room s
     took_ready = elim (p.ready at s home) [
       | inl r ↦ r
@@ -337,9 +303,6 @@ module _ (v : Now) (p : IsPool v) (q : ℕ) (inside : q < length v.holders) wher
 
     not_mine : (r i : ℕ) → (holder_at v.holders r).hand ≡ hand.Stopped i → r ≢ q
     not_mine r i is e = out_stopped (sym out ∙ ap (λ (k : ℕ). (holder_at v.holders k).hand) (sym e) ∙ is)
-
-    handed_rest : (r : ℕ) → r ≢ q → handed_in back (holder_at v.holders r).hand ≡ handed_in v.sets (holder_at v.holders r).hand
-    handed_rest r ne = handed_same v.sets back (holder_at v.holders r).hand (λ i is. back_other i (apart r i ne (stopped_has r i is)))
 
     -- with any new state that has the set out no more
     module _ (h : Holder) (less : h.left ≤ was.left) where
@@ -410,9 +373,6 @@ module _ (v : Now) (p : IsPool v) (q : ℕ) (inside : q < length v.holders) wher
         stops = by_holder v.holders q gave_holder inside (λ r y. (x : Stop) → y.stop ≡ Some x → v.off ≢ None) (p.stops q) (λ r ne. p.stops r);
       }
 
-      pub gave_rest : KeepsRest v gave_now q
-      gave_rest = rest_same v gave_now q gave_holder inside refl refl handed_rest
-
     -- ---- it hands it in, and power is off
 
     module _ (off first : PowerOff) (first_is : Some first ≡ or_first v.off off) where
@@ -449,9 +409,6 @@ module _ (v : Now) (p : IsPool v) (q : ℕ) (inside : q < length v.holders) wher
         stops = λ r x e none. some_none none;
       }
 
-      pub stop_rest : KeepsRest v stop_now q
-      stop_rest = rest_same v stop_now q stop_holder inside refl refl handed_rest
-
 -- ---- it has none out, and power is off
 
 module _ (v : Now) (p : IsPool v) (q : ℕ) (inside : q < length v.holders) (off first : PowerOff) (first_is : Some first ≡ or_first v.off off) where
@@ -483,9 +440,6 @@ module _ (v : Now) (p : IsPool v) (q : ℕ) (inside : q < length v.holders) (off
     told = told_first v p q inside off first first_is halt_holder refl;
     stops = λ r s e none. some_none none;
   }
-
-  pub halt_rest : KeepsRest v halt_now q
-  halt_rest = rest_same v halt_now q halt_holder inside refl refl (λ r ne. refl)
 
 -- ---- the caller's own part
 

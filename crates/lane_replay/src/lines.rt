@@ -4,7 +4,7 @@ ghost use Rattle.lane_replay.specs.Texts.{answer_text, counted, lane_line, phase
 
 use crate::refused::Refused;
 use lane_core::{Answer, Phase};
-use session_script::cell_text;
+use session_script::add_cell;
 use std::alloc::{AllocError, Global};
 
 /// Returns the name of a phase with its counter.
@@ -58,16 +58,6 @@ fn refused_text(alloc: Global, why: Refused) -> Result<String, AllocError>
     }
 }
 
-/// Returns an answer as it is printed behind the number of a lane.
-fn answer_text(alloc: Global, answer: &Answer) -> Result<String, AllocError>
-    ensures { IfOk result (λ text. string_bytes text ≡ answer_text answer.now) }
-{
-    match answer {
-        Answer::Wrote => String::from_str(alloc, "ok\n"),
-        Answer::Got(cell) => cell_text(alloc, cell),
-    }
-}
-
 /// Adds a line about a lane.
 pub(crate) fn say(
     alloc: Global,
@@ -82,6 +72,16 @@ pub(crate) fn say(
     Ok(())
 }
 
+/// Adds an answer as it is printed behind the number of a lane.
+fn add_answer(alloc: Global, answer: &Answer, text: &mut Vec<u8>) -> Result<(), AllocError>
+    ensures { OnOk result (text.new.items ≡ text.old.items ++ answer_text answer.now) }
+{
+    match answer {
+        Answer::Wrote => text.extend_from_slice(b"ok\n"),
+        Answer::Got(cell) => add_cell(alloc, cell, text),
+    }
+}
+
 /// Adds the line of an answer.
 pub(crate) fn say_answer(
     alloc: Global,
@@ -91,8 +91,8 @@ pub(crate) fn say_answer(
 ) -> Result<(), AllocError>
     ensures { OnOk result (text.new.items ≡ text.old.items ++ lane_line lane (answer_text answer.now)) }
 {
-    let what = answer_text(alloc, answer)?;
-    say(alloc, text, lane, what.as_str())
+    say(alloc, text, lane, "")?;
+    add_answer(alloc, answer, text)
 }
 
 /// Adds the line of a refusal.

@@ -5,10 +5,10 @@ use Rattle.std.specs.Option.{option_map}
 use Rattle.std.proofs.lemmas.Bool.{false≢true, le-leb}
 use Rattle.std.proofs.lemmas.Option.{none-some}
 use Rattle.nvd_words.specs.Checks.{value_unless, fault_if}
-use Rattle.cut_words.specs.Words.{Words}
 use Rattle.cut_words.specs.Fuses.{burnt, lasts}
 use Rattle.arena_open.specs.Format.{format_count}
-use Rattle.sector_namespaces.specs.Creation.{IsFormattedIn, arena_steps, arena_steps_of, has_sectors, layout_for, layout_of, place_for}
+use Rattle.sector_namespaces.specs.Creation.{arena_steps, arena_steps_of, has_sectors, layout_for, layout_of}
+use Rattle.nfit_reader.specs.declared.table.Mapping.{Mapping}
 use Rattle.namespace_map.specs.Namespaces.{NamespaceEntry, Namespaces, lookup}
 use Rattle.namespace_map.specs.Areas.{Change}
 use Rattle.namespace_map.specs.declared.commands.CreateSpec.{CreateSpec}
@@ -20,14 +20,14 @@ use Rattle.namespace_map.specs.declared.commands.Command.TheVariants.{Claim, Cre
 use Rattle.namespace_map.specs.declared.refused.OpRefused.{OpRefused}
 use Rattle.namespace_map.specs.declared.refused.OpRefused.TheVariants.{Busy, OutOfMemory, PowerCut, ReadOnlyLabel}
 use Rattle.namespace_map.specs.Changes.{changes_of}
-use Rattle.namespace_map.specs.Commands.{deleted_entry, delete_refusal, done, entry_modules, entry_refusal, name_in, refusal_of, renamed_entry, short_of}
+use Rattle.namespace_map.specs.Commands.{deleted_entry, delete_refusal, done, entry_modules, entry_refusal, name_in, refusal_of, renamed_entry, set_of, short_of}
 use Rattle.namespace_areas.specs.declared.area.Area.{Area}
 use Rattle.namespace_areas.specs.Seen.{AreHeld, areas_seen}
 use Rattle.namespace_areas.specs.Went.{Went}
-use Rattle.namespace_areas.specs.Refusals.{shown}
+use Rattle.namespace_areas.specs.Refusals.{offset_for, shown}
 use Rattle.namespace_ops.specs.Held.{Held}
 use Rattle.namespace_ops.specs.Carried.{Carried, is_cut}
-use Rattle.namespace_ops.specs.Created.{Creates}
+use Rattle.namespace_ops.specs.Created.{Creates, refusal_for}
 use Rattle.namespace_ops.specs.Claims.{count_of, with_count}
 use Rattle.namespace_ops.specs.Counted.{Answered, Formats, State, makes_sectors, namespaces_in, steps_before, with_claims}
 use Rattle.namespace_ops.specs.Entries.{Reply}
@@ -238,14 +238,14 @@ module _ (old : State) (held : Held) (fuse left : Option ℕ) (spec : CreateSpec
           stopped = λ _. stopped;
         }
 
-    pub sectors_answered : has_sectors spec.make ≡ true → AreHeld old.areas → (rows rows' : List Words) → (r ≢ Err OutOfMemory → Creates old.sets old.areas held.areas rows rows' fuse left spec r)
+    pub sectors_answered : has_sectors spec.make ≡ true → AreHeld old.areas → (r ≢ Err OutOfMemory → Creates old.sets old.areas held.areas fuse left spec r)
         → Answered old (with_held held old.claims) fuse left (Create spec) r
-    sectors_answered sectors are_held rows rows' creates =
+    sectors_answered sectors are_held creates =
         let count : format_count (layout_for spec) ≡ arena_steps spec = arena_count spec.size spec.make sectors in
         record {
           off = λ off. absurd (false≢true (sym running ∙ off));
           memory = same_memory;
-          refused = λ goes f at. let was = (creates goes.1).refused f at in (was.0, same_refused f at was.0 was.1, was.3);
+          refused = λ goes f at. let was = (creates goes.1).refused f at in (was.0, same_refused f at was.0 was.1, was.2);
           within = λ goes good short.
               let was = ((creates goes.1).made good).within (ap (lasts fuse) count ∙ short) in (was.0, was.1, are_held, was.2 ∙ ap (burnt fuse) count);
           went = λ goes good whole.
@@ -258,40 +258,40 @@ module _ (old : State) (held : Held) (fuse left : Option ℕ) (spec : CreateSpec
           stopped = λ _. stopped;
         }
 
--- ---- the words of all modules
+-- ---- what formats arenas
 
-pub same_formats : (old : State) (rows rows' : List Words) (fuse : Option ℕ) (c : Command) (r : Reply) → makes_sectors c ≡ false → rows' ≡ rows → Formats old rows rows' fuse c r
-same_formats old rows rows' fuse c r plain same = record {
-  off = λ _. same;
-  memory = λ _. same;
-  refused = λ _ f at. same;
-  plain = λ _. same;
-  formatted = λ goes good spec is sectors. absurd (false≢true (sym plain ∙ ap makes_sectors is ∙ sectors));
-}
+module _ {F : Type 0} (formats : F → F → List Mapping → ℕ → CreateSpec → Option ℕ → Type 0) where
+  pub same_formats : (old : State) (was now : F) (fuse : Option ℕ) (c : Command) (r : Reply) → makes_sectors c ≡ false → now ≡ was → Formats formats old was now fuse c r
+  same_formats old was now fuse c r plain same = record {
+    off = λ _. same;
+    memory = λ _. same;
+    refused = λ _ f at. same;
+    plain = λ _. same;
+    formatted = λ goes good spec is sectors. absurd (false≢true (sym plain ∙ ap makes_sectors is ∙ sectors));
+  }
 
--- nothing was begun
-pub off_formats : (old : State) (rows : List Words) (fuse : Option ℕ) (c : Command) (r : Reply) → old.stopped ≡ true → Formats old rows rows fuse c r
-off_formats old rows fuse c r off = record {
-  off = λ _. refl;
-  memory = λ _. refl;
-  refused = λ _ f at. refl;
-  plain = λ _. refl;
-  formatted = λ goes good spec is sectors. absurd (false≢true (sym goes.0 ∙ off));
-}
+  -- nothing was begun
+  pub off_formats : (old : State) (was : F) (fuse : Option ℕ) (c : Command) (r : Reply) → old.stopped ≡ true → Formats formats old was was fuse c r
+  off_formats old was fuse c r off = record {
+    off = λ _. refl;
+    memory = λ _. refl;
+    refused = λ _ f at. refl;
+    plain = λ _. refl;
+    formatted = λ goes good spec is sectors. absurd (false≢true (sym goes.0 ∙ off));
+  }
 
-pub sectors_formats : (old : State) (now : List Area) (rows rows' : List Words) (fuse left : Option ℕ) (spec : CreateSpec) (r : Reply) → old.stopped ≡ false → has_sectors spec.make ≡ true
-    → (r ≡ Err OutOfMemory → rows' ≡ rows) → (r ≢ Err OutOfMemory → Creates old.sets old.areas now rows rows' fuse left spec r) → Formats old rows rows' fuse (Create spec) r
-sectors_formats old now rows rows' fuse left spec r running sectors memory creates = record {
-  off = λ off. absurd (false≢true (sym running ∙ off));
-  memory = memory;
-  refused = λ goes f at. ((creates goes.1).refused f at).2;
-  plain = λ raw. absurd (false≢true (sym raw ∙ sectors));
-  formatted = λ goes good asked is _.
-      let same : spec ≡ asked = same_spec is in
-      let count : format_count (layout_for spec) ≡ arena_steps spec = arena_count spec.size spec.make sectors in
-      subst (λ (s : CreateSpec). IsFormattedIn (place_for old.sets old.areas s) (layout_for s) s.uuid rows rows' fuse (burnt fuse (arena_steps s)) (lasts fuse (arena_steps s))) same
-      (subst (λ (n : ℕ). IsFormattedIn (place_for old.sets old.areas spec) (layout_for spec) spec.uuid rows rows' fuse (burnt fuse n) (lasts fuse n)) count ((creates goes.1).made good).formatted);
-}
-  where
-    same_spec : {s t : CreateSpec} → Create s ≡ Create t → s ≡ t
-    same_spec e = cc
+  pub sectors_formats : (old : State) (was now : F) (fuse : Option ℕ) (spec : CreateSpec) (r : Reply) → old.stopped ≡ false → has_sectors spec.make ≡ true
+      → (r ≡ Err OutOfMemory → now ≡ was) → ((f : OpRefused) → r ≢ Err OutOfMemory → refusal_for old.sets old.areas spec ≡ Some f → now ≡ was)
+      → (r ≢ Err OutOfMemory → refusal_for old.sets old.areas spec ≡ None → formats was now (set_of (shown old.sets old.areas) spec.region) (offset_for (shown old.sets old.areas) spec) spec fuse)
+      → Formats formats old was now fuse (Create spec) r
+  sectors_formats old was now fuse spec r running sectors memory refused formatted = record {
+    off = λ off. absurd (false≢true (sym running ∙ off));
+    memory = memory;
+    refused = λ goes f at. refused f goes.1 at;
+    plain = λ raw. absurd (false≢true (sym raw ∙ sectors));
+    formatted = λ goes good asked is _.
+        subst (λ (s : CreateSpec). formats was now (set_of (shown old.sets old.areas) s.region) (offset_for (shown old.sets old.areas) s) s fuse) (same_spec is) (formatted goes.1 good);
+  }
+    where
+      same_spec : {s t : CreateSpec} → Create s ≡ Create t → s ≡ t
+      same_spec e = cc

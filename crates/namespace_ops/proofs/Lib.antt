@@ -23,5 +23,6 @@ pub mod Shown
 pub mod Rows
 pub mod OpenSets
 pub mod Regions
+pub mod Layouts
 pub mod Lies
 pub mod Spent

@@ -1,5 +1,5 @@
 -- Where a sector namespace that nothing refuses lies.
-use Rattle.std.proofs.Common.{◌≡◌, ℕ, zero, suc, ◌+◌, ◌*◌, ◌/◌, ◌%◌, ◌<◌, ◌≤◌, Bool, true, false, List, [], ◌∷◌, length, Option, Some, None, refl, sym, ap, ◌∙◌, subst, arith}
+use Rattle.std.proofs.Common.{◌≡◌, ℕ, zero, suc, ◌+◌, ◌*◌, ◌/◌, ◌%◌, ◌<◌, ◌≤◌, Bool, true, false, List, [], ◌∷◌, length, Some, None, refl, sym, ap, ◌∙◌, subst, arith}
 use Rattle.std.specs.Prelude.{◌==◌, ◌||◌, ◌&&◌, not, slice_get, slice_index_or, is_some, is_none}
 use Rattle.std.specs.List.{AllByRecursion}
 use Rattle.std.proofs.Math.Nat.{div-add-mod, mul_assoc, mul_comm}
@@ -18,13 +18,11 @@ use Rattle.namespace_map.specs.declared.commands.CreateSpec.{CreateSpec}
 use Rattle.namespace_map.specs.declared.commands.Make.{Make}
 use Rattle.namespace_map.specs.declared.refused.OpRefused.TheVariants.{BadSize, Exists, NoRegion}
 use Rattle.namespace_map.specs.Commands.{bad_name, has_no_plan, is_bad_size, set_of, share_of, unready_of}
-use Rattle.cut_words.specs.Words.{Words}
-use Rattle.power_cut.specs.Namespace.{over}
 use Rattle.namespace_laws.proofs.Sets.{no_fault}
 use Rattle.namespace_laws.proofs.Allowed.{allowed, passed_if}
 use Rattle.namespace_areas.specs.Finding.{set_at}
 use Rattle.namespace_areas.specs.Refusals.{offset_for, shown}
-use Rattle.sector_namespaces.specs.Creation.{CanLie, IsFormattedIn, has_sectors, layout_for, place_for}
+use Rattle.sector_namespaces.specs.Creation.{CanLie, has_sectors}
 use Rattle.namespace_ops.specs.Created.{refusal_for}
 
 -- ---- sizes
@@ -106,9 +104,3 @@ module _ (sets : List (List Mapping)) (areas : List Area) (spec : CreateSpec) wh
   -- as the code has them
   pub lies_by : (s : List Mapping) (o : ℕ) → s ≡ set → o ≡ offset → IsGood → CanLie s o spec
   lies_by s o a b good = subst (λ (s' : List Mapping). CanLie s' o spec) (sym a) (subst (λ (o' : ℕ). CanLie set o' spec) (sym b) good.lies)
-
-  pub formatted_by : (s : List Mapping) (o : ℕ) (rows rows' : List Words) (fuse left : Option ℕ) (b : Bool) → s ≡ set → o ≡ offset
-      → IsFormattedIn (over s o (share_of s spec.size)) (layout_for spec) spec.uuid rows rows' fuse left b → IsFormattedIn (place_for sets areas spec) (layout_for spec) spec.uuid rows rows' fuse left b
-  formatted_by s o rows rows' fuse left b e f it =
-      subst (λ (s' : List Mapping). IsFormattedIn (over s' offset (share_of s' spec.size)) (layout_for spec) spec.uuid rows rows' fuse left b) e
-      (subst (λ (o' : ℕ). IsFormattedIn (over s o' (share_of s spec.size)) (layout_for spec) spec.uuid rows rows' fuse left b) f it)

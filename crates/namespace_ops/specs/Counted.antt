@@ -1,22 +1,20 @@
 -- What a command comes to on namespaces of which is counted how often each is claimed.
-use Rattle.std.specs.Prelude.{◌≡◌, ◌≢◌, ℕ, Bool, true, false, List, Option, Some, None, Err, is_ok, OnOk}
-use Rattle.cut_words.specs.Words.{Words}
+use Rattle.std.specs.Prelude.{◌≡◌, ◌≢◌, ℕ, min, Bool, true, false, List, Option, Some, None, Err, is_ok, OnOk}
 use Rattle.cut_words.specs.Fuses.{burnt, lasts}
 use Rattle.nfit_reader.specs.declared.table.Mapping.{Mapping}
-use Rattle.sector_namespaces.specs.Creation.{AreSettled, IsFormattedIn, arena_steps, has_sectors, layout_for, place_for}
-use Rattle.sector_namespaces.specs.View.{AreUsable}
+use Rattle.sector_namespaces.specs.Creation.{arena_steps, has_sectors}
 use Rattle.namespace_map.specs.Namespaces.{Namespaces}
 use Rattle.namespace_map.specs.declared.commands.CreateSpec.{CreateSpec}
 use Rattle.namespace_map.specs.declared.commands.Command.{Command}
 use Rattle.namespace_map.specs.declared.commands.Command.TheVariants.{Create}
 use Rattle.namespace_map.specs.declared.refused.OpRefused.{OpRefused}
 use Rattle.namespace_map.specs.declared.refused.OpRefused.TheVariants.{OutOfMemory, PowerCut}
-use Rattle.namespace_map.specs.Commands.{refusal_of, done}
+use Rattle.namespace_map.specs.Commands.{refusal_of, done, set_of}
 use Rattle.namespace_map.specs.Changes.{changes_of}
 use Rattle.namespace_areas.specs.declared.area.Area.{Area}
 use Rattle.namespace_areas.specs.Seen.{AreHeld, areas_seen}
 use Rattle.namespace_areas.specs.Went.{Went}
-use Rattle.namespace_areas.specs.Refusals.{shown}
+use Rattle.namespace_areas.specs.Refusals.{offset_for, shown}
 use Rattle.namespace_ops.specs.Carried.{is_cut}
 use Rattle.namespace_ops.specs.Entries.{Reply}
 
@@ -57,9 +55,14 @@ abbrev pub steps_before : Command → ℕ
 steps_before (Create spec) = arena_steps spec
 steps_before other = 0
 
--- What a command that makes sectors asks of the words of all modules: none is pending, and they reach to the ends of the mappings.
-abbrev pub HasContents : List (List Mapping) → Command → List Words → Type 0
-HasContents sets command rows = makes_sectors command ≡ true → AreSettled rows × AreUsable sets rows
+-- of so many steps those that a fuse lasts for
+abbrev pub steps_made : Option ℕ → ℕ → ℕ
+steps_made None count = count
+steps_made (Some n) count = min n count
+
+-- what formats arenas is ready, if a command makes sectors
+abbrev pub IsReady : {F : Type 0} → (F → List (List Mapping) → Type 0) → List (List Mapping) → Command → F → Type 0
+IsReady ready sets command formatter = makes_sectors command ≡ true → ready formatter sets
 
 -- What a command comes to: its reply, and what became of the namespaces and of a fuse.
 pub record Answered (old new : State) (fuse left : Option ℕ) (command : Command) (reply : Reply) : Type 0 where
@@ -84,12 +87,12 @@ pub record Answered (old new : State) (fuse left : Option ℕ) (command : Comman
   pub sets : new.sets ≡ old.sets
   pub stopped : old.stopped ≡ false → new.stopped ≡ is_cut reply
 
--- What became of the words of all modules by a command. If it begins no arena none is touched; else the arena is formatted in the
--- namespace's place, as far as the fuse lasts, and no word beside that place is touched.
-pub record Formats (old : State) (rows rows' : List Words) (fuse : Option ℕ) (command : Command) (reply : Reply) : Type 0 where
-  pub off : old.stopped ≡ true → rows' ≡ rows
-  pub memory : reply ≡ Err OutOfMemory → rows' ≡ rows
-  pub refused : GoesOn old reply → (f : OpRefused) → refusal_of (namespaces_in old) command ≡ Some f → rows' ≡ rows
-  pub plain : makes_sectors command ≡ false → rows' ≡ rows
+-- What became of what formats arenas by a command. If it begins no arena nothing has changed; else one is formatted in the namespace's
+-- place, as far as the fuse lasts.
+pub record Formats {F : Type 0} (formats : F → F → List Mapping → ℕ → CreateSpec → Option ℕ → Type 0) (old : State) (was now : F) (fuse : Option ℕ) (command : Command) (reply : Reply) : Type 0 where
+  pub off : old.stopped ≡ true → now ≡ was
+  pub memory : reply ≡ Err OutOfMemory → now ≡ was
+  pub refused : GoesOn old reply → (f : OpRefused) → refusal_of (namespaces_in old) command ≡ Some f → now ≡ was
+  pub plain : makes_sectors command ≡ false → now ≡ was
   pub formatted : GoesOn old reply → refusal_of (namespaces_in old) command ≡ None → (spec : CreateSpec) → command ≡ Create spec → has_sectors spec.make ≡ true
-      → IsFormattedIn (place_for old.sets old.areas spec) (layout_for spec) spec.uuid rows rows' fuse (burnt fuse (arena_steps spec)) (lasts fuse (arena_steps spec))
+      → formats was now (set_of (shown old.sets old.areas) spec.region) (offset_for (shown old.sets old.areas) spec) spec fuse

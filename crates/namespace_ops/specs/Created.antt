@@ -2,12 +2,10 @@
 -- one fuse counts the steps of both, is this project's rule; the labels are those of UEFI 2.10, section 13.19.
 use Rattle.std.specs.Prelude.{◌≡◌, ℕ, true, false, List, map, Option, Some, None, Result, Err, is_ok}
 use Rattle.std.specs.List.{enumerate_from}
-use Rattle.cut_words.specs.Words.{Words}
 use Rattle.cut_words.specs.Fuses.{burnt, lasts}
 use Rattle.nfit_reader.specs.declared.table.Mapping.{Mapping}
 use Rattle.arena_open.specs.Format.{format_count}
-use Rattle.sector_namespaces.specs.Creation.{AreSettled, IsFormattedIn, has_sectors, layout_for, place_for}
-use Rattle.sector_namespaces.specs.View.{AreUsable}
+use Rattle.sector_namespaces.specs.Creation.{has_sectors, layout_for}
 use Rattle.namespace_map.specs.declared.commands.Command.TheVariants.{Create}
 use Rattle.namespace_map.specs.declared.commands.CreateSpec.{CreateSpec}
 use Rattle.namespace_map.specs.declared.refused.OpRefused.{OpRefused}
@@ -41,22 +39,16 @@ pub record IsNew (sets : List (List Mapping)) (areas : List Area) (spec : Create
 abbrev pub refusal_for : List (List Mapping) → List Area → CreateSpec → Option OpRefused
 refusal_for sets areas spec = refusal_of (shown sets areas) (Create spec)
 
--- what a create of a sector namespace asks of the label areas, the contents of all modules, and what is to be created
-pub record CanCreateSectors (held : Held) (rows : List Words) (spec : CreateSpec) : Type 0 where
+-- what a create of a sector namespace asks of the label areas and of what is to be created
+pub record CanCreateSectors (held : Held) (spec : CreateSpec) : Type 0 where
   -- power wasn't cut in a command
   pub running : held.stopped ≡ false
   -- the name has no zero byte
   pub name : IsGoodName spec.name
   pub sectors : has_sectors spec.make ≡ true
-  -- no word is pending
-  pub settled : AreSettled rows
-  -- the contents reach to the ends of the mappings
-  pub usable : AreUsable held.sets rows
 
--- What became of label areas, of the words of all modules and of a fuse by a create that nothing refuses.
-pub record IsMade (sets : List (List Mapping)) (old now : List Area) (rows rows' : List Words) (fuse left : Option ℕ) (spec : CreateSpec) (result : Result (Unit {0}) OpRefused) : Type 0 where
-  -- the arena is formatted as far as the fuse lasts, and no word beside the namespace is touched
-  pub formatted : IsFormattedIn (place_for sets old spec) (layout_for spec) spec.uuid rows rows' fuse (burnt fuse (format_count (layout_for spec))) (lasts fuse (format_count (layout_for spec)))
+-- What became of label areas and of a fuse by a create that nothing refuses. Its arena was formatted as far as the fuse lasts.
+pub record IsMade (sets : List (List Mapping)) (old now : List Area) (fuse left : Option ℕ) (spec : CreateSpec) (result : Result (Unit {0}) OpRefused) : Type 0 where
   -- if power was cut within the format no label area was touched
   pub within : lasts fuse (format_count (layout_for spec)) ≡ false → (result ≡ Err PowerCut) × (now ≡ old) × (left ≡ burnt fuse (format_count (layout_for spec)))
   -- if the arena is whole, the label changes of the command were made, as far as what is left of the fuse lasts
@@ -65,7 +57,7 @@ pub record IsMade (sets : List (List Mapping)) (old now : List Area) (rows rows'
   pub cut : (f : OpRefused) → result ≡ Err f → f ≡ PowerCut
 
 -- What became of them by any create.
-pub record Creates (sets : List (List Mapping)) (old now : List Area) (rows rows' : List Words) (fuse left : Option ℕ) (spec : CreateSpec) (result : Result (Unit {0}) OpRefused) : Type 0 where
+pub record Creates (sets : List (List Mapping)) (old now : List Area) (fuse left : Option ℕ) (spec : CreateSpec) (result : Result (Unit {0}) OpRefused) : Type 0 where
   -- if it is refused, the refusal is answered, and nothing has changed
-  pub refused : (f : OpRefused) → refusal_for sets old spec ≡ Some f → (result ≡ Err f) × (now ≡ old) × (rows' ≡ rows) × (left ≡ fuse)
-  pub made : refusal_for sets old spec ≡ None → IsMade sets old now rows rows' fuse left spec result
+  pub refused : (f : OpRefused) → refusal_for sets old spec ≡ Some f → (result ≡ Err f) × (now ≡ old) × (left ≡ fuse)
+  pub made : refusal_for sets old spec ≡ None → IsMade sets old now fuse left spec result

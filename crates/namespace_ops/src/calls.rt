@@ -4,14 +4,15 @@ ghost use Rattle.namespace_map.specs.declared.commands.Command.TheVariants as co
 ghost use Rattle.namespace_map.specs.Commands.{named_of};
 ghost use Rattle.namespace_ops.specs.Carried.{HasGoodName, IsGoodName};
 ghost use Rattle.namespace_ops.specs.Claims.{count_of};
-ghost use Rattle.namespace_ops.specs.Counted.{Answered, Formats, HasContents, takes_memory};
+ghost use Rattle.namespace_ops.specs.Counted.{Answered, Formats, IsReady, takes_memory};
 ghost use Rattle.namespace_ops.specs.Registered.{Entered, state_of};
 ghost use Rattle.namespace_ops.specs.Room.{room_of};
 
+use crate::formatter::Formatter;
 use crate::journal::JournalEntry;
 use crate::names::named;
 use crate::registry::Registry;
-use cut_words::{CutWords, Fuse};
+use cut_words::Fuse;
 use namespace_map::{Command, CreateSpec, OpRefused};
 use nvd_words::Tag;
 use std::alloc::Global;
@@ -24,29 +25,30 @@ impl Registry {
     /// its UUID and that of its parent are the namespace's, and its sectors read as zeros.
     ///
     /// The tag's session has room for one more call, and the name has no zero byte, as `name_of` of `label_codec` makes
-    /// it. For a namespace with sectors `modules` has the contents of all modules by number, up to the ends of the mappings,
-    /// and none of their words is pending; for a raw one it may be empty, and stays as it was.
+    /// it. The formatter of a namespace with sectors either has the contents of all modules by number, up to the ends of the
+    /// mappings, and none of their words is pending; or it counts ([`crate::Counted`]), and says where the arena lies and how
+    /// many steps of its format were made. For a raw namespace it stays as it was.
     ///
     /// Refusals, after which nothing has changed: `BadName`, `NoRegion`, `ModuleLabels`, `Exists`, `BadSize`, `NoSlot`,
     /// `NoSpace`; `OutOfMemory` in place of any other answer, since all memory is taken before the first store. Else
     /// `PowerCut` comes exactly if the fuse has fewer steps left than the format and the label changes take, or if an
     /// earlier call or recovery answered it. After a cut in the format the label areas are as they were.
-    pub fn create(
+    pub fn create<F: Formatter>(
         &mut self,
         alloc: Global,
-        modules: &mut Vec<CutWords>,
+        formatter: &mut F,
         fuse: &mut Fuse,
         tag: Tag,
         spec: &CreateSpec,
     ) -> Result<(), OpRefused>
         requires room { 1 ≤ room_of self.old.room tag.session }
         requires name { IsGoodName spec.now.name }
-        requires contents { HasContents self.old.sets (command.Create spec.now) modules.old.items }
+        requires ready { IsReady F.ready self.old.sets (command.Create spec.now) formatter.old }
         ensures entered { Entered self.old self.new tag (command.Create spec.now) result }
         ensures answered { Answered (state_of self.old) (state_of self.new) fuse.old fuse.new (command.Create spec.now) result }
-        ensures formats { Formats (state_of self.old) modules.old.items modules.new.items fuse.old (command.Create spec.now) result }
+        ensures formats { Formats F.formats (state_of self.old) formatter.old formatter.new fuse.old (command.Create spec.now) result }
     {
-        let reply = self.namespaces.create(alloc, modules, fuse, spec);
+        let reply = self.namespaces.create(alloc, formatter, fuse, spec);
         self.journal.enter(JournalEntry {
             tag,
             command: Command::Create(*spec),
@@ -144,26 +146,26 @@ impl Registry {
     /// Carries a command out, whichever it is.
     ///
     /// The tag's session has room for one more call, a name that is given has no zero byte, as `name_of` of `label_codec`
-    /// makes it, and `modules` is as for [`Registry::create`]. The answer is that of [`Registry::create`],
+    /// makes it, and the formatter is as for [`Registry::create`]. The answer is that of [`Registry::create`],
     /// [`Registry::delete`], [`Registry::rename`] or [`Registry::claim`]. A claim that is given back is always granted while
     /// power is on; of a namespace that isn't claimed none is given back. Only a create takes memory.
-    pub fn carry_out(
+    pub fn carry_out<F: Formatter>(
         &mut self,
         alloc: Global,
-        modules: &mut Vec<CutWords>,
+        formatter: &mut F,
         fuse: &mut Fuse,
         tag: Tag,
         command: &Command,
     ) -> Result<(), OpRefused>
         requires room { 1 ≤ room_of self.old.room tag.session }
         requires name { HasGoodName command.now }
-        requires contents { HasContents self.old.sets command.now modules.old.items }
+        requires ready { IsReady F.ready self.old.sets command.now formatter.old }
         ensures entered { Entered self.old self.new tag command.now result }
         ensures answered { Answered (state_of self.old) (state_of self.new) fuse.old fuse.new command.now result }
-        ensures formats { Formats (state_of self.old) modules.old.items modules.new.items fuse.old command.now result }
+        ensures formats { Formats F.formats (state_of self.old) formatter.old formatter.new fuse.old command.now result }
         ensures memory { takes_memory command.now ≡ false → result ≢ Err OpRefused.OutOfMemory }
     {
-        let reply = self.namespaces.carry_out(alloc, modules, fuse, command);
+        let reply = self.namespaces.carry_out(alloc, formatter, fuse, command);
         self.journal.enter(JournalEntry {
             tag,
             command: *command,

@@ -4,13 +4,14 @@ ghost use Rattle.namespace_map.specs.declared.commands.Command.TheVariants as co
 ghost use Rattle.namespace_map.specs.Commands.{refusal_of};
 ghost use Rattle.namespace_ops.specs.Carried.{HasGoodName, IsGoodName};
 ghost use Rattle.namespace_ops.specs.Claims.{count_of};
-ghost use Rattle.namespace_ops.specs.Counted.{Answered, Formats, HasContents, makes_sectors, namespaces_in, takes_memory};
+ghost use Rattle.namespace_ops.specs.Counted.{Answered, Formats, IsReady, namespaces_in, takes_memory};
 ghost use Rattle.namespace_ops.specs.Counting.{is_first, state_in};
 
 use crate::claims::Claims;
+use crate::formatter::Formatter;
 use crate::label_store::LabelStore;
 use crate::sectors::create_sectors;
-use cut_words::{CutWords, Fuse};
+use cut_words::Fuse;
 use namespace_map::{Command, CreateSpec, Make, Named, OpRefused};
 use std::alloc::Global;
 use uuid::Uuid;
@@ -57,17 +58,17 @@ impl CountedNamespaces {
     }
 
     /// Creates a namespace, unless power was cut. The arena of one with sectors is formatted first.
-    pub(crate) fn create(
+    pub(crate) fn create<F: Formatter>(
         &mut self,
         alloc: Global,
-        modules: &mut Vec<CutWords>,
+        formatter: &mut F,
         fuse: &mut Fuse,
         spec: &CreateSpec,
     ) -> Result<(), OpRefused>
         requires name { IsGoodName spec.now.name }
-        requires contents { HasContents self.old.store.sets (command.Create spec.now) modules.old.items }
+        requires ready { IsReady F.ready self.old.store.sets (command.Create spec.now) formatter.old }
         ensures answered { Answered (state_in self.old) (state_in self.new) fuse.old fuse.new (command.Create spec.now) result }
-        ensures formats { Formats (state_in self.old) modules.old.items modules.new.items fuse.old (command.Create spec.now) result }
+        ensures formats { Formats F.formats (state_in self.old) formatter.old formatter.new fuse.old (command.Create spec.now) result }
         ensures claims { self.new.claims ≡ self.old.claims }
     {
         if self.is_off() {
@@ -75,7 +76,7 @@ impl CountedNamespaces {
         }
         match spec.make {
             Make::Raw => self.store.create(alloc, fuse, spec),
-            Make::Sector { .. } => create_sectors(alloc, &mut self.store, modules, fuse, spec),
+            Make::Sector { .. } => create_sectors(alloc, &mut self.store, formatter, fuse, spec),
         }
     }
 
@@ -149,24 +150,24 @@ impl CountedNamespaces {
     }
 
     /// Carries a command out, whichever it is, unless power was cut. There is room for a count.
-    pub(crate) fn carry_out(
+    pub(crate) fn carry_out<F: Formatter>(
         &mut self,
         alloc: Global,
-        modules: &mut Vec<CutWords>,
+        formatter: &mut F,
         fuse: &mut Fuse,
         command: &Command,
     ) -> Result<(), OpRefused>
         requires name { HasGoodName command.now }
-        requires contents { HasContents self.old.store.sets command.now modules.old.items }
+        requires ready { IsReady F.ready self.old.store.sets command.now formatter.old }
         requires room { length self.old.claims.counts < self.old.claims.room }
         requires few { (uuid : List ℕ) → count_of self.old.claims.counts uuid + 1 < 2 ^ 32 }
         ensures answered { Answered (state_in self.old) (state_in self.new) fuse.old fuse.new command.now result }
-        ensures formats { Formats (state_in self.old) modules.old.items modules.new.items fuse.old command.now result }
+        ensures formats { Formats F.formats (state_in self.old) formatter.old formatter.new fuse.old command.now result }
         ensures room { self.new.claims.room ≡ self.old.claims.room }
         ensures memory { takes_memory command.now ≡ false → result ≢ Err OpRefused.OutOfMemory }
     {
         match command {
-            Command::Create(spec) => self.create(alloc, modules, fuse, spec),
+            Command::Create(spec) => self.create(alloc, formatter, fuse, spec),
             Command::Delete { uuid } => self.delete(fuse, uuid),
             Command::Rename { uuid, name } => self.rename(fuse, uuid, name),
             Command::Claim { uuid } => self.claim(uuid),

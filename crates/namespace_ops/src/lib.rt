@@ -12,7 +12,8 @@
 //! labels by UUID ──► the labels of a UUID, by position ──► a list of changes ──► made under a fuse, step by step
 //! ```
 //!
-//! A create of a sector namespace formats its arena first (`sector_namespaces`), and the same fuse counts these steps:
+//! A create of a sector namespace formats its arena first, and the same fuse counts these steps. A [`Formatter`] either writes
+//! the arena's words (`sector_namespaces`) or counts them alone ([`Counted`]); who copies contents writes them while copying:
 //!
 //! ```text
 //! find the place ──► plan the changes ──► format the arena ──► put the labels
@@ -46,7 +47,7 @@
 //! | the sets and areas, or the first fault | [`Registry::open_all`] | `registry_opening` of `specs/Opening.antt` |
 //! | recovery's changes are made, cut or not; the namespaces after it | [`Registry::recover`] | `recovery_changes`, `after_recovery` of `namespace_map`; `Went` of `namespace_areas` |
 //! | the reply, and what becomes of namespaces, label areas and claims | the calls with a tag | `Answered` of `specs/Counted.antt`; `refusal_of`, `done` of `namespace_map` |
-//! | what becomes of the modules' contents | [`Registry::create`] | `Formats` of `specs/Counted.antt` |
+//! | what becomes of the modules' contents, or how much of the format is made | [`Registry::create`] | `Formats` of `specs/Counted.antt` |
 //! | the journal has this entry more, and the tag's session has room for one less | the calls with a tag | `Entered` of `specs/Registered.antt` |
 //! | the journal replays; the state after a power loss | [`Registry::journal`] | `IsJournaled`, `WasCut`, `WasCutFirst` of `specs/Registered.antt`, `Gives` of `specs/Replay.antt` |
 //! | which call a power cut after N steps hits | [`cuts_pass_the_fuse`] | `steps_of` of `specs/Steps.antt` |
@@ -58,6 +59,7 @@ mod claims;
 mod commands;
 mod counted;
 mod creating;
+mod formatter;
 mod journal;
 mod journal_room;
 mod label_store;
@@ -74,6 +76,7 @@ mod sectors;
 mod settling;
 mod turns;
 
+pub use formatter::{Begun, Counted, Formatter};
 pub use journal::JournalEntry;
 pub use law::{cuts_pass_the_fuse, journals_spend_their_steps};
 pub use names::named;

@@ -36,6 +36,10 @@ bytes_by e contents = bytes_by_place e.set e.offset e.raw contents
 abbrev pub words_by : Namespace → List (List ℕ) → List ℕ
 words_by e contents = (words_of (over e.set e.offset e.raw (rows_of contents))).kept
 
+-- these words are the first ones of all
+abbrev pub IsFront : List ℕ → List ℕ → Type 0
+IsFront words all = words ≡ take (length words) all
+
 -- ---- its arenas
 
 -- these bytes are those of words, from word `at` on

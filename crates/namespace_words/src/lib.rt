@@ -13,6 +13,15 @@
 //! the maps in memory, so a sector's block is the one that it has once its moves are made. `move_runs` says which bytes of the
 //! namespace make them there: for each move the four bytes of its sector's map entry.
 //!
+//! For lanes that work on all words of an arena, `load_arenas` reads the words of the arenas that were found, and opens them in
+//! memory. It trusts nothing that was read before: the words are decoded again, so the states are sound whatever the source
+//! answers. `words_run` makes a row of words the run of bytes that puts it into the namespace.
+//!
+//! ```text
+//! ArenaRead .. ──► load_arenas ──► Chain ──► lanes work, power is cut ──► words_run ──► NewBytes::Runs
+//! image source ──────▲  words up to the end of the last arena
+//! ```
+//!
 //! A source may reveal what it holds, or not (a directory doesn't). What depends on the contents is said of the contents that
 //! it reveals (`Reveals`). What callers need whatever the source reveals, as that an arena lies in the namespace, is said
 //! without it.
@@ -24,6 +33,7 @@
 //! | all arenas in its words | `AreAll` of `namespace_bytes` |
 //! | the arenas are sound and lie in it | `AreSized` of `namespace_bytes`, `AreWithin` of `specs/Source.antt` |
 //! | a sector's cell | `contents_of` of `arena_open` |
+//! | arenas whose words are in memory | `state_at` of `arena_open`, by `front_opens` of `proofs/LoadedArenas.antt` |
 //! | the runs of pending moves | `move_runs` of `specs/Moves.antt` |
 //! | the namespace's bytes once they are made | `HaveMoves` of `specs/Moves.antt`, by `moves_are_made` of `proofs/MadeMoves.antt` |
 //!
@@ -34,10 +44,14 @@ mod arena_read;
 mod arenas;
 mod cell;
 mod extent;
+mod loading;
 mod moves;
+mod rows;
 
 pub use arena_read::{ArenaRead, into_arenas};
 pub use arenas::read_arenas_from;
 pub use cell::{arena_at, locate, read_cell, sectors_of_all};
 pub use extent::read_extent;
+pub use loading::load_arenas;
 pub use moves::{entry_run, move_runs};
+pub use rows::words_run;

@@ -14,3 +14,4 @@ pub mod Values
 pub mod Rows
 pub mod LabelRows
 pub mod Wrong
+pub mod CutEntries

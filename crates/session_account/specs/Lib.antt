@@ -11,3 +11,4 @@ pub mod Registering
 pub mod Parts
 pub mod Going
 pub mod Claims
+pub mod CutEntries

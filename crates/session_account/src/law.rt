@@ -3,6 +3,7 @@ ghost use Rattle.session_account.specs.Claims.{ClaimOpens, OpenIsClaimed, Unclai
 ghost use Rattle.session_account.specs.Registering.{AnswersMakeEntries, ClaimableBefore, OffIsJournal, OnGrows, OnIsJournal};
 ghost use Rattle.session_account.specs.Going.{BeginsSo, CallEnds, CallStops, EndsSo, GoesOn, StandsHere, StopsSo, WritesSame};
 ghost use Rattle.session_account.specs.Parts.{AccountsFollow, EntriesKeep, MadeGrows, OpenFollows, SurvivalFollows};
+ghost use Rattle.session_account.specs.CutEntries.{JournalsLeaveOthers};
 ghost use Rattle.session_account.specs.Recovered.{JournalsRecover};
 
 /// If all locks are closed and each session is done, the sessions' accounts hold.
@@ -90,6 +91,13 @@ pub fn off_is_journal()
 /// which power was cut. A command may begin on a namespace that is pending.
 pub fn journals_recover()
     ensures { JournalsRecover }
+{}
+
+/// The label areas that a journal left have the namespaces of its end; or, if power was cut in a command, those from before it, but for the
+/// command's own: that is one of the states of its table in `namespace_laws`. So a cut changes no other namespace, even before
+/// recovery.
+pub fn journals_leave_others()
+    ensures { JournalsLeaveOthers }
 {}
 
 /// The namespace that a session's entries leave open is the one that its replies say.

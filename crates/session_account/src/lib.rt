@@ -26,6 +26,7 @@
 //! | a session begins, goes on by an answered call, stops at a cut, or ends | [`begins_so`], [`goes_on`], [`stops_so`], [`ends_so`] |
 //! | a call on a sector stands in its arena alone, and a write stands as the same if it was answered or cut | [`stands_here`], [`writes_same`], [`call_ends`], [`call_stops`] |
 //! | what the registry promises of a call makes an entry of the journal, until power is cut and after | [`answers_make_entries`], [`on_grows`], [`on_is_journal`], [`off_is_journal`] |
+//! | a cut in a journal changes no namespace but the command's own, which is in a state of its table | [`journals_leave_others`] |
 //! | the label areas that a journal left recover to the namespaces of its end, or to those from before or after the command that was cut | [`journals_recover`] |
 //! | claims are the namespaces that sessions have open | [`claim_opens`], [`unclaim_closes`], [`open_is_claimed`], [`open_follows`] |
 //!
@@ -37,8 +38,8 @@ mod reply;
 
 pub use law::{
     accounts_follow, answers_make_entries, begins_so, call_ends, call_stops, claim_opens,
-    claimable_before, ends_so, entries_keep, goes_on, journals_recover, made_grows, off_is_journal,
-    on_grows, on_is_journal, open_follows, open_is_claimed, stands_here, stops_so,
-    survival_follows, unclaim_closes, writes_same,
+    claimable_before, ends_so, entries_keep, goes_on, journals_leave_others, journals_recover,
+    made_grows, off_is_journal, on_grows, on_is_journal, open_follows, open_is_claimed,
+    stands_here, stops_so, survival_follows, unclaim_closes, writes_same,
 };
 pub use reply::Reply;

@@ -1,3 +1,4 @@
+pub mod Fill
 pub mod Following
 pub mod Generated
 pub mod LoadRows

@@ -53,5 +53,5 @@ pub use schedule::{Replay, ReplayLine};
 pub use schedule_lines::{LinesLeft, ReplayLines};
 pub use script::{Line, Order, Script, SessionLines};
 pub use sessions::read_script;
-pub use texts::{cell_text, value_text, words_text};
+pub use texts::{add_bad, add_cell, add_words};
 pub use words::{is_printable, value_in};

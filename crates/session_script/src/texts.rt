@@ -1,9 +1,9 @@
 //! The texts of values and of cells.
-ghost use Rattle.std.specs.Prelude.{◌≡◌, ◌++◌, ◌∷◌, [], IfOk, codes, string_bytes};
+ghost use Rattle.std.specs.Prelude.{◌≡◌, ◌++◌, [], ◌∷◌, IfOk, OnOk, codes, string_bytes};
 ghost use Rattle.hex.specs.Hex.{encode_lower};
 ghost use Rattle.cut_words.specs.WordBytes.{bytes_of};
 ghost use Rattle.arena_open.specs.declared.cell.Cell.TheVariants as cell;
-ghost use Rattle.session_script.specs.Texts.{cell_text, is_fill, joined, lf, value_text};
+ghost use Rattle.session_script.specs.Texts.{cell_text, is_fill, value_text};
 
 use arena_open::Cell;
 use std::alloc::{AllocError, Global};
@@ -19,61 +19,81 @@ fn bytes_of(alloc: Global, words: &[u64]) -> Result<Vec<u8>, AllocError>
     Ok(bytes)
 }
 
-/// Returns whether all of these bytes are this one.
-fn is_fill(byte: u8, bytes: &[u8]) -> bool
-    ensures { result ≡ is_fill byte bytes.now }
+/// Returns whether all bytes of these words are this one. It looks at whole words.
+fn is_fill(byte: u8, words: &[u64]) -> bool
+    ensures { result ≡ is_fill byte (bytes_of words.now) }
 {
-    bytes.iter().all(|other| *other == byte)
+    let full = u64::from_le_bytes([byte; 8]);
+    for word in words {
+        if *word != full {
+            return false;
+        }
+    }
+    true
 }
 
-/// Returns the text of a value that consists of one repeated byte.
-fn fill_text(alloc: Global, byte: u8) -> Result<String, AllocError>
-    ensures { IfOk result (λ text. string_bytes text ≡ codes "fill:" ++ encode_lower (byte ∷ [])) }
+/// Adds the text of a value that consists of one repeated byte.
+fn add_fill(alloc: Global, byte: u8, text: &mut Vec<u8>) -> Result<(), AllocError>
+    ensures { OnOk result (text.new.items ≡ text.old.items ++ (codes "fill:" ++ encode_lower (byte ∷ []))) }
 {
     let digits = hex::encode(alloc, &[byte])?;
-    format!(in alloc; "fill:{}", digits)
+    text.extend_from_slice(b"fill:")?;
+    text.extend_from_slice(digits.as_bytes())
 }
 
-/// Returns the text of a value as its bytes.
-fn hex_text(alloc: Global, value: &[u8]) -> Result<String, AllocError>
-    ensures { IfOk result (λ text. string_bytes text ≡ codes "hex:" ++ encode_lower value.now) }
+/// Adds the text of a value as all of its bytes.
+fn add_hex(alloc: Global, words: &[u64], text: &mut Vec<u8>) -> Result<(), AllocError>
+    ensures { OnOk result (text.new.items ≡ text.old.items ++ (codes "hex:" ++ encode_lower (bytes_of words.now))) }
 {
-    let digits = hex::encode(alloc, value)?;
-    format!(in alloc; "hex:{}", digits)
+    let bytes = bytes_of(alloc, words)?;
+    let digits = hex::encode(alloc, &bytes)?;
+    text.extend_from_slice(b"hex:")?;
+    text.extend_from_slice(digits.as_bytes())
 }
 
-/// Returns the text of a value: `fill:` and its one repeated byte, or `hex:` and all of its bytes, each in two lower-case
+/// Adds the text of a value: `fill:` and its one repeated byte, or `hex:` and all of its bytes, each in two lower-case
 /// digits.
-pub fn value_text(alloc: Global, value: &[u8]) -> Result<String, AllocError>
-    ensures { IfOk result (λ text. string_bytes text ≡ value_text value.now) }
+fn add_value(alloc: Global, words: &[u64], text: &mut Vec<u8>) -> Result<(), AllocError>
+    ensures { OnOk result (text.new.items ≡ text.old.items ++ value_text (bytes_of words.now)) }
 {
-    match value {
-        [] => String::from_str(alloc, "hex:"),
-        [first, rest @ ..] => {
-            if is_fill(*first, rest) {
-                fill_text(alloc, *first)
+    match words {
+        [] => text.extend_from_slice(b"hex:"),
+        [first, ..] => {
+            let [byte, ..] = first.to_le_bytes();
+            if is_fill(byte, words) {
+                add_fill(alloc, byte, text)
             } else {
-                hex_text(alloc, value)
+                add_hex(alloc, words, text)
             }
         }
     }
 }
 
-/// Returns the line of a sector's words: `ok` and their value.
-pub fn words_text(alloc: Global, words: &[u64]) -> Result<String, AllocError>
-    ensures { IfOk result (λ text. string_bytes text ≡ cell_text (cell.Bytes words.now)) }
+/// Adds the line of a sector's words to a text: `ok` and their value. The one refusal is out of memory; then a part of the line
+/// may stand in the text.
+pub fn add_words(alloc: Global, words: &[u64], text: &mut Vec<u8>) -> Result<(), AllocError>
+    ensures { OnOk result (text.new.items ≡ text.old.items ++ cell_text (cell.Bytes words.now)) }
 {
-    let bytes = bytes_of(alloc, words)?;
-    let value = value_text(alloc, &bytes)?;
-    format!(in alloc; "ok {}\n", value)
+    text.extend_from_slice(b"ok ")?;
+    add_value(alloc, words, text)?;
+    text.push(b'\n')?;
+    Ok(())
 }
 
-/// Returns the line of a cell that was read: `ok` and its value, or `bad`.
-pub fn cell_text(alloc: Global, cell: &Cell) -> Result<String, AllocError>
-    ensures { IfOk result (λ text. string_bytes text ≡ cell_text cell.now) }
+/// Adds the line of a bad cell to a text.
+pub fn add_bad(text: &mut Vec<u8>) -> Result<(), AllocError>
+    ensures { OnOk result (text.new.items ≡ text.old.items ++ cell_text cell.Bad) }
+{
+    text.extend_from_slice(b"bad\n")
+}
+
+/// Adds the line of a cell that was read to a text: `ok` and its value, or `bad`. The one refusal is out of memory; then a part
+/// of the line may stand in the text.
+pub fn add_cell(alloc: Global, cell: &Cell, text: &mut Vec<u8>) -> Result<(), AllocError>
+    ensures { OnOk result (text.new.items ≡ text.old.items ++ cell_text cell.now) }
 {
     match cell {
-        Cell::Bytes(words) => words_text(alloc, words.as_slice()),
-        Cell::Bad => String::from_str(alloc, "bad\n"),
+        Cell::Bytes(words) => add_words(alloc, words.as_slice(), text),
+        Cell::Bad => add_bad(text),
     }
 }

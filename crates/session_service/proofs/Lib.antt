@@ -8,3 +8,4 @@ pub mod Accounting
 pub mod Making
 pub mod Ends
 pub mod Splitting
+pub mod Chunks

@@ -108,7 +108,7 @@ runner_field_send = struct_send (shape Runner.the_type) (
     orders_pass_send,
     (
       search (sendable, crosses) depth 20,
-      (search (sendable, crosses) depth 20, (plain_send _ _ _ _ _, tt)),
+      (search (sendable, crosses) depth 20, (plain_send _ _ _ _ _, (search (sendable, crosses) depth 20, tt))),
     ),
   ),
 )

@@ -742,12 +742,12 @@ pub a_cut : (b : Bool) → not b ≡ false → b ≡ true
 a_cut true e = refl
 a_cut false e = absurd (cc)
 
--- only its text changed, and whether memory ran out
-module _ (service : Service) (script : Script) (q : ℕ) (replies : List Reply) (r : Runner) (said : Vec ℕ Global) (refused : Bool) where
-  abbrev known_still : (orders : OrdersPart) (known : Parts) → Knows service q orders known r → Knows service q orders known (record r { text = said; refused = refused })
+-- only its text changed, whether memory ran out, and the words that it read last
+module _ (service : Service) (script : Script) (q : ℕ) (replies : List Reply) (r : Runner) (said : Vec ℕ Global) (refused : Bool) (words : Vec ℕ Global) where
+  abbrev known_still : (orders : OrdersPart) (known : Parts) → Knows service q orders known r → Knows service q orders known (record r { text = said; refused = refused; words = words })
   known_still orders known k = record { know = k.know; first = k.first; outside = k.outside; orders_number = k.orders_number; orders_is = k.orders_is }
 
-  pub same_at : IsAt service script q replies r → IsAt service script q replies (record r { text = said; refused = refused })
+  pub same_at : IsAt service script q replies r → IsAt service script q replies (record r { text = said; refused = refused; words = words })
   same_at at = record {
     orders = at.orders;
     known = at.known;
@@ -758,7 +758,7 @@ module _ (service : Service) (script : Script) (q : ℕ) (replies : List Reply) 
     stands = at.stands;
   }
 
-  pub same_done_at : IsDone service script q replies r → IsDone service script q replies (record r { text = said; refused = refused })
+  pub same_done_at : IsDone service script q replies r → IsDone service script q replies (record r { text = said; refused = refused; words = words })
   same_done_at d = record {
     orders = d.orders;
     known = d.known;

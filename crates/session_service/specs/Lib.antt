@@ -5,3 +5,4 @@ pub mod Made
 pub mod Runners
 pub mod Ends
 pub mod Ran
+pub mod Chunks

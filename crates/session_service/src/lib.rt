@@ -36,6 +36,7 @@
 mod arena_end;
 mod ending;
 mod finding;
+mod in_threads;
 mod laying;
 mod lines;
 mod namespaces;

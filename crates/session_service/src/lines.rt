@@ -1,5 +1,5 @@
 //! A session makes one call of its script.
-ghost use Rattle.std.specs.Prelude.{◌≡◌, ℕ, ◌+◌, ◌^◌, ◌<◌, List, IfErr, IfOk, None};
+ghost use Rattle.std.specs.Prelude.{◌≡◌, ℕ, ◌+◌, ◌^◌, ◌<◌, List, length, IfErr, IfOk, None};
 ghost use Rattle.lane_table.specs.Reads.{cell_of_kind};
 ghost use Rattle.session_account.specs.declared.reply.Reply.{Reply as Replied};
 ghost use Rattle.session_account.specs.declared.reply.Reply.TheVariants as reply;
@@ -24,7 +24,8 @@ use nvd_words::Items;
 use registry_service::order;
 use session_account::Reply;
 use session_script::{Line, Order, Payload};
-use std::alloc::AllocError;
+use std::alloc::{AllocError, Global};
+use std::mem;
 use std::sync::Wait;
 use uuid::Uuid;
 
@@ -53,6 +54,15 @@ fn cell_of(kind: CellKind, words: Vec<u64>) -> Cell
     }
 }
 
+/// Takes over the list of the words that were read last, as long as a sector has words now.
+fn take_words(alloc: Global, last: &mut Vec<u64>, width: usize) -> Result<Vec<u64>, AllocError>
+    ensures { IfOk result (λ words. length words.items ≡ width) }
+{
+    let mut words = mem::replace(last, Vec::new(alloc));
+    words.resize(width, 0)?;
+    Ok(words)
+}
+
 /// Reads a sector of the namespace that is open.
 fn make_read<R: Wait>(
     rt: &R,
@@ -71,7 +81,7 @@ fn make_read<R: Wait>(
         Err(why) => return Ok(refuse(rt, service, runner, why)),
     };
     let width = (found.bytes / 8) as usize;
-    let mut words = match vec![in service.alloc; 0; width] {
+    let mut words = match take_words(service.alloc, &mut runner.words, width) {
         Ok(words) => words,
         Err(fault) => {
             rest_session(rt, service, runner);

@@ -15,4 +15,6 @@ pub struct Runner {
     pub(crate) text: Vec<u8>,
     /// Memory ran out in a call. It makes no call more.
     pub(crate) refused: bool,
+    /// The words of its last read. The next read takes the list over, so that it needs no memory.
+    pub(crate) words: Vec<u64>,
 }

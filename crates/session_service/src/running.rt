@@ -8,10 +8,12 @@ ghost use Rattle.session_script.specs.declared.script.Script.{Script as AnyScrip
 ghost use Rattle.session_texts.specs.Texts.{reply_text};
 ghost use Rattle.session_service.specs.Runners.{AreEnded, AreRunnersReady, HasAnswer, IsEnded, IsRunnerReady, IsRunning};
 
+use crate::in_threads::for_each;
 use crate::lines::make_line;
 use crate::resting::rest_session;
 use crate::runner::Runner;
 use crate::service::Service;
+use arena_open::Cell;
 use lane_calls::Waiting;
 use nvd_media::Gate;
 use registry_service::give_back;
@@ -20,7 +22,6 @@ use session_script::{Script, SessionLines};
 use session_texts::add_reply;
 use std::alloc::Global;
 use std::sync::Wait;
-use std::thread;
 use std::thread::Threads;
 
 /// Whether a reply is that power was cut.
@@ -30,25 +31,35 @@ fn is_cut(reply: &Reply) -> bool
     matches!(reply, Reply::Cut)
 }
 
-/// Adds the line of a reply to the session's text, or notes that memory ran out.
-fn add_line(alloc: Global, runner: &mut Runner, reply: &Reply)
-    requires { runner.old.refused ≡ false }
-    ensures same { runner.new ≡ record runner.old { text = runner.new.text; refused = runner.new.refused } }
-    ensures said { runner.new.refused ≡ false → runner.new.text.items ≡ runner.old.text.items ++ reply_text reply.now }
-{
-    if add_reply(alloc, reply, &mut runner.text).is_err() {
-        runner.refused = true;
+/// Keeps the list of the words that a reply has, if it has some.
+fn keep_words(last: &mut Vec<u64>, reply: Reply) {
+    if let Reply::Value(Cell::Bytes(words)) = reply {
+        *last = words.into_vec();
     }
 }
 
-/// Adds the line of a reply to the session's text. False if the session makes no call more: it was cut, or memory ran out.
-fn note<R: Wait>(rt: &R, service: &Service, runner: &mut Runner, reply: &Reply) -> bool
-    requires { (script : AnyScript) × (q : ℕ) × (replies : List Replied) × HasAnswer service.now script q replies reply.now runner.old }
-    ensures on { IsTrue result → (script : AnyScript) (q : ℕ) (replies : List Replied) → HasAnswer service.now script q replies reply.now runner.old → IsRunning service.now script q (more replies reply.now) runner.new }
-    ensures ended { result ≡ false → (script : AnyScript) (q : ℕ) (replies : List Replied) → HasAnswer service.now script q replies reply.now runner.old → IsEnded service.now script q runner.new }
+/// Adds the line of a reply to the session's text, or notes that memory ran out. The session
+/// keeps the list of the reply's words for its next read.
+fn add_line(alloc: Global, runner: &mut Runner, reply: Reply)
+    requires { runner.old.refused ≡ false }
+    ensures same { runner.new ≡ record runner.old { text = runner.new.text; refused = runner.new.refused; words = runner.new.words } }
+    ensures said { runner.new.refused ≡ false → runner.new.text.items ≡ runner.old.text.items ++ reply_text reply }
 {
+    if add_reply(alloc, &reply, &mut runner.text).is_err() {
+        runner.refused = true;
+    }
+    keep_words(&mut runner.words, reply);
+}
+
+/// Adds the line of a reply to the session's text. False if the session makes no call more: it was cut, or memory ran out.
+fn note<R: Wait>(rt: &R, service: &Service, runner: &mut Runner, reply: Reply) -> bool
+    requires { (script : AnyScript) × (q : ℕ) × (replies : List Replied) × HasAnswer service.now script q replies reply runner.old }
+    ensures on { IsTrue result → (script : AnyScript) (q : ℕ) (replies : List Replied) → HasAnswer service.now script q replies reply runner.old → IsRunning service.now script q (more replies reply) runner.new }
+    ensures ended { result ≡ false → (script : AnyScript) (q : ℕ) (replies : List Replied) → HasAnswer service.now script q replies reply runner.old → IsEnded service.now script q runner.new }
+{
+    let cut = is_cut(&reply);
     add_line(service.alloc, runner, reply);
-    if is_cut(reply) {
+    if cut {
         return false;
     }
     let full = runner.refused;
@@ -80,7 +91,7 @@ fn next_call<R: Wait, G: Gate>(
     let made = make_line(waiting, service, runner, &calls[call as usize]);
     waiting.gate.answered(session, call);
     match made {
-        Ok(reply) => note(waiting.rt, service, runner, &reply),
+        Ok(reply) => note(waiting.rt, service, runner, reply),
         Err(_) => {
             runner.refused = true;
             false
@@ -144,7 +155,7 @@ pub fn run_sessions<R: Threads + Wait + Sync, G: Gate>(
 {
     let rt = waiting.rt;
     let gate = waiting.gate;
-    thread::for_each_mut(
+    for_each(
         rt,
         runners,
         workers,

@@ -18,6 +18,7 @@ fn stool(alloc: Global, session: Session, orders: TurnPass<ServedRegistry>) -> R
         held: None,
         text: Vec::new(alloc),
         refused: false,
+        words: Vec::new(alloc),
     }
 }
 

@@ -1,35 +1,51 @@
 //! The line of a reply.
-ghost use Rattle.std.specs.Prelude.{◌≡◌, ◌++◌, IfOk, OnOk, string_bytes};
+ghost use Rattle.std.specs.Prelude.{◌≡◌, ◌++◌, OnOk};
+ghost use Rattle.session_account.specs.declared.reply.Reply.TheVariants as reply;
 ghost use Rattle.session_texts.specs.Texts.{reply_text};
 
+use namespace_map::OpRefused;
 use session_account::Reply;
-use session_script::cell_text;
+use session_script::add_cell;
 use shell_reports::refusal_text;
 use std::alloc::{AllocError, Global};
 
-/// Returns the line of a reply.
-fn reply_text(alloc: Global, reply: &Reply) -> Result<String, AllocError>
-    ensures { IfOk result (λ text. string_bytes text ≡ reply_text reply.now) }
+/// Appends the line of a refusal because a namespace has only so many sectors.
+fn add_range(alloc: Global, count: u64, text: &mut Vec<u8>) -> Result<(), AllocError>
+    ensures { OnOk result (text.new.items ≡ text.old.items ++ reply_text (reply.Range count)) }
 {
-    match reply {
-        Reply::Done => String::from_str(alloc, "ok\n"),
-        Reply::Value(cell) => cell_text(alloc, cell),
-        Reply::Range { count } => format!(in alloc; "refused Range {}\n", count),
-        Reply::Length { said, had } => format!(in alloc; "refused Length {} {}\n", said, had),
-        Reply::NotOpen => String::from_str(alloc, "refused NotOpen\n"),
-        Reply::IsOpen => String::from_str(alloc, "refused IsOpen\n"),
-        Reply::Op(refused) => {
-            let refusal = refusal_text(alloc, *refused)?;
-            format!(in alloc; "refused {}\n", refusal)
-        }
-        Reply::Cut => String::from_str(alloc, "cut\n"),
-    }
+    let line = format!(in alloc; "refused Range {}\n", count)?;
+    text.extend_from_slice(line.as_bytes())
 }
 
-/// Appends the line of a reply to a text. The one refusal is out of memory.
+/// Appends the line of a refusal because a value has other bytes than a sector.
+fn add_length(alloc: Global, said: u64, had: u64, text: &mut Vec<u8>) -> Result<(), AllocError>
+    ensures { OnOk result (text.new.items ≡ text.old.items ++ reply_text (reply.Length said had)) }
+{
+    let line = format!(in alloc; "refused Length {} {}\n", said, had)?;
+    text.extend_from_slice(line.as_bytes())
+}
+
+/// Appends the line of an order that the registry refused.
+fn add_refusal(alloc: Global, why: OpRefused, text: &mut Vec<u8>) -> Result<(), AllocError>
+    ensures { OnOk result (text.new.items ≡ text.old.items ++ reply_text (reply.Op why)) }
+{
+    let refusal = refusal_text(alloc, why)?;
+    let line = format!(in alloc; "refused {}\n", refusal)?;
+    text.extend_from_slice(line.as_bytes())
+}
+
+/// Appends the line of a reply to a text. The one refusal is out of memory; then a part of the line may stand in the text.
 pub fn add_reply(alloc: Global, reply: &Reply, text: &mut Vec<u8>) -> Result<(), AllocError>
     ensures { OnOk result (text.new.items ≡ text.old.items ++ reply_text reply.now) }
 {
-    let line = reply_text(alloc, reply)?;
-    text.extend_from_slice(line.as_bytes())
+    match reply {
+        Reply::Done => text.extend_from_slice(b"ok\n"),
+        Reply::Value(cell) => add_cell(alloc, cell, text),
+        Reply::Range { count } => add_range(alloc, *count, text),
+        Reply::Length { said, had } => add_length(alloc, *said, *had, text),
+        Reply::NotOpen => text.extend_from_slice(b"refused NotOpen\n"),
+        Reply::IsOpen => text.extend_from_slice(b"refused IsOpen\n"),
+        Reply::Op(why) => add_refusal(alloc, *why, text),
+        Reply::Cut => text.extend_from_slice(b"cut\n"),
+    }
 }

@@ -1,13 +1,13 @@
 -- The label areas of a loaded set: what they show, and what is saved of them.
-use Rattle.std.proofs.Common.{◌≡◌, ℕ, zero, suc, ◌*◌, true, List, [], ◌∷◌, length, map, get_or, Option, Some, None, Result, Ok, Err, refl, sym, ap, ◌∙◌, subst}
+use Rattle.std.proofs.Common.{◌≡◌, ℕ, zero, suc, ◌*◌, ◌<◌, Bool, true, false, List, [], ◌∷◌, length, map, get_or, Option, Some, None, Result, Ok, Err, refl, sym, ap, ◌∙◌, subst, arith}
 use Rattle.std.proofs.Math.ListN.{get_or-map}
-use Rattle.std.specs.Prelude.{slice_get, slice_index_or}
+use Rattle.std.specs.Prelude.{slice_index_or}
 use Rattle.std.specs.Option.{option_map}
 use Rattle.std.specs.List.{All}
 use Rattle.std.proofs.lemmas.Bool.{false≢true}
 use Rattle.std.proofs.lemmas.Option.{none-some}
 use Rattle.std.proofs.lemmas.List.Elements.{All-head, All-tail}
-use Rattle.std.proofs.lemmas.Simd.{map-map}
+use Rattle.shell_reports.proofs.Arenas.{words_back}
 use Rattle.nvd_media.specs.declared.object.Object.TheVariants as object
 use Rattle.nvd_media.specs.Images.{Images, IsSameSet}
 use Rattle.cut_words.specs.Words.{Words, IsLeft, settled}
@@ -26,24 +26,19 @@ use Rattle.namespace_areas.specs.Steps.{rows_of as kept_rows}
 use Rattle.namespace_areas.specs.Went.{unready, size_of}
 use Rattle.namespace_areas.proofs.Seen.{left_kept}
 use Rattle.namespace_areas.proofs.Opening.{row_of, seen_all}
-use Rattle.image_set.specs.Load.{bytes_kept, image_set_in}
+use Rattle.image_set.specs.Load.{bytes_kept}
 use Rattle.image_set.specs.Changed.{objects_of}
 use Rattle.image_set.specs.declared.changing.OutlineRest.{OutlineRest}
 use Rattle.image_set.specs.declared.outline.Outline.{Outline}
 use Rattle.image_set.specs.Outline.{image_set_with}
-use Rattle.image_set.specs.Sound.{IsArea, IsContents}
+use Rattle.image_set.specs.Sound.{IsArea}
 use Rattle.nfit_reader.specs.declared.table.Nfit.{Nfit}
 use Rattle.sector_namespaces.specs.View.{rows_of}
 use Rattle.sector_namespaces.specs.Creation.{AreSettled}
-use Rattle.shell_reports.proofs.Arenas.{rows_back as words_read, words_back}
-use Rattle.image_set.specs.declared.loading.Loaded.{Loaded}
-use Rattle.shell_changes.specs.declared.saving.Rest.{Rest}
 use Rattle.image_set.specs.Load.{ImageSet}
-use Rattle.shell_changes.specs.declared.saving.Beside.{Beside}
-use Rattle.shell_changes.specs.declared.saving.Beside.TheVariants as beside
 use Rattle.shell_changes.specs.Areas.{area_by, area_in, areas_in, rows_in, with_labels, HasRows}
 use Rattle.shell_changes.specs.Reading.{set_parted}
-use Rattle.shell_changes.specs.Rest.{IsBeside, is_whole, objects_by, objects_left, objects_with, with_rows, words_beside}
+use Rattle.shell_changes.specs.Rest.{objects_by, objects_for, words_for}
 use Rattle.shell_changes.specs.Work.{with_contents}
 
 -- ---- what areas show, by their bytes
@@ -180,10 +175,6 @@ sized_all (w ∷ labels) (n ∷ news) rows same sizes left =
 
 -- ---- the set that is saved
 
--- what a loaded set has beside its label areas
-abbrev pub rest_of : Loaded → Rest
-rest_of loaded = record { nfit_bytes = loaded.nfit_bytes; contents = loaded.contents; bad = loaded.bad }
-
 -- an image set whose label areas are these words, and whose contents are those if they are in memory, and how it is saved with others
 pub record IsSavedAs (set : ImageSet) (words : List (Option Words)) (contents : List Words) (objects : List (Option (List ℕ)) → List (List ℕ) → Images) : Type 0 where
   pub labels : set.labels ≡ map (option_map bytes_kept) words
@@ -194,43 +185,6 @@ pub record HasWhole (set : ImageSet) (contents : List Words) (objects : List (Op
   pub are : rows_of set.contents ≡ contents
   pub settled : AreSettled contents
   pub same : (rows : List (Option (List ℕ))) (left : List (List ℕ)) → IsSameSet (objects rows left) (objects_of (with_labels (with_contents set left) (map (option_map bytes_of) rows)))
-
-pub labels_in : (loaded : Loaded) → (image_set_in loaded).labels ≡ map (option_map bytes_kept) loaded.labels
-unfolding image_set_in
-labels_in loaded = refl
-
-contents_in : (loaded : Loaded) → (image_set_in loaded).contents ≡ map bytes_kept loaded.contents
-unfolding image_set_in
-contents_in loaded = refl
-
--- contents of which no word is pending leave what they keep
-left_of : (rows : List Words) (left : List (List ℕ)) → All IsContents rows → Each IsLeft rows left → map bytes_of left ≡ map bytes_kept rows
-left_of [] left all each = ap (map bytes_of) each
-left_of (w ∷ rows) left all each =
-    let kept : w ≡ settled w.kept = (All-head IsContents w rows all).kept in
-    let here : each.0 ≡ w.kept = left_kept w each.0 kept each.3 in
-    ap (map bytes_of) each.2 ∙ ap (λ v. bytes_of v ∷ map bytes_of each.1) here ∙ ap (λ vs. bytes_of w.kept ∷ vs) (left_of rows each.1 (All-tail IsContents w rows all) each.4)
-
-same_whole : (loaded : Loaded) (rows : List (Option (List ℕ))) (left : List (List ℕ))
-    → IsSameSet (objects_with (with_rows (rest_of loaded) left) rows) (objects_of (with_labels (with_contents (image_set_in loaded) left) (map (option_map bytes_of) rows)))
-unfolding objects_with objects_of image_set_in
-same_whole loaded rows left object.Mark = refl
-same_whole loaded rows left object.Nfit = refl
-same_whole loaded rows left (object.Labels m) = refl
-same_whole loaded rows left (object.Contents m) = ap (λ xs. slice_get xs m) (map-map bytes_kept settled left)
-same_whole loaded rows left (object.BadRanges m) = refl
-
-same_loaded : (loaded : Loaded) (rows : List (Option (List ℕ))) (left : List (List ℕ)) → All IsContents loaded.contents → Each IsLeft loaded.contents left
-    → IsSameSet (objects_with (with_rows (rest_of loaded) left) rows) (objects_of (with_labels (image_set_in loaded) (map (option_map bytes_of) rows)))
-unfolding objects_with objects_of image_set_in
-same_loaded loaded rows left all each object.Mark = refl
-same_loaded loaded rows left all each object.Nfit = refl
-same_loaded loaded rows left all each (object.Labels m) = refl
-same_loaded loaded rows left all each (object.Contents m) = ap (λ xs. slice_get xs m) (map-map bytes_kept settled left ∙ left_of loaded.contents left all each)
-same_loaded loaded rows left all each (object.BadRanges m) = refl
-
-all_settled : (rows : List Words) → All IsContents rows → AreSettled rows
-all_settled rows all = λ k d lt. (all k d lt).kept
 
 -- what an outline has beside its label areas
 abbrev pub outline_rest : Outline → OutlineRest
@@ -251,38 +205,57 @@ outline_labels outline contents = refl
 
 -- ---- a set in parts
 
-abbrev pub loaded_parted : Nfit → List (Option Words) → Rest → Loaded
-loaded_parted nfit labels rest = record { nfit = nfit; nfit_bytes = rest.nfit_bytes; labels = labels; contents = rest.contents; bad = rest.bad }
-
 abbrev pub outline_parted : Nfit → List (Option Words) → OutlineRest → Outline
 outline_parted nfit labels rest = record { nfit = nfit; nfit_bytes = rest.nfit_bytes; labels = labels; sizes = rest.sizes; bad = rest.bad }
 
-pub parted_labels : (nfit : Nfit) (labels : List (Option Words)) (beside : Beside) (contents : List (List ℕ)) → (set_parted nfit labels beside contents).labels ≡ map (option_map bytes_kept) labels
-parted_labels nfit labels (beside.Copied rest) contents = outline_labels (outline_parted nfit labels rest) contents
-parted_labels nfit labels (beside.Whole rest) contents = labels_in (loaded_parted nfit labels rest)
+pub parted_labels : (nfit : Nfit) (labels : List (Option Words)) (rest : OutlineRest) (contents : List (List ℕ)) → (set_parted nfit labels rest contents).labels ≡ map (option_map bytes_kept) labels
+parted_labels nfit labels rest contents = outline_labels (outline_parted nfit labels rest) contents
 
-pub parted_nfit : (nfit : Nfit) (labels : List (Option Words)) (beside : Beside) (contents : List (List ℕ)) → (set_parted nfit labels beside contents).nfit ≡ nfit
-unfolding image_set_with image_set_in
-parted_nfit nfit labels (beside.Copied rest) contents = refl
-parted_nfit nfit labels (beside.Whole rest) contents = refl
+pub parted_nfit : (nfit : Nfit) (labels : List (Option Words)) (rest : OutlineRest) (contents : List (List ℕ)) → (set_parted nfit labels rest contents).nfit ≡ nfit
+unfolding image_set_with
+parted_nfit nfit labels rest contents = refl
 
-pub parted_as : (nfit : Nfit) (labels : List (Option Words)) (beside : Beside) (contents : List (List ℕ)) → IsBeside beside → IsSavedAs (set_parted nfit labels beside contents) labels (words_beside beside) (objects_left beside contents)
-parted_as nfit labels (beside.Copied rest) contents is = record {
+-- with the contents that were read
+pub parted_kept : (nfit : Nfit) (labels : List (Option Words)) (rest : OutlineRest) (contents : List (List ℕ)) → IsSavedAs (set_parted nfit labels rest contents) labels [] (λ rows left. objects_by rest contents rows)
+parted_kept nfit labels rest contents = record {
   labels = outline_labels (outline_parted nfit labels rest) contents;
   same = λ rows left each. same_outline (outline_parted nfit labels rest) contents rows;
 }
-parted_as nfit labels (beside.Whole rest) contents is = record {
-  labels = labels_in (loaded_parted nfit labels rest);
-  same = λ rows left each. same_loaded (loaded_parted nfit labels rest) rows left is.words each;
-}
 
-pub parted_whole : (nfit : Nfit) (labels : List (Option Words)) (beside : Beside) (contents : List (List ℕ)) → IsBeside beside → is_whole beside ≡ true
-    → HasWhole (set_parted nfit labels beside contents) (words_beside beside) (objects_left beside contents)
-parted_whole nfit labels (beside.Copied rest) contents is whole = absurd (false≢true whole)
-parted_whole nfit labels (beside.Whole rest) contents is whole = record {
-  are = ap rows_of (contents_in (loaded_parted nfit labels rest)) ∙ words_read rest.contents is.words;
-  settled = all_settled rest.contents is.words;
-  same = same_whole (loaded_parted nfit labels rest);
+pub parted_plain : (nfit : Nfit) (labels : List (Option Words)) (rest : OutlineRest) (contents : List (List ℕ)) (makes : Bool) → makes ≡ false
+    → IsSavedAs (set_parted nfit labels rest contents) labels (words_for makes contents) (objects_for makes rest contents)
+parted_plain nfit labels rest contents true plain = absurd (false≢true (sym plain))
+parted_plain nfit labels rest contents false plain = parted_kept nfit labels rest contents
+
+-- with other contents
+settled_rows : (contents : List (List ℕ)) → AreSettled (rows_of contents)
+settled_rows contents = λ k d lt. by contents k d lt
+  where
+    by : (cs : List (List ℕ)) (k : ℕ) (d : Words) → k < length (rows_of cs) → get_or (rows_of cs) k d ≡ settled (get_or (rows_of cs) k d).kept
+    by [] k d lt = absurd (omega arith)
+    by (c ∷ cs) zero d lt = refl
+    by (c ∷ cs) (suc k) d lt = by cs k d (omega (arith, lt))
+
+same_formatted : (outline : Outline) (contents : List (List ℕ)) (rows : List (Option (List ℕ))) (left : List (List ℕ))
+    → IsSameSet (objects_by (outline_rest outline) (map bytes_of left) rows) (objects_of (with_labels (with_contents (image_set_with outline contents) left) (map (option_map bytes_of) rows)))
+unfolding objects_of image_set_with
+same_formatted outline contents rows left object.Mark = refl
+same_formatted outline contents rows left object.Nfit = refl
+same_formatted outline contents rows left (object.Labels m) = sym (get_or-map (option_map bytes_of) rows m None)
+same_formatted outline contents rows left (object.Contents m) = refl
+same_formatted outline contents rows left (object.BadRanges m) = refl
+
+read_contents : (outline : Outline) (contents : List (List ℕ)) → (image_set_with outline contents).contents ≡ contents
+unfolding image_set_with
+read_contents outline contents = refl
+
+pub parted_whole : (nfit : Nfit) (labels : List (Option Words)) (rest : OutlineRest) (contents : List (List ℕ)) (makes : Bool) → makes ≡ true
+    → HasWhole (set_parted nfit labels rest contents) (words_for makes contents) (objects_for makes rest contents)
+parted_whole nfit labels rest contents false whole = absurd (false≢true whole)
+parted_whole nfit labels rest contents true whole = record {
+  are = ap rows_of (read_contents (outline_parted nfit labels rest) contents);
+  settled = settled_rows contents;
+  same = same_formatted (outline_parted nfit labels rest) contents;
 }
 
 -- a set with these label areas, of which one that wasn't ready is as it was

@@ -18,7 +18,8 @@ use Rattle.namespace_areas.proofs.Opening.{row_of}
 use Rattle.namespace_areas.proofs.Seen.{left_shown}
 use Rattle.namespace_areas.proofs.Steps.{rows_left}
 use Rattle.namespace_areas.proofs.Went.{steps_both, went_cut}
-use Rattle.image_set.specs.Load.{ImageSet}
+use Rattle.std.specs.Option.{option_map}
+use Rattle.image_set.specs.Load.{ImageSet, bytes_kept}
 use Rattle.shell_reports.specs.declared.status.Ending.{Ending}
 use Rattle.shell_reports.specs.declared.status.Ending.TheVariants as ending
 use Rattle.shell_reports.specs.declared.power.Power.{Power}
@@ -58,7 +59,7 @@ within first format n long short =
     let lt : n - first < format = leb-false format (n - first) short in
     label_long first format n long ∙ short_left first format n lt
 
-module _ (leaves : ℕ → List (Option Words) → List (Option (List ℕ)) → Type 0) (set : ImageSet) (words : List (Option Words)) (contents : List Words) (objects : List (Option (List ℕ)) → List (List ℕ) → Images) (is : IsSavedAs set words contents objects) (fit : rows_in set ≡ map row_of words) (power : Power) (outcome : Outcome) where
+module _ (leaves : ℕ → List (Option Words) → List (Option (List ℕ)) → Type 0) (set : ImageSet) (words : List (Option Words)) (contents : List Words) (objects : List (Option (List ℕ)) → List (List ℕ) → Images) (labels : set.labels ≡ map (option_map bytes_kept) words) (fit : rows_in set ≡ map row_of words) (power : Power) (outcome : Outcome) where
   -- the label areas as they were opened, and what they show
   abbrev opened : List Area
   opened = map opened_as words
@@ -119,9 +120,9 @@ module _ (leaves : ℕ → List (Option Words) → List (Option (List ℕ)) → 
 
   module _ (first own : List Change) (arena : Option Arena) where
     -- power was cut in recovery, whatever the command would come to
-    pub cut_in_recovery : (refusal : Option OpRefused) (news : List Area) (left : Option ℕ) → Went opened news power.steps left first false → SavesCut leaves objects power news contents outcome
+    pub cut_in_recovery : IsSavedAs set words contents objects → (refusal : Option OpRefused) (news : List Area) (left : Option ℕ) → Went opened news power.steps left first false → SavesCut leaves objects power news contents outcome
         → Goes leaves set seen (record { recovery = first; arena = arena; own = own }) refusal power outcome
-    cut_in_recovery refusal news left went s =
+    cut_in_recovery is refusal news left went s =
         let all = went_cut opened news power.steps left first own went in
         let (n, given) = short_of power.steps (steps_of_all seen first) (sym went.made) in
         let all_n : Went opened news (Some n) left (first ++ own) false = subst (λ (f : Option ℕ). Went opened news f left (first ++ own) false) given all in
@@ -133,7 +134,7 @@ module _ (leaves : ℕ → List (Option Words) → List (Option (List ℕ)) → 
         (λ rows left_of. subst (λ (k : ℕ). IsLeftBy seen (first ++ own) k (areas_shown rows)) (sym k_is) (all_n.cut n refl rows left_of))
         all.beside all.sizes s
         (subst (λ (b : Bool). SavedAs leaves (begun b arena) set words objects contents (burnt power.steps (steps_of_all seen first)) s.rows s.contents_left) went.made
-        (saved_none leaves set words contents objects is contents s.rows s.contents_left s.left (burnt power.steps (steps_of_all seen first)) refl)))
+        (saved_none leaves set words contents objects labels contents s.rows s.contents_left s.left is (burnt power.steps (steps_of_all seen first)) refl)))
 
     -- ---- recovery was made
 
@@ -170,7 +171,7 @@ module _ (leaves : ℕ → List (Option Words) → List (Option (List ℕ)) → 
       done_after news made last long it two s at =
           goes_whole (record { recovery = first; arena = arena; own = own }) None (all_lasts long ∙ sym two.made)
           (all_done (record { recovery = first; arena = arena; own = own }) news (around (steps_of_all seen first) (count_of arena) power.steps) last made (went_around opened mid news power.steps left last first own (count_of arena) true one two) s
-          (saved_whole leaves set words contents objects is made s.rows s.contents_left s.left arena left it long at))
+          (saved_whole leaves set words contents objects labels made s.rows s.contents_left s.left arena left it long at))
 
       -- power was cut in its label changes
       pub cut_after : (news : List Area) (made : List Words) (last : Option ℕ) → lasts left (count_of arena) ≡ true → Went mid news (burnt left (count_of arena)) last own false

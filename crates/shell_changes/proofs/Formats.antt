@@ -88,11 +88,11 @@ pub record SavedAs (leaves : ℕ → List (Option Words) → List (Option (List 
   pub asks : (seed : ℕ) (areas : List (Option Words)) → leaves seed areas rows → leaves seed (areas ++ map (λ w. Some w) made) (rows ++ map (λ row. Some row) made_left)
       → leaves seed (areas ++ map (λ w. Some w) contents) (rows ++ map (λ row. Some row) left)
 
-module _ (leaves : ℕ → List (Option Words) → List (Option (List ℕ)) → Type 0) (set : ImageSet) (words : List (Option Words)) (contents : List Words) (objects : List (Option (List ℕ)) → List (List ℕ) → Images) (is : IsSavedAs set words contents objects)
+module _ (leaves : ℕ → List (Option Words) → List (Option (List ℕ)) → Type 0) (set : ImageSet) (words : List (Option Words)) (contents : List Words) (objects : List (Option (List ℕ)) → List (List ℕ) → Images) (labels : set.labels ≡ map (option_map bytes_kept) words)
     (made : List Words) (rows : List (Option (List ℕ))) (made_left : List (List ℕ)) (each : Each IsLeft made made_left) where
   -- contents are as they were read
-  pub saved_none : (fuse : Option ℕ) → made ≡ contents → SavedAs leaves None set words objects made fuse rows made_left
-  saved_none fuse same = record {
+  pub saved_none : IsSavedAs set words contents objects → (fuse : Option ℕ) → made ≡ contents → SavedAs leaves None set words objects made fuse rows made_left
+  saved_none is fuse same = record {
     contents = [];
     left = [];
     now = set;
@@ -102,27 +102,27 @@ module _ (leaves : ℕ → List (Option Words) → List (Option (List ℕ)) → 
     asks = λ seed areas first all. subst (λ (rs : List (Option (List ℕ))). leaves seed (areas ++ []) rs) (sym (append-nil rows)) (subst (λ (ws : List (Option Words)). leaves seed ws rows) (sym (append-nil areas)) first);
   }
 
-  saved_by : (ns : Namespaces) (spec : CreateSpec) (fuse : Option ℕ) (b : Bool) → (b ≡ true → HasWhole set contents objects) → FormatsIn (arena_by ns spec b) contents made fuse
+  saved_by : (ns : Namespaces) (spec : CreateSpec) (fuse : Option ℕ) (b : Bool) → (b ≡ false → IsSavedAs set words contents objects) → (b ≡ true → HasWhole set contents objects) → FormatsIn (arena_by ns spec b) contents made fuse
       → SavedAs leaves (arena_by ns spec b) set words objects made fuse rows made_left
-  saved_by ns spec fuse false whole same = saved_none fuse same
-  saved_by ns spec fuse true whole it = record {
+  saved_by ns spec fuse false plain whole same = saved_none (plain refl) fuse same
+  saved_by ns spec fuse true plain whole it = record {
     contents = made;
     left = made_left;
     now = with_contents set made_left;
     formats = (formatted set contents objects (whole refl) ns spec made made_left fuse (burnt fuse (format_count (layout_for spec))) it each, refl);
-    labels = is.labels;
+    labels = labels;
     same = (whole refl).same rows made_left;
     asks = λ seed areas first all. all;
   }
 
   -- by the command
-  pub saved_as : (ns : Namespaces) (c : Command) (fuse : Option ℕ) → (makes_sectors c ≡ true → HasWhole set contents objects) → FormatsIn (arena_of ns c) contents made fuse
+  pub saved_as : (ns : Namespaces) (c : Command) (fuse : Option ℕ) → (makes_sectors c ≡ false → IsSavedAs set words contents objects) → (makes_sectors c ≡ true → HasWhole set contents objects) → FormatsIn (arena_of ns c) contents made fuse
       → SavedAs leaves (arena_of ns c) set words objects made fuse rows made_left
-  saved_as ns (Create spec) fuse whole it = saved_by ns spec fuse (has_sectors spec.make) whole it
-  saved_as ns (Delete uuid) fuse whole it = saved_none fuse it
-  saved_as ns (Rename uuid name) fuse whole it = saved_none fuse it
-  saved_as ns (Claim uuid) fuse whole it = saved_none fuse it
-  saved_as ns (Unclaim uuid) fuse whole it = saved_none fuse it
+  saved_as ns (Create spec) fuse plain whole it = saved_by ns spec fuse (has_sectors spec.make) plain whole it
+  saved_as ns (Delete uuid) fuse plain whole it = saved_none (plain refl) fuse it
+  saved_as ns (Rename uuid name) fuse plain whole it = saved_none (plain refl) fuse it
+  saved_as ns (Claim uuid) fuse plain whole it = saved_none (plain refl) fuse it
+  saved_as ns (Unclaim uuid) fuse plain whole it = saved_none (plain refl) fuse it
 
   -- after all steps of the format
   pub saved_whole : (arena : Option Arena) (fuse : Option ℕ) → FormatsIn arena contents made fuse → lasts fuse (count_of arena) ≡ true → SavedAs leaves arena set words objects made fuse rows made_left

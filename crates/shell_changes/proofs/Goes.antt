@@ -29,21 +29,21 @@ use Rattle.shell_reports.specs.declared.power.Power.{Power}
 use Rattle.shell_reports.specs.Outcome.{Outcome}
 use Rattle.shell_reports.specs.List.{open_outcome}
 use Rattle.shell_reports.proofs.Opened.{are_whole}
-use Rattle.shell_changes.specs.declared.saving.Beside.{Beside}
+use Rattle.image_set.specs.declared.changing.OutlineRest.{OutlineRest}
 use Rattle.shell_changes.specs.Areas.{areas_in, rows_in}
 use Rattle.shell_changes.specs.Going.{GoesOn, GoesThen, GoesFrom, SavesCut, StopsFirst, Works}
 use Rattle.shell_changes.specs.Namespaces.{sets_in, refusal_in, work_by, work_in, ChangeComes, Goes, OnSets}
 use Rattle.shell_changes.specs.Reading.{IsParted, set_parted}
-use Rattle.shell_changes.specs.Rest.{is_whole, objects_left, words_beside}
+use Rattle.shell_changes.specs.Rest.{objects_by, objects_for, words_for}
 use Rattle.namespace_ops.specs.Counted.{makes_sectors}
 use Rattle.shell_changes.specs.Work.{arena_of, count_of}
-use Rattle.shell_changes.proofs.Areas.{HasWhole, IsSavedAs, opened_in, parted_as, parted_labels, parted_nfit, parted_whole, rows_are}
+use Rattle.shell_changes.proofs.Areas.{HasWhole, IsSavedAs, opened_in, parted_kept, parted_labels, parted_nfit, parted_plain, parted_whole, rows_are}
 use Rattle.shell_changes.proofs.Ends.{cut_after, cut_in_recovery, cut_within, done_after, refused_after}
 use Rattle.shell_changes.proofs.Formats.{SavedAs, saved_as}
 use Rattle.namespace_ops.proofs.Regions.{was_opened}
 
-module _ (leaves : ℕ → List (Option Words) → List (Option (List ℕ)) → Type 0) (set : ImageSet) (words : List (Option Words)) (contents : List Words) (objects : List (Option (List ℕ)) → List (List ℕ) → Images) (is_set : IsSavedAs set words contents objects) (fit : rows_in set ≡ map row_of words) (power : Power) (outcome : Outcome)
-    (sets : List (List Mapping)) (c : Command) (whole : makes_sectors c ≡ true → HasWhole set contents objects) where
+module _ (leaves : ℕ → List (Option Words) → List (Option (List ℕ)) → Type 0) (set : ImageSet) (words : List (Option Words)) (contents : List Words) (kept : List (Option (List ℕ)) → Images) (objects : List (Option (List ℕ)) → List (List ℕ) → Images) (labels : set.labels ≡ map (option_map bytes_kept) words) (is_kept : IsSavedAs set words [] (λ rows left. kept rows)) (fit : rows_in set ≡ map row_of words) (power : Power) (outcome : Outcome)
+    (sets : List (List Mapping)) (c : Command) (plain : makes_sectors c ≡ false → IsSavedAs set words contents objects) (whole : makes_sectors c ≡ true → HasWhole set contents objects) where
   abbrev opened : List Area
   opened = map opened_as words
 
@@ -69,16 +69,16 @@ module _ (leaves : ℕ → List (Option Words) → List (Option (List ℕ)) → 
         subst (λ (xs : List (Option SeenArea)). Works (arena_of (namespaces_of sets xs) c) mid on.news contents on.made left on.left (changes_of (namespaces_of sets xs) xs c) on.whole) (one.done refl) on.works
 
     at : (rows : List (Option (List ℕ))) (made_left : List (List ℕ)) → Each IsLeft on.made made_left → SavedAs leaves (arena_of ns c) set words objects on.made left rows made_left
-    at rows made_left each = saved_as leaves set words contents objects is_set on.made rows made_left each ns c left whole works.formats
+    at rows made_left each = saved_as leaves set words contents objects labels on.made rows made_left each ns c left plain whole works.formats
 
     labels_on : lasts left (count_of (arena_of ns c)) ≡ true → (b : Bool) → on.whole ≡ b → Goes leaves set seen (work_by sets seen c None) None power outcome
     labels_on long true is =
         let s = on.done is in
-        done_after leaves set words contents objects is_set fit power outcome first own (arena_of ns c) mid left one on.news on.made on.left long works.formats
+        done_after leaves set words contents objects labels fit power outcome first own (arena_of ns c) mid left one on.news on.made on.left long works.formats
         (subst (λ (b : Bool). Went mid on.news (burnt left (count_of (arena_of ns c))) on.left own b) is (works.labels long)) s (at s.rows s.contents_left s.left)
     labels_on long false is =
         let s = on.cut is in
-        cut_after leaves set words contents objects is_set fit power outcome first own (arena_of ns c) mid left one on.news on.made on.left long
+        cut_after leaves set words contents objects labels fit power outcome first own (arena_of ns c) mid left one on.news on.made on.left long
         (subst (λ (b : Bool). Went mid on.news (burnt left (count_of (arena_of ns c))) on.left own b) is (works.labels long)) s (at s.rows s.contents_left s.left)
 
     gone_on : (b : Bool) → lasts left (count_of (arena_of ns c)) ≡ b → Goes leaves set seen (work_by sets seen c None) None power outcome
@@ -86,21 +86,21 @@ module _ (leaves : ℕ → List (Option Words) → List (Option (List ℕ)) → 
     gone_on false short =
         let within = works.within short in
         let s : SavesCut leaves objects power mid on.made outcome = subst (λ (xs : List Area). SavesCut leaves objects power xs on.made outcome) within.1 (on.cut within.0) in
-        cut_within leaves set words contents objects is_set fit power outcome first own (arena_of ns c) mid left one on.made short s (at s.rows s.contents_left s.left)
+        cut_within leaves set words contents objects labels fit power outcome first own (arena_of ns c) mid left one on.made short s (at s.rows s.contents_left s.left)
 
   gone_then : (g : GoesThen leaves objects power sets opened contents c outcome) (r : Option OpRefused) → refusal_in sets seen c ≡ r → Goes leaves set seen (work_by sets seen c r) r power outcome
   gone_then g (Some f) some =
-      refused_after leaves set words contents objects is_set fit power outcome first g.mid g.left f g.first
+      refused_after leaves set words contents objects labels fit power outcome first g.mid g.left f g.first
       (g.refused f (ap (λ (xs : List (Option SeenArea)). refusal_of (namespaces_of sets xs) c) (g.first.done refl) ∙ some))
   gone_then g None none =
       gone_on g.mid g.left g.first (g.went (ap (λ (xs : List (Option SeenArea)). refusal_of (namespaces_of sets xs) c) (g.first.done refl) ∙ none))
       (lasts g.left (count_of (arena_of ns c))) refl
 
-  stopped : (s : StopsFirst leaves objects power sets opened contents outcome) (r : Option OpRefused) → Goes leaves set seen (work_by sets seen c r) r power outcome
-  stopped s (Some f) = cut_in_recovery leaves set words contents objects is_set fit power outcome first [] None (Some f) s.news s.left s.went s.cut
-  stopped s None = cut_in_recovery leaves set words contents objects is_set fit power outcome first own (arena_of ns c) None s.news s.left s.went s.cut
+  stopped : (s : StopsFirst leaves kept power sets opened outcome) (r : Option OpRefused) → Goes leaves set seen (work_by sets seen c r) r power outcome
+  stopped s (Some f) = cut_in_recovery leaves set words [] (λ rows left. kept rows) labels fit power outcome first [] None is_kept (Some f) s.news s.left s.went s.cut
+  stopped s None = cut_in_recovery leaves set words [] (λ rows left. kept rows) labels fit power outcome first own (arena_of ns c) is_kept None s.news s.left s.went s.cut
 
-  pub goes : GoesFrom leaves objects power sets opened contents c outcome → Goes leaves set seen (work_in sets seen c) (refusal_in sets seen c) power outcome
+  pub goes : GoesFrom leaves kept objects power sets opened contents c outcome → Goes leaves set seen (work_in sets seen c) (refusal_in sets seen c) power outcome
   goes (inl s) = stopped s (refusal_in sets seen c)
   goes (inr g) = gone_then g (refusal_in sets seen c) refl
 
@@ -141,31 +141,30 @@ module _ (set : ImageSet) (words : List (Option Words)) (nfit : Nfit) (labels : 
   pub sets_err : (f : OpenFault) → AreWhole words → Err f ≡ registry_opening nfit (map opened_as words) → sets_in set ≡ Err f
   sets_err f whole is = sets_are whole ∙ read_err nfit (map opened_as words) f is
 
-module _ (leaves : ℕ → List (Option Words) → List (Option (List ℕ)) → Type 0) (nfit : Nfit) (labels : List (Option Words)) (beside : Beside) (contents : List (List ℕ)) (power : Power) (c : Command) (outcome : Outcome) (parted : IsParted nfit labels beside) where
+module _ (leaves : ℕ → List (Option Words) → List (Option (List ℕ)) → Type 0) (nfit : Nfit) (labels : List (Option Words)) (rest : OutlineRest) (contents : List (List ℕ)) (power : Power) (c : Command) (outcome : Outcome) (parted : IsParted nfit labels rest) where
   all_whole : AreWhole labels
   all_whole = are_whole labels parted.areas
 
   abbrev set : ImageSet
-  set = set_parted nfit labels beside contents
+  set = set_parted nfit labels rest contents
 
   -- a registry that is opened, and a command on what it has
-  pub comes : (registry : Registered) → Ok registry ≡ registry_opening nfit (map opened_as labels) → (makes_sectors c ≡ is_whole beside)
-      → GoesFrom leaves (objects_left beside contents) power registry.sets registry.areas (words_beside beside) c outcome → ChangeComes leaves c power set outcome
-  comes registry is needs from =
+  pub comes : (registry : Registered) → Ok registry ≡ registry_opening nfit (map opened_as labels)
+      → GoesFrom leaves (objects_by rest contents) (objects_for (makes_sectors c) rest contents) power registry.sets registry.areas (words_for (makes_sectors c) contents) c outcome → ChangeComes leaves c power set outcome
+  comes registry is from =
       let was = was_opened nfit (map opened_as labels) registry is in
-      let as_set = parted_as nfit labels beside contents parted.rest in
-      let sets : sets_in set ≡ Ok registry.sets = sets_ok set labels nfit (parted_labels nfit labels beside contents) (parted_nfit nfit labels beside contents) registry all_whole is in
-      let from' : GoesFrom leaves (objects_left beside contents) power registry.sets (map opened_as labels) (words_beside beside) c outcome =
-      subst (λ (xs : List Area). GoesFrom leaves (objects_left beside contents) power registry.sets xs (words_beside beside) c outcome) (sym was.areas_are) from in
-      let it = goes leaves set labels (words_beside beside) (objects_left beside contents) as_set
-      (rows_are set labels (parted_labels nfit labels beside contents) parted.areas) power outcome registry.sets c
-      (λ makes. parted_whole nfit labels beside contents parted.rest (sym needs ∙ makes)) from' in
+      let are = parted_labels nfit labels rest contents in
+      let sets : sets_in set ≡ Ok registry.sets = sets_ok set labels nfit are (parted_nfit nfit labels rest contents) registry all_whole is in
+      let from' : GoesFrom leaves (objects_by rest contents) (objects_for (makes_sectors c) rest contents) power registry.sets (map opened_as labels) (words_for (makes_sectors c) contents) c outcome =
+      subst (λ (xs : List Area). GoesFrom leaves (objects_by rest contents) (objects_for (makes_sectors c) rest contents) power registry.sets xs (words_for (makes_sectors c) contents) c outcome) (sym was.areas_are) from in
+      let it = goes leaves set labels (words_for (makes_sectors c) contents) (objects_by rest contents) (objects_for (makes_sectors c) rest contents) are (parted_kept nfit labels rest contents)
+      (rows_are set labels are parted.areas) power outcome registry.sets c
+      (λ makes_none. parted_plain nfit labels rest contents (makes_sectors c) makes_none) (λ makes. parted_whole nfit labels rest contents (makes_sectors c) makes) from' in
       subst (λ (r : Result (List (List Mapping)) OpenFault). OnSets leaves set c power r outcome) (sym sets)
-      (subst (λ (xs : List (Option SeenArea)). Goes leaves set xs (work_in registry.sets xs c) (refusal_in registry.sets xs c) power outcome)
-      (labels_are set labels nfit (parted_labels nfit labels beside contents) (parted_nfit nfit labels beside contents)) it)
+      (subst (λ (xs : List (Option SeenArea)). Goes leaves set xs (work_in registry.sets xs c) (refusal_in registry.sets xs c) power outcome) (labels_are set labels nfit are (parted_nfit nfit labels rest contents)) it)
 
   -- one that isn't
   pub comes_not : (f : OpenFault) → Err f ≡ registry_opening nfit (map opened_as labels) → outcome ≡ open_outcome f → ChangeComes leaves c power set outcome
   comes_not f is said =
-      let sets : sets_in set ≡ Err f = sets_err set labels nfit (parted_labels nfit labels beside contents) (parted_nfit nfit labels beside contents) f all_whole is in
+      let sets : sets_in set ≡ Err f = sets_err set labels nfit (parted_labels nfit labels rest contents) (parted_nfit nfit labels rest contents) f all_whole is in
       subst (λ (r : Result (List (List Mapping)) OpenFault). OnSets leaves set c power r outcome) (sym sets) said

@@ -3,9 +3,12 @@ use Rattle.std.proofs.Common.{◌≡◌, ℕ, false, Bool, List, [], ◌∷◌, 
 use Rattle.std.specs.Prelude.{IfSome}
 use Rattle.std.specs.Option.{option_map}
 use Rattle.nvd_media.specs.Images.{Images as Objects, IsSameSet}
-use Rattle.cut_words.specs.Words.{Words}
-use Rattle.cut_words.specs.WordBytes.{bytes_of}
-use Rattle.power_cut.specs.Left.{InTurn, LeavesOption, LeavesWords}
+use Rattle.std.proofs.lemmas.Simd.{map-map}
+use Rattle.cut_words.specs.Words.{Words, IsLeft}
+use Rattle.cut_words.specs.WordBytes.{bytes_of, words_in}
+use Rattle.power_cut.specs.Left.{Each, InTurn, LeavesOption, LeavesWords}
+use Rattle.image_set.specs.Patches.{patched_contents}
+use Rattle.namespace_bytes.specs.Patching.{BytePatch, byte_patched}
 use Rattle.image_set.specs.declared.changing.OutlineLeft.{OutlineLeft}
 use Rattle.image_set.specs.declared.changing.OutlineRest.{OutlineRest}
 use Rattle.image_set.specs.declared.outline.Outline.{Outline}
@@ -21,16 +24,13 @@ use Rattle.shell_reports.specs.Cut.{cut_text, done_text}
 use Rattle.shell_reports.specs.Saved.{IsSaving}
 use Rattle.shell_changes.specs.declared.answer.Answer.{Answer}
 use Rattle.shell_changes.specs.declared.answer.Left.{Left}
-use Rattle.shell_changes.specs.declared.saving.Beside.{Beside}
-use Rattle.shell_changes.specs.declared.saving.Beside.TheVariants as beside
+use Rattle.shell_changes.specs.declared.saving.NewArena.{NewArena}
 use Rattle.shell_changes.specs.declared.saving.Remains.TheVariants as kind
-use Rattle.shell_changes.specs.declared.saving.Rest.{Rest}
-use Rattle.shell_changes.specs.Answers.{Fits, HasSizes, outcome_with}
-use Rattle.shell_changes.specs.Going.{SavesCut, SavesDone}
-use Rattle.shell_changes.specs.Remains.{AnswersCut, AnswersDone, LeavesBy, SavesLeft, remains_of}
-use Rattle.shell_changes.specs.Rest.{objects_by, objects_left, objects_with, with_rows, with_words, words_beside}
-use Rattle.shell_changes.specs.Saved.{HasSize, copies_contents, objects_saved}
-use Rattle.shell_changes.proofs.Saved.{same_objects as same_parts}
+use Rattle.shell_changes.specs.Answers.{HasSizes, outcome_with}
+use Rattle.shell_changes.specs.Going.{CanPut, SavesCut, SavesDone}
+use Rattle.shell_changes.specs.Remains.{AnswersCut, AnswersDone, AreOf, CanLeave, LeavesBy, SavesLeft, remains_of}
+use Rattle.shell_changes.specs.Rest.{objects_by}
+use Rattle.shell_changes.specs.Saved.{HasSize, contents_with, copies_contents, objects_saved}
 
 sizes_by : (sizes : List ℕ) (answer : Answer) (set : Left) → answer.saved ≡ Some set → HasSize sizes set → HasSizes sizes answer
 sizes_by sizes answer set saves sized = subst (λ (saved : Option Left). IfSome saved (HasSize sizes)) (sym saves) sized
@@ -75,28 +75,35 @@ module _ {C : Type 0} (picks : C → ℕ → Bool → C → Type 0) (e : Ending)
     pub areas_sizes : HasSizes rest.sizes answer
     areas_sizes = sizes_by rest.sizes answer s.set s.saves (subst (λ (set : Left). HasSize rest.sizes set) (sym s.leaves.1) s.leaves.2.sizes)
 
-  -- ---- all of a loaded set
+  -- ---- with an arena in the contents
 
-  module _ (rest : Rest) (labels : List (Option Words)) (s : SavesLeft picks e text (kind.Whole rest labels) answer before after) where
-    pub whole_copies : copies_contents answer.saved ≡ false
-    whole_copies = ap copies_contents s.saves ∙ ap (λ (set : Left). copies_contents (Some set)) s.leaves.is
+  module _ (rest : OutlineRest) (labels : List (Option Words)) (new : NewArena) (s : SavesLeft picks e text (kind.Formatted rest labels new) answer before after) where
+    abbrev pub patch : BytePatch
+    patch = s.leaves.patch
 
-    -- with what is left of contents
-    pub parts_saved : (contents : List (List ℕ)) → IsSaving e text (objects_with (with_rows rest s.leaves.images.contents) s.leaves.images.labels) (outcome_with answer contents)
-    parts_saved contents =
-        saving s.set (objects_with (with_rows rest s.leaves.images.contents) s.leaves.images.labels) contents s.ends_so s.says s.saves
-        (λ o. ap (λ (set : Left). objects_saved contents set o) s.leaves.is ∙ same_parts rest labels s.leaves.images s.leaves.left_of o)
+    pub formatted_save : (contents : List (List ℕ)) → IsSaving e text (objects_by rest (map bytes_of (map words_in (patched_contents (byte_patched s.leaves.patch) contents))) s.leaves.left.labels) (outcome_with answer contents)
+    formatted_save contents =
+        let left = s.leaves.left in
+        let l = s.leaves.areas in
+        let is : left ≡ record { nfit = rest.nfit_bytes; labels = left.labels; sizes = rest.sizes; bad = rest.bad } = (λ i. record { nfit = l.nfit i; labels = left.labels; sizes = l.sizes i; bad = l.bad i }) in
+        let words : contents_with s.leaves.patch contents ≡ map bytes_of (map words_in (patched_contents (byte_patched s.leaves.patch) contents)) = sym (map-map bytes_of words_in (patched_contents (byte_patched s.leaves.patch) contents)) in
+        saving s.set (objects_by rest (map bytes_of (map words_in (patched_contents (byte_patched s.leaves.patch) contents))) left.labels) contents s.ends_so s.says s.saves
+        (λ o. ap (λ (set : Left). objects_saved contents set o) s.leaves.is ∙ ap (λ (x : OutlineLeft). outlined.objects_with x (contents_with s.leaves.patch contents) o) is
+        ∙ ap (λ (cs : List (List ℕ)). outlined.objects_with (record { nfit = rest.nfit_bytes; labels = left.labels; sizes = rest.sizes; bad = rest.bad }) cs o) words)
 
-  -- ---- with contents in memory or not
+    pub formatted_sizes : HasSizes rest.sizes answer
+    formatted_sizes = sizes_by rest.sizes answer s.set s.saves (subst (λ (set : Left). HasSize rest.sizes set) (sym s.leaves.is) s.leaves.areas.sizes)
 
-  pub fits_left : (beside : Beside) (labels : List (Option Words)) → SavesLeft picks e text (remains_of beside labels) answer before after → Fits beside answer
-  fits_left (beside.Copied rest) labels s = areas_sizes rest labels s
-  fits_left (beside.Whole rest) labels s = whole_copies rest labels s
+  -- ---- with an arena or without one
 
--- an answer that saves nothing fits
-pub fits_none : (beside : Beside) (answer : Answer) → answer.saved ≡ None → Fits beside answer
-fits_none (beside.Copied rest) answer none = no_sizes rest.sizes answer none
-fits_none (beside.Whole rest) answer none = copies_none answer none
+  pub sizes_left : (rest : OutlineRest) (labels : List (Option Words)) (begun : Option NewArena) → SavesLeft picks e text (remains_of rest labels begun) answer before after → HasSizes rest.sizes answer
+  sizes_left rest labels None s = areas_sizes rest labels s
+  sizes_left rest labels (Some new) s = formatted_sizes rest labels new s
+
+-- what remains can be left, with an arena or without one
+pub leave_as : (rest : OutlineRest) (labels : List (Option Words)) (begun : Option NewArena) → AreOf rest labels → IfSome begun CanPut → CanLeave (remains_of rest labels begun)
+leave_as rest labels None are can = are
+leave_as rest labels (Some new) are can = (are, can)
 
 -- ---- one row
 
@@ -131,26 +138,19 @@ both_in_turn picks (area ∷ areas) rows contents left before between after (row
 
 -- ---- the answers of a command
 
-module _ {C : Type 0} (begins : C → ℕ → C → Type 0) (picks : C → ℕ → Bool → C → Type 0) (power : Power) (choose : C) (answer : Answer) (areas : List Area) (contents : List (List ℕ)) where
-  pub done_saves : (beside : Beside) → AnswersDone picks (remains_of beside (map words_of areas)) choose answer → SavesDone (objects_left beside contents) areas (words_beside beside) (outcome_with answer contents)
-  done_saves (beside.Copied rest) done = record {
+module _ {C : Type 0} (begins : C → ℕ → C → Type 0) (picks : C → ℕ → Bool → C → Type 0) (power : Power) (choose : C) (answer : Answer) (areas : List Area) (contents : List (List ℕ)) (rest : OutlineRest) where
+  -- contents that are copied as they are
+  pub kept_done : AnswersDone picks (kind.Areas rest (map words_of areas)) choose answer → SavesDone (λ rows left. objects_by rest contents rows) areas [] (outcome_with answer contents)
+  kept_done done = record {
     rows = done.saved.leaves.0.labels;
     kept = done.saved.leaves.2.left_of;
     contents_left = [];
     left = refl;
     saves = areas_save picks ending.Done done_text answer choose done.after rest (map words_of areas) done.saved contents;
   }
-  done_saves (beside.Whole rest) done = record {
-    rows = done.saved.leaves.images.labels;
-    kept = done.saved.leaves.left_of.labels;
-    contents_left = done.saved.leaves.images.contents;
-    left = done.saved.leaves.left_of.contents;
-    saves = parts_saved picks ending.Done done_text answer choose done.after rest (map words_of areas) done.saved contents;
-  }
 
-  pub cut_saves : (beside : Beside) → AnswersCut begins picks power (remains_of beside (map words_of areas)) choose answer
-      → SavesCut (LeavesBy begins picks choose) (objects_left beside contents) power areas (words_beside beside) (outcome_with answer contents)
-  cut_saves (beside.Copied rest) cut = record {
+  pub kept_cut : AnswersCut begins picks power (kind.Areas rest (map words_of areas)) choose answer → SavesCut (LeavesBy begins picks choose) (λ rows left. objects_by rest contents rows) power areas [] (outcome_with answer contents)
+  kept_cut cut = record {
     rows = cut.saved.leaves.0.labels;
     kept = cut.saved.leaves.2.left_of;
     contents_left = [];
@@ -161,28 +161,37 @@ module _ {C : Type 0} (begins : C → ℕ → C → Type 0) (picks : C → ℕ �
     asked = (cut.begun, cut.after, cut.begins_so, both_in_turn picks (map words_of areas) cut.saved.leaves.0.labels [] [] cut.begun cut.after cut.after cut.saved.leaves.2.asked (refl, refl));
     saves = areas_save picks ending.PowerCut (cut_text cut.steps) answer cut.begun cut.after rest (map words_of areas) cut.saved contents;
   }
-  cut_saves (beside.Whole rest) cut = record {
-    rows = cut.saved.leaves.images.labels;
-    kept = cut.saved.leaves.left_of.labels;
-    contents_left = cut.saved.leaves.images.contents;
-    left = cut.saved.leaves.left_of.contents;
-    steps = cut.steps;
-    given = cut.given;
-    asked_first = (cut.begun, cut.saved.leaves.asked.between, cut.begins_so, cut.saved.leaves.asked.labels);
-    asked = (
-      cut.begun,
-      cut.after,
-      cut.begins_so,
-      both_in_turn picks (map words_of areas) cut.saved.leaves.images.labels rest.contents cut.saved.leaves.images.contents cut.begun cut.saved.leaves.asked.between cut.after cut.saved.leaves.asked.labels cut.saved.leaves.asked.contents,
-    );
-    saves = parts_saved picks ending.PowerCut (cut_text cut.steps) answer cut.begun cut.after rest (map words_of areas) cut.saved contents;
-  }
 
--- the objects of a set with other words in memory are told by what is left of these
-pub objects_with_words : (beside : Beside) (words : List Words) (contents : List (List ℕ)) → objects_left (with_words beside words) contents ≡ objects_left beside contents
-objects_with_words (beside.Copied rest) words contents = refl
-objects_with_words (beside.Whole rest) words contents = refl
+  -- contents into which an arena is put, as far as its format came
+  module _ (new : NewArena) where
+    pub formatted_done : (done : AnswersDone picks (kind.Formatted rest (map words_of areas) new) choose answer) (made : List Words)
+        → Each IsLeft made (map words_in (patched_contents (byte_patched done.saved.leaves.patch) contents)) → SavesDone (λ rows left. objects_by rest (map bytes_of left) rows) areas made (outcome_with answer contents)
+    formatted_done done made each = record {
+      rows = done.saved.leaves.left.labels;
+      kept = done.saved.leaves.areas.left_of;
+      contents_left = map words_in (patched_contents (byte_patched done.saved.leaves.patch) contents);
+      left = each;
+      saves = formatted_save picks ending.Done done_text answer choose done.after rest (map words_of areas) new done.saved contents;
+    }
 
-pub fits_with_words : (beside : Beside) (words : List Words) (answer : Answer) → Fits (with_words beside words) answer → Fits beside answer
-fits_with_words (beside.Copied rest) words answer fits = fits
-fits_with_words (beside.Whole rest) words answer fits = fits
+    pub formatted_cut : (cut : AnswersCut begins picks power (kind.Formatted rest (map words_of areas) new) choose answer) (made : List Words)
+        → Each IsLeft made (map words_in (patched_contents (byte_patched cut.saved.leaves.patch) contents))
+        → InTurn (LeavesWords picks) made (map words_in (patched_contents (byte_patched cut.saved.leaves.patch) contents)) cut.saved.leaves.between cut.after
+        → SavesCut (LeavesBy begins picks choose) (λ rows left. objects_by rest (map bytes_of left) rows) power areas made (outcome_with answer contents)
+    formatted_cut cut made each asked = record {
+      rows = cut.saved.leaves.left.labels;
+      kept = cut.saved.leaves.areas.left_of;
+      contents_left = map words_in (patched_contents (byte_patched cut.saved.leaves.patch) contents);
+      left = each;
+      steps = cut.steps;
+      given = cut.given;
+      asked_first = (cut.begun, cut.saved.leaves.between, cut.begins_so, cut.saved.leaves.areas.asked);
+      asked = (
+        cut.begun,
+        cut.after,
+        cut.begins_so,
+        both_in_turn picks (map words_of areas) cut.saved.leaves.left.labels made (map words_in (patched_contents (byte_patched cut.saved.leaves.patch) contents)) cut.begun cut.saved.leaves.between cut.after
+            cut.saved.leaves.areas.asked asked,
+      );
+      saves = formatted_save picks ending.PowerCut (cut_text cut.steps) answer cut.begun cut.after rest (map words_of areas) new cut.saved contents;
+    }

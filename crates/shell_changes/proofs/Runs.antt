@@ -1,5 +1,5 @@
 -- What became of label areas and contents by a command, by what carried it out.
-use Rattle.std.proofs.Common.{◌≡◌, ◌≢◌, ℕ, ◌<◌, ◌^◌, Bool, true, false, List, [], length, map, Option, Some, None, Result, Ok, Err, refl, sym, ap, ◌∙◌, subst, inl, inr}
+use Rattle.std.proofs.Common.{◌≡◌, ◌≢◌, ℕ, Bool, true, false, List, [], length, Option, Some, None, Result, Ok, Err, refl, sym, ap, ◌∙◌, subst, inl, inr}
 use Rattle.std.specs.Prelude.{is_ok}
 use Rattle.std.proofs.lemmas.Bool.{false≢true, true≢false}
 use Rattle.std.proofs.lemmas.Option.{none-some}
@@ -18,24 +18,22 @@ use Rattle.namespace_map.specs.declared.refused.OpRefused.TheVariants.{OutOfMemo
 use Rattle.namespace_map.specs.Areas.{Change, steps_of_all}
 use Rattle.namespace_map.specs.Commands.{refusal_of}
 use Rattle.namespace_map.specs.Changes.{changes_of, recovery_changes}
-use Rattle.namespace_areas.specs.Seen.{areas_seen, words_of}
+use Rattle.namespace_areas.specs.Seen.{areas_seen}
 use Rattle.namespace_areas.specs.Refusals.{shown}
 use Rattle.namespace_areas.specs.Went.{Went, size_of}
 use Rattle.namespace_ops.specs.Carried.{is_cut}
 use Rattle.namespace_ops.proofs.Findings.{claim_finding, create_finding, delete_finding, not_cut as finding_uncut, rename_finding}
-use Rattle.namespace_ops.specs.Counted.{Answered, Formats, GoesOn as Goes, State, namespaces_in, steps_before, with_claims}
-use Rattle.sector_namespaces.specs.Creation.{IsFormattedIn, arena_steps, has_sectors, layout_for, place_for}
+use Rattle.namespace_ops.specs.Counted.{Answered, Formats, GoesOn as Goes, State, namespaces_in, steps_before, steps_made, with_claims}
+use Rattle.namespace_ops.specs.declared.formatter.Counted.{Counted}
+use Rattle.arena_open.specs.Format.{format_count}
+use Rattle.sector_namespaces.specs.Creation.{CanLie, arena_steps, has_sectors, layout_for}
 use Rattle.namespace_ops.proofs.Answers.{arena_count, plain_steps}
 use Rattle.shell_reports.specs.declared.power.Power.{Power}
 use Rattle.shell_reports.specs.Outcome.{Outcome}
-use Rattle.shell_changes.specs.Going.{FormatsIn, GoesFrom, GoesOn, Runs, SavesCut, SavesDone, Works}
+use Rattle.shell_changes.specs.Going.{FormatsIn, GoesFrom, GoesOn, IsCounted, Runs, SavesCut, SavesDone, WorksOn}
 use Rattle.shell_reports.specs.Faults.{refusal_text, refused_outcome}
-use Rattle.shell_changes.specs.declared.saving.Beside.{Beside}
-use Rattle.shell_changes.specs.declared.saving.Beside.TheVariants as beside
-use Rattle.shell_changes.specs.Remains.{CanLeave, remains_of}
-use Rattle.shell_changes.specs.Rest.{IsBeside, count_beside, with_words, words_beside}
 use Rattle.namespace_ops.specs.Counted.{makes_sectors}
-use Rattle.shell_changes.specs.Work.{Arena, arena_by, arena_of, count_of}
+use Rattle.shell_changes.specs.Work.{arena_by, arena_of, count_of}
 
 -- ---- results
 
@@ -76,32 +74,17 @@ count_is ns (Rename uuid name) = refl
 count_is ns (Claim uuid) = refl
 count_is ns (Unclaim uuid) = refl
 
-formats_in : (s : State) (contents contents' : List Words) (fuse : Option ℕ) (c : Command) (reply : Result (Unit {0}) OpRefused) → Goes s reply → refusal_of (namespaces_in s) c ≡ None → Formats s contents contents' fuse c reply
-    → FormatsIn (arena_of (shown s.sets s.areas) c) contents contents' fuse
-formats_in s contents contents' fuse (Create spec) reply goes none is = by (has_sectors spec.make) refl
-  where
-    by : (b : Bool) → has_sectors spec.make ≡ b → FormatsIn (arena_by (shown s.sets s.areas) spec b) contents contents' fuse
-    by false raw = is.plain raw
-    by true sectors =
-        subst (λ (n : ℕ). IsFormattedIn (place_for s.sets s.areas spec) (layout_for spec) spec.uuid contents contents' fuse (burnt fuse n) (lasts fuse n)) (sym (arena_count spec.size spec.make sectors))
-        (is.formatted goes none spec refl sectors)
-formats_in s contents contents' fuse (Delete uuid) reply goes none is = is.plain refl
-formats_in s contents contents' fuse (Rename uuid name) reply goes none is = is.plain refl
-formats_in s contents contents' fuse (Claim uuid) reply goes none is = is.plain refl
-formats_in s contents contents' fuse (Unclaim uuid) reply goes none is = is.plain refl
-
 -- that counts no claims, while power is on and memory is found
-pub answered_runs : (s new : State) (contents contents' : List Words) (fuse left : Option ℕ) (c : Command) (reply : Result (Unit {0}) OpRefused) → s.claims ≡ [] → s.stopped ≡ false → reply ≢ Err OutOfMemory
-    → Answered s new fuse left c reply → Formats s contents contents' fuse c reply → Runs s.sets s.areas new.areas contents contents' fuse left c reply
-answered_runs s new contents contents' fuse left c reply none running other is formats =
+pub answered_runs : (s new : State) (fuse left : Option ℕ) (c : Command) (reply : Result (Unit {0}) OpRefused) → s.claims ≡ [] → s.stopped ≡ false → reply ≢ Err OutOfMemory
+    → Answered s new fuse left c reply → Runs s.sets s.areas new.areas fuse left c reply
+answered_runs s new fuse left c reply none running other is =
     let goes : Goes s reply = (running, other) in
     let same : namespaces_in s ≡ shown s.sets s.areas = ap (with_claims (shown s.sets s.areas)) none in
     let refusal : refusal_of (namespaces_in s) c ≡ refusal_of (shown s.sets s.areas) c = ap (λ (ns : Namespaces). refusal_of ns c) same in
     let count : count_of (arena_of (shown s.sets s.areas) c) ≡ steps_before c = count_is (shown s.sets s.areas) c in
     record {
-      refused = λ f at. let it = is.refused goes f (refusal ∙ at) in (it.0, ap (λ (x : State). x.areas) it.1, formats.refused goes f (refusal ∙ at));
+      refused = λ f at. let it = is.refused goes f (refusal ∙ at) in (it.0, ap (λ (x : State). x.areas) it.1);
       went = λ allowed. record {
-        formats = formats_in s contents contents' fuse c reply goes (refusal ∙ allowed) formats;
         within = λ short. let it = is.within goes (refusal ∙ allowed) (ap (lasts fuse) (sym count) ∙ short) in (ap (λ (r : Result (Unit {0}) OpRefused). is_ok r) it.0, it.1);
         labels = λ long.
             subst (λ (n : ℕ). Went s.areas new.areas (burnt fuse n) left (changes_of (shown s.sets s.areas) (areas_seen s.areas) c) (is_ok reply)) (sym count)
@@ -109,6 +92,21 @@ answered_runs s new contents contents' fuse left c reply none running other is f
             (is.went goes (refusal ∙ allowed) (ap (lasts fuse) (sym count) ∙ long)));
       };
       cut = λ allowed f err. is.cut goes (refusal ∙ allowed) f err;
+    }
+
+-- what it counted of a format
+pub is_counted : (s : State) (was now : Counted) (fuse : Option ℕ) (c : Command) (reply : Result (Unit {0}) OpRefused) → s.claims ≡ [] → s.stopped ≡ false → reply ≢ Err OutOfMemory → was.begun ≡ None
+    → Formats (λ (old : Counted) (new : Counted) (set : List Mapping) (offset : ℕ) (spec : CreateSpec) (f : Option ℕ). CanLie set offset spec
+    × (new.begun ≡ Some (record { offset = offset; layout = layout_for spec; steps = steps_made f (format_count (layout_for spec)) }))) s was now fuse c reply
+    → IsCounted s.sets s.areas c fuse now.begun
+is_counted s was now fuse c reply none running other nothing is =
+    let goes : Goes s reply = (running, other) in
+    let same : namespaces_in s ≡ shown s.sets s.areas = ap (with_claims (shown s.sets s.areas)) none in
+    let refusal : refusal_of (namespaces_in s) c ≡ refusal_of (shown s.sets s.areas) c = ap (λ (ns : Namespaces). refusal_of ns c) same in
+    record {
+      refused = λ f at. ap (λ (x : Counted). x.begun) (is.refused goes f (refusal ∙ at)) ∙ nothing;
+      plain = λ raw. ap (λ (x : Counted). x.begun) (is.plain raw) ∙ nothing;
+      some = λ allowed spec at sectors. is.formatted goes (refusal ∙ allowed) spec at sectors;
     }
 
 -- ---- a fuse that doesn't last has a number of steps
@@ -123,36 +121,29 @@ left_none old new fuse left changes whole went none = went.left_is ∙ ap (λ (f
 pub went_given : (old new : List Area) (fuse left : Option ℕ) (changes : List Change) (whole : Bool) → Went old new fuse left changes whole → whole ≡ false → fuse ≢ None
 went_given old new fuse left changes whole went short = steps_given fuse (steps_of_all (areas_seen old) changes) (sym went.made ∙ short)
 
-works_given : (arena : Option Arena) (old news : List Area) (contents contents' : List Words) (fuse left : Option ℕ) (changes : List Change) (whole : Bool) → Works arena old news contents contents' fuse left changes whole → whole ≡ false → fuse ≢ None
-works_given arena old news contents contents' fuse left changes whole works short none = by (lasts fuse (count_of arena)) refl
+works_given : (count : ℕ) (old news : List Area) (fuse left : Option ℕ) (changes : List Change) (whole : Bool) → WorksOn count old news fuse left changes whole → whole ≡ false → fuse ≢ None
+works_given count old news fuse left changes whole works short none = by (lasts fuse count) refl
   where
-    by : (b : Bool) → lasts fuse (count_of arena) ≡ b → ⊥
-    by true long = went_given old news (burnt fuse (count_of arena)) left changes whole (works.labels long) short (ap (λ (f : Option ℕ). burnt f (count_of arena)) none)
-    by false within = steps_given fuse (count_of arena) within none
+    by : (b : Bool) → lasts fuse count ≡ b → ⊥
+    by true long = went_given old news (burnt fuse count) left changes whole (works.labels long) short (ap (λ (f : Option ℕ). burnt f count) none)
+    by false within = steps_given fuse count within none
 
--- ---- how many areas and modules there are
+-- ---- how many areas there are
 
-rows_in : (arena : Option Arena) (contents contents' : List Words) (fuse : Option ℕ) → FormatsIn arena contents contents' fuse → length contents' ≡ length contents
-rows_in None contents contents' fuse same = ap (λ (ws : List Words). length ws) same
-rows_in (Some arena) contents contents' fuse it =
-    sym (length-map contents' (λ (w : Words). length w.kept)) ∙ ap (λ (ns : List ℕ). length ns) it.counts ∙ length-map contents (λ (w : Words). length w.kept)
-
-areas_in : (arena : Option Arena) (old news : List Area) (contents contents' : List Words) (fuse left : Option ℕ) (changes : List Change) (whole : Bool) → Works arena old news contents contents' fuse left changes whole → length news ≡ length old
-areas_in arena old news contents contents' fuse left changes whole works = by (lasts fuse (count_of arena)) refl
+areas_in : (count : ℕ) (old news : List Area) (fuse left : Option ℕ) (changes : List Change) (whole : Bool) → WorksOn count old news fuse left changes whole → length news ≡ length old
+areas_in count old news fuse left changes whole works = by (lasts fuse count) refl
   where
-    by : (b : Bool) → lasts fuse (count_of arena) ≡ b → length news ≡ length old
+    by : (b : Bool) → lasts fuse count ≡ b → length news ≡ length old
     by true long = sym (length-map news size_of) ∙ ap (λ (ns : List ℕ). length ns) (works.labels long).sizes ∙ length-map old size_of
     by false short = ap (λ (xs : List Area). length xs) (works.within short).1
 
-module _ (sets : List (List Mapping)) (old news : List Area) (contents contents' : List Words) (fuse left : Option ℕ) (c : Command) (reply : Result (Unit {0}) OpRefused) (runs : Runs sets old news contents contents' fuse left c reply) where
-  pub counts : (length news ≡ length old) × (length contents' ≡ length contents)
-  counts = by (refusal_of (shown sets old) c) refl
+module _ (sets : List (List Mapping)) (old news : List Area) (fuse left : Option ℕ) (c : Command) (reply : Result (Unit {0}) OpRefused) (runs : Runs sets old news fuse left c reply) where
+  pub count_same : length news ≡ length old
+  count_same = by (refusal_of (shown sets old) c) refl
     where
-      by : (o : Option OpRefused) → refusal_of (shown sets old) c ≡ o → (length news ≡ length old) × (length contents' ≡ length contents)
-      by (Some f) some = let it = runs.refused f some in (ap (λ (xs : List Area). length xs) it.1, ap (λ (ws : List Words). length ws) it.2)
-      by None none =
-          let works = runs.went none in
-          (areas_in _ old news contents contents' fuse left _ (is_ok reply) works, rows_in (arena_of (shown sets old) c) contents contents' fuse works.formats)
+      by : (o : Option OpRefused) → refusal_of (shown sets old) c ≡ o → length news ≡ length old
+      by (Some f) some = ap (λ (xs : List Area). length xs) (runs.refused f some).1
+      by None none = areas_in (count_of (arena_of (shown sets old) c)) old news fuse left _ (is_ok reply) (runs.went none)
 
   -- ---- the answer
 
@@ -169,7 +160,7 @@ module _ (sets : List (List Mapping)) (old news : List Area) (contents contents'
       by : (o : Option OpRefused) → refusal_of (shown sets old) c ≡ o → ⊥
       by (Some f) some = uncut f some (err_same f PowerCut (sym (runs.refused f some).0 ∙ cut))
       by None allowed =
-          works_given _ old news contents contents' fuse left _ (is_ok reply) (runs.went allowed) (ap (λ (r : Result (Unit {0}) OpRefused). is_ok r) cut) none
+          works_given _ old news fuse left _ (is_ok reply) (runs.went allowed) (ap (λ (r : Result (Unit {0}) OpRefused). is_ok r) cut) none
 
   ok_is : (r : Result (Unit {0}) OpRefused) → is_ok r ≡ true → r ≡ Ok tt
   ok_is (Ok u) e = refl
@@ -179,32 +170,27 @@ module _ (sets : List (List Mapping)) (old news : List Area) (contents contents'
   cut_is (Ok u) only e = absurd (true≢false e)
   cut_is (Err f) only e = ap (λ (x : OpRefused). Err x) (only f refl)
 
-  pub went_is : (leaves : ℕ → List (Option Words) → List (Option (List ℕ)) → Type 0) (objects : List (Option (List ℕ)) → List (List ℕ) → Images) (power : Power) (outcome : Outcome)
-      → (reply ≡ Ok tt → SavesDone objects news contents' outcome) → (reply ≡ Err PowerCut → SavesCut leaves objects power news contents' outcome)
-      → refusal_of (shown sets old) c ≡ None → GoesOn leaves objects power sets old contents fuse c outcome
-  went_is leaves objects power outcome done cut none = record {
-    news = news;
-    made = contents';
-    left = left;
-    whole = is_ok reply;
-    works = runs.went none;
-    done = λ ok. done (ok_is reply ok);
-    cut = λ err. cut (cut_is reply (runs.cut none) err);
-  }
+  -- contents in which the arena is formatted, if the command makes one, and the set that is saved with them
+  pub went_on : (leaves : ℕ → List (Option Words) → List (Option (List ℕ)) → Type 0) (objects : List (Option (List ℕ)) → List (List ℕ) → Images) (power : Power) (contents made : List Words) (outcome : Outcome)
+      → FormatsIn (arena_of (shown sets old) c) contents made fuse → refusal_of (shown sets old) c ≡ None
+      → (is_ok reply ≡ true → SavesDone objects news made outcome) → (is_ok reply ≡ false → SavesCut leaves objects power news made outcome) → GoesOn leaves objects power sets old contents fuse c outcome
+  went_on leaves objects power contents made outcome formats none done cut =
+      let works = runs.went none in
+      record {
+        news = news;
+        made = made;
+        left = left;
+        whole = is_ok reply;
+        works = record { formats = formats; within = works.within; labels = works.labels };
+        done = done;
+        cut = cut;
+      }
 
--- what remains can be left
-pub can_leave : (beside : Beside) (made : List Words) (areas : List Area) → IsBeside beside → length areas ≡ count_beside beside → length made ≡ length (words_beside beside)
-    → CanLeave (remains_of (with_words beside made) (map words_of areas))
-can_leave (beside.Copied rest) made areas is count same = (is, length-map areas words_of ∙ count)
-can_leave (beside.Whole rest) made areas is count same = record {
-  bad = is.bad ∙ sym same;
-  few = subst (λ (n : ℕ). n < 2 ^ 32) (sym same) is.few;
-  count = length-map areas words_of ∙ count ∙ sym same;
-}
+  pub ok_reply : is_ok reply ≡ true → reply ≡ Ok tt
+  ok_reply ok = ok_is reply ok
 
-pub can_stop : (beside : Beside) (areas : List Area) → IsBeside beside → length areas ≡ count_beside beside → CanLeave (remains_of beside (map words_of areas))
-can_stop (beside.Copied rest) areas is count = (is, length-map areas words_of ∙ count)
-can_stop (beside.Whole rest) areas is count = record { bad = is.bad; few = is.few; count = length-map areas words_of ∙ count }
+  pub cut_reply : refusal_of (shown sets old) c ≡ None → is_ok reply ≡ false → reply ≡ Err PowerCut
+  cut_reply none err = cut_is reply (runs.cut none) err
 
 -- ---- behind recovery
 
@@ -216,11 +202,11 @@ moved_went a a' mid f f' left s s' b b' p q u v went =
     (subst (λ (x : List (List Mapping)). Went a mid f left (recovery_changes x (areas_seen a)) b') u
     (subst (λ (x : Bool). Went a mid f left (recovery_changes s (areas_seen a)) x) v went)))
 
-module _ (leaves : ℕ → List (Option Words) → List (Option (List ℕ)) → Type 0) (objects : List (Option (List ℕ)) → List (List ℕ) → Images) (power : Power) (sets held : List (List Mapping)) (areas a mid : List Area) (contents : List Words) (f left : Option ℕ) (c : Command) (outcome : Outcome) (b : Bool)
+module _ (leaves : ℕ → List (Option Words) → List (Option (List ℕ)) → Type 0) (kept : List (Option (List ℕ)) → Images) (objects : List (Option (List ℕ)) → List (List ℕ) → Images) (power : Power) (sets held : List (List Mapping)) (areas a mid : List Area) (contents : List Words) (f left : Option ℕ) (c : Command) (outcome : Outcome) (b : Bool)
     (p : a ≡ areas) (q : f ≡ power.steps) (u : held ≡ sets) (went : Went a mid f left (recovery_changes held (areas_seen a)) b) where
   pub goes_then : (now : List (List Mapping)) → now ≡ held → b ≡ true
       → ((g : OpRefused) → refusal_of (shown now mid) c ≡ Some g → outcome ≡ refused_outcome (refusal_text g))
-      → (refusal_of (shown now mid) c ≡ None → GoesOn leaves objects power now mid contents left c outcome) → GoesFrom leaves objects power sets areas contents c outcome
+      → (refusal_of (shown now mid) c ≡ None → GoesOn leaves objects power now mid contents left c outcome) → GoesFrom leaves kept objects power sets areas contents c outcome
   goes_then now w v refused on = inr (record {
     mid = mid;
     left = left;
@@ -229,5 +215,5 @@ module _ (leaves : ℕ → List (Option Words) → List (Option (List ℕ)) → 
     went = subst (λ (s : List (List Mapping)). refusal_of (shown s mid) c ≡ None → GoesOn leaves objects power s mid contents left c outcome) (w ∙ u) on;
   })
 
-  pub stops_first : b ≡ false → SavesCut leaves objects power mid contents outcome → GoesFrom leaves objects power sets areas contents c outcome
+  pub stops_first : b ≡ false → SavesCut leaves (λ rows left. kept rows) power mid [] outcome → GoesFrom leaves kept objects power sets areas contents c outcome
   stops_first v cut = inl (record { news = mid; left = left; went = moved_went a areas mid f power.steps left held sets b false p q u v went; cut = cut })

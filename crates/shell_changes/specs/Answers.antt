@@ -1,14 +1,10 @@
 -- What an answer comes to, with the contents that are copied as its set is saved.
-use Rattle.std.specs.Prelude.{◌≡◌, ℕ, false, List, [], Option, IfSome}
+use Rattle.std.specs.Prelude.{◌≡◌, ℕ, List, [], Option, IfSome}
 use Rattle.std.specs.Option.{option_map}
 use Rattle.nvd_media.specs.Images.{Images}
 use Rattle.shell_reports.specs.Outcome.{Outcome}
 use Rattle.shell_changes.specs.declared.answer.Answer.{Answer}
-use Rattle.shell_changes.specs.declared.changing.SetRead.{SetRead}
-use Rattle.shell_changes.specs.declared.changing.SetRead.TheVariants as read
-use Rattle.shell_changes.specs.declared.saving.Beside.{Beside}
-use Rattle.shell_changes.specs.declared.saving.Beside.TheVariants as beside
-use Rattle.shell_changes.specs.Saved.{AreSaved, HasSize, copies_contents, objects_saved}
+use Rattle.shell_changes.specs.Saved.{AreSaved, HasSize, objects_saved}
 
 -- an answer without where it lies in memory, with contents like these
 abbrev pub outcome_with : Answer → List (List ℕ) → Outcome
@@ -21,15 +17,6 @@ whole_outcome answer = outcome_with answer []
 -- the contents of the set that is saved, if one is, have these sizes
 abbrev pub HasSizes : List ℕ → Answer → Type 0
 HasSizes sizes answer = IfSome answer.saved (HasSize sizes)
-
--- contents are copied only if they aren't in memory, and have their sizes
-abbrev pub Fits : Beside → Answer → Type 0
-Fits (beside.Copied rest) answer = HasSizes rest.sizes answer
-Fits (beside.Whole rest) answer = copies_contents answer.saved ≡ false
-
-abbrev pub FitsRead : SetRead → Answer → Type 0
-FitsRead (read.Outline outline) answer = HasSizes outline.sizes answer
-FitsRead (read.Whole loaded) answer = copies_contents answer.saved ≡ false
 
 -- an answer comes to this outcome, as far as the source tells the contents that are copied
 pub record ComesFrom (held : Option Images) (answer : Answer) (outcome : Outcome) : Type 0 where

@@ -1,5 +1,5 @@
--- An image set as it was read for a command on namespaces: with its contents, or without them.
-use Rattle.std.specs.Prelude.{◌≡◌, ℕ, ◌<◌, ◌^◌, Bool, true, false, List, length, Option, None, Ok, []}
+-- An image set without its contents, for a command on namespaces.
+use Rattle.std.specs.Prelude.{◌≡◌, ℕ, ◌<◌, ◌≤◌, ◌^◌, List, length, sum, Option, Ok, [], false}
 use Rattle.std.specs.List.{All}
 use Rattle.cut_words.specs.Words.{Words}
 use Rattle.nfit_reader.specs.declared.table.Mapping.{Mapping}
@@ -10,64 +10,42 @@ use Rattle.namespace_areas.specs.declared.area.Area.{Area}
 use Rattle.namespace_map.specs.declared.commands.Command.{Command}
 use Rattle.namespace_ops.specs.Carried.{HasGoodName}
 use Rattle.namespace_ops.specs.Registered.{Registered}
-use Rattle.namespace_ops.specs.Opening.{set_fault_from, sets_of}
-use Rattle.image_set.specs.Load.{ImageSet, image_set_in}
-use Rattle.image_set.specs.Outline.{IsOutlined, image_set_with}
-use Rattle.image_set.specs.Sound.{IsArea, IsSound}
-use Rattle.shell_changes.specs.declared.changing.SetRead.{SetRead}
-use Rattle.shell_changes.specs.declared.changing.SetRead.TheVariants.{Outline, Whole}
-use Rattle.shell_changes.specs.declared.saving.Beside.{Beside}
-use Rattle.shell_changes.specs.declared.saving.Beside.TheVariants as beside
-use Rattle.shell_changes.specs.Rest.{IsBeside, IsUsableBeside, count_beside, is_whole}
-use Rattle.namespace_ops.specs.Counted.{makes_sectors}
-
--- it was loaded, or its outline was
-abbrev pub IsRead : SetRead → Type 0
-IsRead (Outline outline) = IsOutlined outline
-IsRead (Whole loaded) = IsSound loaded
-
-abbrev pub reads_contents : SetRead → Bool
-reads_contents (Outline outline) = false
-reads_contents (Whole loaded) = true
-
--- the image set; with these contents, if they weren't read
-abbrev pub set_read : SetRead → List (List ℕ) → ImageSet
-set_read (Outline outline) contents = image_set_with outline contents
-set_read (Whole loaded) contents = image_set_in loaded
+use Rattle.image_set.specs.declared.changing.OutlineRest.{OutlineRest}
+use Rattle.image_set.specs.Load.{ImageSet}
+use Rattle.image_set.specs.Outline.{IsOutlineRest, image_set_with}
+use Rattle.image_set.specs.Sizes.{IsContentsSize}
+use Rattle.image_set.specs.Sound.{AreMapped, IsArea}
+use Rattle.shell_changes.specs.Saved.{AreWholeSizes}
 
 -- ---- in parts
 
-abbrev pub table_beside : Beside → List ℕ
-table_beside (beside.Copied rest) = rest.nfit_bytes
-table_beside (beside.Whole rest) = rest.nfit_bytes
+-- the image set that has these parts and these contents
+abbrev pub set_parted : Nfit → List (Option Words) → OutlineRest → List (List ℕ) → ImageSet
+set_parted nfit labels rest contents = image_set_with (record { nfit = nfit; nfit_bytes = rest.nfit_bytes; labels = labels; sizes = rest.sizes; bad = rest.bad }) contents
 
--- the image set that has these parts
-abbrev pub set_parted : Nfit → List (Option Words) → Beside → List (List ℕ) → ImageSet
-set_parted nfit labels (beside.Copied rest) contents = image_set_with (record { nfit = nfit; nfit_bytes = rest.nfit_bytes; labels = labels; sizes = rest.sizes; bad = rest.bad }) contents
-set_parted nfit labels (beside.Whole rest) contents = image_set_in (record { nfit = nfit; nfit_bytes = rest.nfit_bytes; labels = labels; contents = rest.contents; bad = rest.bad })
-
--- what holds of the parts of a set that was read
-pub record IsParted (nfit : Nfit) (labels : List (Option Words)) (beside : Beside) : Type 0 where
-  pub table : nfit_reading (table_beside beside) ≡ Ok nfit
+-- what holds of the parts of an outline
+pub record IsParted (nfit : Nfit) (labels : List (Option Words)) (rest : OutlineRest) : Type 0 where
+  pub table : nfit_reading rest.nfit_bytes ≡ Ok nfit
   pub counted : AreCounted nfit
   pub regions : length nfit.regions < 2 ^ 32
   pub areas : All IsArea labels
-  pub count : length labels ≡ count_beside beside
+  pub count : length labels ≡ length rest.sizes
   pub few : length labels < 2 ^ 32
-  pub rest : IsBeside beside
-  pub usable : set_fault_from 0 nfit.regions ≡ None → IsUsableBeside beside (sets_of nfit)
+  pub rest_is : IsOutlineRest rest
+  -- contents can be read: each size is within its limits, and so is their sum, and they hold the mappings
+  pub sized : All IsContentsSize rest.sizes
+  pub total : sum rest.sizes ≤ 536870912
+  pub mapped : All (AreMapped rest.sizes) nfit.regions
 
 -- ---- a command on these parts
 
 -- what holds of a command, of the sets and areas that it works on, and of the rest
-pub record CanRun (sets : List (List Mapping)) (areas : List Area) (beside : Beside) (c : Command) : Type 0 where
+pub record CanRun (sets : List (List Mapping)) (areas : List Area) (rest : OutlineRest) (c : Command) : Type 0 where
   pub few_sets : length sets < 2 ^ 32
   pub name : HasGoodName c
-  -- contents are in memory exactly if the command makes sectors
-  pub whole : makes_sectors c ≡ is_whole beside
-  pub rest : IsBeside beside
-  pub usable : IsUsableBeside beside sets
-  pub count : length areas ≡ count_beside beside
+  pub rest_is : IsOutlineRest rest
+  pub whole : AreWholeSizes rest.sizes
+  pub count : length areas ≡ length rest.sizes
 
 -- a registry with which a run begins: no namespace is claimed, the journal is empty and without room, and power is on
 pub record IsFresh (r : Registered) : Type 0 where

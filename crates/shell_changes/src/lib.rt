@@ -6,10 +6,10 @@
 //!               └─ image fault   └─── power cut ───────────┴──► cut_answer: cut N, and the set
 //! ```
 //!
-//! [`change_answer`] is the one way of `create`, `delete` and `rename`. Only `create --mode sector` formats an arena,
-//! so it alone needs contents in memory ([`SetRead`]). The others work on an outline of the set, and contents are
-//! copied from the source as the set is saved ([`SavedSet`]). A set can also be left with the new bytes of a
-//! namespace in the contents that are copied ([`Left::Patched`]). [`init_answer`] changes one label area.
+//! [`change_answer`] is the one way of `create`, `delete` and `rename`. All work on an outline of the set, and contents are
+//! copied from the source as the set is saved ([`SavedSet`]). Only `create --mode sector` formats an arena: its steps are
+//! counted, and its words are put into the contents while these are copied ([`Left::Patched`]). [`init_answer`] changes one
+//! label area.
 //!
 //! One fuse counts all steps: recovery's, then the format's, then those of the labels. A refused command saves nothing,
 //! not even what recovery did. `cut_answer` and `done_answer` make the [`Answer`] of what remains (`Remains`). After a
@@ -47,10 +47,10 @@ mod saving;
 mod words;
 
 pub use answer::{Answer, Left, SavedSet, in_memory, without_set};
-pub use changing::{SetRead, change_answer};
+pub use changing::change_answer;
 pub use init::init_answer;
 pub use laws::{
     accepted_is_apart, changes_keep_apart, crash_is_in_either, crash_leaves_others, crash_recovers,
     done_is_the_command, reports_show_the_map,
 };
-pub use words::{create_in, delete_in, makes_sectors, rename_in};
+pub use words::{create_in, delete_in, rename_in};

@@ -1,18 +1,20 @@
-//! A command is carried out on label areas, and on contents if it makes sectors.
-ghost use Rattle.std.specs.Prelude.{◌≡◌, ◌≢◌, true, false, Err, IfOk};
+//! A command is carried out on label areas. The format of an arena is counted.
+ghost use Rattle.std.specs.Prelude.{◌≡◌, ◌≢◌, ◌<◌, true, false, Err, IfOk, IfSome, List, None, Option, ℕ, length};
+ghost use Rattle.namespace_areas.specs.Finding.{set_at};
+ghost use Rattle.namespace_areas.specs.Refusals.{shown};
+ghost use Rattle.namespace_areas.specs.declared.area.Area.{Area as LabelArea};
+ghost use Rattle.namespace_map.specs.Commands.{refusal_of};
 ghost use Rattle.namespace_ops.specs.Carried.{HasGoodName};
-ghost use Rattle.namespace_ops.specs.Counted.{HasContents, makes_sectors};
-ghost use Rattle.sector_namespaces.specs.View.{AreUsable};
-ghost use Rattle.shell_changes.specs.Going.{Runs};
-ghost use Rattle.shell_changes.specs.Reading.{CanRun, IsFresh};
-ghost use Rattle.shell_changes.specs.Rest.{IsRest, with_words, words_beside};
+ghost use Rattle.shell_changes.specs.Going.{Begins, CanPut, IsCounted, Runs};
+ghost use Rattle.shell_changes.specs.Reading.{IsFresh};
+ghost use Rattle.shell_changes.specs.Work.{arena_of};
 
-use crate::saving::{Beside, Rest};
-use cut_words::{CutWords, Fuse};
-use image_set::OutlineRest;
+use crate::saving::NewArena;
+use cut_words::Fuse;
+use interleave::InterleaveSet;
 use namespace_areas::Area;
 use namespace_map::{Command, OpRefused};
-use namespace_ops::{Registry, Tag};
+use namespace_ops::{Begun, Counted, Registry, Tag};
 use nvd_words::Items;
 use std::alloc::{AllocError, Global};
 
@@ -22,11 +24,11 @@ const TAG: Tag = Tag {
     call: 0,
 };
 
-/// What became of label areas, and of what a set has beside them, by a command, and its reply.
+/// What became of label areas by a command, the arena that it began, and its reply.
 #[derive(Drop)]
 pub(crate) struct Ran {
     pub(crate) areas: Vec<Area>,
-    pub(crate) beside: Beside,
+    pub(crate) begun: Option<NewArena>,
     pub(crate) reply: Result<(), OpRefused>,
 }
 
@@ -42,82 +44,56 @@ fn wants_memory(reply: Result<(), OpRefused>) -> bool
 fn carry_out(
     alloc: Global,
     registry: &mut Registry,
-    modules: &mut Vec<CutWords>,
+    counted: &mut Counted,
     fuse: &mut Fuse,
     change: &Command,
 ) -> Result<Result<(), OpRefused>, AllocError>
     requires fresh { IsFresh registry.old }
     requires name { HasGoodName change.now }
-    requires contents { HasContents registry.old.sets change.now modules.old.items }
-    ensures runs { IfOk result (λ reply. Runs registry.old.sets registry.old.areas registry.new.areas modules.old.items modules.new.items fuse.old fuse.new change.now reply) }
-    ensures plain { IfOk result (λ _. makes_sectors change.now ≡ false → modules.new.items ≡ modules.old.items) }
+    requires none { counted.old.begun ≡ None }
+    ensures runs { IfOk result (λ reply. Runs registry.old.sets registry.old.areas registry.new.areas fuse.old fuse.new change.now reply) }
+    ensures counted { IfOk result (λ _. IsCounted registry.old.sets registry.old.areas change.now fuse.old counted.new.begun) }
+    ensures sets { IfOk result (λ _. registry.new.sets ≡ registry.old.sets) }
 {
     registry.reserve(alloc, &[1])?;
-    let reply = registry.carry_out(alloc, modules, fuse, TAG, change);
+    let reply = registry.carry_out(alloc, counted, fuse, TAG, change);
     if wants_memory(reply) {
         return Err(AllocError);
     }
     Ok(reply)
 }
 
-/// Carries a command out on labels alone.
-fn run_labels(
-    alloc: Global,
-    registry: Registry,
-    fuse: &mut Fuse,
-    change: &Command,
-    rest: OutlineRest,
-) -> Result<Ran, AllocError>
-    requires fresh { IsFresh registry }
-    requires name { HasGoodName change.now }
-    requires plain { makes_sectors change.now ≡ false }
-    ensures runs { IfOk result (λ ran. Runs registry.sets registry.areas ran.areas.items (words_beside (Beside.Copied rest)) (words_beside ran.beside) fuse.old fuse.new change.now ran.reply) }
-    ensures beside { IfOk result (λ ran. ran.beside ≡ with_words (Beside.Copied rest) (words_beside ran.beside)) }
+/// The interleave set of a region that is there, taken out of all.
+fn set_of(sets: Items<InterleaveSet>, region: u32) -> InterleaveSet
+    requires { region < length sets }
+    ensures { result ≡ set_at sets region }
 {
-    let mut registry = registry;
-    let mut modules = Vec::new(alloc);
-    let reply = carry_out(alloc, &mut registry, &mut modules, fuse, change)?;
-    let areas = registry.into_areas();
-    Ok(Ran {
-        areas,
-        beside: Beside::Copied(rest),
-        reply,
-    })
+    let mut sets = sets.into_vec();
+    sets.swap_remove(region as usize)
 }
 
-/// Carries a command out that makes sectors, in contents that are in memory.
-fn run_sectors(
-    alloc: Global,
-    registry: Registry,
-    fuse: &mut Fuse,
-    change: &Command,
-    rest: Rest,
-) -> Result<Ran, AllocError>
-    requires fresh { IsFresh registry }
-    requires name { HasGoodName change.now }
-    requires rest { IsRest rest }
-    requires usable { AreUsable registry.sets rest.contents }
-    ensures runs { IfOk result (λ ran. Runs registry.sets registry.areas ran.areas.items (words_beside (Beside.Whole rest)) (words_beside ran.beside) fuse.old fuse.new change.now ran.reply) }
-    ensures beside { IfOk result (λ ran. ran.beside ≡ with_words (Beside.Whole rest) (words_beside ran.beside)) }
+/// The arena that a command began, if it began one.
+fn new_arena(sets: Items<InterleaveSet>, change: &Command, begun: Option<Begun>) -> Option<NewArena>
+    requires { (areas : List LabelArea) × (fuse : Option ℕ) × IsCounted sets areas change.now fuse begun }
+    ensures begins { (areas : List LabelArea) (fuse : Option ℕ) → IsCounted sets areas change.now fuse begun → refusal_of (shown sets areas) change.now ≡ None → Begins sets (arena_of (shown sets areas) change.now) fuse result }
+    ensures can { IfSome result CanPut }
 {
-    let Rest {
-        nfit_bytes,
-        contents,
-        bad,
-    } = rest;
-    let mut registry = registry;
-    let mut modules = contents.into_vec();
-    let reply = carry_out(alloc, &mut registry, &mut modules, fuse, change)?;
-    let rest = Rest {
-        nfit_bytes,
-        contents: Items::from_vec(modules),
-        bad,
-    };
-    Ok(Ran {
-        areas: registry.into_areas(),
-        beside: Beside::Whole(rest),
-        reply,
-    })
+    let begun = begun?;
+    match change {
+        Command::Create(spec) => {
+            let set = set_of(sets, spec.region);
+            let raw = spec.size / u64::from(set.ways());
+            Some(NewArena {
+                set,
+                offset: begun.offset,
+                raw,
+                layout: begun.layout,
+                uuid: spec.uuid,
+                steps: begun.steps,
+            })
+        }
+        _ => None,
+    }
 }
 
 /// Carries a command out on a registry that was recovered, under a fuse.
@@ -126,15 +102,21 @@ pub(crate) fn run_command(
     registry: Registry,
     fuse: &mut Fuse,
     change: &Command,
-    beside: Beside,
 ) -> Result<Ran, AllocError>
     requires fresh { IsFresh registry }
-    requires run { CanRun registry.sets registry.areas beside change.now }
-    ensures runs { IfOk result (λ ran. Runs registry.sets registry.areas ran.areas.items (words_beside beside) (words_beside ran.beside) fuse.old fuse.new change.now ran.reply) }
-    ensures beside { IfOk result (λ ran. ran.beside ≡ with_words beside (words_beside ran.beside)) }
+    requires name { HasGoodName change.now }
+    ensures runs { IfOk result (λ ran. Runs registry.sets registry.areas ran.areas.items fuse.old fuse.new change.now ran.reply) }
+    ensures begins { IfOk result (λ ran. refusal_of (shown registry.sets registry.areas) change.now ≡ None → Begins registry.sets (arena_of (shown registry.sets registry.areas) change.now) fuse.old ran.begun) }
+    ensures can { IfOk result (λ ran. IfSome ran.begun CanPut) }
 {
-    match beside {
-        Beside::Copied(rest) => run_labels(alloc, registry, fuse, change, rest),
-        Beside::Whole(rest) => run_sectors(alloc, registry, fuse, change, rest),
-    }
+    let mut registry = registry;
+    let mut counted = Counted::new();
+    let reply = carry_out(alloc, &mut registry, &mut counted, fuse, change)?;
+    let (sets, areas) = registry.into_parts();
+    let begun = new_arena(sets, change, counted.begun);
+    Ok(Ran {
+        areas,
+        begun,
+        reply,
+    })
 }

@@ -1,56 +1,59 @@
 //! What remains of an image set as a command ends is saved: to its end, or as a power cut leaves it.
 ghost use Rattle.std.specs.Prelude.{◌≡◌, ◌≢◌, ◌<◌, IfOk, None, length};
 ghost use Rattle.image_set.specs.declared.changing.OutlineLeft.{OutlineLeft as LeftOutline};
-ghost use Rattle.image_set.specs.Outline.{IsOutlined, IsOutlineRest, LeavesAreas, LeavesOutline};
-ghost use Rattle.shell_changes.specs.Remains.{AnswersCut, AnswersDone, CanLeave, IsWholeRest, LeavesSet, LeavesWhole, SavesLeft, remains_of};
+ghost use Rattle.image_set.specs.Outline.{IsOutlined, LeavesAreas, LeavesOutline};
+ghost use Rattle.shell_changes.specs.Going.{CanPut};
+ghost use Rattle.shell_changes.specs.Remains.{AnswersCut, AnswersDone, AreOf, CanLeave, LeavesFormatted, LeavesSet, SavesLeft, remains_of};
 
 use crate::answer::{Answer, Left, SavedSet};
+use arena_layout::Layout;
 use cut_words::CutWords;
-use image_set::{Outline, OutlineRest, SetLeft};
+use format_patch::{format_patch, words_left};
+use image_set::{Outline, OutlineRest};
+use interleave::InterleaveSet;
 use nvd_media::Chooser;
 use nvd_words::Items;
-use power_cut::leave_all;
 use shell_reports::{Ending, Power, Report, cut_line, steps_of};
 use std::alloc::{AllocError, Global};
+use uuid::Uuid;
 
-/// What a loaded set has beside its table's meaning and its label areas.
-#[derive(Debug, Drop)]
-pub struct Rest {
-    /// The bytes of the firmware's table.
-    pub nfit_bytes: Items<u8>,
-    /// The contents of each module.
-    pub contents: Items<CutWords>,
-    /// The bytes of each module's list of bad ranges.
-    pub bad: Items<Option<Items<u8>>>,
-}
-
-/// What an image set has beside its table's meaning and its label areas.
+/// The arena of a new namespace, whose format was begun. Its words are put into the contents while these are copied.
 #[derive(Drop)]
-pub(crate) enum Beside {
-    /// Its contents are copied from the source as it is saved.
-    Copied(OutlineRest),
-    /// All of it is in memory.
-    Whole(Rest),
+pub struct NewArena {
+    /// The interleave set of the namespace's region.
+    pub set: InterleaveSet,
+    /// How far the namespace lies from the start of each mapping, in bytes.
+    pub offset: u64,
+    /// How long it is in each mapping, in bytes.
+    pub raw: u64,
+    pub layout: Layout,
+    pub uuid: Uuid,
+    /// How many steps of the format were made.
+    pub steps: u64,
 }
 
-/// What remains of an image set as a command ends.
+/// What remains of an image set as a command ends. Its contents are copied from the source as it is saved.
 #[derive(Drop)]
 pub(crate) enum Remains {
     /// An outline, and the words of the label area of a module that was taken out of it.
     Area(Outline, u32, CutWords),
     /// What an outline has beside its label areas, and the words of these.
     Areas(OutlineRest, Items<Option<CutWords>>),
-    /// What a loaded set has beside its label areas, and the words of these.
-    Whole(Rest, Items<Option<CutWords>>),
+    /// The same, and the arena that is put into the contents.
+    Formatted(OutlineRest, Items<Option<CutWords>>, NewArena),
 }
 
 /// What remains of a set with these label areas.
-pub(crate) fn remaining(beside: Beside, labels: Items<Option<CutWords>>) -> Remains
-    ensures { result ≡ remains_of beside labels }
+pub(crate) fn remaining(
+    rest: OutlineRest,
+    labels: Items<Option<CutWords>>,
+    begun: Option<NewArena>,
+) -> Remains
+    ensures { result ≡ remains_of rest labels begun }
 {
-    match beside {
-        Beside::Copied(rest) => Remains::Areas(rest, labels),
-        Beside::Whole(rest) => Remains::Whole(rest, labels),
+    match begun {
+        None => Remains::Areas(rest, labels),
+        Some(new) => Remains::Formatted(rest, labels, new),
     }
 }
 
@@ -77,36 +80,37 @@ fn areas_left<C: Chooser>(
     labels: Items<Option<CutWords>>,
     choose: &mut C,
 ) -> Result<SavedSet, AllocError>
-    requires rest { IsOutlineRest rest }
-    requires count { length labels ≡ length rest.sizes }
+    requires { AreOf rest labels }
     ensures { IfOk result (λ set. (left : LeftOutline) × (set ≡ Left.Copied left) × LeavesAreas C.picks rest labels choose.old choose.new left) }
 {
     let left = rest.leave_areas(alloc, labels, choose)?;
     Ok(SavedSet::new(Left::Copied(left)))
 }
 
-/// A loaded set after the crash, with these label areas.
-fn whole_left<C: Chooser>(
+/// An outline after the crash, with these label areas, and with the words of an arena in the contents that are copied.
+fn formatted_left<C: Chooser>(
     alloc: Global,
-    rest: Rest,
+    rest: OutlineRest,
     labels: Items<Option<CutWords>>,
+    new: NewArena,
     choose: &mut C,
 ) -> Result<SavedSet, AllocError>
-    requires { IsWholeRest rest labels }
-    ensures { IfOk result (λ set. LeavesWhole C.picks rest labels set choose.old choose.new) }
+    requires areas { AreOf rest labels }
+    requires arena { CanPut new }
+    ensures { IfOk result (λ set. LeavesFormatted C.picks rest labels new set choose.old choose.new) }
 {
-    let Rest {
-        nfit_bytes,
-        contents,
-        bad,
-    } = rest;
-    let images = leave_all(alloc, labels, contents, Vec::new(alloc), choose)?;
-    let left = SetLeft {
-        nfit: nfit_bytes,
-        images,
-        bad,
-    };
-    Ok(SavedSet::new(Left::Whole(left)))
+    let areas = rest.leave_areas(alloc, labels, choose)?;
+    let NewArena {
+        set,
+        offset,
+        raw,
+        layout,
+        uuid,
+        steps,
+    } = new;
+    let words = words_left(&set, offset, raw, &layout, steps, choose);
+    let patch = format_patch(alloc, set, offset, raw, &layout, &uuid, words)?;
+    Ok(SavedSet::new(Left::Patched(areas, patch)))
 }
 
 /// The set after the crash. A word that isn't pending stays.
@@ -121,7 +125,7 @@ fn set_left<C: Chooser>(
     match remains {
         Remains::Area(rest, module, words) => area_left(alloc, rest, module, words, choose),
         Remains::Areas(rest, labels) => areas_left(alloc, rest, labels, choose),
-        Remains::Whole(rest, labels) => whole_left(alloc, rest, labels, choose),
+        Remains::Formatted(rest, labels, new) => formatted_left(alloc, rest, labels, new, choose),
     }
 }
 

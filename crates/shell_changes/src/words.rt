@@ -1,7 +1,6 @@
 //! The commands on namespaces that the words of a command line say.
 ghost use Rattle.std.specs.Prelude.{◌≡◌, ◌≤◌, IfSome};
 ghost use Rattle.command_words.specs.Parsed.{rows};
-ghost use Rattle.namespace_ops.specs.Counted.{makes_sectors};
 ghost use Rattle.shell_changes.specs.Words.{create_in, delete_in, lanes_in, make_in, make_of, rename_in, sector_in};
 ghost use Rattle.namespace_ops.specs.Carried.{HasGoodName, IsGoodName};
 
@@ -17,19 +16,6 @@ const SECTOR: u64 = 512;
 
 /// How many writers an arena has room for if the words don't say; it is the most, too.
 const LANES: u64 = 256;
-
-/// Whether a command makes a namespace of sectors, for which it needs the contents of modules.
-pub fn makes_sectors(change: &Command) -> bool
-    ensures { result ≡ makes_sectors change.now }
-{
-    matches!(
-        change,
-        Command::Create(CreateSpec {
-            make: Make::Sector { .. },
-            ..
-        })
-    )
-}
 
 /// The bytes of a sector.
 fn sector_in(values: &Parsed<'_>) -> Option<u64>

@@ -1,6 +1,5 @@
 -- A text that is printed piece by piece.
-use Rattle.std.proofs.Common.{◌≡◌, ℕ, zero, suc, ◌+◌, ◌<◌, ◌≤◌, List, [], ◌++◌, length, take, drop, ◌-◌, Option, Result, Ok, Err, refl, sym, ap, ◌∙◌, subst, subst₂, arith, append_assoc, append-nil, take-append-drop, length-append}
-use Rattle.std.specs.Prelude.{OnOk, OnErr}
+use Rattle.std.proofs.Common.{◌≡◌, ℕ, zero, suc, ◌+◌, ◌≤◌, List, [], ◌++◌, length, take, drop, ◌-◌, Option, refl, sym, ap, ◌∙◌, subst, arith, append_assoc, append-nil, take-append-drop, length-append}
 use Rattle.std.specs.Io.KnownBytes.{Appends}
 use Rattle.std.specs.List.{flat_map, range_with_len}
 use Rattle.std.proofs.KnownBytes.{Appends-trans}
@@ -9,7 +8,7 @@ use Rattle.std.proofs.lemmas.List.{take-append-le, take_all, length-take}
 use Rattle.nvd_media.specs.Images.{Keeps}
 use Rattle.cut_words.specs.WordBytes.{bytes_of}
 use Rattle.cut_words.proofs.Put.{bytes_of-append}
-use Rattle.shell_export.specs.Printing.{AppendsAll, AppendsBut, AppendsFront}
+use Rattle.shell_export.specs.Printing.{AppendsAll, AppendsFront, PrintsAll, PrintsBut, PrintsFront}
 
 -- ---- whole pieces
 
@@ -20,77 +19,97 @@ keeps_more a b c xs ys before after = λ now is.
     (earlier.0, earlier.1, later.2 ∙ ap (λ (text : List ℕ). text ++ ys) earlier.2 ∙ append_assoc earlier.0 xs ys)
 
 -- one piece behind others
-pub piece_more : (a b c a' b' c' : Option (List ℕ)) (xs ys whole : List ℕ) → whole ≡ xs ++ ys → AppendsAll a b a' b' xs → AppendsAll b c b' c' ys → AppendsAll a c a' c' whole
-piece_more a b c a' b' c' xs ys whole is before after =
-    subst (AppendsAll a c a' c') (sym is) (Appends-trans a b c xs ys before.0 after.0, keeps_more a' b' c' xs ys before.1 after.1)
+both_all : (a b c a' b' c' : Option (List ℕ)) (xs ys : List ℕ) → AppendsAll a b a' b' xs → AppendsAll b c b' c' ys → AppendsAll a c a' c' (xs ++ ys)
+both_all a b c a' b' c' xs ys before after = (Appends-trans a b c xs ys before.0 after.0, keeps_more a' b' c' xs ys before.1 after.1)
 
--- ---- a front of a piece
+-- ---- bytes by contents
 
--- behind pieces that were printed whole it is a front of the whole text
-pub front_of : (a b c : Option (List ℕ)) (done piece rest whole : List ℕ) → whole ≡ done ++ (piece ++ rest) → Appends a b done → AppendsFront b c piece → AppendsFront a c whole
-front_of a b c done piece rest whole is before (n, part) =
-    let front : List ℕ = done ++ take n piece in
-    let split : whole ≡ front ++ (drop n piece ++ rest) =
-    is
-    ∙ ap (λ (p : List ℕ). done ++ (p ++ rest)) (sym (take-append-drop n piece))
-    ∙ ap (λ (p : List ℕ). done ++ p) (append_assoc (take n piece) (drop n piece) rest)
-    ∙ sym (append_assoc done (take n piece) (drop n piece ++ rest)) in
-    let same : take (length front) whole ≡ front =
-    ap (take (length front)) split ∙ take-append-le (length front) front (drop n piece ++ rest) (omega arith) ∙ take_all (length front) front (omega arith) in
-    (length front, subst (Appends a c) (sym same) (Appends-trans a b c done (take n piece) before part))
+module _ (Known : List (List ℕ) → Type 0) (f : List (List ℕ) → List ℕ) (a b c a' b' c' : Option (List ℕ)) where
+  -- one piece more
+  pub all_more : (g h : List (List ℕ) → List ℕ) → ((contents : List (List ℕ)) → h contents ≡ f contents ++ g contents) → PrintsAll Known f a b a' b' → PrintsAll Known g b c b' c'
+      → PrintsAll Known h a c a' c'
+  all_more g h split (xs, before, are) (ys, after, be) =
+      (xs ++ ys, both_all a b c a' b' c' xs ys before after, λ contents known. split contents ∙ (λ i. are contents known i ++ be contents known i))
 
--- ---- bytes that wait
+  -- a front of one piece more
+  pub front_more : (g h rest : List (List ℕ) → List ℕ) → ((contents : List (List ℕ)) → h contents ≡ f contents ++ (g contents ++ rest contents)) → PrintsAll Known f a b a' b' → PrintsFront Known g b c
+      → PrintsFront Known h a c
+  front_more g h rest split (xs, before, are) (ys, after, be) = (
+    xs ++ ys,
+    Appends-trans a b c xs ys before.0 after,
+    (λ contents known.
+        let own = be contents known in (
+          own.0 ++ rest contents,
+          split contents
+              ∙ (λ i. are contents known i ++ (own.1 i ++ rest contents))
+              ∙ ap (λ (zs : List ℕ). xs ++ zs) (append_assoc ys own.0 (rest contents))
+              ∙ sym (append_assoc xs ys (own.0 ++ rest contents)),
+        )),
+  )
 
-pub but_none : (a a' : Option (List ℕ)) (bytes : List ℕ) → AppendsAll a a a' a' [] → AppendsBut a a a' a' bytes bytes
-but_none a a' bytes none = ([], none, refl)
+  module _ (waiting : List ℕ) where
+    -- of those that wait, and one piece more, all but the last are printed
+    pub but_more : (g h : List (List ℕ) → List ℕ) (left : List ℕ) → ((contents : List (List ℕ)) → h contents ≡ f contents ++ g contents) → PrintsBut Known f a b a' b' waiting
+        → PrintsBut Known (λ contents. waiting ++ g contents) b c b' c' left → PrintsBut Known h a c a' c' left
+    but_more g h left split (xs, before, are) (ys, after, be) = (
+      xs ++ ys,
+      both_all a b c a' b' c' xs ys before after,
+      (λ contents known.
+          split contents
+          ∙ ap (λ (zs : List ℕ). zs ++ g contents) (are contents known)
+          ∙ append_assoc xs waiting (g contents)
+          ∙ ap (λ (zs : List ℕ). xs ++ zs) (be contents known)
+          ∙ sym (append_assoc xs ys left)),
+    )
 
-pub but_all : (a b a' b' : Option (List ℕ)) (bytes : List ℕ) → AppendsAll a b a' b' bytes → AppendsBut a b a' b' bytes []
-but_all a b a' b' bytes all = (bytes, all, sym (append-nil bytes))
+    -- those that wait are printed
+    pub but_all : PrintsBut Known f a b a' b' waiting → AppendsAll b c b' c' waiting → PrintsAll Known f a c a' c'
+    but_all (xs, before, are) after = (xs ++ waiting, both_all a b c a' b' c' xs waiting before after, are)
 
--- more bytes wait behind those that do
-but_behind : (a b a' b' : Option (List ℕ)) (bytes waiting more : List ℕ) → AppendsBut a b a' b' bytes waiting → AppendsBut a b a' b' (bytes ++ more) (waiting ++ more)
-but_behind a b a' b' bytes waiting more (done, all, is) = (done, all, ap (λ (xs : List ℕ). xs ++ more) is ∙ append_assoc done waiting more)
+    -- a front of those that wait is printed
+    pub but_front : (h rest : List (List ℕ) → List ℕ) → ((contents : List (List ℕ)) → h contents ≡ f contents ++ rest contents) → PrintsBut Known f a b a' b' waiting → AppendsFront b c waiting
+        → PrintsFront Known h a c
+    but_front h rest split (xs, before, are) (n, part) = (
+      xs ++ take n waiting,
+      Appends-trans a b c xs (take n waiting) before.0 part,
+      (λ contents known. (
+        drop n waiting ++ rest contents,
+        split contents
+            ∙ ap (λ (zs : List ℕ). zs ++ rest contents) (are contents known ∙ ap (λ (zs : List ℕ). xs ++ zs) (sym (take-append-drop n waiting)) ∙ sym (append_assoc xs (take n waiting) (drop n waiting)))
+            ∙ append_assoc (xs ++ take n waiting) (drop n waiting) (rest contents),
+      )),
+    )
 
--- of those that wait, all but the last are printed
-but_more : (a b c a' b' c' : Option (List ℕ)) (bytes waiting left : List ℕ) → AppendsBut a b a' b' bytes waiting → AppendsBut b c b' c' waiting left → AppendsBut a c a' c' bytes left
-but_more a b c a' b' c' bytes waiting left (done, all, is) (more, later, split) =
-    (done ++ more, piece_more a b c a' b' c' done more (done ++ more) refl all later, is ∙ ap (λ (xs : List ℕ). done ++ xs) split ∙ sym (append_assoc done more left))
+-- ---- words that are known
 
--- one piece more waits, behind those that are left
-pub but_added : (a b c a' b' c' : Option (List ℕ)) (bytes waiting left piece bytes' waiting' : List ℕ) → bytes' ≡ bytes ++ piece → waiting' ≡ left ++ piece
-    → AppendsBut a b a' b' bytes waiting → AppendsBut b c b' c' waiting left → AppendsBut a c a' c' bytes' waiting'
-but_added a b c a' b' c' bytes waiting left piece bytes' waiting' more behind before after =
-    subst₂ (AppendsBut a c a' c') (sym more) (sym behind) (but_behind a c a' c' bytes left piece (but_more a b c a' b' c' bytes waiting left before after))
+-- a piece that was read, and printed
+pub piece_all : (Known : List (List ℕ) → Type 0) (f : List (List ℕ) → List ℕ) (a b a' b' : Option (List ℕ)) (bytes : List ℕ) → ((contents : List (List ℕ)) → Known contents → f contents ≡ bytes)
+    → AppendsAll a b a' b' bytes → PrintsAll Known f a b a' b'
+piece_all Known f a b a' b' bytes are all = (bytes, all, are)
 
--- those that wait are printed
-but_end : (a b c a' b' c' : Option (List ℕ)) (bytes waiting : List ℕ) → AppendsBut a b a' b' bytes waiting → AppendsAll b c b' c' waiting → AppendsAll a c a' c' bytes
-but_end a b c a' b' c' bytes waiting (done, all, is) later = piece_more a b c a' b' c' done waiting bytes is all later
+pub piece_front : (Known : List (List ℕ) → Type 0) (f : List (List ℕ) → List ℕ) (a b : Option (List ℕ)) (bytes : List ℕ) → ((contents : List (List ℕ)) → Known contents → f contents ≡ bytes)
+    → AppendsFront a b bytes → PrintsFront Known f a b
+piece_front Known f a b bytes are (n, part) = (take n bytes, part, λ contents known. (drop n bytes, are contents known ∙ sym (take-append-drop n bytes)))
 
--- a front of those that wait is printed
-pub but_front : (a b c a' b' : Option (List ℕ)) (bytes waiting rest whole : List ℕ) → whole ≡ bytes ++ rest → AppendsBut a b a' b' bytes waiting → AppendsFront b c waiting → AppendsFront a c whole
-but_front a b c a' b' bytes waiting rest whole split (done, all, is) part =
-    front_of a b c done waiting rest whole (split ∙ ap (λ (xs : List ℕ). xs ++ rest) is ∙ append_assoc done waiting rest) all.0 part
+-- a piece that wasn't read
+pub piece_none : (Known : List (List ℕ) → Type 0) (f : List (List ℕ) → List ℕ) (a : Option (List ℕ)) → Appends a a [] → PrintsFront Known f a a
+piece_none Known f a none = ([], none, λ contents known. (f contents, refl))
 
--- at the end of a call that prints those that wait
-pub end_all : {T E : Type 0} (r : Result T E) (a b c a' b' c' : Option (List ℕ)) (bytes waiting : List ℕ) → AppendsBut a b a' b' bytes waiting → OnOk r (AppendsAll b c b' c' waiting)
-    → OnOk r (AppendsAll a c a' c' bytes)
-end_all (Ok x) a b c a' b' c' bytes waiting before later = but_end a b c a' b' c' bytes waiting before later
-end_all (Err e) a b c a' b' c' bytes waiting before later = tt
+-- bytes that were read behind those that wait
+pub read_behind : (old read rest : List ℕ) (left end : ℕ) → left ≤ length old → end ≡ left + length read → take end (take left old ++ (read ++ rest)) ≡ take left old ++ read
+read_behind old read rest left end inside is =
+    ap (take end) (sym (append_assoc (take left old) read rest))
+    ∙ take-append-le end (take left old ++ read) rest (omega (arith, is, inside, length-append (take left old) read, length-take left old))
+    ∙ take_all end (take left old ++ read) (omega (arith, is, inside, length-append (take left old) read, length-take left old))
 
-pub end_front : {T E : Type 0} (r : Result T E) (a b c a' b' : Option (List ℕ)) (bytes waiting : List ℕ) → AppendsBut a b a' b' bytes waiting → OnErr r (AppendsFront b c waiting)
-    → OnErr r (AppendsFront a c bytes)
-end_front (Ok x) a b c a' b' bytes waiting before part = tt
-end_front (Err e) a b c a' b' bytes waiting before part = but_front a b c a' b' bytes waiting [] bytes (sym (append-nil bytes)) before part
+-- ---- fronts
 
--- words that were read behind others
-pub read_behind : (old read rest : List ℕ) (filled end : ℕ) → filled ≤ length old → end ≡ filled + length read
-    → bytes_of (take end (take filled old ++ (read ++ rest))) ≡ bytes_of (take filled old) ++ bytes_of read
-read_behind old read rest filled end inside is =
-    ap bytes_of
-    (ap (take end) (sym (append_assoc (take filled old) read rest))
-    ∙ take-append-le end (take filled old ++ read) rest (omega (arith, is, inside, length-append (take filled old) read, length-take filled old))
-    ∙ take_all end (take filled old ++ read) (omega (arith, is, inside, length-append (take filled old) read, length-take filled old)))
-    ∙ bytes_of-append (take filled old) read
+-- a front of bytes is one of all that are due
+pub front_of : (whole bytes rest : List ℕ) (text text' : Option (List ℕ)) → whole ≡ bytes ++ rest → Appends text text' bytes → AppendsFront text text' whole
+front_of whole bytes rest text text' is says = (
+  length bytes,
+  subst (Appends text text') (sym (ap (take (length bytes)) is ∙ take-append-le (length bytes) bytes rest (omega arith) ∙ take_all (length bytes) bytes (omega arith))) says,
+)
 
 -- ---- pieces by number
 
@@ -111,13 +130,12 @@ flat_more f k =
     ∙ ap (λ (i : ℕ). flat_map f (range_with_len 0 k) ++ (f i ++ [])) (let e : 0 + k ≡ k = omega arith in e)
     ∙ ap (λ (xs : List ℕ). flat_map f (range_with_len 0 k) ++ xs) (append-nil (f k))
 
--- a piece among all
-pub flat_at : (f : ℕ → List ℕ) (k n : ℕ) → k < n
-    → flat_map f (range_with_len 0 n) ≡ flat_map f (range_with_len 0 k) ++ (f k ++ flat_map f (range_with_len (k + 1) (n - (k + 1))))
-flat_at f k n lt =
-    ap (λ (i : ℕ). flat_map f (range_with_len 0 i)) (let e : n ≡ k + suc (n - (k + 1)) = omega (arith, lt) in e)
-    ∙ flat_split f 0 k (suc (n - (k + 1)))
-    ∙ ap (λ (i : ℕ). flat_map f (range_with_len 0 k) ++ flat_map f (range_with_len i (suc (n - (k + 1))))) (let e : 0 + k ≡ k = omega arith in e)
+-- a front of all pieces
+pub flat_at : (f : ℕ → List ℕ) (k n : ℕ) → k ≤ n → flat_map f (range_with_len 0 n) ≡ flat_map f (range_with_len 0 k) ++ flat_map f (range_with_len k (n - k))
+flat_at f k n le =
+    ap (λ (i : ℕ). flat_map f (range_with_len 0 i)) (let e : n ≡ k + (n - k) = omega (arith, le) in e)
+    ∙ flat_split f 0 k (n - k)
+    ∙ ap (λ (i : ℕ). flat_map f (range_with_len 0 k) ++ flat_map f (range_with_len i (n - k))) (let e : 0 + k ≡ k = omega arith in e)
 
 -- ---- the bytes of words
 

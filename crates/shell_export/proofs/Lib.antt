@@ -3,5 +3,5 @@ pub mod Told
 pub mod Places
 pub mod Opened
 pub mod Causes
-pub mod Searched
+pub mod SectorBytes
 pub mod Unplaced

@@ -1,31 +1,51 @@
--- From the loaded set to the outcome of `export`.
-use Rattle.std.proofs.Common.{◌≡◌, ℕ, Bool, List, map, Option, Ok, Err}
-use Rattle.std.specs.Option.{option_map}
-use Rattle.nfit_reader.specs.declared.table.Mapping.{Mapping}
-use Rattle.namespace_areas.specs.declared.area.Area.{Area}
-use Rattle.namespace_areas.specs.Areas.{shown_in}
-use Rattle.namespace_areas.specs.Seen.{AreHeld}
-use Rattle.namespace_map.specs.Namespaces.{NamespaceEntry, lookup}
+-- From an outline whose labels are read to the outcome of `export` on its set.
+use Rattle.std.proofs.Common.{◌≡◌, ℕ, Bool, List, Option, Some, Result, Ok, Err, ap, sym, ◌∙◌}
+use Rattle.power_cut.specs.Namespace.{over, words_of}
+use Rattle.image_set.specs.declared.changing.OutlineRest.{OutlineRest}
+use Rattle.image_set.specs.declared.outline.Outline.{Outline}
+use Rattle.image_set.specs.Outline.{image_set_with}
+use Rattle.namespace_areas.specs.declared.found.Found.{Found}
+use Rattle.namespace_areas.specs.Finding.{set_at}
+use Rattle.namespace_map.specs.declared.refused.OpRefused.{OpRefused}
+use Rattle.namespace_map.specs.Namespaces.{entry_at, lookup}
 use Rattle.namespace_ops.specs.declared.registry.OpenFault.{OpenFault}
-use Rattle.namespace_ops.specs.Opening.{registry_opening}
 use Rattle.namespace_ops.specs.Counted.{namespaces_in}
+use Rattle.namespace_ops.specs.Opening.{sets_of}
 use Rattle.namespace_ops.specs.Registered.{Registered, state_of}
-use Rattle.image_set.specs.declared.loading.Loaded.{Loaded}
-use Rattle.image_set.specs.Load.{bytes_kept, image_set_in}
-use Rattle.shell_reports.specs.List.{open_outcome, shown_by}
+use Rattle.sector_namespaces.specs.View.{rows_of, view_words}
+use Rattle.shell_reports.specs.Causes.{fault_in}
+use Rattle.shell_reports.specs.Faults.{refusal_text, refused_outcome}
+use Rattle.shell_reports.specs.List.{labels_in_set, open_outcome}
 use Rattle.shell_reports.specs.Outcome.{Outcome}
-use Rattle.shell_reports.proofs.Arenas.{due_fault, due_open}
-use Rattle.shell_export.specs.Export.{export_outcome, on_place, place_of}
+use Rattle.shell_reports.specs.Sectors.{unless_fault}
+use Rattle.shell_sectors.specs.Opening.{IsOpenOutline}
+use Rattle.shell_export.specs.Export.{export_outcome, on_place, place_of, words_outcome}
 
-module _ (loaded : Loaded) (uuid : List ℕ) (zeros : Bool) (areas : List Area) (shown : map shown_in areas ≡ map shown_by (map (option_map bytes_kept) loaded.labels)) where
-  abbrev bytes_due : List (List Mapping) → Option NamespaceEntry → Outcome
-  bytes_due sets entry = on_place uuid zeros sets (map bytes_kept loaded.contents) (place_of sets entry)
+module _ (outline : Outline) (uuid : List ℕ) (zeros : Bool) (contents : List (List ℕ)) where
+  abbrev due : Result Found OpRefused → Outcome
+  due place = on_place uuid zeros (sets_of outline.nfit) contents place
 
-  pub on_open : AreHeld areas → (registry : Registered) → Ok registry ≡ registry_opening loaded.nfit areas
-      → on_place uuid zeros registry.sets (map bytes_kept loaded.contents) (place_of registry.sets (lookup uuid (namespaces_in (state_of registry)).entries)) ≡ export_outcome uuid zeros (image_set_in loaded)
-  unfolding export_outcome image_set_in
-  on_open held registry e = due_open loaded uuid areas shown bytes_due held registry e
+  -- the table or the labels have a fault
+  pub fault_due : (fault : OpenFault) → fault_in (image_set_with outline contents) ≡ Some fault → export_outcome uuid zeros (image_set_with outline contents) ≡ open_outcome fault
+  unfolding export_outcome image_set_with
+  fault_due fault is = ap (λ (o : Option OpenFault). unless_fault o (due (place_of (sets_of outline.nfit) (entry_at (sets_of outline.nfit) (labels_in_set (image_set_with outline contents)) uuid)))) is
 
-  pub on_fault : (fault : OpenFault) → Err fault ≡ registry_opening loaded.nfit areas → export_outcome uuid zeros (image_set_in loaded) ≡ open_outcome fault
-  unfolding export_outcome image_set_in
-  on_fault fault e = due_fault loaded uuid areas shown bytes_due fault e
+  module _ (registry : Registered) (rest : OutlineRest) (o : IsOpenOutline outline registry rest) where
+    named_due : (r : Result Found OpRefused) → r ≡ place_of registry.sets (lookup uuid (namespaces_in (state_of registry)).entries) → due r ≡ export_outcome uuid zeros (image_set_with outline contents)
+    unfolding export_outcome image_set_with
+    named_due r is =
+        ap due (is ∙ (λ i. place_of (o.sets i) (o.entry uuid contents i)))
+        ∙ ap (λ (fault : Option OpenFault). unless_fault fault (due (place_of (sets_of outline.nfit) (entry_at (sets_of outline.nfit) (labels_in_set (image_set_with outline contents)) uuid)))) (sym (o.none contents))
+
+    -- it isn't found
+    pub refused_due : (refusal : OpRefused) → Err refusal ≡ place_of registry.sets (lookup uuid (namespaces_in (state_of registry)).entries)
+        → refused_outcome (refusal_text refusal) ≡ export_outcome uuid zeros (image_set_with outline contents)
+    refused_due refusal is = named_due (Err refusal) is
+
+    -- it is found
+    pub found_due : (found : Found) → Ok found ≡ place_of registry.sets (lookup uuid (namespaces_in (state_of registry)).entries)
+        → words_outcome uuid zeros found.mode (words_of (over (set_at registry.sets found.region) found.offset found.raw (rows_of contents))).kept ≡ export_outcome uuid zeros (image_set_with outline contents)
+    unfolding view_words
+    found_due found is =
+        (λ i. words_outcome uuid zeros found.mode (words_of (over (set_at (o.sets i) found.region) found.offset found.raw (rows_of contents))).kept)
+        ∙ named_due (Ok found) is

@@ -1,49 +1,43 @@
 //! Pieces of a text, on their way to a sink.
-ghost use Rattle.std.specs.Prelude.{◌≡◌, ◌≤◌, OnOk, OnErr, length};
-ghost use Rattle.nvd_media.specs.Causes.{HasCause, Rose};
-ghost use Rattle.cut_words.specs.WordBytes.{bytes_of};
+ghost use Rattle.std.specs.Prelude.{◌≡◌, ◌≢◌, ◌≤◌, IfOk, OnOk, OnErr, Ok, Err};
+ghost use Rattle.nvd_media.specs.Causes.{Rose};
 ghost use Rattle.shell_reports.specs.Saved.{outcome_of};
-ghost use Rattle.shell_export.specs.Printing.{AppendsAll, AppendsFront, IsPrinted};
+ghost use Rattle.shell_export.specs.Printing.{AppendsAll, AppendsFront, PrintsMade, PrintsReport};
 
-use nvd_media::{Failed, TextSink};
-use shell_reports::{Report, Status};
+use nvd_media::TextSink;
+use shell_reports::{Report, RunStop, Status};
+use std::alloc::AllocError;
 
-/// The size of a word, in bytes.
-pub(crate) const WORD: usize = 8;
+/// How many bytes are printed at a time: 256 KiB.
+pub(crate) const PIECE: usize = 262144;
 
-/// How many words are printed at a time: 64 KiB.
-pub(crate) const PIECE: usize = 8192;
-
-/// Converts words to bytes, the low byte first, in a buffer for as many words.
-fn spell<'a>(room: &'a mut [[u8; WORD]], words: &[u64]) -> &'a [u8]
-    requires { length room.old ≡ length words.now }
-    ensures { result.now ≡ bytes_of words.now }
-{
-    for i in 0..words.len() {
-        room[i] = words[i].to_le_bytes();
-    }
-    room.as_flattened()
+/// Why printing stopped before the end of a text.
+#[derive(Clone, Copy, Debug)]
+pub(crate) enum PrintStop {
+    /// The bytes couldn't be read.
+    Read,
+    /// They couldn't be written.
+    Write,
 }
 
-/// Prints words as bytes. The buffer has room for at least as many words.
-pub(crate) fn print_words<O: TextSink>(
-    words: &[u64],
-    room: &mut [[u8; WORD]],
-    text: &mut O,
-) -> Result<(), Failed>
-    requires { length words.now ≤ length room.old }
-    ensures all { OnOk result (AppendsAll (O.written text.old) (O.written text.new) (O.kept text.old) (O.kept text.new) (bytes_of words.now)) }
-    ensures part { OnErr result (AppendsFront (O.written text.old) (O.written text.new) (bytes_of words.now)) }
-    ensures cause { HasCause (O.faults text.old) (O.faults text.new) result }
-    ensures room { length room.new ≡ length room.old }
+/// Prints bytes.
+pub(crate) fn print_bytes<O: TextSink>(bytes: &[u8], text: &mut O) -> Result<(), PrintStop>
+    ensures all { OnOk result (AppendsAll (O.written text.old) (O.written text.new) (O.kept text.old) (O.kept text.new) bytes.now) }
+    ensures part { OnErr result (AppendsFront (O.written text.old) (O.written text.new) bytes.now) }
+    ensures later { O.faults text.old ≤ O.faults text.new }
+    ensures read { result ≢ Err PrintStop.Read }
+    ensures failed { result ≡ Err PrintStop.Write → Rose (O.faults text.old) (O.faults text.new) }
 {
-    let count = words.len();
-    text.write(spell(&mut room[..count], words))
+    match text.write(bytes) {
+        Ok(()) => Ok(()),
+        Err(_) => Err(PrintStop::Write),
+    }
 }
 
 /// Prints a report.
 pub(crate) fn print_report<O: TextSink>(report: &Report, text: &mut O) -> Status
-    ensures printed { IsPrinted (outcome_of report.now) (O.written text.old) (O.written text.new) (O.kept text.old) (O.kept text.new) result }
+    ensures printed { PrintsReport (outcome_of report.now) (O.written text.old) (O.written text.new) (O.kept text.old) (O.kept text.new) result }
+    ensures read { result ≢ Status.ReadFault }
     ensures failed { result ≡ Status.WriteFault → Rose (O.faults text.old) (O.faults text.new) }
 {
     match text.write(&report.text) {
@@ -52,13 +46,33 @@ pub(crate) fn print_report<O: TextSink>(report: &Report, text: &mut O) -> Status
     }
 }
 
-/// The status of a run that printed a text without a refusal, or stopped as writing failed.
-pub(crate) fn status_after(printed: Result<(), Failed>) -> Status
+/// Prints a report, or returns the stop if memory ran out as it was made.
+pub(crate) fn print_made<O: TextSink>(
+    made: Result<Report, AllocError>,
+    text: &mut O,
+) -> Result<Status, RunStop>
+    ensures printed { IfOk result (PrintsMade made (O.written text.old) (O.written text.new) (O.kept text.old) (O.kept text.new)) }
+    ensures nothing { OnErr result (O.written text.new ≡ O.written text.old) }
+    ensures quiet { OnErr result (O.faults text.new ≡ O.faults text.old) }
+    ensures memory { result ≢ Err RunStop.ReadFault }
+    ensures read { result ≢ Ok Status.ReadFault }
+    ensures failed { result ≡ Ok Status.WriteFault → Rose (O.faults text.old) (O.faults text.new) }
+{
+    match made {
+        Ok(report) => Ok(print_report(&report, text)),
+        Err(_) => Err(RunStop::OutOfMemory),
+    }
+}
+
+/// The status of a run that printed a text without a refusal, or stopped before its end.
+pub(crate) fn status_after(printed: Result<(), PrintStop>) -> Status
     ensures all { OnOk printed (result ≡ Status.Ok) }
-    ensures part { OnErr printed (result ≡ Status.WriteFault) }
+    ensures read { printed ≡ Err PrintStop.Read → result ≡ Status.ReadFault }
+    ensures write { printed ≡ Err PrintStop.Write → result ≡ Status.WriteFault }
 {
     match printed {
         Ok(()) => Status::Ok,
-        Err(_) => Status::WriteFault,
+        Err(PrintStop::Read) => Status::ReadFault,
+        Err(PrintStop::Write) => Status::WriteFault,
     }
 }

@@ -1,113 +1,176 @@
 //! The bytes of all sectors of a namespace.
-ghost use Rattle.std.specs.Prelude.{◌≡◌, ◌+◌, ◌++◌, ◌<◌, ◌≤◌, IfOk, Ok, OnOk, OnErr, codes, length, take};
+ghost use Rattle.std.specs.Prelude.{◌≡◌, ◌≢◌, ℕ, ◌+◌, ◌++◌, ◌/◌, ◌<◌, ◌≤◌, IfOk, List, Ok, Err, OnOk, OnErr, codes, drop, length, map, slice_index, sum_by, take};
 ghost use Rattle.std.specs.Fmt.{decimal};
-ghost use Rattle.nvd_media.specs.Causes.{HasCause, Rose};
-ghost use Rattle.arena_open.specs.ChainCells.{sectors_of};
+ghost use Rattle.nvd_media.specs.Causes.{Rose};
+ghost use Rattle.arena_open.specs.Chain.{state_at};
+ghost use Rattle.arena_open.specs.InPlace.{external_in};
+ghost use Rattle.arena_open.specs.Reading.{cell_with};
 ghost use Rattle.cut_words.specs.WordBytes.{bytes_of};
+ghost use Rattle.map_table.specs.Entry.{entry_of};
+ghost use Rattle.namespace_bytes.specs.SectorPut.{AreSized, HasBlocks};
+ghost use Rattle.namespace_bytes.specs.Putting.{AreAll};
+ghost use Rattle.namespace_words.specs.Source.{AreWithin, HasEnds, IsWithin, Reveals, words_by};
+ghost use Rattle.power_cut.specs.Namespace.{raw_bytes};
 ghost use Rattle.shell_reports.specs.Faults.{refused_outcome};
+ghost use Rattle.shell_reports.specs.Outcome.{printed};
 ghost use Rattle.shell_reports.specs.Saved.{outcome_of};
-ghost use Rattle.shell_export.specs.Export.{bytes_unless, cell_in, cell_words, sector_bytes, sectors_bytes, sector_words};
-ghost use Rattle.shell_export.specs.Printing.{AppendsAll, AppendsBut, AppendsFront, HasRoom, IsPrinted};
+ghost use Rattle.shell_export.specs.Export.{cell_words, refused_at, sector_bytes, sectors_bytes, sectors_outcome};
+ghost use Rattle.shell_export.specs.Printing.{AppendsBut, AppendsFront, KnowsAll, PrintsAll, PrintsBut, PrintsDue, PrintsFront};
 
-use crate::pieces::{PIECE, WORD, print_report, print_words, status_after};
-use arena_open::{CellKind, ReadChain};
-use cut_words::WordSpace;
-use nvd_media::{Failed, TextSink};
-use shell_reports::{Report, Status, refused_answer};
+use crate::bad::first_bad;
+use crate::blocks::read_sector;
+use crate::pieces::{PIECE, PrintStop, print_bytes, print_made, status_after};
+use namespace_words::{ArenaRead, arena_at, locate, sectors_of_all};
+use nvd_media::{ImageSource, TextSink};
+use power_cut::SetExtent;
+use shell_reports::{Report, RunStop, Status, refused_answer};
 use std::alloc::{AllocError, Global};
 
-/// Returns how many words a sector has, 0 if there is no such sector.
-fn sector_words<W: WordSpace>(chain: &ReadChain<W>, sector: u64) -> usize
-    ensures { result ≡ sector_words chain.now sector }
-{
-    chain.sector_size(sector).unwrap_or(0) as usize / WORD
-}
-
-/// Returns how many words the buffer has: 64 KiB, or the greatest sector if that has more.
-fn most_words<W: WordSpace>(chain: &ReadChain<W>) -> usize
-    ensures { HasRoom chain.now result }
-{
-    let mut most = PIECE;
-    for sector in 0..chain.sectors() {
-        most = most.max(sector_words(chain, sector));
-    }
-    most
-}
-
-/// Reads a sector, a bad one as zeros.
-fn read_words<W: WordSpace>(chain: &ReadChain<W>, sector: u64, words: &mut [u64])
-    requires there { sector < sectors_of chain.now }
-    requires room { length words.old ≡ sector_words chain.now sector }
-    ensures words { words.new ≡ cell_words (sector_words chain.now sector) (cell_in chain.now sector) }
-    ensures count { length words.new ≡ sector_words chain.now sector }
-{
-    match chain.read(sector, words) {
-        CellKind::Bytes => (),
-        CellKind::Bad => words.fill(0),
-    }
-}
-
-/// Reads a sector into the buffer, behind its first `filled` words, and returns how many words are filled then.
-fn read_behind<W: WordSpace>(
-    chain: &ReadChain<W>,
-    sector: u64,
-    filled: usize,
-    words: &mut [u64],
-) -> usize
-    requires there { sector < sectors_of chain.now }
-    requires room { filled + sector_words chain.now sector ≤ length words.old }
-    ensures filled { result ≤ length words.new }
-    ensures words { bytes_of (take result words.new) ≡ bytes_of (take filled words.old) ++ sector_bytes chain.now sector }
-    ensures room { length words.new ≡ length words.old }
-{
-    let end = filled + sector_words(chain, sector);
-    read_words(chain, sector, &mut words[filled..end]);
-    end
-}
-
-/// Prints the filled words of a buffer if it hasn't room for `more` words behind them. It returns how many still wait.
+/// Prints the filled bytes of a buffer if it hasn't room for `more` bytes behind them. It returns how many still wait.
 fn make_room<O: TextSink>(
     filled: usize,
     more: usize,
-    words: &[u64],
-    room: &mut [[u8; WORD]],
+    buffer: &[u8],
     text: &mut O,
-) -> Result<usize, Failed>
-    requires filled { filled ≤ length words.now }
-    requires more { more ≤ length words.now }
-    requires room { length room.old ≡ length words.now }
-    ensures all { IfOk result (λ left. AppendsBut (O.written text.old) (O.written text.new) (O.kept text.old) (O.kept text.new) (bytes_of (take filled words.now)) (bytes_of (take left words.now))) }
-    ensures fits { IfOk result (λ left. left + more ≤ length words.now) }
-    ensures part { OnErr result (AppendsFront (O.written text.old) (O.written text.new) (bytes_of (take filled words.now))) }
-    ensures cause { HasCause (O.faults text.old) (O.faults text.new) result }
-    ensures room { length room.new ≡ length room.old }
+) -> Result<usize, PrintStop>
+    requires filled { filled ≤ length buffer.now }
+    requires more { more ≤ length buffer.now }
+    ensures all { IfOk result (λ left. AppendsBut (O.written text.old) (O.written text.new) (O.kept text.old) (O.kept text.new) (take filled buffer.now) (take left buffer.now)) }
+    ensures fits { IfOk result (λ left. left + more ≤ length buffer.now) }
+    ensures part { OnErr result (AppendsFront (O.written text.old) (O.written text.new) (take filled buffer.now)) }
+    ensures later { O.faults text.old ≤ O.faults text.new }
+    ensures read { result ≢ Err PrintStop.Read }
+    ensures failed { result ≡ Err PrintStop.Write → Rose (O.faults text.old) (O.faults text.new) }
 {
-    if more <= words.len() - filled {
+    if more <= buffer.len() - filled {
         return Ok(filled);
     }
-    print_words(&words[..filled], room, text)?;
+    print_bytes(&buffer[..filled], text)?;
     Ok(0)
 }
 
-/// Prints all sectors, in order: as many at a time as the buffers have room for.
-fn print_sectors<W: WordSpace, O: TextSink>(
-    chain: &ReadChain<W>,
-    words: &mut [u64],
-    room: &mut [[u8; WORD]],
+/// Reads a sector of an arena behind the filled bytes of a buffer. If there is no room, they are printed first. It returns how
+/// many are filled then.
+fn add_own<S: ImageSource, O: TextSink>(
+    images: &mut S,
+    extent: &SetExtent<'_>,
+    arena: &ArenaRead,
+    own: u32,
+    filled: usize,
+    buffer: &mut [u8],
     text: &mut O,
-) -> Result<(), Failed>
-    requires words { HasRoom chain.now (length words.old) }
-    requires room { length room.old ≡ length words.old }
-    ensures all { OnOk result (AppendsAll (O.written text.old) (O.written text.new) (O.kept text.old) (O.kept text.new) (sectors_bytes chain.now)) }
-    ensures part { OnErr result (AppendsFront (O.written text.old) (O.written text.new) (sectors_bytes chain.now)) }
-    ensures cause { OnErr result (Rose (O.faults text.old) (O.faults text.new)) }
+) -> Result<usize, PrintStop>
+    requires blocks { HasBlocks arena.now }
+    requires within { IsWithin (raw_bytes extent.now) arena.now }
+    requires own { own < arena.now.opened.info.layout.external }
+    requires filled { filled ≤ length buffer.old }
+    requires buffer { length buffer.old ≡ 262144 }
+    requires there { HasEnds (S.held images.old) extent.now.set }
+    ensures all { IfOk result (λ end. PrintsBut (Reveals (S.held images.old) extent.now.set) (λ contents. take filled buffer.old ++ bytes_of (cell_words (arena.now.opened.info.layout.sector / 8) (cell_with arena.now.opened.info.layout (drop arena.now.at (words_by extent.now contents)) (entry_of (slice_index arena.now.opened.entries own) own)))) (O.written text.old) (O.written text.new) (O.kept text.old) (O.kept text.new) (take end buffer.new)) }
+    ensures filled { IfOk result (λ end. end ≤ length buffer.new) }
+    ensures part { OnErr result (AppendsFront (O.written text.old) (O.written text.new) (take filled buffer.old)) }
+    ensures buffer { length buffer.new ≡ length buffer.old }
+    ensures same { S.held images.new ≡ S.held images.old }
+    ensures later { S.faults images.old ≤ S.faults images.new }
+    ensures later_text { O.faults text.old ≤ O.faults text.new }
+    ensures read { result ≡ Err PrintStop.Read → Rose (S.faults images.old) (S.faults images.new) }
+    ensures write { result ≡ Err PrintStop.Write → Rose (O.faults text.old) (O.faults text.new) }
+{
+    let size = arena.parts().info.layout.sector as usize;
+    let left = make_room(filled, size, buffer, text)?;
+    let end = left + size;
+    match read_sector(images, extent, arena, own, &mut buffer[left..end]) {
+        Ok(()) => Ok(end),
+        Err(_) => Err(PrintStop::Read),
+    }
+}
+
+/// Reads a sector of a namespace behind the filled bytes of a buffer. If there is no room, they are printed first. It returns how
+/// many are filled then.
+fn add_sector<S: ImageSource, O: TextSink>(
+    images: &mut S,
+    extent: &SetExtent<'_>,
+    arenas: &[ArenaRead],
+    sector: u64,
+    filled: usize,
+    buffer: &mut [u8],
+    text: &mut O,
+) -> Result<usize, PrintStop>
+    requires sized { AreSized arenas.now }
+    requires within { AreWithin (raw_bytes extent.now) arenas.now }
+    requires sector { sector < sum_by external_in arenas.now }
+    requires filled { filled ≤ length buffer.old }
+    requires buffer { length buffer.old ≡ 262144 }
+    requires there { HasEnds (S.held images.old) extent.now.set }
+    ensures all { IfOk result (λ end. PrintsBut (KnowsAll (S.held images.old) extent.now arenas.now) (λ contents. take filled buffer.old ++ sector_bytes (map (state_at (words_by extent.now contents)) arenas.now) sector) (O.written text.old) (O.written text.new) (O.kept text.old) (O.kept text.new) (take end buffer.new)) }
+    ensures filled { IfOk result (λ end. end ≤ length buffer.new) }
+    ensures part { OnErr result (AppendsFront (O.written text.old) (O.written text.new) (take filled buffer.old)) }
+    ensures buffer { length buffer.new ≡ length buffer.old }
+    ensures same { S.held images.new ≡ S.held images.old }
+    ensures later { S.faults images.old ≤ S.faults images.new }
+    ensures later_text { O.faults text.old ≤ O.faults text.new }
+    ensures read { result ≡ Err PrintStop.Read → Rose (S.faults images.old) (S.faults images.new) }
+    ensures write { result ≡ Err PrintStop.Write → Rose (O.faults text.old) (O.faults text.new) }
+{
+    match locate(arenas, sector) {
+        Some((k, own)) => {
+            let arena = arena_at(arenas, k);
+            add_own(images, extent, arena, own, filled, buffer, text)
+        }
+        None => unreachable!(),
+    }
+}
+
+/// Prints all sectors, in order: as many at a time as the buffer has room for.
+fn print_sectors<S: ImageSource, O: TextSink>(
+    images: &mut S,
+    extent: &SetExtent<'_>,
+    arenas: &[ArenaRead],
+    buffer: &mut [u8],
+    text: &mut O,
+) -> Result<(), PrintStop>
+    requires sized { AreSized arenas.now }
+    requires within { AreWithin (raw_bytes extent.now) arenas.now }
+    requires buffer { length buffer.old ≡ 262144 }
+    requires there { HasEnds (S.held images.old) extent.now.set }
+    ensures all { OnOk result (PrintsAll (KnowsAll (S.held images.old) extent.now arenas.now) (λ contents. sectors_bytes (map (state_at (words_by extent.now contents)) arenas.now)) (O.written text.old) (O.written text.new) (O.kept text.old) (O.kept text.new)) }
+    ensures part { OnErr result (PrintsFront (KnowsAll (S.held images.old) extent.now arenas.now) (λ contents. sectors_bytes (map (state_at (words_by extent.now contents)) arenas.now)) (O.written text.old) (O.written text.new)) }
+    ensures same { S.held images.new ≡ S.held images.old }
+    ensures later { S.faults images.old ≤ S.faults images.new }
+    ensures read { result ≡ Err PrintStop.Read → Rose (S.faults images.old) (S.faults images.new) }
+    ensures write { result ≡ Err PrintStop.Write → Rose (O.faults text.old) (O.faults text.new) }
 {
     let mut filled = 0;
-    for sector in 0..chain.sectors() {
-        let left = make_room(filled, sector_words(chain, sector), words, room, text)?;
-        filled = read_behind(chain, sector, left, words);
+    for sector in 0..sectors_of_all(arenas) {
+        filled = add_sector(images, extent, arenas, sector, filled, buffer, text)?;
     }
-    print_words(&words[..filled], room, text)
+    print_bytes(&buffer[..filled], text)
+}
+
+/// Prints the bytes of all sectors, in which bad ones count as zeros. Out of memory comes before the first byte.
+fn all_sectors<S: ImageSource, O: TextSink>(
+    alloc: Global,
+    images: &mut S,
+    extent: &SetExtent<'_>,
+    arenas: &[ArenaRead],
+    text: &mut O,
+) -> Result<Status, RunStop>
+    requires sized { AreSized arenas.now }
+    requires within { AreWithin (raw_bytes extent.now) arenas.now }
+    requires there { HasEnds (S.held images.old) extent.now.set }
+    ensures printed { IfOk result (PrintsDue (KnowsAll (S.held images.old) extent.now arenas.now) (λ contents. printed (sectors_bytes (map (state_at (words_by extent.now contents)) arenas.now))) (O.written text.old) (O.written text.new) (O.kept text.old) (O.kept text.new)) }
+    ensures nothing { OnErr result (O.written text.new ≡ O.written text.old) }
+    ensures quiet { OnErr result (O.faults text.new ≡ O.faults text.old) }
+    ensures same { S.held images.new ≡ S.held images.old }
+    ensures later { S.faults images.old ≤ S.faults images.new }
+    ensures before { result ≡ Err RunStop.ReadFault → Rose (S.faults images.old) (S.faults images.new) }
+    ensures read { result ≡ Ok Status.ReadFault → Rose (S.faults images.old) (S.faults images.new) }
+    ensures failed { result ≡ Ok Status.WriteFault → Rose (O.faults text.old) (O.faults text.new) }
+{
+    let Ok(mut buffer) = vec![in alloc; 0; PIECE] else {
+        return Err(RunStop::OutOfMemory);
+    };
+    Ok(status_after(print_sectors(images, extent, arenas, &mut buffer, text)))
 }
 
 /// The report that the export is refused for a bad sector.
@@ -117,25 +180,38 @@ fn bad_answer(alloc: Global, sector: u64) -> Result<Report, AllocError>
     refused_answer(alloc, &format!(in alloc; "BadSector {}", sector)?)
 }
 
-/// Prints the bytes of all sectors, in which bad ones count as zeros, or refuses for a bad sector. Out of memory comes before
-/// the first byte.
-pub(crate) fn sectors_answer<W: WordSpace, O: TextSink>(
-    alloc: Global,
-    chain: &ReadChain<W>,
-    bad: Option<u64>,
-    text: &mut O,
-) -> Result<Status, AllocError>
-    ensures printed { IfOk result (IsPrinted (bytes_unless bad chain.now) (O.written text.old) (O.written text.new) (O.kept text.old) (O.kept text.new)) }
-    ensures failed { result ≡ Ok Status.WriteFault → Rose (O.faults text.old) (O.faults text.new) }
-    ensures memory { OnErr result (O.written text.new ≡ O.written text.old) }
+/// Returns the bad sector for which the export is refused, or none if bad ones count as zeros.
+fn refused_at(arenas: &[ArenaRead], zeros: bool) -> Option<u64>
+    requires { AreSized arenas.now }
+    ensures { (words uuid : List ℕ) → AreAll words uuid arenas.now → result ≡ refused_at zeros (map (state_at words) arenas.now) }
 {
-    match bad {
-        Some(sector) => Ok(print_report(&bad_answer(alloc, sector)?, text)),
-        None => {
-            let most = most_words(chain);
-            let mut words = vec![in alloc; 0; most]?;
-            let mut room = vec![in alloc; [0; WORD]; most]?;
-            Ok(status_after(print_sectors(chain, &mut words, &mut room, text)))
-        }
+    if zeros { None } else { first_bad(arenas) }
+}
+
+/// Prints the bytes of all sectors, or refuses for a bad sector unless bad ones count as zeros. Out of memory comes before the
+/// first byte.
+pub(crate) fn sectors_answer<S: ImageSource, O: TextSink>(
+    alloc: Global,
+    images: &mut S,
+    extent: &SetExtent<'_>,
+    arenas: &[ArenaRead],
+    zeros: bool,
+    text: &mut O,
+) -> Result<Status, RunStop>
+    requires sized { AreSized arenas.now }
+    requires within { AreWithin (raw_bytes extent.now) arenas.now }
+    requires there { HasEnds (S.held images.old) extent.now.set }
+    ensures printed { IfOk result (PrintsDue (KnowsAll (S.held images.old) extent.now arenas.now) (λ contents. sectors_outcome zeros (map (state_at (words_by extent.now contents)) arenas.now)) (O.written text.old) (O.written text.new) (O.kept text.old) (O.kept text.new)) }
+    ensures nothing { OnErr result (O.written text.new ≡ O.written text.old) }
+    ensures quiet { OnErr result (O.faults text.new ≡ O.faults text.old) }
+    ensures same { S.held images.new ≡ S.held images.old }
+    ensures later { S.faults images.old ≤ S.faults images.new }
+    ensures before { result ≡ Err RunStop.ReadFault → Rose (S.faults images.old) (S.faults images.new) }
+    ensures read { result ≡ Ok Status.ReadFault → Rose (S.faults images.old) (S.faults images.new) }
+    ensures failed { result ≡ Ok Status.WriteFault → Rose (O.faults text.old) (O.faults text.new) }
+{
+    match refused_at(arenas, zeros) {
+        Some(sector) => print_made(bad_answer(alloc, sector), text),
+        None => all_sectors(alloc, images, extent, arenas, text),
     }
 }

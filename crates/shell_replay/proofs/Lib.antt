@@ -1,4 +1,3 @@
-pub mod Kept
 pub mod Fresh
 pub mod Placed
 pub mod Coming

@@ -4,15 +4,15 @@
 //! if power is lost at a certain step. A schedule states this way, so that it can be run:
 //!
 //! ```text
-//! loaded set ──► namespace ──► its one arena, pending moves made        refused Arenas N
-//!                                   │
+//! outline ──► namespace ──► its one arena, read from the image source   refused Arenas N
+//!                                   │                                   and its pending moves made
 //!                                   ▼
 //!              line by line: lane 1 begins to write, makes 138 steps, ..       text
 //!                                   │
 //!                                   ▼
 //!              power is cut: a chooser decides for each word that wasn't flushed
 //!                                   │
-//! saved set ◄── contents with the arena's words
+//! saved set ◄── contents are copied, and the arena's words put in
 //! ```
 //!
 //! | promise of [`replay_answer`] | definition |
@@ -22,8 +22,11 @@
 //! | the history of the calls is legal, and has each answer once | `ReplayStands` of `lane_replay` |
 //! | the saved arena opens; a sector is as the history ends, or as one write in flight | `ReopensIn` |
 //!
-//! Definitions are in `specs/Replay.antt`. `lane_replay` plays the lines, `lane_core` makes the steps
-//! and the cut, and `shell_sectors` finds the namespace and saves the set. Schedules and texts are this
+//! All of it holds with the contents that the source has, as far as it reveals them (`ReplaysFrom`).
+//!
+//! Definitions are in `specs/Replay.antt`. `namespace_words` reads and loads the arena, `lane_replay`
+//! plays the lines, `lane_core` makes the steps and the cut, and `shell_sectors` finds the namespace
+//! and saves the set. Schedules and texts are this
 //! project's own.
 #![tactic(auto)]
 

@@ -21,6 +21,7 @@ use Rattle.shell_changes.specs.declared.answer.Left.TheVariants.{Whole, Copied, 
 use Rattle.shell_changes.specs.Answers.{ComesFrom, HasSizes, outcome_with, whole_outcome}
 use Rattle.shell_changes.specs.Saved.{AreObjects, AreSaved, HasContentsOf, HasItsContents, HasSize, Stores, contents_with, copies_contents, objects_saved}
 use Rattle.shell_changes.proofs.Remains.{copies_none}
+use Rattle.std.proofs.lemmas.Bool.{false≢true}
 use Rattle.session_script.specs.declared.schedule.Replay.{Replay}
 use Rattle.session_script.specs.declared.script.Script.{Script}
 use Rattle.session_script.specs.Schedule.{replay_reading}
@@ -35,7 +36,7 @@ use Rattle.shell_run.specs.declared.words.CommandLine.{CommandLine}
 use Rattle.shell_run.specs.declared.words.CommandLine.TheVariants.{Labels, Nfit, Init, Change, Info, Read, Write, Replay as AskReplay, Export, Import, Serve, Load}
 use Rattle.shell_run.specs.declared.words.CommandLine.TheVariants as command
 use Rattle.shell_run.specs.Printed.{Exports, IsReported, IsUnloaded}
-use Rattle.shell_run.specs.Run.{Comes, ComesTold, IsDue, LoadedComes, OnImages, OnLoaded, OnScript, OnSource, copies, copies_by, copies_found, needs_contents, reads_script}
+use Rattle.shell_run.specs.Run.{Comes, ComesTold, IsDue, LoadedComes, OnImages, OnLoaded, OnScript, OnSource, copies, copies_by, copies_found, has_sessions, needs_contents, reads_script, streams, streams_by, streams_found}
 use Rattle.shell_run.specs.Scripts.{bytes_in, script_in, script_outcome}
 use Rattle.shell_run.specs.Words.{command_of}
 
@@ -110,14 +111,8 @@ module _ (leaves : ℕ → List (Option Words) → List (Option (List ℕ)) → 
   pub source_of : {E : Type 0} (held : Option Images) (outline : Outline) (r : Result Answer E) → IfOk r (OnSource (LoadedComes leaves like) held outline) → IfOk r (OnSource (LoadedComes leaves command) held outline)
   source_of held outline r comes = subst (λ (c : CommandLine). IfOk r (OnSource (LoadedComes leaves c) held outline)) (sym is) comes
 
-  pub loaded_by : {E : Type 0} (loaded : ImageSet) (r : Result Answer E) → IfOk r (λ answer. LoadedComes leaves like loaded (whole_outcome answer)) → IfOk r (λ answer. LoadedComes leaves command loaded (whole_outcome answer))
-  loaded_by loaded r comes = subst (λ (c : CommandLine). IfOk r (λ answer. LoadedComes leaves c loaded (whole_outcome answer))) (sym is) comes
-
   pub copies_by_it : {E : Type 0} (r : Result Answer E) → copies like ≡ true → IfOk r (λ answer. IsTrue (copies_contents answer.saved) → IsTrue (copies command))
   copies_by_it r does = if_all (λ (answer : Answer). IsTrue (copies_contents answer.saved) → IsTrue (copies command)) r (λ answer copied. subst (λ (b : Bool). IsTrue b) (sym (ap copies is ∙ does)) refl)
-
-  pub needs_it : (b : Bool) → needs_contents command ≡ b → needs_contents like ≡ b
-  needs_it b needs = ap needs_contents (sym is) ∙ needs
 
 -- a report
 pub report_comes : {E F : Type 0} (r : Result Report E) (a : Result Answer F) (due : List (List ℕ) → Outcome) → IfOk a (λ answer. r ≡ Ok answer.report) → IfOk a (λ answer. answer.saved ≡ None)
@@ -128,6 +123,22 @@ pub report_is : {E F : Type 0} (r : Result Report E) (a : Result Answer F) (due 
     → IfOk r (λ report. outcome_of report ≡ due) → IfOk a (λ answer. (contents : List (List ℕ)) → outcome_with answer contents ≡ due)
 report_is {E} r a due same none says =
     report_comes r a (λ _. due) same none (if_more _ (λ report. (contents : List (List ℕ)) → outcome_of report ≡ due) r (λ report said contents. said) says)
+
+-- a command that makes an answer of the loaded set alone, and starts no sessions, needs no contents in memory
+pub plain_outlined : (c : CommandLine) → reads_script c ≡ false → streams c ≡ false → has_sessions c ≡ false → needs_contents c ≡ false
+plain_outlined (command.Labels m) plain told alone = refl
+plain_outlined command.Nfit plain told alone = refl
+plain_outlined command.List plain told alone = refl
+plain_outlined (command.Init m power) plain told alone = refl
+plain_outlined (command.Change c power) plain told alone = refl
+plain_outlined (command.Info uuid) plain told alone = refl
+plain_outlined (command.Read uuid sector) plain told alone = refl
+plain_outlined (command.Write uuid sector value) plain told alone = refl
+plain_outlined (command.Replay uuid seed) plain told alone = absurd (false≢true (sym plain))
+plain_outlined (command.Export uuid zeros) plain told alone = refl
+plain_outlined (command.Import uuid) plain told alone = refl
+plain_outlined (command.Serve running) plain told alone = absurd (false≢true (sym plain))
+plain_outlined (command.Load l workers) plain told alone = absurd (false≢true (sym alone))
 
 -- ---- contents that are copied
 
@@ -210,10 +221,24 @@ module _ (comes : ImageSet → Outcome → Type 0) (held : Option Images) where
       let loads : Ok (image_set_in loaded) ≡ loading set = told' set at (λ e. (let h = e in cc)) (λ e. (let h = e in cc)) in
       subst (λ (l : Result ImageSet LoadFault). OnLoaded comes l outcome) loads due
 
+  -- an outcome on the outline that is loaded, from what it is with the source's contents
+  pub outlined_on : (found : Result Outline LoadFault) (outline : Outline) (outcome : Outcome) → found ≡ Ok outline → ForSome held (Outlines found)
+      → ForSome held (λ set. comes (image_set_with outline (contents_in set (length outline.sizes))) outcome) → OnImages comes held outcome
+  outlined_on found outline outcome is told due = λ set at.
+      let told' : ForSome held (Outlines (Ok outline)) = subst (λ (l : Result Outline LoadFault). ForSome held (Outlines l)) is told in
+      let loads : Ok (image_set_with outline (contents_in set (length outline.sizes))) ≡ loading set = told' set at (λ e. (let h = e in cc)) (λ e. (let h = e in cc)) in
+      subst (λ (l : Result ImageSet LoadFault). OnLoaded comes l outcome) loads (due set at)
+
   -- the outcome if none is
   pub unloaded_on : (found : Result Loaded LoadFault) (fault : LoadFault) (outcome : Outcome) → found ≡ Err fault → ForSome held (Loads found) → IsUnloaded fault outcome → OnImages comes held outcome
   unloaded_on found fault outcome is told unloaded = λ set at.
       let told' : ForSome held (Loads (Err fault)) = subst (λ (l : Result Loaded LoadFault). ForSome held (Loads l)) is told in
+      let none : Err fault ≡ loading set = told' set at (λ e. unloaded.0 (let h = e in cc)) (λ e. unloaded.1 (let h = e in cc)) in
+      subst (λ (l : Result ImageSet LoadFault). OnLoaded comes l outcome) none unloaded.2
+
+  pub unoutlined_on : (found : Result Outline LoadFault) (fault : LoadFault) (outcome : Outcome) → found ≡ Err fault → ForSome held (Outlines found) → IsUnloaded fault outcome → OnImages comes held outcome
+  unoutlined_on found fault outcome is told unloaded = λ set at.
+      let told' : ForSome held (Outlines (Err fault)) = subst (λ (l : Result Outline LoadFault). ForSome held (Outlines l)) is told in
       let none : Err fault ≡ loading set = told' set at (λ e. unloaded.0 (let h = e in cc)) (λ e. unloaded.1 (let h = e in cc)) in
       subst (λ (l : Result ImageSet LoadFault). OnLoaded comes l outcome) none unloaded.2
 
@@ -319,7 +344,10 @@ module _ (leaves : ℕ → List (Option Words) → List (Option (List ℕ)) → 
   pub usage_due : command_of words ≡ None → outcome ≡ usage → IsDue leaves words held left outcome
   usage_due none says = subst (λ (o : Option CommandLine). MatchOption o (outcome ≡ usage) (λ c. ComesTold leaves c held left outcome)) (sym none) says
 
--- a command that copies contents is one of the words
+-- a command that copies contents, or prints its text piece by piece, is one of the words
+pub command_streams : (words : List (List ℕ)) (command : CommandLine) → command_of words ≡ Some command → IsTrue (streams command) → IsTrue (streams_by words)
+command_streams words command said does = subst (λ (o : Option CommandLine). IsTrue (streams_found o)) (sym said) does
+
 pub command_copies : (words : List (List ℕ)) (command : CommandLine) → command_of words ≡ Some command → IsTrue (copies command) → IsTrue (copies_by words)
 command_copies words command said does = subst (λ (o : Option CommandLine). IsTrue (copies_found o)) (sym said) does
 

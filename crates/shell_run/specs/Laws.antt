@@ -19,7 +19,7 @@ use Rattle.shell_reports.specs.declared.power.Power.{Power}
 use Rattle.shell_reports.specs.Outcome.{Outcome, status_of}
 use Rattle.shell_changes.specs.Init.{InitComes}
 use Rattle.shell_changes.specs.Remains.{LeavesBy}
-use Rattle.shell_run.specs.Run.{IsDue, Ends, copies_by, reads_script}
+use Rattle.shell_run.specs.Run.{IsDue, Ends, copies_by, reads_script, streams_by}
 use Rattle.shell_run.specs.Statuses.{IsFromOutside, ending_due}
 use Rattle.shell_run.specs.Words.{command_of}
 
@@ -30,7 +30,7 @@ IsScriptTold words left script = MatchOption (command_of words) ⊤ (λ command.
 -- a law: the status is the one that is due by the table, unless something outside failed or memory ran out
 abbrev pub StatusIsDue : (ℕ → List (Option Words) → List (Option (List ℕ)) → Type 0) → Type 0
 StatusIsDue leaves = (words : List (List ℕ)) (set : Images) (script : List ℕ) (left : Option (List ℕ)) (made made' : Option Images) (text text' : Option (List ℕ)) (images images' source source' : ℕ) (s : Status)
-    → IsScriptTold words left script → Ends (Rose images images' ⊎ Rose source source') (copies_by words) (IsDue leaves words (Some set) left) made made' text text' s
+    → IsScriptTold words left script → Ends (Rose images images' ⊎ Rose source source') (copies_by words) (streams_by words) (IsDue leaves words (Some set) left) made made' text text' s
     → (s ≡ status_of (ending_due words script set)) ⊎ IsFromOutside s
 
 -- ---- what `init` leaves

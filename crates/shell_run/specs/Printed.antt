@@ -14,9 +14,9 @@ use Rattle.shell_reports.specs.Saved.{outcome_of}
 use Rattle.shell_export.specs.Export.{export_outcome}
 use Rattle.shell_run.specs.Run.{Ends, Holds}
 
--- what stands outside after a status
-abbrev pub EndsPrinting : Type 0 → (Outcome → Type 0) → Option (List ℕ) → Option (List ℕ) → Status → Type 0
-EndsPrinting faulted due text text' ended = (made : Option Images) → Ends faulted false due made made text text' ended
+-- what stands outside after a status, of a command that prints its text piece by piece or doesn't
+abbrev pub EndsPrinting : Type 0 → Bool → (Outcome → Type 0) → Option (List ℕ) → Option (List ℕ) → Status → Type 0
+EndsPrinting faulted streaming due text text' ended = (made : Option Images) → Ends faulted false streaming due made made text text' ended
 
 -- what sinks hold then that tell, after the run, that they stored everything
 abbrev pub HoldsPrinted : (Outcome → Type 0) → Option (List ℕ) → Option (List ℕ) → Status → Type 0

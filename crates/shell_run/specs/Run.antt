@@ -1,5 +1,5 @@
 -- What a run does, seen from outside.
-use Rattle.std.specs.Prelude.{◌≡◌, ⊤, ◌⊎◌, ℕ, Bool, true, false, not, IsTrue, IsSome, List, ◌++◌, Option, Some, None, Result, Ok, Err, MatchOption, codes, length, take}
+use Rattle.std.specs.Prelude.{◌≡◌, ⊤, ◌⊎◌, ℕ, Bool, true, false, IsTrue, IsSome, List, ◌++◌, Option, Some, None, Result, Ok, Err, MatchOption, codes, length, take}
 use Rattle.std.specs.Option.{ForSome}
 use Rattle.std.specs.Io.KnownBytes.{Keeps, Appends}
 use Rattle.nvd_media.specs.Images.{Images, Becomes, IsUnfinished}
@@ -9,6 +9,7 @@ use Rattle.image_set.specs.declared.fault.LoadFault.{LoadFault}
 use Rattle.image_set.specs.Load.{ImageSet, loading}
 use Rattle.image_set.specs.declared.outline.Outline.{Outline}
 use Rattle.image_set.specs.Outline.{contents_in, image_set_with}
+use Rattle.shell_reports.specs.declared.status.Ending.TheVariants as ending
 use Rattle.shell_reports.specs.declared.status.Status.{Status}
 use Rattle.shell_reports.specs.declared.status.Status.TheVariants as status
 use Rattle.shell_run.specs.declared.words.CommandLine.{CommandLine}
@@ -27,7 +28,6 @@ use Rattle.shell_changes.specs.Saved.{Stores}
 use Rattle.shell_changes.specs.Namespaces.{ChangeComes}
 use Rattle.shell_reports.specs.List.{list_outcome}
 use Rattle.shell_reports.specs.Sectors.{info_outcome, read_outcome}
-use Rattle.namespace_ops.specs.Counted.{makes_sectors}
 use Rattle.shell_sectors.specs.Write.{WriteComes}
 use Rattle.shell_export.specs.Export.{export_outcome}
 use Rattle.shell_import.specs.Import.{ImportComes}
@@ -101,7 +101,7 @@ reads_script (Import uuid) = true
 reads_script (Serve running) = true
 reads_script (Load l workers) = false
 
--- whether a command prints its text piece by piece, as the text may be as long as the contents; it writes no set
+-- whether a command prints its text piece by piece, as the text may be as long as the contents, so that reading may fail in between; it writes no set
 abbrev pub streams : CommandLine → Bool
 streams (Labels m) = false
 streams Nfit = false
@@ -147,11 +147,11 @@ copies (Labels m) = false
 copies Nfit = false
 copies command.List = false
 copies (Init m power) = true
-copies (Change c power) = not (makes_sectors c)
+copies (Change c power) = true
 copies (Info uuid) = false
 copies (Read uuid sector) = false
 copies (Write uuid sector value) = true
-copies (Replay uuid seed) = false
+copies (Replay uuid seed) = true
 copies (Export uuid zeros) = false
 copies (Import uuid) = true
 copies (Serve running) = false
@@ -163,12 +163,12 @@ needs_contents (Labels m) = false
 needs_contents Nfit = false
 needs_contents command.List = false
 needs_contents (Init m power) = false
-needs_contents (Change c power) = makes_sectors c
+needs_contents (Change c power) = false
 needs_contents (Info uuid) = false
 needs_contents (Read uuid sector) = false
 needs_contents (Write uuid sector value) = false
-needs_contents (Replay uuid seed) = true
-needs_contents (Export uuid zeros) = true
+needs_contents (Replay uuid seed) = false
+needs_contents (Export uuid zeros) = false
 needs_contents (Import uuid) = false
 needs_contents (Serve running) = true
 needs_contents (Load l workers) = true
@@ -180,6 +180,14 @@ copies_found (Some command) = copies command
 
 abbrev pub copies_by : List (List ℕ) → Bool
 copies_by words = copies_found (command_of words)
+
+-- whether the words are those of a command that prints its text piece by piece
+abbrev pub streams_found : Option CommandLine → Bool
+streams_found None = false
+streams_found (Some command) = streams command
+
+abbrev pub streams_by : List (List ℕ) → Bool
+streams_by words = streams_found (command_of words)
 
 -- ---- once for all commands
 
@@ -214,13 +222,19 @@ FailedToWrite faulted copying due made made' text text' =
     ⊎ ((outcome : Outcome) × due outcome × Saves outcome.saved made made' × AppendsPart text text' outcome.text)
     ⊎ (faulted × FailedToRead copying due made made' × AppendsPart text text' (codes "read fault" ++ lf))
 
--- what stands outside after a status, of a command that copies contents as it saves or doesn't; `faulted` says that the images or
--- the script had a fault of reading
-abbrev pub Ends : Type 0 → Bool → (Outcome → Type 0) → Option Images → Option Images → Option (List ℕ) → Option (List ℕ) → Status → Type 0
-Ends faulted copying due made made' text text' status.ReadFault = faulted × FailedToRead copying due made made' × Appends text text' (codes "read fault" ++ lf)
-Ends faulted copying due made made' text text' status.WriteFault = FailedToWrite faulted copying due made made' text text'
-Ends faulted copying due made made' text text' status.OutOfMemory = (made' ≡ made) × Keeps text text'
-Ends faulted copying due made made' text text' other = (outcome : Outcome) × due outcome × (status_of outcome.ending ≡ other) × Saves outcome.saved made made' × Appends text text' outcome.text
+-- after a read fault the text is `read fault`; or, of a command that prints its text piece by piece, an outcome without a refusal was due, and a
+-- front of its text was printed
+abbrev pub SaysReadFault : Bool → (Outcome → Type 0) → Option (List ℕ) → Option (List ℕ) → Type 0
+SaysReadFault streaming due text text' =
+    Appends text text' (codes "read fault" ++ lf) ⊎ (IsTrue streaming × ((outcome : Outcome) × due outcome × (outcome.ending ≡ ending.Done) × AppendsPart text text' outcome.text))
+
+-- what stands outside after a status, of a command that copies contents as it saves or doesn't, and that prints its text piece by piece or
+-- doesn't; `faulted` says that the images or the script had a fault of reading
+abbrev pub Ends : Type 0 → Bool → Bool → (Outcome → Type 0) → Option Images → Option Images → Option (List ℕ) → Option (List ℕ) → Status → Type 0
+Ends faulted copying streaming due made made' text text' status.ReadFault = faulted × FailedToRead copying due made made' × SaysReadFault streaming due text text'
+Ends faulted copying streaming due made made' text text' status.WriteFault = FailedToWrite faulted copying due made made' text text'
+Ends faulted copying streaming due made made' text text' status.OutOfMemory = (made' ≡ made) × Keeps text text'
+Ends faulted copying streaming due made made' text text' other = (outcome : Outcome) × due outcome × (status_of outcome.ending ≡ other) × Saves outcome.saved made made' × Appends text text' outcome.text
 
 -- What sinks hold that tell, after the run, that they stored everything: if the status is the one of an outcome that was due, its set and its text.
 abbrev pub Holds : (Outcome → Type 0) → Option Images → Option Images → Option (List ℕ) → Option (List ℕ) → Status → Type 0

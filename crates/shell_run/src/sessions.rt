@@ -12,7 +12,7 @@ ghost use Rattle.shell_changes.specs.Saved.{copies_contents};
 ghost use Rattle.session_script.specs.Names.{ScriptHasText};
 ghost use Rattle.shell_serve.specs.Load.{LoadComes};
 ghost use Rattle.shell_serve.specs.Serve.{ServeComes};
-ghost use Rattle.shell_run.specs.Run.{ComesTold, Ends, Holds, OnImages, copies, has_sessions, reads_script};
+ghost use Rattle.shell_run.specs.Run.{ComesTold, Ends, Holds, OnImages, copies, has_sessions, reads_script, streams};
 ghost use Rattle.shell_run.specs.Words.{HasGoodValues};
 
 use crate::scripts::{ScriptStop, read_sessions};
@@ -174,7 +174,7 @@ fn answer_sessions<
     requires empty { ForSome (K.made out.old) IsEmptySet }
     requires sessions { has_sessions command ≡ true }
     requires good { HasGoodValues command }
-    ensures ends { Ends (Rose (S.faults images.old) (S.faults images.new) ⊎ Rose (T.faults script.old) (T.faults script.new)) (copies command) (ComesTold (LeavesBy C.begins C.picks choose.old) command (S.held images.old) (T.left script.old))
+    ensures ends { Ends (Rose (S.faults images.old) (S.faults images.new) ⊎ Rose (T.faults script.old) (T.faults script.new)) (copies command) (streams command) (ComesTold (LeavesBy C.begins C.picks choose.old) command (S.held images.old) (T.left script.old))
         (K.made out.old) (K.made out.new) (O.written text.old) (O.written text.new) result }
     ensures stored { Holds (ComesTold (LeavesBy C.begins C.picks choose.old) command (S.held images.old) (T.left script.old)) (K.kept out.old) (K.kept out.new) (O.kept text.old) (O.kept text.new) result }
     ensures read { result ≡ Status.ReadFault → Rose (S.faults images.old) (S.faults images.new) ⊎ Rose (T.faults script.old) (T.faults script.new) }
@@ -208,7 +208,7 @@ pub(crate) fn carry_out_any<
 ) -> Status
     requires empty { ForSome (K.made out.old) IsEmptySet }
     requires name { HasGoodValues command }
-    ensures ends { Ends (Rose (S.faults images.old) (S.faults images.new) ⊎ Rose (T.faults script.old) (T.faults script.new)) (copies command) (ComesTold (LeavesBy C.begins C.picks choose.old) command (S.held images.old) (T.left script.old))
+    ensures ends { Ends (Rose (S.faults images.old) (S.faults images.new) ⊎ Rose (T.faults script.old) (T.faults script.new)) (copies command) (streams command) (ComesTold (LeavesBy C.begins C.picks choose.old) command (S.held images.old) (T.left script.old))
         (K.made out.old) (K.made out.new) (O.written text.old) (O.written text.new) result }
     ensures stored { Holds (ComesTold (LeavesBy C.begins C.picks choose.old) command (S.held images.old) (T.left script.old)) (K.kept out.old) (K.kept out.new) (O.kept text.old) (O.kept text.new) result }
     ensures read { result ≡ Status.ReadFault → Rose (S.faults images.old) (S.faults images.new) ⊎ Rose (T.faults script.old) (T.faults script.new) }

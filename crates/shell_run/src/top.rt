@@ -3,9 +3,7 @@ ghost use Rattle.std.specs.Option.{ForSome};
 ghost use Rattle.std.specs.Io.KnownBytes.{Appends};
 ghost use Rattle.nvd_media.specs.Causes.{LeavesOutside, Rose};
 ghost use Rattle.nvd_media.specs.Images.{Images, Becomes, IsEmptySet, IsUnfinished, Keeps};
-ghost use Rattle.image_set.specs.Load.{image_set_in};
 ghost use Rattle.image_set.specs.Outline.{HasContents, IsLoadable, IsOutlined, image_set_with};
-ghost use Rattle.image_set.specs.Sound.{IsSound};
 ghost use Rattle.shell_reports.specs.Labels.{labels_outcome};
 ghost use Rattle.shell_reports.specs.List.{list_outcome};
 ghost use Rattle.shell_reports.specs.LoadFaults.{load_outcome};
@@ -13,13 +11,14 @@ ghost use Rattle.shell_reports.specs.Nfit.{nfit_outcome};
 ghost use Rattle.shell_reports.specs.Outcome.{Outcome, lf, status_of};
 ghost use Rattle.shell_reports.specs.Saved.{Saves};
 ghost use Rattle.shell_reports.specs.Sectors.{info_outcome, read_outcome};
-ghost use Rattle.shell_changes.specs.Answers.{ComesFrom, HasSizes, outcome_with, whole_outcome};
+ghost use Rattle.shell_changes.specs.Answers.{ComesFrom, HasSizes, outcome_with};
 ghost use Rattle.shell_changes.specs.Remains.{LeavesBy};
 ghost use Rattle.shell_changes.specs.Saved.{AreSaved, HasContentsOf, Stores, copies_contents};
+ghost use Rattle.shell_export.specs.Printing.{ExportsFrom};
 ghost use Rattle.shell_import.specs.Import.{ImportComes};
 ghost use Rattle.shell_replay.specs.Replay.{ReplayComes};
 ghost use Rattle.shell_run.specs.Scripts.{script_outcome};
-ghost use Rattle.shell_run.specs.Run.{AppendsPart, ComesTold, Ends, Holds, IsAnswered, IsDue, IsPlain, LeavesScript, LoadedComes, OnImages, OnSource, copies, copies_by, has_sessions, needs_contents, reads_script};
+ghost use Rattle.shell_run.specs.Run.{AppendsPart, ComesTold, Ends, Holds, IsAnswered, IsDue, IsPlain, LeavesScript, LoadedComes, OnImages, OnSource, copies, copies_by, has_sessions, needs_contents, reads_script, streams, streams_by};
 ghost use Rattle.shell_run.specs.Printed.{EndsPrinting, Exports, HoldsPrinted, IsMisused, IsReported, IsUnloaded};
 ghost use Rattle.shell_run.specs.Words.{HasGoodValues};
 
@@ -27,12 +26,10 @@ use crate::scripts::{ScriptRefused, ScriptStop, read_bytes, read_schedule, scrip
 use crate::sessions::{Tools, carry_out_any};
 use crate::words::{CommandLine, command_from};
 use command_words::WordsFault;
-use image_set::{CopyFault, LoadFault, Loaded, Outline, load, load_outline};
+use image_set::{CopyFault, LoadFault, Outline, load_outline};
 use lane_calls::Waiting;
 use nvd_media::{Chooser, Gate, ImageSink, ImageSource, TextSink, TextSource};
-use shell_changes::{
-    Answer, SavedSet, SetRead, change_answer, in_memory, init_answer, makes_sectors, without_set,
-};
+use shell_changes::{Answer, SavedSet, change_answer, in_memory, init_answer, without_set};
 use shell_export::export_answer;
 use shell_import::import_answer;
 use shell_replay::{Schedule, replay_answer};
@@ -132,27 +129,6 @@ fn sector_found<S: ImageSource>(
     }
 }
 
-/// Whether a command has the contents of modules in memory.
-fn needs_contents(command: &CommandLine) -> bool
-    ensures { result ≡ needs_contents command.now }
-{
-    match command {
-        CommandLine::Labels(_) => false,
-        CommandLine::Nfit => false,
-        CommandLine::List => false,
-        CommandLine::Init(_, _) => false,
-        CommandLine::Change(change, _) => makes_sectors(change),
-        CommandLine::Info(_) => false,
-        CommandLine::Read(_, _) => false,
-        CommandLine::Write(_, _, _) => false,
-        CommandLine::Replay(_, _) => true,
-        CommandLine::Export(_, _) => true,
-        CommandLine::Import(_) => false,
-        CommandLine::Serve(_) => true,
-        CommandLine::Load(_, _) => true,
-    }
-}
-
 /// Whether a command reads the script.
 fn reads_script(command: &CommandLine) -> bool
     ensures { result ≡ reads_script command.now }
@@ -225,47 +201,13 @@ fn outlined_answer<S: ImageSource, C: Chooser>(
             in_memory(init_answer(alloc, module, power, outline, choose))
         }
         CommandLine::Change(change, power) => {
-            in_memory(change_answer(alloc, &change, power, SetRead::Outline(outline), choose))
+            in_memory(change_answer(alloc, &change, power, outline, choose))
         }
         CommandLine::Info(uuid) => arenas_found(alloc, &uuid, outline, images),
         CommandLine::Read(uuid, sector) => sector_found(alloc, &uuid, sector, outline, images),
         CommandLine::Write(uuid, sector, value) => {
             write_answer(alloc, &uuid, sector, value, outline, images)
         }
-        CommandLine::Replay(_, _) => unreachable!(),
-        CommandLine::Export(_, _) => unreachable!(),
-        CommandLine::Import(_) => unreachable!(),
-        CommandLine::Serve(_) => unreachable!(),
-        CommandLine::Load(_, _) => unreachable!(),
-    }
-}
-
-/// What a command without a script comes to on the set that it loads with its contents.
-fn loaded_answer<C: Chooser>(
-    alloc: Global,
-    command: CommandLine,
-    loaded: Loaded,
-    choose: &mut C,
-) -> Result<Answer, AllocError>
-    requires sound { IsSound loaded }
-    requires name { HasGoodValues command }
-    requires whole { needs_contents command ≡ true }
-    requires plain { IsPlain command }
-    requires alone { has_sessions command ≡ false }
-    ensures comes { IfOk result (λ answer. LoadedComes (LeavesBy C.begins C.picks choose.old) command (image_set_in loaded) (whole_outcome answer)) }
-    ensures whole { IfOk result (λ answer. copies_contents answer.saved ≡ false) }
-{
-    match command {
-        CommandLine::Labels(_) => unreachable!(),
-        CommandLine::Nfit => unreachable!(),
-        CommandLine::List => unreachable!(),
-        CommandLine::Init(_, _) => unreachable!(),
-        CommandLine::Change(change, power) => {
-            change_answer(alloc, &change, power, SetRead::Whole(loaded), choose)
-        }
-        CommandLine::Info(_) => unreachable!(),
-        CommandLine::Read(_, _) => unreachable!(),
-        CommandLine::Write(_, _, _) => unreachable!(),
         CommandLine::Replay(_, _) => unreachable!(),
         CommandLine::Export(_, _) => unreachable!(),
         CommandLine::Import(_) => unreachable!(),
@@ -289,7 +231,7 @@ pub(crate) fn unloaded(alloc: Global, fault: LoadFault) -> Result<Answer, RunSto
     }
 }
 
-/// What a command without a script comes to that needs no contents: the set is loaded but for them.
+/// What a command without a script comes to: the set is loaded but for its contents.
 fn perform_outlined<S: ImageSource, C: Chooser>(
     alloc: Global,
     command: CommandLine,
@@ -312,31 +254,8 @@ fn perform_outlined<S: ImageSource, C: Chooser>(
     }
 }
 
-/// What a command without a script comes to that needs contents: the whole set is loaded.
-fn perform_whole<S: ImageSource, C: Chooser>(
-    alloc: Global,
-    command: CommandLine,
-    images: &mut S,
-    choose: &mut C,
-) -> Result<Answer, RunStop>
-    requires name { HasGoodValues command }
-    requires whole { needs_contents command ≡ true }
-    requires plain { IsPlain command }
-    requires alone { has_sessions command ≡ false }
-    ensures told { IfOk result (λ answer. (outcome : Outcome) → ComesFrom (S.held images.old) answer outcome → OnImages (LoadedComes (LeavesBy C.begins C.picks choose.old) command) (S.held images.old) outcome) }
-    ensures whole { IfOk result (λ answer. copies_contents answer.saved ≡ false) }
-    ensures same { S.held images.new ≡ S.held images.old }
-    ensures failed { result ≡ Err RunStop.ReadFault → Rose (S.faults images.old) (S.faults images.new) }
-    ensures later { S.faults images.old ≤ S.faults images.new }
-{
-    match load(alloc, images) {
-        Ok(loaded) => in_memory(loaded_answer(alloc, command, loaded, choose)),
-        Err(why) => unloaded(alloc, why),
-    }
-}
-
-/// What `replay` comes to once its schedule is read: the whole set is loaded.
-fn replay_loaded<S: ImageSource, C: Chooser>(
+/// What `replay` comes to once its schedule is read: the set is loaded but for its contents.
+fn replay_outlined<S: ImageSource, C: Chooser>(
     alloc: Global,
     uuid: &Uuid,
     schedule: &Schedule,
@@ -345,13 +264,13 @@ fn replay_loaded<S: ImageSource, C: Chooser>(
 ) -> Result<Answer, RunStop>
     requires few { length schedule.now.lines < 2 ^ 32 }
     ensures told { IfOk result (λ answer. (outcome : Outcome) → ComesFrom (S.held images.old) answer outcome → OnImages (ReplayComes (LeavesBy C.begins C.picks choose.old) uuid.now schedule.now) (S.held images.old) outcome) }
-    ensures whole { IfOk result (λ answer. copies_contents answer.saved ≡ false) }
+    ensures there { IfOk result (λ answer. HasContentsOf (S.held images.old) answer.saved) }
     ensures same { S.held images.new ≡ S.held images.old }
     ensures failed { result ≡ Err RunStop.ReadFault → Rose (S.faults images.old) (S.faults images.new) }
     ensures later { S.faults images.old ≤ S.faults images.new }
 {
-    match load(alloc, images) {
-        Ok(loaded) => in_memory(replay_answer(alloc, uuid, schedule, loaded, choose)),
+    match load_outline(alloc, images) {
+        Ok(outline) => replay_answer(alloc, uuid, schedule, outline, images, choose),
         Err(why) => unloaded(alloc, why),
     }
 }
@@ -375,7 +294,8 @@ fn perform_replay<S: ImageSource, T: TextSource, C: Chooser>(
     choose: &mut C,
 ) -> Result<Answer, RunStop>
     ensures told { IfOk result (λ answer. (outcome : Outcome) → ComesFrom (S.held images.old) answer outcome → ComesTold (LeavesBy C.begins C.picks choose.old) (CommandLine.Replay uuid seed) (S.held images.old) (T.left script.old) outcome) }
-    ensures whole { IfOk result (λ answer. copies_contents answer.saved ≡ false) }
+    ensures copying { IfOk result (λ answer. IsTrue (copies_contents answer.saved) → IsTrue (copies (CommandLine.Replay uuid seed))) }
+    ensures there { IfOk result (λ answer. HasContentsOf (S.held images.old) answer.saved) }
     ensures same { S.held images.new ≡ S.held images.old }
     ensures failed { result ≡ Err RunStop.ReadFault → Rose (S.faults images.old) (S.faults images.new) ⊎ Rose (T.faults script.old) (T.faults script.new) }
     ensures later { S.faults images.old ≤ S.faults images.new }
@@ -386,7 +306,7 @@ fn perform_replay<S: ImageSource, T: TextSource, C: Chooser>(
                 lines: replay.lines,
                 seed,
             };
-            replay_loaded(alloc, &uuid, &schedule, images, choose)
+            replay_outlined(alloc, &uuid, &schedule, images, choose)
         }
         Err(ScriptStop::Refused(why)) => misread(alloc, why),
         Err(ScriptStop::Stop(stop)) => Err(stop),
@@ -460,30 +380,6 @@ fn perform_scripted<S: ImageSource, T: TextSource, C: Chooser>(
     }
 }
 
-/// What a command without a script comes to.
-fn perform_plain<S: ImageSource, C: Chooser>(
-    alloc: Global,
-    command: CommandLine,
-    images: &mut S,
-    choose: &mut C,
-) -> Result<Answer, RunStop>
-    requires name { HasGoodValues command }
-    requires plain { IsPlain command }
-    requires alone { has_sessions command ≡ false }
-    ensures told { IfOk result (λ answer. (outcome : Outcome) → ComesFrom (S.held images.old) answer outcome → OnImages (LoadedComes (LeavesBy C.begins C.picks choose.old) command) (S.held images.old) outcome) }
-    ensures copying { IfOk result (λ answer. IsTrue (copies_contents answer.saved) → IsTrue (copies command)) }
-    ensures there { IfOk result (λ answer. HasContentsOf (S.held images.old) answer.saved) }
-    ensures same { S.held images.new ≡ S.held images.old }
-    ensures failed { result ≡ Err RunStop.ReadFault → Rose (S.faults images.old) (S.faults images.new) }
-    ensures later { S.faults images.old ≤ S.faults images.new }
-{
-    if needs_contents(&command) {
-        perform_whole(alloc, command, images, choose)
-    } else {
-        perform_outlined(alloc, command, images, choose)
-    }
-}
-
 /// What a command without sessions comes to that makes an answer.
 fn perform<S: ImageSource, T: TextSource, C: Chooser>(
     alloc: Global,
@@ -505,7 +401,7 @@ fn perform<S: ImageSource, T: TextSource, C: Chooser>(
     if reads_script(&command) {
         perform_scripted(alloc, command, images, script, choose)
     } else {
-        perform_plain(alloc, command, images, choose)
+        perform_outlined(alloc, command, images, choose)
     }
 }
 
@@ -570,7 +466,7 @@ pub(crate) fn conclude<S: ImageSource, K: ImageSink, O: TextSink>(
 ) -> Status
     requires empty { ForSome (K.made out.old) IsEmptySet }
     requires there { HasContentsOf (S.held images.old) answer.saved }
-    ensures ends { Ends (Rose (S.faults images.old) (S.faults images.new)) (copies_contents answer.saved) (ComesFrom (S.held images.old) answer) (K.made out.old) (K.made out.new) (O.written text.old) (O.written text.new) result }
+    ensures ends { Ends (Rose (S.faults images.old) (S.faults images.new)) (copies_contents answer.saved) false (ComesFrom (S.held images.old) answer) (K.made out.old) (K.made out.new) (O.written text.old) (O.written text.new) result }
     ensures stored { Holds (ComesFrom (S.held images.old) answer) (K.kept out.old) (K.kept out.new) (O.kept text.old) (O.kept text.new) result }
     ensures read { result ≡ Status.ReadFault → Rose (S.faults images.old) (S.faults images.new) }
     ensures failed { result ≡ Status.WriteFault → Rose (K.faults out.old) (K.faults out.new) ⊎ Rose (O.faults text.old) (O.faults text.new) }
@@ -602,7 +498,7 @@ fn answer<S: ImageSource, T: TextSource, K: ImageSink, O: TextSink, C: Chooser>(
     requires empty { ForSome (K.made out.old) IsEmptySet }
     requires asked { IsAnswered command }
     requires alone { has_sessions command ≡ false }
-    ensures ends { Ends (Rose (S.faults images.old) (S.faults images.new) ⊎ Rose (T.faults script.old) (T.faults script.new)) (copies command) (ComesTold (LeavesBy C.begins C.picks choose.old) command (S.held images.old) (T.left script.old))
+    ensures ends { Ends (Rose (S.faults images.old) (S.faults images.new) ⊎ Rose (T.faults script.old) (T.faults script.new)) (copies command) (streams command) (ComesTold (LeavesBy C.begins C.picks choose.old) command (S.held images.old) (T.left script.old))
         (K.made out.old) (K.made out.new) (O.written text.old) (O.written text.new) result }
     ensures stored { Holds (ComesTold (LeavesBy C.begins C.picks choose.old) command (S.held images.old) (T.left script.old)) (K.kept out.old) (K.kept out.new) (O.kept text.old) (O.kept text.new) result }
     ensures read { result ≡ Status.ReadFault → Rose (S.faults images.old) (S.faults images.new) ⊎ Rose (T.faults script.old) (T.faults script.new) }
@@ -618,7 +514,7 @@ fn answer<S: ImageSource, T: TextSource, K: ImageSink, O: TextSink, C: Chooser>(
 
 /// Prints a report, which saves nothing, or ends the run if memory ran out.
 fn report<O: TextSink>(report: Result<Report, AllocError>, text: &mut O) -> Status
-    ensures ends { EndsPrinting ⊥ (IsReported report) (O.written text.old) (O.written text.new) result }
+    ensures ends { EndsPrinting ⊥ false (IsReported report) (O.written text.old) (O.written text.new) result }
     ensures stored { HoldsPrinted (IsReported report) (O.kept text.old) (O.kept text.new) result }
     ensures read { result ≢ Status.ReadFault }
     ensures failed { result ≡ Status.WriteFault → Rose (O.faults text.old) (O.faults text.new) }
@@ -631,7 +527,7 @@ fn report<O: TextSink>(report: Result<Report, AllocError>, text: &mut O) -> Stat
 
 /// Tells why an image set isn't loaded, of a command that prints its text itself.
 fn tell_unloaded<O: TextSink>(alloc: Global, fault: LoadFault, text: &mut O) -> Status
-    ensures ends { EndsPrinting (fault ≡ LoadFault.ReadFault) (IsUnloaded fault) (O.written text.old) (O.written text.new) result }
+    ensures ends { EndsPrinting (fault ≡ LoadFault.ReadFault) false (IsUnloaded fault) (O.written text.old) (O.written text.new) result }
     ensures stored { HoldsPrinted (IsUnloaded fault) (O.kept text.old) (O.kept text.new) result }
     ensures read { result ≡ Status.ReadFault → fault ≡ LoadFault.ReadFault }
     ensures failed { result ≡ Status.WriteFault → Rose (O.faults text.old) (O.faults text.new) }
@@ -643,7 +539,32 @@ fn tell_unloaded<O: TextSink>(alloc: Global, fault: LoadFault, text: &mut O) -> 
     }
 }
 
-/// Carries out `export`: the whole set is loaded, and the namespace's bytes are printed as they are found.
+/// Carries out `export` on the set that it loads but for its contents: the namespace's bytes are printed as they are read.
+fn export_outlined<S: ImageSource, O: TextSink>(
+    alloc: Global,
+    uuid: &Uuid,
+    zeros: bool,
+    outline: Outline,
+    images: &mut S,
+    text: &mut O,
+) -> Status
+    requires sound { IsOutlined outline }
+    requires loadable { IsLoadable outline }
+    requires there { ForSome (S.held images.old) (HasContents outline.sizes) }
+    ensures ends { EndsPrinting (Rose (S.faults images.old) (S.faults images.new)) true (ExportsFrom uuid.now zeros (S.held images.old) outline) (O.written text.old) (O.written text.new) result }
+    ensures stored { HoldsPrinted (ExportsFrom uuid.now zeros (S.held images.old) outline) (O.kept text.old) (O.kept text.new) result }
+    ensures read { result ≡ Status.ReadFault → Rose (S.faults images.old) (S.faults images.new) }
+    ensures failed { result ≡ Status.WriteFault → Rose (O.faults text.old) (O.faults text.new) }
+    ensures same { S.held images.new ≡ S.held images.old }
+    ensures later { S.faults images.old ≤ S.faults images.new }
+{
+    match export_answer(alloc, uuid, zeros, outline, images, text) {
+        Ok(status) => status,
+        Err(stop) => stopped(stop, text),
+    }
+}
+
+/// Carries out `export`: the set is loaded but for its contents, and the namespace's bytes are printed as they are read.
 fn export<S: ImageSource, O: TextSink>(
     alloc: Global,
     uuid: &Uuid,
@@ -651,16 +572,14 @@ fn export<S: ImageSource, O: TextSink>(
     images: &mut S,
     text: &mut O,
 ) -> Status
-    ensures ends { EndsPrinting (Rose (S.faults images.old) (S.faults images.new)) (OnImages (Exports uuid.now zeros) (S.held images.old)) (O.written text.old) (O.written text.new) result }
+    ensures ends { EndsPrinting (Rose (S.faults images.old) (S.faults images.new)) true (OnImages (Exports uuid.now zeros) (S.held images.old)) (O.written text.old) (O.written text.new) result }
     ensures stored { HoldsPrinted (OnImages (Exports uuid.now zeros) (S.held images.old)) (O.kept text.old) (O.kept text.new) result }
     ensures read { result ≡ Status.ReadFault → Rose (S.faults images.old) (S.faults images.new) }
     ensures failed { result ≡ Status.WriteFault → Rose (O.faults text.old) (O.faults text.new) }
     ensures same { S.held images.new ≡ S.held images.old }
 {
-    match load(alloc, images) {
-        Ok(loaded) => export_answer(alloc, uuid, zeros, loaded, text).unwrap_or(
-            Status::OutOfMemory,
-        ),
+    match load_outline(alloc, images) {
+        Ok(outline) => export_outlined(alloc, uuid, zeros, outline, images, text),
         Err(fault) => tell_unloaded(alloc, fault, text),
     }
 }
@@ -681,7 +600,7 @@ pub fn carry_out<S: ImageSource, T: TextSource, K: ImageSink, O: TextSink, C: Ch
     requires empty { ForSome (K.made out.old) IsEmptySet }
     requires name { HasGoodValues command }
     requires alone { has_sessions command ≡ false }
-    ensures ends { Ends (Rose (S.faults images.old) (S.faults images.new) ⊎ Rose (T.faults script.old) (T.faults script.new)) (copies command) (ComesTold (LeavesBy C.begins C.picks choose.old) command (S.held images.old) (T.left script.old))
+    ensures ends { Ends (Rose (S.faults images.old) (S.faults images.new) ⊎ Rose (T.faults script.old) (T.faults script.new)) (copies command) (streams command) (ComesTold (LeavesBy C.begins C.picks choose.old) command (S.held images.old) (T.left script.old))
         (K.made out.old) (K.made out.new) (O.written text.old) (O.written text.new) result }
     ensures stored { Holds (ComesTold (LeavesBy C.begins C.picks choose.old) command (S.held images.old) (T.left script.old)) (K.kept out.old) (K.kept out.new) (O.kept text.old) (O.kept text.new) result }
     ensures read { result ≡ Status.ReadFault → Rose (S.faults images.old) (S.faults images.new) ⊎ Rose (T.faults script.old) (T.faults script.new) }
@@ -697,7 +616,7 @@ pub fn carry_out<S: ImageSource, T: TextSource, K: ImageSink, O: TextSink, C: Ch
 
 /// Answers words that aren't a command line, or ends the run if memory ran out.
 fn misused<O: TextSink>(alloc: Global, fault: WordsFault, text: &mut O) -> Status
-    ensures ends { EndsPrinting ⊥ (IsMisused fault) (O.written text.old) (O.written text.new) result }
+    ensures ends { EndsPrinting ⊥ false (IsMisused fault) (O.written text.old) (O.written text.new) result }
     ensures stored { HoldsPrinted (IsMisused fault) (O.kept text.old) (O.kept text.new) result }
     ensures read { result ≢ Status.ReadFault }
     ensures failed { result ≡ Status.WriteFault → Rose (O.faults text.old) (O.faults text.new) }
@@ -715,8 +634,8 @@ fn misused<O: TextSink>(alloc: Global, fault: WordsFault, text: &mut O) -> Statu
 ///
 /// - `ends`: the text and the saved set are those that are due for the words, the images and the script, as far as these
 ///   are told (`specs/Run.antt`). A command with a script reads it to its end before it loads the images. The table of statuses says which status is due (`status_is_due`). After 5 the text is
-///   `read fault`, and nothing was written; or a set that isn't finished, of a command that copies contents as it saves
-///   (`copies`). After 6 the set isn't finished, or the text stopped before its end. 7 means out of memory, may always come,
+///   `read fault`, or a front of the text that is due, of a command that prints it piece by piece (`streams`); and nothing was
+///   written, or a set that isn't finished, of a command that copies contents as it saves (`copies`). After 6 the set isn't finished, or the text stopped before its end. 7 means out of memory, may always come,
 ///   and prints nothing. If power is cut, the chooser is begun once and picks what survives.
 /// - `stored`: after 0, 2, 3, 4 and 8, sinks that tell that they stored everything hold the set and the text that are due.
 /// - `read_fault`, `write_fault`: 5 comes only if the count of faults of the images or of the script rose in this call, 6
@@ -743,7 +662,7 @@ pub fn run<
     gate: &G,
 ) -> Status
     requires { ForSome (K.made out.old) IsEmptySet }
-    ensures ends { Ends (Rose (S.faults images.old) (S.faults images.new) ⊎ Rose (T.faults script.old) (T.faults script.new)) (copies_by (map string_bytes words.now)) (IsDue (LeavesBy C.begins C.picks choose.old) (map string_bytes words.now) (S.held images.old) (T.left script.old))
+    ensures ends { Ends (Rose (S.faults images.old) (S.faults images.new) ⊎ Rose (T.faults script.old) (T.faults script.new)) (copies_by (map string_bytes words.now)) (streams_by (map string_bytes words.now)) (IsDue (LeavesBy C.begins C.picks choose.old) (map string_bytes words.now) (S.held images.old) (T.left script.old))
         (K.made out.old) (K.made out.new) (O.written text.old) (O.written text.new) result }
     ensures stored { Holds (IsDue (LeavesBy C.begins C.picks choose.old) (map string_bytes words.now) (S.held images.old) (T.left script.old)) (K.kept out.old) (K.kept out.new) (O.kept text.old) (O.kept text.new) result }
     ensures read_fault { result ≡ Status.ReadFault → Rose (S.faults images.old) (S.faults images.new) ⊎ Rose (T.faults script.old) (T.faults script.new) }

@@ -30,11 +30,10 @@ use Rattle.shell_changes.specs.declared.answer.Left.TheVariants.{Patched}
 use Rattle.shell_changes.specs.Answers.{HasSizes, outcome_with}
 use Rattle.shell_changes.specs.Saved.{AreWholeSizes, HasSize, contents_with, objects_saved}
 use Rattle.shell_reports.specs.declared.status.Ending.TheVariants as ending
-use Rattle.shell_reports.specs.Cut.{done_text}
 use Rattle.shell_sectors.specs.Found.{SavesNamespace, with_contents}
 use Rattle.shell_sectors.specs.Found.{place_of as namespace_at}
 use Rattle.shell_sectors.specs.Opening.{HaveSizes, IsOpenOutline}
-use Rattle.shell_sectors.specs.Patched.{Patches, SavesPatched, patch_of}
+use Rattle.shell_sectors.specs.Patched.{Patches, PrintsPatched, patch_of}
 use Rattle.shell_sectors.proofs.Outlined.{whole_rows}
 
 labels_back : (labels : List (Option Words)) → map (option_map bytes_of) (map (option_map (λ w. w.kept)) labels) ≡ map (option_map bytes_kept) labels
@@ -42,8 +41,8 @@ labels_back [] = refl
 labels_back (None ∷ labels) = ap (λ (ls : List (Option (List ℕ))). None ∷ ls) (labels_back labels)
 labels_back (Some w ∷ labels) = ap (λ (ls : List (Option (List ℕ))). Some (bytes_of w.kept) ∷ ls) (labels_back labels)
 
-module _ (outline : Outline) (registry : Registered) (rest : OutlineRest) (o : IsOpenOutline outline registry rest) (found : Found) (lies : LiesInSet registry.sets found) (new : NewBytes) (answer : Answer)
-    (s : SavesPatched (patch_of registry.sets found new) rest (map area_words registry.areas) answer) where
+module _ {text : List ℕ} (outline : Outline) (registry : Registered) (rest : OutlineRest) (o : IsOpenOutline outline registry rest) (found : Found) (lies : LiesInSet registry.sets found) (new : NewBytes) (answer : Answer)
+    (s : PrintsPatched text (patch_of registry.sets found new) rest (map area_words registry.areas) answer) where
   abbrev patch : BytePatch
   patch = patch_of registry.sets found new
 
@@ -86,7 +85,7 @@ module _ (outline : Outline) (registry : Registered) (rest : OutlineRest) (o : I
 
       -- the namespace has words like these
       pub saves : (Like : List ℕ → Type 0) → Like (words_of (over (set_at registry.sets found.region) found.offset found.raw (rows_of (patched_contents (byte_patched patch) contents)))).kept
-          → SavesNamespace found loaded Like ending.Done done_text (outcome_with answer contents)
+          → SavesNamespace found loaded Like ending.Done text (outcome_with answer contents)
       saves Like like = record {
         rows = rows;
         sizes = sym (map-map (λ (w : Words). length w.kept) settled rows)

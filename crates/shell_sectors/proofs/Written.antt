@@ -45,6 +45,7 @@ use Rattle.shell_changes.specs.Answers.{outcome_with}
 use Rattle.shell_changes.specs.Saved.{AreWholeSizes}
 use Rattle.shell_changes.proofs.Remains.{no_sizes}
 use Rattle.shell_reports.specs.Causes.{fault_in, found_in, opened_in}
+use Rattle.shell_reports.specs.Cut.{done_text}
 use Rattle.shell_reports.specs.Faults.{arena_outcome, range_text, refusal_text, refused_outcome}
 use Rattle.shell_reports.specs.List.{open_outcome}
 use Rattle.shell_sectors.specs.declared.write.SectorPlace.{SectorPlace}
@@ -259,7 +260,7 @@ module _ (uuid : List ℕ) (outline : Outline) (s : SectorPlace) (it : IsSectorP
 
         -- the sector has the value
         pub writes_runs : length (bytes_for link.opened.info.layout.sector value) ≡ link.opened.info.layout.sector
-            → SavesRuns it.registry s (move_runs links ++ lone_runs link own (bytes_for link.opened.info.layout.sector value)) answer → WritesWith uuid sector value outline s links answer
+            → SavesRuns done_text it.registry s (move_runs links ++ lone_runs link own (bytes_for link.opened.info.layout.sector value)) answer → WritesWith uuid sector value outline s links answer
         writes_runs fit (saved, puts) = record {
           comes = λ contents have all small.
               written_comes outline it.registry s.rest it.parts uuid s.found it.lies it.place sector value answer contents links (all_at contents all) which own at link here

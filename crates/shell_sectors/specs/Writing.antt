@@ -23,7 +23,7 @@ use Rattle.shell_changes.specs.declared.answer.Answer.{Answer}
 use Rattle.shell_changes.specs.Answers.{HasSizes, outcome_with}
 use Rattle.shell_sectors.specs.declared.write.SectorPlace.{SectorPlace}
 use Rattle.shell_sectors.specs.Opening.{HaveSizes, IsOpenOutline}
-use Rattle.shell_sectors.specs.Patched.{Patches, SavesPatched, patch_of}
+use Rattle.shell_sectors.specs.Patched.{Patches, PrintsPatched, patch_of}
 use Rattle.shell_sectors.specs.Write.{WriteComes}
 
 -- A sector namespace was found on an outline.
@@ -35,10 +35,10 @@ pub record IsSectorPlace (uuid : List ℕ) (outline : Outline) (s : SectorPlace)
   pub set : s.set ≡ set_at registry.sets s.found.region
   pub areas : s.areas.items ≡ registry.areas
 
--- the set is saved with these runs in the namespace
-abbrev pub SavesRuns : Registered → SectorPlace → List Run → Answer → Type 0
-SavesRuns registry s runs answer =
-    SavesPatched (patch_of registry.sets s.found (Runs runs)) s.rest (map words_of registry.areas) answer × Patches registry.sets s.found (patch_of registry.sets s.found (Runs runs))
+-- this text is printed, and the set is saved with these runs in the namespace
+abbrev pub SavesRuns : List ℕ → Registered → SectorPlace → List Run → Answer → Type 0
+SavesRuns text registry s runs answer =
+    PrintsPatched text (patch_of registry.sets s.found (Runs runs)) s.rest (map words_of registry.areas) answer × Patches registry.sets s.found (patch_of registry.sets s.found (Runs runs))
 
 -- An answer is what `write` comes to, if the namespace has these arenas.
 pub record WritesWith (uuid : List ℕ) (sector : ℕ) (value : Payload) (outline : Outline) (s : SectorPlace) (links : List Link) (answer : Answer) : Type 0 where

@@ -9,7 +9,7 @@ ghost use Rattle.sector_namespaces.specs.Changing.{IsFinding};
 ghost use Rattle.shell_changes.specs.Answers.{outcome_with};
 ghost use Rattle.shell_changes.specs.Saved.{AreWholeSizes};
 ghost use Rattle.shell_reports.specs.Faults.{arena_outcome};
-ghost use Rattle.shell_sectors.specs.Patched.{SavesPatched};
+ghost use Rattle.shell_sectors.specs.Patched.{PrintsPatched, SavesPatched};
 
 use arena_open::ChainRefused;
 use image_set::OutlineRest;
@@ -19,7 +19,7 @@ use namespace_bytes::NamespacePatch;
 use nvd_media::ListChooser;
 use nvd_words::Items;
 use shell_changes::{Answer, Left, SavedSet, without_set};
-use shell_reports::{arena_answer, done_answer};
+use shell_reports::{Ending, Report, arena_answer, done_answer};
 use std::alloc::{AllocError, Global};
 use uuid::Uuid;
 
@@ -30,6 +30,33 @@ pub fn set_of(sets: Items<InterleaveSet>, region: u32) -> InterleaveSet
 {
     let mut sets = sets.into_vec();
     sets.swap_remove(region as usize)
+}
+
+/// Answers with a report of a command that was carried out, and with a set whose label areas are these and whose contents are
+/// copied and patched.
+///
+/// No word of the label areas is pending. The call fails only if memory runs out.
+pub fn printed_patched(
+    alloc: Global,
+    report: Report,
+    patch: NamespacePatch,
+    rest: OutlineRest,
+    areas: Vec<Area>,
+) -> Result<Answer, AllocError>
+    requires done { report.ending ≡ Ending.Done }
+    requires rest { IsOutlineRest rest }
+    requires count { length areas.items ≡ length rest.sizes }
+    requires sizes { AreWholeSizes rest.sizes }
+    requires settled { AreWhole (map words_of areas.items) }
+    ensures { IfOk result (PrintsPatched report.text.items patch rest (map words_of areas.items)) }
+{
+    let labels = into_words(alloc, areas)?;
+    let mut chooser = ListChooser::new(Vec::new(alloc));
+    let left = rest.leave_areas(alloc, labels, &mut chooser)?;
+    Ok(Answer {
+        report,
+        saved: Some(SavedSet::new(Left::Patched(left, patch))),
+    })
 }
 
 /// Answers with `ok` and with a set whose label areas are these and whose contents are copied and patched.
@@ -47,14 +74,8 @@ pub fn patched_answer(
     requires settled { AreWhole (map words_of areas.items) }
     ensures { IfOk result (SavesPatched patch rest (map words_of areas.items)) }
 {
-    let labels = into_words(alloc, areas)?;
-    let mut chooser = ListChooser::new(Vec::new(alloc));
-    let left = rest.leave_areas(alloc, labels, &mut chooser)?;
     let report = done_answer(alloc)?;
-    Ok(Answer {
-        report,
-        saved: Some(SavedSet::new(Left::Patched(left, patch))),
-    })
+    printed_patched(alloc, report, patch, rest, areas)
 }
 
 /// Answers that a namespace isn't changed, since one of its arenas isn't opened. Power wasn't cut. The call fails only if memory

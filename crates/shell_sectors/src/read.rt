@@ -22,7 +22,7 @@ use image_set::Outline;
 use namespace_words::{ArenaRead, read_cell, sectors_of_all};
 use nvd_media::{Failed, ImageSource};
 use power_cut::SetExtent;
-use session_script::cell_text;
+use session_script::add_cell;
 use shell_reports::{Report, RunStop, printed_answer, range_answer};
 use std::alloc::{AllocError, Global};
 use uuid::Uuid;
@@ -31,7 +31,9 @@ use uuid::Uuid;
 fn cell_answer(alloc: Global, cell: &Cell) -> Result<Report, AllocError>
     ensures { IfOk result (λ answer. outcome_of answer ≡ printed (cell_text cell.now)) }
 {
-    Ok(printed_answer(cell_text(alloc, cell)?.into_bytes()))
+    let mut text = Vec::new(alloc);
+    add_cell(alloc, cell, &mut text)?;
+    Ok(printed_answer(text))
 }
 
 /// Reads a sector that the arenas have, and answers with its line.

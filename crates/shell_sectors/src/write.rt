@@ -19,7 +19,7 @@ ghost use Rattle.shell_sectors.specs.Writing.{IsSectorPlace, SavesRuns, WritesFr
 
 use crate::lone::push_write;
 use crate::opening::{OutlineOpened, open_outline};
-use crate::patching::{patched_answer, set_of, unopened_answer};
+use crate::patching::{printed_patched, set_of, unopened_answer};
 use crate::value::{bytes_for, length_for};
 use image_set::{Outline, OutlineRest};
 use interleave::InterleaveSet;
@@ -32,19 +32,21 @@ use nvd_media::{Failed, ImageSource};
 use nvd_words::Items;
 use session_script::Payload;
 use shell_changes::{Answer, in_memory, without_set};
-use shell_reports::{Report, RunStop, op_refused_answer, range_answer, refused_answer};
+use shell_reports::{
+    Ending, Report, RunStop, done_answer, op_refused_answer, range_answer, refused_answer,
+};
 use std::alloc::{AllocError, Global};
 use uuid::Uuid;
 
 /// A sector namespace that was found by labels, and the other parts of the set.
 #[derive(Drop)]
-pub(crate) struct SectorPlace {
+pub struct SectorPlace {
     /// The interleave set of its region.
-    pub(crate) set: InterleaveSet,
-    pub(crate) found: Found,
+    pub set: InterleaveSet,
+    pub found: Found,
     /// The label areas of the set.
-    pub(crate) areas: Vec<Area>,
-    pub(crate) rest: OutlineRest,
+    pub areas: Vec<Area>,
+    pub rest: OutlineRest,
 }
 
 /// The answer to a value of `said` bytes for a sector of `had`.
@@ -54,8 +56,8 @@ fn length_answer(alloc: Global, said: usize, had: u32) -> Result<Report, AllocEr
     refused_answer(alloc, &format!(in alloc; "Length {} {}", said, had)?)
 }
 
-/// The answer that nothing is written, since the namespace isn't found.
-fn unfound(alloc: Global, refused: OpRefused) -> Result<Answer, AllocError>
+/// The answer that nothing is changed, since the namespace isn't found. Power wasn't cut. The call fails only if memory runs out.
+pub fn unfound_answer(alloc: Global, refused: OpRefused) -> Result<Answer, AllocError>
     requires { refused ≢ op_refused.PowerCut }
     ensures text { IfOk result (λ answer. (contents : List (List ℕ)) → outcome_with answer contents ≡ refused_outcome (refusal_text refused)) }
     ensures saved { IfOk result (λ answer. answer.saved ≡ None) }
@@ -82,10 +84,12 @@ fn write_runs(
 }
 
 impl SectorPlace {
-    /// Answers with the set in which the namespace has these runs.
-    fn save(self, alloc: Global, runs: Items<Run>) -> Result<Answer, AllocError>
+    /// Answers with a report of a command that was carried out, and with the set in which the namespace has these runs. The call
+    /// fails only if memory runs out.
+    pub fn save(self, alloc: Global, report: Report, runs: Items<Run>) -> Result<Answer, AllocError>
+        requires done { report.ending ≡ Ending.Done }
         requires found { (outline : OutlineRead) × ((uuid : List ℕ) × IsSectorPlace uuid outline self) }
-        ensures { IfOk result (λ answer. (outline : OutlineRead) (uuid : List ℕ) (it : IsSectorPlace uuid outline self) → SavesRuns it.registry self runs answer) }
+        ensures { IfOk result (λ answer. (outline : OutlineRead) (uuid : List ℕ) (it : IsSectorPlace uuid outline self) → SavesRuns report.text.items it.registry self runs answer) }
     {
         let SectorPlace {
             set,
@@ -94,7 +98,7 @@ impl SectorPlace {
             rest,
         } = self;
         let patch = NamespacePatch::new(set, found.offset, found.raw, NewBytes::Runs(runs));
-        patched_answer(alloc, patch, rest, areas)
+        printed_patched(alloc, report, patch, rest, areas)
     }
 
     /// Writes sector `at.1` of arena `at.0`, if the value has the sector's length.
@@ -118,7 +122,8 @@ impl SectorPlace {
         }
         let bytes = bytes_for(alloc, had, value)?;
         let runs = write_runs(alloc, arenas, arena, at.1, bytes)?;
-        self.save(alloc, runs)
+        let report = done_answer(alloc)?;
+        self.save(alloc, report, runs)
     }
 
     /// Writes a sector of arenas that were read, if it exists.
@@ -172,8 +177,8 @@ impl SectorPlace {
     }
 }
 
-/// Takes the set of a namespace that was found, and the other parts of an outline.
-fn place_in(found: Found, registry: Registry, rest: OutlineRest) -> SectorPlace
+/// Takes the set of a namespace that was found, and the other parts of an outline. The namespace lies in its region's set.
+pub fn place_in(found: Found, registry: Registry, rest: OutlineRest) -> SectorPlace
     requires { LiesInSet registry.sets found }
     ensures set { result.set ≡ set_at registry.sets found.region }
     ensures found { result.found ≡ found }
@@ -212,7 +217,7 @@ fn write_named<S: ImageSource>(
             let place = place_in(found, registry, rest);
             place.write(alloc, uuid, sector, value, images)
         }
-        Err(refused) => in_memory(unfound(alloc, refused)),
+        Err(refused) => in_memory(unfound_answer(alloc, refused)),
     }
 }
 

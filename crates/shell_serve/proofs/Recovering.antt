@@ -1,5 +1,6 @@
 -- From a loaded set to one whose labels are recovered.
 use Rattle.std.proofs.Common.{◌≡◌, ℕ, List, [], length, map, Option, Ok, Err, refl, sym, ap, ◌∙◌, subst, arith}
+use Rattle.std.specs.Option.{option_map}
 use Rattle.std.proofs.lemmas.List.{length-map}
 use Rattle.nfit_reader.specs.declared.table.Mapping.{Mapping}
 use Rattle.image_set.specs.declared.loading.Loaded.{Loaded}
@@ -25,7 +26,7 @@ use Rattle.shell_changes.specs.Areas.{areas_in, rows_in}
 use Rattle.shell_changes.specs.Maps.{HasTable}
 use Rattle.shell_changes.specs.Namespaces.{sets_in}
 use Rattle.shell_changes.specs.Reading.{IsFresh}
-use Rattle.shell_changes.proofs.Areas.{labels_in, rows_are, rows_opened}
+use Rattle.shell_changes.proofs.Areas.{rows_are, rows_opened}
 use Rattle.shell_reports.proofs.Opened.{are_whole}
 use Rattle.shell_changes.proofs.Goes.{labels_are, sets_err, sets_ok}
 use Rattle.shell_changes.proofs.Maps.{areas_read, keep_apart, recovered_read, regions_of}
@@ -33,6 +34,10 @@ use Rattle.shell_sectors.proofs.Loaded.{open_on}
 use Rattle.shell_sectors.specs.declared.finding.OpenSet.{OpenSet}
 use Rattle.shell_sectors.specs.Labels.{IsOpenSet}
 use Rattle.shell_serve.specs.Recovered.{IsRecovered, IsRecovery, recovered_words, with_registry}
+
+labels_in : (loaded : Loaded) → (image_set_in loaded).labels ≡ map (option_map bytes_kept) loaded.labels
+unfolding image_set_in
+labels_in loaded = refl
 
 loaded_nfit : (loaded : Loaded) → (image_set_in loaded).nfit ≡ loaded.nfit
 unfolding image_set_in

@@ -10,16 +10,16 @@ use Rattle.session_service.proofs.running.note.Goals as goal
 pub add_line-requires : goal.add_line-requires
 add_line-requires g c = c.requires.3.memory
 
-pub returns-then-is_cut-clause-ended : goal.returns-then-is_cut-clause-ended
-returns-then-is_cut-clause-ended g c = λ no script q replies h.
+pub returns-then-cut-clause-ended : goal.returns-then-cut-clause-ended
+returns-then-cut-clause-ended g c = λ no script q replies h.
     let service = c.args.service.now in
-    let answer = c.args.reply.now in
+    let answer = c.args.reply in
     let r = c.args.runner.now in
     let after = c.add_line.new.runner in
     let line = c.add_line.ensures in
     let done : IsDone service script q (more replies answer) after =
     subst (λ (x : Runner). IsDone service script q (more replies answer) x) (sym line.same)
-    (steps.same_done_at service script q (more replies answer) r after.text after.refused (h.goes.ended (sym c.is_cut.ensures ∙ c.if-is_cut.true))) in
+    (steps.same_done_at service script q (more replies answer) r after.text after.refused after.words (h.goes.ended (sym c.is_cut-cut.ensures ∙ c.if-cut.true))) in
     record {
       number = done.knows.know.seated.number;
       rests = done.rests;
@@ -33,7 +33,7 @@ returns-then-is_cut-clause-ended g c = λ no script q replies h.
 pub rest_session-requires : goal.rest_session-requires
 rest_session-requires g c =
     let service = c.args.service.now in
-    let answer = c.args.reply.now in
+    let answer = c.args.reply in
     let script = c.requires.0 in
     let q = c.requires.1 in
     let replies = c.requires.2 in
@@ -43,20 +43,20 @@ rest_session-requires g c =
       q,
       more replies answer,
       subst (λ (x : Runner). IsAt service script q (more replies answer) x) (sym c.add_line.ensures.same)
-          (steps.same_at service script q (more replies answer) c.args.runner.now after.text after.refused (h.goes.on (sym c.is_cut.ensures ∙ c.if-is_cut.false))),
+          (steps.same_at service script q (more replies answer) c.args.runner.now after.text after.refused after.words (h.goes.on (sym c.is_cut-cut.ensures ∙ c.if-cut.false))),
     )
 
 pub returns-clause-on : goal.returns-clause-on
 returns-clause-on g c = λ yes script q replies h.
     let service = c.args.service.now in
-    let answer = c.args.reply.now in
+    let answer = c.args.reply in
     let after = c.add_line.new.runner in
     let line = c.add_line.ensures in
     record {
       laid = h.laid;
       at =
           subst (λ (x : Runner). IsAt service script q (more replies answer) x) (sym line.same)
-          (steps.same_at service script q (more replies answer) c.args.runner.now after.text after.refused (h.goes.on (sym c.is_cut.ensures ∙ c.if-is_cut.false)));
+          (steps.same_at service script q (more replies answer) c.args.runner.now after.text after.refused after.words (h.goes.on (sym c.is_cut-cut.ensures ∙ c.if-cut.false)));
       short = h.short;
       text = h.text;
       said = line.said c.if-full.false ∙ ap (λ (text : List ℕ). text ++ reply_text answer) h.said ∙ sym (replies_more replies answer);

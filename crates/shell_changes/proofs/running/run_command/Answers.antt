@@ -1,31 +1,18 @@
-use Rattle.std.proofs.Common.{◌≡◌, ◌∙◌, ap, sym, subst}
-use Rattle.std.specs.Prelude.{IfOk}
-use Rattle.shell_changes.specs.declared.saving.Beside.{Beside}
-use Rattle.shell_changes.specs.Going.{Runs}
-use Rattle.shell_changes.specs.Rest.{IsBeside, IsUsableBeside, is_whole, with_words, words_beside}
+use Rattle.std.proofs.Common.{List, sym, subst}
+use Rattle.nfit_reader.specs.declared.table.Mapping.{Mapping}
+use Rattle.namespace_areas.specs.declared.area.Area.{Area}
+use Rattle.shell_changes.specs.Going.{IsCounted, Runs}
 use Rattle.shell_changes.proofs.running.run_command.Goals as goal
 
-pub run_labels-requires-clause-plain : goal.run_labels-requires-clause-plain
-run_labels-requires-clause-plain c = c.requires.run.whole ∙ ap is_whole c.in-Copied.is
+pub new_arena-begun-requires : goal.new_arena-begun-requires
+new_arena-begun-requires c = (
+  c.args.registry.areas,
+  c.args.fuse.now,
+  subst (λ (ss : List (List Mapping)). IsCounted ss c.args.registry.areas c.args.change.now c.args.fuse.now c.carry_out.new.counted.begun)
+      (sym (c.into_parts-sets.ensures.sets)) (subst (λ (ss : List (List Mapping)). IsCounted ss c.args.registry.areas c.args.change.now c.args.fuse.now c.carry_out.new.counted.begun) (sym c.in_ok-reply.ensures.sets) c.in_ok-reply.ensures.counted),
+)
 
-pub run_sectors-requires-clause-rest : goal.run_sectors-requires-clause-rest
-run_sectors-requires-clause-rest c = subst IsBeside c.in-Whole.is c.requires.run.rest
-
-pub run_sectors-requires-clause-usable : goal.run_sectors-requires-clause-usable
-run_sectors-requires-clause-usable c = subst (λ (b : Beside). IsUsableBeside b c.args.registry.sets) c.in-Whole.is c.requires.run.usable
-
-pub returns-in-Copied-clause-runs : goal.returns-in-Copied-clause-runs
-returns-in-Copied-clause-runs c =
-    let h = c.args.registry in
-    subst (λ (b : Beside). IfOk c.run_labels.result (λ ran. Runs h.sets h.areas ran.areas.items (words_beside b) (words_beside ran.beside) c.args.fuse.now c.run_labels.new.fuse c.args.change.now ran.reply)) (sym c.in-Copied.is) c.run_labels.ensures.runs
-
-pub returns-in-Copied-clause-beside : goal.returns-in-Copied-clause-beside
-returns-in-Copied-clause-beside c = subst (λ (b : Beside). IfOk c.run_labels.result (λ ran. ran.beside ≡ with_words b (words_beside ran.beside))) (sym c.in-Copied.is) c.run_labels.ensures.beside
-
-pub returns-in-Whole-clause-runs : goal.returns-in-Whole-clause-runs
-returns-in-Whole-clause-runs c =
-    let h = c.args.registry in
-    subst (λ (b : Beside). IfOk c.run_sectors.result (λ ran. Runs h.sets h.areas ran.areas.items (words_beside b) (words_beside ran.beside) c.args.fuse.now c.run_sectors.new.fuse c.args.change.now ran.reply)) (sym c.in-Whole.is) c.run_sectors.ensures.runs
-
-pub returns-in-Whole-clause-beside : goal.returns-in-Whole-clause-beside
-returns-in-Whole-clause-beside c = subst (λ (b : Beside). IfOk c.run_sectors.result (λ ran. ran.beside ≡ with_words b (words_beside ran.beside))) (sym c.in-Whole.is) c.run_sectors.ensures.beside
+pub returns-clause-runs : goal.returns-clause-runs
+returns-clause-runs c =
+    let r = c.args.registry in
+    subst (λ (xs : List Area). Runs r.sets r.areas xs c.args.fuse.now c.carry_out.new.fuse c.args.change.now c.in_ok-reply.reply) (sym c.into_parts-sets.ensures.areas) c.in_ok-reply.ensures.runs

@@ -1,26 +1,11 @@
-use Rattle.std.proofs.Common.{[], subst, sym}
-use Rattle.image_set.specs.Load.{image_set_in}
-use Rattle.shell_changes.specs.declared.answer.Answer.{Answer}
-use Rattle.shell_changes.specs.Answers.{whole_outcome}
+use Rattle.std.proofs.Common.{◌∙◌, subst}
 use Rattle.shell_changes.specs.Remains.{LeavesBy}
-use Rattle.shell_reports.specs.Outcome.{Outcome}
-use Rattle.shell_reports.proofs.More.{if_more}
-use Rattle.shell_sectors.specs.declared.finding.SetFound.{SetFound}
-use Rattle.shell_sectors.specs.Found.{FindsIn, IsUnfound}
-use Rattle.shell_sectors.proofs.Coming.{unfound_comes}
-use Rattle.shell_replay.specs.Replay.{ReplayComes, ReplaysArenas}
+use Rattle.shell_sectors.specs.Opening.{IsFaulty, OpensOutline}
+use Rattle.shell_replay.proofs.Coming.{faulty}
 use Rattle.shell_replay.proofs.replay.replay_answer.Goals as goal
 
-pub found_answer-requires-clause-found : goal.found_answer-requires-clause-found
-found_answer-requires-clause-found g c = (image_set_in c.args.loaded, subst (λ (found : SetFound). FindsIn (image_set_in c.args.loaded) c.args.uuid.now found) c.in-Found.is c.in_ok-found.ensures)
-
-pub returns-in-Found-clause-comes : goal.returns-in-Found-clause-comes
-returns-in-Found-clause-comes g c =
-    if_more _ (λ (answer : Answer). ReplayComes (LeavesBy g.C.Chooser.begins g.C.Chooser.picks c.args.choose.now) c.args.uuid.now c.args.schedule.now (image_set_in c.args.loaded) (whole_outcome answer)) c.found_answer.result
-    (λ answer comes. comes (image_set_in c.args.loaded) (subst (λ (found : SetFound). FindsIn (image_set_in c.args.loaded) c.args.uuid.now found) c.in-Found.is c.in_ok-found.ensures)) c.found_answer.ensures.comes
-
-pub returns-in-Not-clause-comes : goal.returns-in-Not-clause-comes
-returns-in-Not-clause-comes g c =
-    unfound_comes (ReplaysArenas (LeavesBy g.C.Chooser.begins g.C.Chooser.picks c.args.choose.now) c.args.uuid.now c.args.schedule.now (image_set_in c.args.loaded) _) c.args.uuid.now (image_set_in c.args.loaded) _
-    (subst (λ (o : Outcome). IsUnfound (image_set_in c.args.loaded) c.args.uuid.now o) (sym (c.without_set.ensures.same []))
-    (subst (λ (found : SetFound). FindsIn (image_set_in c.args.loaded) c.args.uuid.now found) c.in-Not.is c.in_ok-found.ensures))
+pub returns-in-Ok-Not-clause-comes : goal.returns-in-Ok-Not-clause-comes
+returns-in-Ok-Not-clause-comes g c =
+    let it : IsFaulty c.args.outline c.in-Ok-Not.report = subst (OpensOutline c.args.outline) c.in-Ok-Not.field-0-is c.in-Ok-Not.ensures in
+    faulty (LeavesBy g.C.Chooser.begins g.C.Chooser.picks c.args.choose.now) c.args.schedule.now c.args.uuid.now c.args.outline (g.S.ImageSource.held c.args.images.now) it.0 c.without_set.result it.1
+    c.without_set.ensures.saved (λ contents. c.without_set.ensures.same contents ∙ it.2)

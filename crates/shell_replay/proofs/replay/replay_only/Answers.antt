@@ -1,32 +1,24 @@
-use Rattle.std.proofs.Common.{◌≡◌, ℕ, ◌+◌, ◌≤◌, List, length, refl, sym, subst}
-use Rattle.cut_words.specs.Words.{settled}
-use Rattle.cut_words.specs.WordBytes.{put_at}
-use Rattle.power_cut.specs.Namespace.{words_of}
-use Rattle.shell_sectors.specs.Changed.{moved_to}
+use Rattle.std.proofs.Common.{ℕ, List, subst, arith}
+use Rattle.lane_core.specs.Schedules.{opened_held}
+use Rattle.lane_replay.specs.Playing.{replay_text}
+use Rattle.namespace_bytes.specs.declared.runs.Run.{Run}
 use Rattle.shell_changes.specs.Remains.{LeavesBy}
-use Rattle.shell_replay.proofs.Placed.{is_replayed, opened_here, put_fits}
+use Rattle.shell_reports.proofs.More.{if_more}
+use Rattle.shell_sectors.specs.Writing.{SavesRuns}
+use Rattle.shell_replay.proofs.Coming.{replays_run}
 use Rattle.shell_replay.proofs.replay.replay_only.Goals as goal
 
-pub play_and_cut-requires-clause-state : goal.play_and_cut-requires-clause-state
-play_and_cut-requires-clause-state g c = opened_here c.args.space c.requires.ready.0 c.requires.ready.1 c.args.state c.requires.ready.2
-
-pub put_arena-modules-requires-clause-inside : goal.put_arena-modules-requires-clause-inside
-put_arena-modules-requires-clause-inside g c =
-    subst (λ (words : List ℕ). 0 + length words ≤ length (words_of c.args.space).kept) (sym c.deref.ensures.value)
-    (put_fits c.args.space c.requires.ready.0 c.requires.ready.1 c.args.state c.requires.ready.2 c.in_ok-ended.ended.left.items c.in_ok-ended.ensures.size)
-
-pub put_arena-modules-requires-clause-few : goal.put_arena-modules-requires-clause-few
-put_arena-modules-requires-clause-few g c = c.requires.ready.2.few
-
-pub put_arena-modules-requires-clause-settled : goal.put_arena-modules-requires-clause-settled
-put_arena-modules-requires-clause-settled g c = c.requires.ready.2.settled
+pub words_run-requires : goal.words_run-requires
+words_run-requires g c = omega (arith, c.in_ok-ended.ensures.size, c.requires.open.count, c.requires.open.sound.layout.size_high)
 
 pub returns : goal.returns
-returns g c = λ uuid was k. (
-  c.args.state,
-  refl,
-  c.in_ok-ended.ensures.text,
-  is_replayed c.args.space uuid was c.args.state k c.in_ok-ended.ended.left.items c.in_ok-ended.ensures.size (LeavesBy g.C.Chooser.begins g.C.Chooser.picks c.args.choose.now) c.args.schedule.now
-      c.in_ok-ended.ensures.reopens c.one_arena_changes.ensures c.replays_stand.ensures c.in_ok-ended.ensures.cut c.put_arena-modules.result.items
-      (subst (λ (words : List ℕ). words_of (moved_to c.args.space c.put_arena-modules.result.items) ≡ settled (put_at (words_of c.args.space).kept 0 words)) c.deref.ensures.value c.put_arena-modules.ensures.put) c.put_arena-modules.ensures.beside,
-)
+returns g c =
+    let leaves = LeavesBy g.C.Chooser.begins g.C.Chooser.picks c.args.choose.now in
+    if_more _ _ c.save.result
+    (λ answer saves outline uuid it.
+    replays_run leaves c.args.schedule.now uuid outline c.args.place it answer c.args.state c.requires.open c.in_ok-run.run' c.in_ok-ended.ended.left.items
+    c.in_ok-run.ensures.first c.in_ok-run.ensures.long c.in_ok-run.ensures.words c.in_ok-ended.ensures.size
+    (subst (λ (runs : List Run). SavesRuns (replay_text (opened_held c.args.state) c.args.schedule.now.lines) it.registry c.args.place runs answer) c.in_ok-runs.ensures
+    (subst (λ (text : List ℕ). SavesRuns text it.registry c.args.place c.in_ok-runs.runs answer) c.in_ok-ended.ensures.text (saves outline uuid it)))
+    c.in_ok-ended.ensures.reopens c.one_arena_changes.ensures c.replays_stand.ensures c.in_ok-ended.ensures.cut)
+    c.save.ensures

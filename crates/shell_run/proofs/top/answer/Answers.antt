@@ -1,11 +1,11 @@
-use Rattle.std.proofs.Common.{◌⊎◌, Option, Err, inl, inr, sym, ap, ◌∙◌, subst, arith}
+use Rattle.std.proofs.Common.{◌⊎◌, false, Option, Err, inl, inr, sym, ap, ◌∙◌, subst, arith}
 use Rattle.nvd_media.specs.Images.{Images}
 use Rattle.nvd_media.specs.Causes.{Rose}
 use Rattle.shell_reports.specs.declared.status.RunStop.{RunStop}
 use Rattle.shell_changes.specs.Answers.{ComesFrom}
 use Rattle.shell_changes.specs.Remains.{LeavesBy}
 use Rattle.shell_changes.specs.Saved.{HasContentsOf, copies_contents}
-use Rattle.shell_run.specs.Run.{ComesTold, Ends, Holds, copies}
+use Rattle.shell_run.specs.Run.{ComesTold, Ends, Holds, copies, streams}
 use Rattle.shell_run.proofs.Ending.{ends_more, ends_stopped, holds_more, holds_stopped}
 use Rattle.shell_run.proofs.top.answer.Goals as goal
 
@@ -25,12 +25,12 @@ returns-in-Ok-clause-ends g c =
     let between = g.S.ImageSource.faults c.perform.new.images in
     let after = g.S.ImageSource.faults c.conclude.new.images in
     let later = c.perform.ensures.later in
-    ends_more (Rose between after) (Rose before after ⊎ Rose (g.T.TextSource.faults c.args.script.now) (g.T.TextSource.faults c.perform.new.script)) (copies_contents answer.saved) (copies c.args.command) (ComesFrom held answer) due made made' text text' c.conclude.result (λ rose. inl (omega (arith, later, rose))) c.in-Ok.ensures.copying c.in-Ok.ensures.told
-    (subst (λ (h : Option Images). Ends (Rose between after) (copies_contents answer.saved) (ComesFrom h answer) made made' text text' c.conclude.result) c.perform.ensures.same c.conclude.ensures.ends)
+    ends_more (Rose between after) (Rose before after ⊎ Rose (g.T.TextSource.faults c.args.script.now) (g.T.TextSource.faults c.perform.new.script)) (copies_contents answer.saved) (copies c.args.command) false (streams c.args.command) (ComesFrom held answer) due made made' text text' c.conclude.result (λ rose. inl (omega (arith, later, rose))) c.in-Ok.ensures.copying (λ never. absurd (let e = never in cc)) c.in-Ok.ensures.told
+    (subst (λ (h : Option Images). Ends (Rose between after) (copies_contents answer.saved) false (ComesFrom h answer) made made' text text' c.conclude.result) c.perform.ensures.same c.conclude.ensures.ends)
 
 pub returns-in-Err-clause-ends : goal.returns-in-Err-clause-ends
 returns-in-Err-clause-ends g c =
-    ends_stopped (Rose (g.S.ImageSource.faults c.args.images.now) (g.S.ImageSource.faults c.perform.new.images) ⊎ Rose (g.T.TextSource.faults c.args.script.now) (g.T.TextSource.faults c.perform.new.script)) (copies c.args.command) (ComesTold (LeavesBy g.C.Chooser.begins g.C.Chooser.picks c.args.choose.now) c.args.command (g.S.ImageSource.held c.args.images.now) (g.T.TextSource.left c.args.script.now))
+    ends_stopped (Rose (g.S.ImageSource.faults c.args.images.now) (g.S.ImageSource.faults c.perform.new.images) ⊎ Rose (g.T.TextSource.faults c.args.script.now) (g.T.TextSource.faults c.perform.new.script)) (copies c.args.command) (streams c.args.command) (ComesTold (LeavesBy g.C.Chooser.begins g.C.Chooser.picks c.args.choose.now) c.args.command (g.S.ImageSource.held c.args.images.now) (g.T.TextSource.left c.args.script.now))
     (g.K.ImageSink.made c.args.out.now) (g.O.TextSink.written c.args.text.now) (g.O.TextSink.written c.stopped.new.text) c.stopped.result c.in-Err.stop (λ is. c.perform.ensures.failed (c.in-Err.is ∙ ap (λ (s : RunStop). Err s) is)) c.stopped.ensures.memory c.stopped.ensures.read
 
 pub returns-in-Ok-clause-stored : goal.returns-in-Ok-clause-stored

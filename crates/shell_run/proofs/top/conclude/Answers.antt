@@ -1,4 +1,4 @@
-use Rattle.std.proofs.Common.{◌≡◌, ◌++◌, ℕ, List, Err, refl, subst, inl}
+use Rattle.std.proofs.Common.{◌≡◌, ◌++◌, ℕ, false, List, Err, refl, subst, inl}
 use Rattle.std.specs.Io.KnownBytes.{Appends}
 use Rattle.nvd_media.specs.Causes.{Rose}
 use Rattle.nvd_media.specs.Images.{Keeps}
@@ -18,7 +18,7 @@ returns-in-Ok-clause-ends g c =
     let answer = c.args.answer in
     let saved = c.in-Ok.ensures.saved in
     let bytes = c.deref.ensures.value in
-    ends_printed (Rose (g.S.ImageSource.faults c.args.images.now) (g.S.ImageSource.faults c.save_if.new.images)) (copies_contents answer.saved) (ComesFrom held answer) (g.K.ImageSink.made c.args.out.now) (g.K.ImageSink.made c.save_if.new.out) before after
+    ends_printed (Rose (g.S.ImageSource.faults c.args.images.now) (g.S.ImageSource.faults c.save_if.new.images)) (copies_contents answer.saved) false (ComesFrom held answer) (g.K.ImageSink.made c.args.out.now) (g.K.ImageSink.made c.save_if.new.out) before after
     (record { ending = answer.report.ending; text = answer.report.text.items; saved = saved.0 }) (record { ends = refl; says = refl; saves = saved.1 }) saved.2 c.printed.result
     (λ same. subst (λ (xs : List ℕ). Appends before after xs) bytes (c.printed.ensures.all same))
     (λ other. ((c.printed.ensures.part other).0, subst (λ (xs : List ℕ). AppendsPart before after xs) bytes (c.printed.ensures.part other).1))
@@ -29,7 +29,7 @@ returns-in-Err-ReadFault-clause-ends g c =
     let answer = c.args.answer in
     let unread = c.save_if.ensures.unread (subst (λ (fault : CopyFault). c.save_if.result ≡ Err fault) c.in-Err-ReadFault.field-0-is c.in-Err-ReadFault.is) in
     let due = some_due held answer (some_copied answer.saved unread.0) in
-    ends_unread (Rose (g.S.ImageSource.faults c.args.images.now) (g.S.ImageSource.faults c.save_if.new.images)) (copies_contents answer.saved) (ComesFrom held answer) (g.K.ImageSink.made c.args.out.now) (g.K.ImageSink.made c.save_if.new.out) (g.O.TextSink.written c.args.text.now) (g.O.TextSink.written c.stopped.new.text)
+    ends_unread (Rose (g.S.ImageSource.faults c.args.images.now) (g.S.ImageSource.faults c.save_if.new.images)) (copies_contents answer.saved) false (ComesFrom held answer) (g.K.ImageSink.made c.args.out.now) (g.K.ImageSink.made c.save_if.new.out) (g.O.TextSink.written c.args.text.now) (g.O.TextSink.written c.stopped.new.text)
     c.stopped.result due.0 (c.save_if.ensures.outside.read (subst (λ (fault : CopyFault). c.save_if.result ≡ Err fault) c.in-Err-ReadFault.field-0-is c.in-Err-ReadFault.is)) unread.0 due.1 due.2 unread.1 (c.stopped.ensures.read refl)
 
 pub returns-in-Err-WriteFault-clause-ends : goal.returns-in-Err-WriteFault-clause-ends

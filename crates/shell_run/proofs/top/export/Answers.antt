@@ -1,44 +1,62 @@
-use Rattle.std.proofs.Common.{◌≡◌, false, Err, refl, ap, ◌∙◌}
+use Rattle.std.proofs.Common.{◌≡◌, ℕ, true, false, List, Option, Result, Ok, Err, sym, ap, ◌∙◌, subst, arith}
+use Rattle.std.specs.Prelude.{IfOk}
+use Rattle.std.specs.Option.{ForSome}
 use Rattle.nvd_media.specs.Causes.{Rose}
+use Rattle.nvd_media.specs.Images.{Images}
 use Rattle.image_set.specs.declared.fault.LoadFault.{LoadFault}
-use Rattle.image_set.specs.Load.{image_set_in}
-use Rattle.shell_export.specs.Export.{export_outcome}
-use Rattle.shell_export.proofs.Causes.{export_ends}
-use Rattle.shell_run.specs.Printed.{Exports, IsUnloaded}
+use Rattle.image_set.specs.declared.outline.Outline.{Outline}
+use Rattle.image_set.specs.Outline.{HasContents}
+use Rattle.shell_export.specs.Printing.{ExportsFrom}
+use Rattle.shell_run.specs.Printed.{EndsPrinting, Exports, HoldsPrinted, IsUnloaded}
 use Rattle.shell_run.specs.Run.{OnImages}
-use Rattle.shell_run.proofs.Comes.{loaded_on, unloaded_on}
-use Rattle.shell_run.proofs.Ending.{printing_more, stored_more, streamed_ends, streamed_holds}
+use Rattle.shell_run.proofs.Comes.{outlined_on, unoutlined_on}
+use Rattle.shell_run.proofs.Ending.{printing_more, stored_more}
 use Rattle.shell_run.proofs.top.export.Goals as goal
 
-pub returns-in-Ok-clause-ends : goal.returns-in-Ok-clause-ends
-returns-in-Ok-clause-ends g c =
+pub export_outlined-requires-clause-there : goal.export_outlined-requires-clause-there
+export_outlined-requires-clause-there g c =
     let held = g.S.ImageSource.held c.args.images.now in
-    let set = image_set_in c.in-Ok.loaded in
-    let outcome = export_outcome c.args.uuid.now c.args.zeros set in
-    streamed_ends (Rose (g.S.ImageSource.faults c.args.images.now) (g.S.ImageSource.faults c.load.new.images)) (OnImages (Exports c.args.uuid.now c.args.zeros) held) outcome
-    (loaded_on (Exports c.args.uuid.now c.args.zeros) held c.load.result c.in-Ok.loaded outcome c.in-Ok.is c.load.ensures.told refl) (export_ends set c.args.uuid.now c.args.zeros).1
-    (g.O.TextSink.written c.args.text.now) (g.O.TextSink.written c.export_answer.new.text) (g.O.TextSink.kept c.args.text.now) (g.O.TextSink.kept c.export_answer.new.text)
-    c.export_answer.result c.unwrap_or.result c.unwrap_or.ensures c.export_answer.ensures.printed c.export_answer.ensures.memory
+    subst (λ (h : Option Images). ForSome h (HasContents c.in-Ok.outline.sizes)) (sym c.load_outline.ensures.same)
+    (subst (λ (l : Result Outline LoadFault). ForSome held (λ set. IfOk l (λ o. HasContents o.sizes set))) c.in-Ok.is c.load_outline.ensures.sizes)
+
+pub returns-in-Ok-clause-ends : goal.returns-in-Ok-clause-ends
+returns-in-Ok-clause-ends g c = λ made.
+    let held = g.S.ImageSource.held c.args.images.now in
+    let before = g.S.ImageSource.faults c.args.images.now in
+    let between = g.S.ImageSource.faults c.load_outline.new.images in
+    let after = g.S.ImageSource.faults c.export_outlined.new.images in
+    let later = c.load_outline.ensures.later in
+    printing_more (Rose between after) (Rose before after) false true true (ExportsFrom c.args.uuid.now c.args.zeros held c.in-Ok.outline) (OnImages (Exports c.args.uuid.now c.args.zeros) held) made
+    (g.O.TextSink.written c.args.text.now) (g.O.TextSink.written c.export_outlined.new.text) c.export_outlined.result (λ rose. omega (arith, later, rose)) (λ it. it)
+    (λ outcome due. outlined_on (Exports c.args.uuid.now c.args.zeros) held c.load_outline.result c.in-Ok.outline outcome c.in-Ok.is c.load_outline.ensures.told due)
+    (subst (λ (h : Option Images). EndsPrinting (Rose between after) true (ExportsFrom c.args.uuid.now c.args.zeros h c.in-Ok.outline) (g.O.TextSink.written c.args.text.now) (g.O.TextSink.written c.export_outlined.new.text) c.export_outlined.result)
+    c.load_outline.ensures.same c.export_outlined.ensures.ends)
 
 pub returns-in-Ok-clause-stored : goal.returns-in-Ok-clause-stored
-returns-in-Ok-clause-stored g c =
+returns-in-Ok-clause-stored g c = λ kept.
     let held = g.S.ImageSource.held c.args.images.now in
-    let set = image_set_in c.in-Ok.loaded in
-    let outcome = export_outcome c.args.uuid.now c.args.zeros set in
-    streamed_holds (Rose (g.S.ImageSource.faults c.args.images.now) (g.S.ImageSource.faults c.load.new.images)) (OnImages (Exports c.args.uuid.now c.args.zeros) held) outcome
-    (loaded_on (Exports c.args.uuid.now c.args.zeros) held c.load.result c.in-Ok.loaded outcome c.in-Ok.is c.load.ensures.told refl) (export_ends set c.args.uuid.now c.args.zeros).1
-    (g.O.TextSink.written c.args.text.now) (g.O.TextSink.written c.export_answer.new.text) (g.O.TextSink.kept c.args.text.now) (g.O.TextSink.kept c.export_answer.new.text)
-    c.export_answer.result c.unwrap_or.result c.unwrap_or.ensures c.export_answer.ensures.printed
+    stored_more (ExportsFrom c.args.uuid.now c.args.zeros held c.in-Ok.outline) (OnImages (Exports c.args.uuid.now c.args.zeros) held) kept
+    (g.O.TextSink.kept c.args.text.now) (g.O.TextSink.kept c.export_outlined.new.text) c.export_outlined.result
+    (λ outcome due. outlined_on (Exports c.args.uuid.now c.args.zeros) held c.load_outline.result c.in-Ok.outline outcome c.in-Ok.is c.load_outline.ensures.told due)
+    (subst (λ (h : Option Images). HoldsPrinted (ExportsFrom c.args.uuid.now c.args.zeros h c.in-Ok.outline) (g.O.TextSink.kept c.args.text.now) (g.O.TextSink.kept c.export_outlined.new.text) c.export_outlined.result)
+    c.load_outline.ensures.same c.export_outlined.ensures.stored)
+
+pub returns-in-Ok-clause-read : goal.returns-in-Ok-clause-read
+returns-in-Ok-clause-read g c = λ is.
+    let later = c.load_outline.ensures.later in
+    let rose = c.export_outlined.ensures.read is in
+    omega (arith, later, rose)
 
 pub returns-in-Err-clause-ends : goal.returns-in-Err-clause-ends
 returns-in-Err-clause-ends g c = λ made.
     let held = g.S.ImageSource.held c.args.images.now in
-    printing_more (c.in-Err.fault ≡ LoadFault.ReadFault) (Rose (g.S.ImageSource.faults c.args.images.now) (g.S.ImageSource.faults c.load.new.images)) false (IsUnloaded c.in-Err.fault) (OnImages (Exports c.args.uuid.now c.args.zeros) held) made
-    (g.O.TextSink.written c.args.text.now) (g.O.TextSink.written c.tell_unloaded.new.text) c.tell_unloaded.result (λ is. c.load.ensures.failed (c.in-Err.is ∙ ap (λ (f : LoadFault). Err f) is))
-    (λ outcome is. unloaded_on (Exports c.args.uuid.now c.args.zeros) held c.load.result c.in-Err.fault outcome c.in-Err.is c.load.ensures.told is) c.tell_unloaded.ensures.ends
+    printing_more (c.in-Err.fault ≡ LoadFault.ReadFault) (Rose (g.S.ImageSource.faults c.args.images.now) (g.S.ImageSource.faults c.load_outline.new.images)) false false true (IsUnloaded c.in-Err.fault) (OnImages (Exports c.args.uuid.now c.args.zeros) held) made
+    (g.O.TextSink.written c.args.text.now) (g.O.TextSink.written c.tell_unloaded.new.text) c.tell_unloaded.result (λ is. c.load_outline.ensures.failed (c.in-Err.is ∙ ap (λ (f : LoadFault). Err f) is))
+    (λ never. absurd (let e = never in cc))
+    (λ outcome is. unoutlined_on (Exports c.args.uuid.now c.args.zeros) held c.load_outline.result c.in-Err.fault outcome c.in-Err.is c.load_outline.ensures.told is) c.tell_unloaded.ensures.ends
 
 pub returns-in-Err-clause-stored : goal.returns-in-Err-clause-stored
 returns-in-Err-clause-stored g c = λ kept.
     let held = g.S.ImageSource.held c.args.images.now in
     stored_more (IsUnloaded c.in-Err.fault) (OnImages (Exports c.args.uuid.now c.args.zeros) held) kept (g.O.TextSink.kept c.args.text.now) (g.O.TextSink.kept c.tell_unloaded.new.text) c.tell_unloaded.result
-    (λ outcome is. unloaded_on (Exports c.args.uuid.now c.args.zeros) held c.load.result c.in-Err.fault outcome c.in-Err.is c.load.ensures.told is) c.tell_unloaded.ensures.stored
+    (λ outcome is. unoutlined_on (Exports c.args.uuid.now c.args.zeros) held c.load_outline.result c.in-Err.fault outcome c.in-Err.is c.load_outline.ensures.told is) c.tell_unloaded.ensures.stored

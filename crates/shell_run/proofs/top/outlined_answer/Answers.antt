@@ -1,5 +1,6 @@
 use Rattle.std.proofs.Common.{◌∙◌, refl, sym, ap, subst}
-use Rattle.std.specs.Prelude.{IsTrue, not}
+use Rattle.std.specs.Prelude.{IsTrue, length}
+use Rattle.image_set.specs.Outline.{contents_in}
 use Rattle.shell_reports.proofs.More.{if_more}
 use Rattle.shell_changes.specs.declared.answer.Answer.{Answer}
 use Rattle.shell_changes.specs.Answers.{HasSizes}
@@ -8,7 +9,7 @@ use Rattle.shell_changes.specs.Saved.{copies_contents}
 use Rattle.shell_changes.proofs.Remains.{copies_none, no_sizes}
 use Rattle.shell_run.specs.declared.words.CommandLine.TheVariants.{Labels, Nfit, Init, Change, Info, Read, Write}
 use Rattle.shell_run.specs.declared.words.CommandLine.TheVariants as command
-use Rattle.shell_run.specs.Run.{LoadedComes, OnSource, copies, needs_contents, reads_script}
+use Rattle.shell_run.specs.Run.{LoadedComes, OnSource, copies, needs_contents, reads_script, streams}
 use Rattle.shell_run.specs.Words.{HasGoodValues}
 use Rattle.shell_run.proofs.Comes.{copies_by_it, if_same, none_copied, source_by, source_of}
 use Rattle.shell_run.proofs.top.outlined_answer.Goals as goal
@@ -67,13 +68,19 @@ returns-in-Init-clause-copying g c = copies_by_it (LeavesBy g.C.Chooser.begins g
 
 pub returns-in-Change-clause-comes : goal.returns-in-Change-clause-comes
 returns-in-Change-clause-comes g c =
-    source_by (LeavesBy g.C.Chooser.begins g.C.Chooser.picks c.args.choose.now) c.args.command (Change c.in-Change.change c.in-Change.power) c.in-Change.is (g.S.ImageSource.held c.args.images.now) c.args.outline c.change_answer.result c.in_memory-in-Change.result c.in_memory-in-Change.ensures.same c.change_answer.ensures.comes
+    let leaves = LeavesBy g.C.Chooser.begins g.C.Chooser.picks c.args.choose.now in
+    let held = g.S.ImageSource.held c.args.images.now in
+    let like = Change c.in-Change.change c.in-Change.power in
+    source_of leaves c.args.command like c.in-Change.is held c.args.outline c.in_memory-in-Change.result
+    (if_same (OnSource (LoadedComes leaves like) held c.args.outline) c.in_memory-in-Change.result c.change_answer.result c.in_memory-in-Change.ensures.same
+    (if_more _ (OnSource (LoadedComes leaves like) held c.args.outline) c.change_answer.result
+    (λ answer comes source told. comes (contents_in source (length c.args.outline.sizes)) (sym (c.requires.there source told))) c.change_answer.ensures.comes))
 
 pub returns-in-Change-clause-sizes : goal.returns-in-Change-clause-sizes
-returns-in-Change-clause-sizes g c = if_same (HasSizes c.args.outline.sizes) c.in_memory-in-Change.result c.change_answer.result c.in_memory-in-Change.ensures.same c.change_answer.ensures.fits
+returns-in-Change-clause-sizes g c = if_same (HasSizes c.args.outline.sizes) c.in_memory-in-Change.result c.change_answer.result c.in_memory-in-Change.ensures.same c.change_answer.ensures.sizes
 
 pub returns-in-Change-clause-copying : goal.returns-in-Change-clause-copying
-returns-in-Change-clause-copying g c = copies_by_it (LeavesBy g.C.Chooser.begins g.C.Chooser.picks c.args.choose.now) c.args.command (Change c.in-Change.change c.in-Change.power) c.in-Change.is c.in_memory-in-Change.result (ap not (sym (ap needs_contents c.in-Change.is) ∙ c.requires.outlined))
+returns-in-Change-clause-copying g c = copies_by_it (LeavesBy g.C.Chooser.begins g.C.Chooser.picks c.args.choose.now) c.args.command (Change c.in-Change.change c.in-Change.power) c.in-Change.is c.in_memory-in-Change.result refl
 
 pub returns-in-Info-clause-comes : goal.returns-in-Info-clause-comes
 returns-in-Info-clause-comes g c =
@@ -114,17 +121,14 @@ returns-in-Write-clause-copying g c =
 pub change_answer-requires-clause-name : goal.change_answer-requires-clause-name
 change_answer-requires-clause-name g c = subst HasGoodValues c.in-Change.is c.requires.name
 
-pub change_answer-requires-clause-whole : goal.change_answer-requires-clause-whole
-change_answer-requires-clause-whole g c = sym (ap needs_contents c.in-Change.is) ∙ c.requires.outlined
-
 pub unreachable-requires : goal.unreachable-requires
 unreachable-requires g c =
-    let both = sym c.requires.outlined ∙ ap needs_contents c.in-Replay.is in
+    let both = sym c.requires.plain.0 ∙ ap reads_script c.in-Replay.is in
     (let e = both in cc)
 
 pub unreachable-requires-in-Export : goal.unreachable-requires-in-Export
 unreachable-requires-in-Export g c =
-    let both = sym c.requires.outlined ∙ ap needs_contents c.in-Export.is in
+    let both = sym c.requires.plain.1 ∙ ap streams c.in-Export.is in
     (let e = both in cc)
 
 pub unreachable-requires-in-Import : goal.unreachable-requires-in-Import

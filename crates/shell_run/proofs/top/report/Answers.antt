@@ -12,12 +12,12 @@ returns-in-Ok-clause-ends g c = λ made.
     let before = g.O.TextSink.written c.args.text.now in
     let after = g.O.TextSink.written c.printed.new.text in
     let bytes = c.deref.ensures.value in
-    ends_printed ⊥ false (IsReported c.args.report) made made before after (outcome_of c.in-Ok.report) (c.in-Ok.report, c.in-Ok.is, refl) refl c.printed.result
+    ends_printed ⊥ false false (IsReported c.args.report) made made before after (outcome_of c.in-Ok.report) (c.in-Ok.report, c.in-Ok.is, refl) refl c.printed.result
     (λ same. subst (λ (xs : List ℕ). Appends before after xs) bytes (c.printed.ensures.all same))
     (λ other. ((c.printed.ensures.part other).0, subst (λ (xs : List ℕ). AppendsPart before after xs) bytes (c.printed.ensures.part other).1))
 
 pub returns-in-Err-clause-ends : goal.returns-in-Err-clause-ends
-returns-in-Err-clause-ends g c = λ made. ends_memory ⊥ false (IsReported c.args.report) made (g.O.TextSink.written c.args.text.now) (g.O.TextSink.written c.args.text.now) _ refl refl
+returns-in-Err-clause-ends g c = λ made. ends_memory ⊥ false false (IsReported c.args.report) made (g.O.TextSink.written c.args.text.now) (g.O.TextSink.written c.args.text.now) _ refl refl
 
 pub returns-in-Ok-clause-stored : goal.returns-in-Ok-clause-stored
 returns-in-Ok-clause-stored g c = λ kept.

@@ -8,7 +8,7 @@ use Rattle.shell_run.proofs.top.tell_unloaded.Goals as goal
 
 pub returns-in-ReadFault-clause-ends : goal.returns-in-ReadFault-clause-ends
 returns-in-ReadFault-clause-ends g c = λ made.
-    ends_stopped (c.args.fault ≡ fault.ReadFault) false (IsUnloaded c.args.fault) made (g.O.TextSink.written c.args.text.now) (g.O.TextSink.written c.stopped.new.text) c.stopped.result stop.ReadFault
+    ends_stopped (c.args.fault ≡ fault.ReadFault) false false (IsUnloaded c.args.fault) made (g.O.TextSink.written c.args.text.now) (g.O.TextSink.written c.stopped.new.text) c.stopped.result stop.ReadFault
     (λ is. c.in-ReadFault.is) c.stopped.ensures.memory c.stopped.ensures.read
 
 pub returns-in-ReadFault-clause-stored : goal.returns-in-ReadFault-clause-stored
@@ -18,7 +18,7 @@ returns-in-ReadFault-clause-stored g c = λ kept.
 
 pub returns-in-OutOfMemory-clause-ends : goal.returns-in-OutOfMemory-clause-ends
 returns-in-OutOfMemory-clause-ends g c = λ made.
-    ends_stopped (c.args.fault ≡ fault.ReadFault) false (IsUnloaded c.args.fault) made (g.O.TextSink.written c.args.text.now) (g.O.TextSink.written c.stopped-in-OutOfMemory.new.text) c.stopped-in-OutOfMemory.result stop.OutOfMemory
+    ends_stopped (c.args.fault ≡ fault.ReadFault) false false (IsUnloaded c.args.fault) made (g.O.TextSink.written c.args.text.now) (g.O.TextSink.written c.stopped-in-OutOfMemory.new.text) c.stopped-in-OutOfMemory.result stop.OutOfMemory
     (λ is. absurd (let e = is in cc)) c.stopped-in-OutOfMemory.ensures.memory c.stopped-in-OutOfMemory.ensures.read
 
 pub returns-in-OutOfMemory-clause-stored : goal.returns-in-OutOfMemory-clause-stored
@@ -28,8 +28,8 @@ returns-in-OutOfMemory-clause-stored g c = λ kept.
 
 pub returns-in_default-clause-ends : goal.returns-in_default-clause-ends
 returns-in_default-clause-ends g c = λ made.
-    printing_more ⊥ (c.args.fault ≡ fault.ReadFault) false (IsReported c.load_answer.result) (IsUnloaded c.args.fault) made (g.O.TextSink.written c.args.text.now) (g.O.TextSink.written c.report.new.text) c.report.result
-    (λ never. absurd never) (λ outcome is. reported_unloaded c.load_answer.result c.args.fault outcome c.load_answer.ensures.text c.in_default.not-ReadFault c.load_answer.ensures.finding is) c.report.ensures.ends
+    printing_more ⊥ (c.args.fault ≡ fault.ReadFault) false false false (IsReported c.load_answer.result) (IsUnloaded c.args.fault) made (g.O.TextSink.written c.args.text.now) (g.O.TextSink.written c.report.new.text) c.report.result
+    (λ never. absurd never) (λ it. it) (λ outcome is. reported_unloaded c.load_answer.result c.args.fault outcome c.load_answer.ensures.text c.in_default.not-ReadFault c.load_answer.ensures.finding is) c.report.ensures.ends
 
 pub returns-in_default-clause-stored : goal.returns-in_default-clause-stored
 returns-in_default-clause-stored g c = λ kept.

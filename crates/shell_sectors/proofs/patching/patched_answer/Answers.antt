@@ -1,26 +1,11 @@
-use Rattle.std.proofs.Common.{◌∙◌, List, Option, Some, map, length, sym, ap, subst}
-use Rattle.std.specs.List.{All}
-use Rattle.std.specs.Option.{option_map}
-use Rattle.std.proofs.lemmas.List.{length-map}
-use Rattle.cut_words.specs.Words.{Words}
-use Rattle.image_set.proofs.Kept.{AreaSettled, kept_areas}
+use Rattle.std.proofs.Common.{ℕ, List, map, subst}
 use Rattle.namespace_areas.specs.Seen.{words_of}
+use Rattle.shell_reports.proofs.More.{if_more}
+use Rattle.shell_sectors.specs.Patched.{PrintsPatched}
 use Rattle.shell_sectors.proofs.patching.patched_answer.Goals as goal
-
-pub leave_areas-requires-clause-count : goal.leave_areas-requires-clause-count
-leave_areas-requires-clause-count c = ap length c.in_ok-labels.ensures ∙ length-map c.args.areas.items words_of ∙ c.requires.count
 
 pub returns : goal.returns
 returns c =
-    let l = c.in_ok-left.ensures.left in
-    let settled : All AreaSettled c.in_ok-labels.labels = subst (λ (labels : List (Option Words)). All AreaSettled labels) (sym c.in_ok-labels.ensures) (λ k d lt. (c.requires.settled k d lt).kept) in
-    record {
-      ends = c.in_ok-report.ensures.done;
-      says = c.in_ok-report.ensures.text;
-      left = c.in_ok-left.left;
-      saves = ap (λ set. Some set) c.new-2.ensures;
-      nfit = l.nfit;
-      kept = (kept_areas _ c.in_ok-labels.labels c.in_ok-left.left.labels _ _ settled l.asked).0 ∙ ap (map (option_map (λ w. w.kept))) c.in_ok-labels.ensures;
-      sizes = l.sizes;
-      bad = l.bad;
-    }
+    if_more _ _ c.printed_patched.result
+    (λ answer prints. subst (λ (text : List ℕ). PrintsPatched text c.args.patch c.args.rest (map words_of c.args.areas.items) answer) c.in_ok-report.ensures.text prints)
+    c.printed_patched.ensures

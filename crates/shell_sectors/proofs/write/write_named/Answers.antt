@@ -22,7 +22,7 @@ returns-in-Ok-clause-writes g c =
 pub returns-in-Err-clause-writes : goal.returns-in-Err-clause-writes
 returns-in-Err-clause-writes g c =
     let held = g.S.ImageSource.held c.args.images.now in
-    kept (λ answer. (outline : Outline) → IsOpenOutline outline c.args.registry c.args.rest → WritesFrom held c.args.uuid.now c.args.call.0 c.args.call.1 outline answer) c.unfound.result c.in_memory.result c.in_memory.ensures.same
-    (if_both _ _ _ c.unfound.result
+    kept (λ answer. (outline : Outline) → IsOpenOutline outline c.args.registry c.args.rest → WritesFrom held c.args.uuid.now c.args.call.0 c.args.call.1 outline answer) c.unfound_answer.result c.in_memory.result c.in_memory.ensures.same
+    (if_both _ _ _ c.unfound_answer.result
     (λ answer says nothing outline o. unfound outline c.args.registry c.args.rest o c.args.uuid.now held c.args.call.0 c.args.call.1 c.in-Err.refused answer c.in-Err.ensures.found nothing says)
-    c.unfound.ensures.text c.unfound.ensures.saved)
+    c.unfound_answer.ensures.text c.unfound_answer.ensures.saved)

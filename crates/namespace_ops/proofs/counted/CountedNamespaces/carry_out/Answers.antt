@@ -6,25 +6,25 @@ use Rattle.namespace_ops.specs.Counting.{state_in}
 use Rattle.namespace_ops.proofs.counted.CountedNamespaces.carry_out.Goals as goal
 
 pub returns-in-Claim-clause-answered : goal.returns-in-Claim-clause-answered
-returns-in-Claim-clause-answered c =
+returns-in-Claim-clause-answered g c =
     subst (λ (x : Command). Answered (state_in c.args.self.now) (state_in c.claim.new.self) c.args.fuse.now c.args.fuse.now x c.claim.result) (sym c.in-Claim.is) (c.claim.ensures.answered c.args.fuse.now)
 
 pub returns-in-Unclaim-clause-answered : goal.returns-in-Unclaim-clause-answered
-returns-in-Unclaim-clause-answered c =
+returns-in-Unclaim-clause-answered g c =
     subst (λ (x : Command). Answered (state_in c.args.self.now) (state_in c.unclaim.new.self) c.args.fuse.now c.args.fuse.now x c.unclaim.result) (sym c.in-Unclaim.is) (c.unclaim.ensures.answered c.args.fuse.now)
 
 pub returns-in-Delete-clause-formats : goal.returns-in-Delete-clause-formats
-returns-in-Delete-clause-formats c =
-    same_formats (state_in c.args.self.now) c.args.modules.now.items c.args.modules.now.items c.args.fuse.now c.args.command.now c.delete.result (ap (λ (x : Command). makes_sectors x) c.in-Delete.is) refl
+returns-in-Delete-clause-formats g c =
+    same_formats g.F.Formatter.formats (state_in c.args.self.now) c.args.formatter.now c.args.formatter.now c.args.fuse.now c.args.command.now c.delete.result (ap (λ (x : Command). makes_sectors x) c.in-Delete.is) refl
 
 pub returns-in-Rename-clause-formats : goal.returns-in-Rename-clause-formats
-returns-in-Rename-clause-formats c =
-    same_formats (state_in c.args.self.now) c.args.modules.now.items c.args.modules.now.items c.args.fuse.now c.args.command.now c.rename.result (ap (λ (x : Command). makes_sectors x) c.in-Rename.is) refl
+returns-in-Rename-clause-formats g c =
+    same_formats g.F.Formatter.formats (state_in c.args.self.now) c.args.formatter.now c.args.formatter.now c.args.fuse.now c.args.command.now c.rename.result (ap (λ (x : Command). makes_sectors x) c.in-Rename.is) refl
 
 pub returns-in-Claim-clause-formats : goal.returns-in-Claim-clause-formats
-returns-in-Claim-clause-formats c =
-    same_formats (state_in c.args.self.now) c.args.modules.now.items c.args.modules.now.items c.args.fuse.now c.args.command.now c.claim.result (ap (λ (x : Command). makes_sectors x) c.in-Claim.is) refl
+returns-in-Claim-clause-formats g c =
+    same_formats g.F.Formatter.formats (state_in c.args.self.now) c.args.formatter.now c.args.formatter.now c.args.fuse.now c.args.command.now c.claim.result (ap (λ (x : Command). makes_sectors x) c.in-Claim.is) refl
 
 pub returns-in-Unclaim-clause-formats : goal.returns-in-Unclaim-clause-formats
-returns-in-Unclaim-clause-formats c =
-    same_formats (state_in c.args.self.now) c.args.modules.now.items c.args.modules.now.items c.args.fuse.now c.args.command.now c.unclaim.result (ap (λ (x : Command). makes_sectors x) c.in-Unclaim.is) refl
+returns-in-Unclaim-clause-formats g c =
+    same_formats g.F.Formatter.formats (state_in c.args.self.now) c.args.formatter.now c.args.formatter.now c.args.fuse.now c.args.command.now c.unclaim.result (ap (λ (x : Command). makes_sectors x) c.in-Unclaim.is) refl

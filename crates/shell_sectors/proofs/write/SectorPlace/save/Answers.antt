@@ -7,22 +7,22 @@ use Rattle.namespace_bytes.specs.declared.new_bytes.NewBytes.TheVariants.{Runs}
 use Rattle.namespace_bytes.specs.Patching.{ArePatched, BytePatch}
 use Rattle.sector_namespaces.specs.View.{rows_of}
 use Rattle.shell_reports.proofs.More.{if_more}
-use Rattle.shell_sectors.specs.Patched.{SavesPatched, patch_of}
+use Rattle.shell_sectors.specs.Patched.{PrintsPatched, patch_of}
 use Rattle.shell_sectors.proofs.Written.{areas_whole}
 use Rattle.shell_sectors.proofs.write.SectorPlace.save.Goals as goal
 
-pub patched_answer-requires-clause-settled : goal.patched_answer-requires-clause-settled
-patched_answer-requires-clause-settled c = areas_whole c.requires.found.1.0 c.requires.found.0 c.args.self c.requires.found.1.1
+pub printed_patched-requires-clause-settled : goal.printed_patched-requires-clause-settled
+printed_patched-requires-clause-settled c = areas_whole c.requires.found.1.0 c.requires.found.0 c.args.self c.requires.found.1.1
 
 pub returns : goal.returns
 returns c =
-    if_more _ _ c.patched_answer.result
+    if_more _ _ c.printed_patched.result
     (λ answer saves outline uuid it.
     let patch : c.new-patch.result ≡ patch_of it.registry.sets c.args.self.found (Runs c.args.runs) =
     c.new-patch.ensures.made ∙ (λ i. record { set = it.set i; offset = c.args.self.found.offset; raw = c.args.self.found.raw; bytes = Runs c.args.runs }) in (
-      subst (λ (p : BytePatch). SavesPatched p c.args.self.rest (map words_of it.registry.areas) answer) patch
-          (subst (λ (areas : List Area). SavesPatched c.new-patch.result c.args.self.rest (map words_of areas) answer) it.areas saves),
+      subst (λ (p : BytePatch). PrintsPatched c.args.report.text.items p c.args.self.rest (map words_of it.registry.areas) answer) patch
+          (subst (λ (areas : List Area). PrintsPatched c.args.report.text.items c.new-patch.result c.args.self.rest (map words_of areas) answer) it.areas saves),
       λ contents whole reach.
           subst (λ (p : BytePatch). ArePatched p contents) patch (c.new-patch.ensures.patched contents whole (subst (λ (s : List Mapping). ReachEnds s (rows_of contents)) (sym it.set) reach)),
     ))
-    c.patched_answer.ensures
+    c.printed_patched.ensures

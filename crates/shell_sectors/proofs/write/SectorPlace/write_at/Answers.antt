@@ -5,6 +5,7 @@ use Rattle.arena_open.specs.InPlace.{external_in}
 use Rattle.namespace_bytes.specs.SectorPut.{HasBlocks}
 use Rattle.namespace_bytes.specs.declared.runs.Run.{Run}
 use Rattle.namespace_words.specs.Moves.{move_runs}
+use Rattle.shell_reports.specs.Cut.{done_text}
 use Rattle.shell_reports.specs.Faults.{refused_outcome}
 use Rattle.shell_reports.proofs.More.{if_more}
 use Rattle.shell_sectors.specs.LoneRuns.{lone_runs}
@@ -46,5 +47,6 @@ returns c =
     (λ answer saves outline uuid sector it at.
     writes_runs uuid outline c.args.self it sector c.args.value answer c.args.arenas.now c.args.at.0 c.args.at.1 at link c.arena_at-arena.ensures
     (subst (λ (n : ℕ). length (bytes_for n c.args.value) ≡ n) had fit)
-    (subst (λ (rs : List Run). SavesRuns it.registry c.args.self rs answer) runs (saves outline uuid it)))
+    (subst (λ (rs : List Run). SavesRuns done_text it.registry c.args.self rs answer) runs
+    (subst (λ (text : List ℕ). SavesRuns text it.registry c.args.self c.in_ok-runs.runs answer) c.in_ok-report.ensures.text (saves outline uuid it))))
     c.save.ensures
