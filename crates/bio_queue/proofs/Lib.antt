@@ -1,0 +1,9 @@
+pub mod Beginning
+pub mod Dealing
+pub mod Growing
+pub mod Making
+pub mod Parties
+pub mod Resting
+pub mod Rows
+pub mod Serving
+pub mod Standing

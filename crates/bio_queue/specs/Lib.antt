@@ -1,0 +1,5 @@
+pub mod Ops
+pub mod Seats
+pub mod Served
+pub mod Serving
+pub mod Standing
