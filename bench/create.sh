@@ -1,7 +1,7 @@
 #!/bin/sh
 # Times `create` on an image set of 64 modules in one interleave set, each with a label area of 1 MiB and 4,000 labels. Compares
-# it with `init` of one module of the same set whose label area is empty: that also changes an area and saves the set. `init`
-# copies the contents that `create` loads, so the difference includes loading. The new namespace fits only at the region's last unit.
+# it with `init` of one module of the same set whose label area is empty: that also changes an area and saves the set. Both
+# copy the contents. The new namespace fits only at the region's last unit.
 # usage: bench/create.sh   (wants the proved build: NVD_BUILD=proved ./nvd samples/small - list)
 # shellcheck source=bench/lib.sh
 . "$(dirname -- "$0")/lib.sh"

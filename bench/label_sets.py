@@ -9,7 +9,7 @@ sys.path.insert(0, os.path.join(os.path.dirname(os.path.abspath(__file__)), ".."
 from formats import VENDOR, control, cookie_of, index_block, interleave, label, mapping, memory_range, table  # noqa: E402
 
 MODULES, LABELS, BLOCK, SLOTS, UNIT = 64, 4000, 768, 4090, 4096
-# The contents of a set have at most 512 MiB, so half of the labels lie past the end of their module.
+# the bytes of a module: half of the labels lie past its end
 SPAN = LABELS // 2 * UNIT
 
 

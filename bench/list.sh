@@ -2,7 +2,7 @@
 # Times `list` on image sets of 64 modules, each with a label area of 1 MiB and 4,000 labels. Compares it with `nfit` on
 # the same set. Set `own`: each module is a region, and each label has a
 # UUID of its own. Set `shared`: one interleave set of all modules, 4,000 UUIDs with a label on each module.
-# The contents of a set have at most 512 MiB, so half of the labels lie past the end of their module. They are listed too.
+# Half of the labels lie past the end of their module. They are listed too.
 # usage: bench/list.sh   (wants the proved build: NVD_BUILD=proved ./nvd samples/small - list)
 # shellcheck source=bench/lib.sh
 . "$(dirname -- "$0")/lib.sh"

@@ -1,6 +1,6 @@
 #!/bin/sh
-# Times the commands that don't load contents, on an image set of 512 MiB in one module with a raw namespace: `labels`, `nfit` and
-# `list`, which read none, and `rename`, which copies them as it saves. Compares `rename` with `cp`, and with `cp` and `sync`, since
+# Times commands that open no arena, on an image set of 512 MiB in one module with a raw namespace: `labels`, `nfit` and
+# `list`, which read no contents, and `rename`, which copies them as it saves. Compares `rename` with `cp`, and with `cp` and `sync`, since
 # `rename` syncs what it writes; and once more on sets in memory (/dev/shm), where syncing takes no time. Medians of nine runs; for
 # `rename` and `cp` the least of six, from the page cache.
 # usage: bench/outline.sh   (wants the proved build: NVD_BUILD=proved ./nvd samples/small - list)

@@ -1,6 +1,6 @@
 #!/bin/sh
 # Times `info`, and `read` of a sector, of a namespace of 32 MiB that Linux wrote (samples/linux/ns12). Compares them with `export`
-# of a UUID that no label has, which loads the set and opens nothing. Medians of nine runs.
+# of a UUID that no label has, which reads the labels and opens nothing. Medians of nine runs.
 # usage: bench/read.sh   (wants the proved build: NVD_BUILD=proved ./nvd samples/small - list; and xz and python3)
 # shellcheck source=bench/lib.sh
 . "$(dirname -- "$0")/lib.sh"

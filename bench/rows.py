@@ -7,7 +7,7 @@ import tempfile
 import time
 
 sys.path.insert(0, os.path.join(os.path.dirname(os.path.abspath(__file__)), "..", "lib"))
-from formats import control, mapping, memory_range, table  # noqa: E402
+from formats import blank_table, control, mapping, memory_range, table  # noqa: E402
 
 TIME = "/usr/bin/time"
 if not os.path.exists(TIME):
@@ -38,13 +38,24 @@ def timed(words, check=lambda text: True, status=0, script=None):
     return took, memory, text
 
 
-def median(words, runs, check=lambda text: True, status=0, script=None):
-    """The median time of so many runs, and the memory and text of the last."""
+def median(words, runs, check=lambda text: True, status=0, script=None, before=lambda: None):
+    """The median time of so many runs, and the memory and text of the last. `before` is called before each."""
     times = []
     for _ in range(runs):
+        before()
         took, memory, text = timed(words, check, status, script)
         times.append(took)
     return sorted(times)[runs // 2], memory, text
+
+
+def least(ways, rounds, before=lambda: None):
+    """The least time of each way, with its memory; the ways take turns. `before` is called before each run."""
+    best = [(float("inf"), 0)] * len(ways)
+    for _ in range(rounds):
+        for at, words in enumerate(ways):
+            before()
+            best[at] = min(best[at], timed(words)[:2])
+    return best
 
 
 def one_region(size):
@@ -52,16 +63,29 @@ def one_region(size):
     return table([memory_range(1, size), mapping(1, 1, 1, size), control(1, 1)], (b"NVDBCH", b"ONE     "))
 
 
-def one_module(folder, size, word_each=None, filled=False):
-    """An image set of one module: sparse, or with a word in each MiB of the contents, or filled throughout."""
+def image_set(folder, nfit, count, size, word_each=None, filled=False):
+    """An image set of modules: sparse, or with a word in each MiB of the contents, or filled throughout."""
     os.makedirs(folder)
-    for name, length in [("contents-0.bin", size), ("labels-0.bin", 131072), ("complete", 0)]:
-        with open(os.path.join(folder, name), "wb") as file:
-            file.truncate(length)
-    with open(os.path.join(folder, "nfit.bin"), "wb") as file:
-        file.write(one_region(size))
     block = os.urandom(1 << 20) if filled else None
-    with open(os.path.join(folder, "contents-0.bin"), "r+b") as file:
-        for at in range(0, size, 1 << 20) if filled or word_each else []:
-            file.seek(at)
-            file.write(block or struct.pack("<Q", at + 1))
+    with open(os.path.join(folder, "nfit.bin"), "wb") as file:
+        file.write(nfit)
+    for module in range(count):
+        with open(os.path.join(folder, f"labels-{module}.bin"), "wb") as file:
+            file.truncate(131072)
+        with open(os.path.join(folder, f"contents-{module}.bin"), "wb") as file:
+            file.truncate(size)
+            for at in range(0, size, 1 << 20) if filled or word_each else []:
+                file.seek(at)
+                file.write(block or struct.pack("<Q", at + 1))
+    with open(os.path.join(folder, "complete"), "wb"):
+        pass
+
+
+def one_module(folder, size, word_each=None, filled=False):
+    """An image set of one module."""
+    image_set(folder, one_region(size), 1, size, word_each, filled)
+
+
+def by_turns(folder, count, size, filled=False):
+    """An image set of modules that take turns every 4,096 bytes; a single one has no turns."""
+    image_set(folder, blank_table([size] * count), count, size, filled=filled)

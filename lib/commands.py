@@ -11,8 +11,8 @@ LIB = os.path.dirname(os.path.abspath(__file__))
 TABLE = os.path.join(LIB, "commands.txt")
 HEAD = """\
 # The program's commands, made from crates/shell_run by lib/commands.py --write. `-` stands for none; places are in their order.
-# command, places, options that must be given, options that may be, those without a value, whether it writes an image set, whether it reads a
-# script, and what it does with the contents of modules: it loads none, loads all, or copies them as it saves
+# command, places, options that must be given, options that may be, those without a value, whether it writes an image set, for which it copies
+# the contents of modules, and whether it reads a script
 """
 
 
@@ -20,7 +20,7 @@ class Command:
     """A row of the table."""
 
     def __init__(self, fields):
-        self.name, places, needed, others, flags, writes, script, self.contents = fields
+        self.name, places, needed, others, flags, writes, script = fields
         self.places, self.needed, self.others, self.flags = ([] if it == "-" else it.split(",") for it in (places, needed, others, flags))
         self.writes, self.script = writes == "yes", script == "yes"
 
@@ -46,7 +46,7 @@ def cases(text, name):
     import re
 
     found = {}
-    for case, value in re.findall(rf"(?m)^{name} (?:leaves )?\(?(?:command\.)?(\w+)[^=\n]*= (.*)$", text):
+    for case, value in re.findall(rf"(?m)^{name} \(?(?:command\.)?(\w+)[^=\n]*= (.*)$", text):
         found.setdefault(case if case[0].isupper() else "_", value)
     return lambda case: found[case] if case in found else found["_"]
 
@@ -61,17 +61,6 @@ def arguments_in(text):
         yield kind, ["".join(f",{word}" for word, form in said if form == it)[1:] or "-" for it in ("Place", "Required", "Optional", "Flag")]
 
 
-def holds(value, sector):
-    """A condition of a definition on commands, for one that makes sectors or doesn't."""
-    return {"true": True, "false": False, "makes_sectors c": sector, "not (makes_sectors c)": not sector}[value]
-
-
-def contents_of(copies, loads, sectors):
-    """What a command does with contents, by the two definitions; `sectors` says whether it may make sectors."""
-    ways = {"copied" if holds(copies, it) else "loaded" if holds(loads, it) else "unloaded" for it in ([False, True] if sectors else [False])}
-    return "|".join(sorted(ways))
-
-
 def made():
     """The table as the sources have it."""
     import re
@@ -80,15 +69,12 @@ def made():
     arguments = dict(arguments_in(table))
     variants = re.findall(r"(?m)^    (\w+)(?:\(.*\))?,$", re.search(r"pub enum CommandLine \{(.*?)\n\}", source("shell_run", "src", "words.rt"), re.S)[1])
     words = cases(source("shell_run", "specs", "Words.antt").replace(" kind.", " "), "command_in")
-    sectors = cases(source("namespace_ops", "specs", "Counted.antt"), "makes_sectors")
-    comes, script, copies, loads = (cases(run, it) for it in ("LoadedComes", "reads_script", "copies", "needs_contents"))
+    script, copies = (cases(run, it) for it in ("reads_script", "copies"))
     yield HEAD
     for name, kind in re.findall(r'if name == "(\w+)" \{\s*return Some\(CommandKind::(\w+)\);', table):
         # the variant of the command: it has the kind's name, or the values of its arguments make it
         variant = kind if kind in variants else next(it for it in variants if re.search(rf"(?<![\w.]){it}\b", words(kind)))
-        contents = contents_of(copies(variant), loads(variant), sectors(kind) != "false")
-        writes, reads = not comes(variant).startswith("outcome ≡"), script(variant) == "true"
-        yield " ".join([name, *arguments[kind], "yes" if writes else "no", "yes" if reads else "no", contents]) + "\n"
+        yield " ".join([name, *arguments[kind], *("yes" if it(variant) == "true" else "no" for it in (copies, script))]) + "\n"
 
 
 def main():

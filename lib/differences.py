@@ -2,6 +2,7 @@
 import argparse
 import os
 
+from holes import next_data
 from known import Known, shown_name
 from places import Ended, say
 
@@ -35,16 +36,16 @@ def pages_that_differ(one, other, namespace):
     differ = whole = 0
     for it in namespace["extents"]:
         with open(os.path.join(one.folder, f"contents-{it['module']}.bin"), "rb") as first, open(os.path.join(other.folder, f"contents-{it['module']}.bin"), "rb") as second:
-            first.seek(it["start"])
-            second.seek(it["start"])
-            left = it["length"]
-            while left > 0:
-                size = min(left, 256 * PAGE)
-                here, there = first.read(size), second.read(size)
+            at, end = it["start"], it["start"] + it["length"]
+            whole += -(-it["length"] // PAGE)
+            # holes of both are alike
+            while (data := min(next_data(first, at, end), next_data(second, at, end))) < end:
+                at += (data - at) // PAGE * PAGE
+                size = min(end - at, 256 * PAGE)
+                here, there = os.pread(first.fileno(), size, at), os.pread(second.fileno(), size, at)
                 if here != there:
-                    differ += sum(here[at : at + PAGE] != there[at : at + PAGE] for at in range(0, size, PAGE))
-                whole += -(-size // PAGE)
-                left -= size
+                    differ += sum(here[page : page + PAGE] != there[page : page + PAGE] for page in range(0, size, PAGE))
+                at += size
     return differ, whole
 
 

@@ -8,6 +8,8 @@ from places import FAULTS, say, text_of
 from runs import asked, fault_of_input
 
 OBJECTS = ("nfit.bin", "labels-", "contents-", "badranges-", "complete")
+# what takes the memory of a command; the others take little
+HELD = {"import": "it has FILE in memory", **dict.fromkeys(("replay", "serve", "load"), "it has the arenas that it opens in memory, several times over")}
 
 
 def is_text(words):
@@ -52,7 +54,7 @@ def after(run):
     elif run.status == 6:
         after_writing(run)
     elif run.status == 7:
-        say("out of memory: run it where more is free; a command needs about as much as the set has bytes")
+        say("out of memory: run it where more is free" + (f"; {HELD[run.command]}" if run.command in HELD else ""))
     elif run.status not in (0, 8):
         say(f"the program ended with status {run.status}, which is none of its own: if it was stopped from outside, run it again; else please report the words and the set")
 
@@ -108,7 +110,7 @@ def after_words(run):
 def after_script(run):
     """The words are right, so the script isn't."""
     if run.command == "import":
-        say("FILE on standard input has more bytes than any namespace: a set has at most 536870912")
+        say("FILE on standard input has more than 536870912 bytes, which is the most that 'import' takes: it fills no namespace of more than 512 MiB")
     elif not say_rows(run.text()):
         say("the text begins with 'script': a line of the script is wrong")
     say("'nvd help FAULTS' has every such text, and 'nvd help " + run.command + "' the grammar")
@@ -141,6 +143,8 @@ def after_text(run):
         say(f"FILE hasn't as many bytes as the namespace, which has {text.split()[-1]}; 'nvd IN - export' prints as many")
     elif text:
         say_rows(text)
+    elif run.command == "serve" and run.status == 4:
+        say("the arenas of the namespaces that the script opens have more than 1 GiB together: open fewer or smaller ones in one run")
     elif run.command == "serve":
         say("a namespace that the script opens has an arena that breaks the format: 'nvd IN - info UUID' says which, and what to do")
     for line in hint(run, text):

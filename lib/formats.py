@@ -7,7 +7,7 @@ import struct
 import uuid
 
 # the multiple of every size of contents, and the most bytes of contents that a set may have
-PAGE, LIMIT = 4096, 512 << 20
+PAGE, LIMIT = 4096, 16 << 40
 PERSISTENT_MEMORY = uuid.UUID("66f0d379-b4f3-4074-ac43-0d3318b78cdb")
 BTT_2_0 = uuid.UUID("18633bfc-1735-4217-8ac9-17239282d3f8")
 NO_ABSTRACTION = uuid.UUID(int=0)

@@ -21,7 +21,7 @@ class Words(argparse.ArgumentParser):
 def size(text):
     found = plain_or_bytes(text)
     if not found:
-        raise argparse.ArgumentTypeError(f"'{text}' is no size: give bytes, or a number with K, M or G")
+        raise argparse.ArgumentTypeError(f"'{text}' is no size: give bytes, or a number with K, M, G or T")
     return found
 
 
@@ -35,22 +35,56 @@ def namespace(text):
     return words + (["--sector", found.group(4)] if found.group(4) else [])
 
 
-def blank(folder, given):
-    """Writes the set of modules that nothing was written to yet."""
+def blank(folder, given, size, areas=None):
+    """Writes a set of modules of this size that nothing was written to yet, but perhaps the label areas of another set."""
     os.mkdir(folder)
-    make = qemu_table if given.qemu else blank_table
+    table = qemu_table if given.qemu else blank_table
     with open(os.path.join(folder, "nfit.bin"), "wb") as file:
-        file.write(make([given.size] * given.modules))
+        file.write(table([size] * given.modules))
     for module in range(given.modules):
-        for name, count in ((f"labels-{module}.bin", given.labels), (f"contents-{module}.bin", given.size)):
+        for name, count in ((f"labels-{module}.bin", given.labels), (f"contents-{module}.bin", size)):
             with open(os.path.join(folder, name), "wb") as file:
                 file.truncate(count)
+        if areas:
+            shutil.copyfile(os.path.join(areas, f"labels-{module}.bin"), os.path.join(folder, f"labels-{module}.bin"))
     open(os.path.join(folder, "complete"), "wb").close()
 
 
-def main(program, words):
+class Stopped(Exception):
+    """A command ended with this status."""
+
+
+def after(program, folder, commands, last=None):
+    """The set after commands, each on the set that the one before left. That of the last one is `last`, if it is given."""
+    for number, command in enumerate(commands, 1):
+        out = last if last and number == len(commands) else f"{folder}-{number}"
+        status = program.finished([folder, out, *command])
+        if status:
+            raise Stopped(status)
+        shutil.rmtree(folder)
+        folder = out
+    return folder
+
+
+def make(program, work, given):
+    """Makes OUT. `init` doesn't look at contents, so it has a set with a page for each module. Only the last command makes OUT, with all contents."""
     import uuid
 
+    inits = [["init", str(it)] for it in range(given.modules)]
+    creates = [["create", "--uuid", str(uuid.uuid4()), *it] for it in given.namespaces]
+    early, late = (inits, creates) if creates else (inits[:-1], inits[-1:])
+    small, whole = os.path.join(work, "small"), os.path.join(work, "whole")
+    blank(small, given, PAGE)
+    areas = after(program, small, early)
+    try:
+        blank(whole, given, given.size, areas)
+    except OSError as fault:
+        say(f"a set with modules of {shown(given.size)} bytes couldn't be made beside OUT, '{given.OUT}' ({fault.strerror}): see that its file system takes such files")
+        raise Stopped(6) from None
+    after(program, whole, late, given.OUT)
+
+
+def main(program, words):
     parser = Words(prog="nvd make", add_help=False, allow_abbrev=False)
     parser.add_argument("OUT")
     parser.add_argument("--modules", type=int, default=1)
@@ -68,19 +102,15 @@ def main(program, words):
     if os.path.lexists(given.OUT):
         say(f"OUT, '{given.OUT}', is there already: name a directory that isn't, or remove it first")
         return 6
-    commands = [["init", str(it)] for it in range(given.modules)]
-    commands += [["create", "--uuid", str(uuid.uuid4()), *it] for it in given.namespaces]
-    work = tempfile.mkdtemp(prefix="nvd-make-", dir=os.path.dirname(os.path.abspath(given.OUT)))
     try:
-        before = os.path.join(work, "0")
-        blank(before, given)
-        for number, command in enumerate(commands, 1):
-            after = given.OUT if number == len(commands) else os.path.join(work, str(number))
-            status = program.finished([before, after, *command])
-            if status:
-                return status
-            shutil.rmtree(before)
-            before = after
+        work = tempfile.mkdtemp(prefix="nvd-make-", dir=os.path.dirname(os.path.abspath(given.OUT)))
+    except OSError as fault:
+        say(f"nothing can be made beside OUT, '{given.OUT}' ({fault.strerror}): see that the directory above it is there, and that you may write to it")
+        return 6
+    try:
+        make(program, work, given)
+    except Stopped as it:
+        return it.args[0]
     finally:
         shutil.rmtree(work, ignore_errors=True)
     return 0

@@ -10,6 +10,8 @@ import sys
 import tempfile
 
 from commands import commands
+from formats import PAGE
+from holes import copied_set, pieces_of
 from places import Ended, say
 from progress import Progress
 from runs import kept_script
@@ -24,6 +26,20 @@ CUTS = 1000
 
 class Refused(Exception):
     """The command itself doesn't run: its status and its text."""
+
+
+def key_of(folder):
+    """A checksum of a set's bytes: names, lengths, and each page that isn't zero, so that holes aren't read."""
+    total = hashlib.sha256()
+    for name in sorted(os.listdir(folder)):
+        with open(os.path.join(folder, name), "rb") as file:
+            size = os.fstat(file.fileno()).st_size
+            total.update(f"{name} {size}\0".encode())
+            for place, piece in pieces_of(file, 0, size):
+                for at in range(0, len(piece), PAGE):
+                    if page := piece[at : at + PAGE].rstrip(b"\0"):
+                        total.update(f"{place + at} {len(page)}\0".encode() + page)
+    return total.digest()
 
 
 class Sweep:
@@ -51,28 +67,22 @@ class Sweep:
             number = len(self.states)
             self.states[text] = chr(ord("A") + number) if number < 26 else f"S{number}"
             if self.keep:
-                shutil.copytree(out, os.path.join(self.keep, self.states[text]))
+                copied_set(out, os.path.join(self.keep, self.states[text]))
         return self.states[text]
 
     def tried(self, out, cut, what):
         """The status of CMD on a set. It is run once on sets with the same bytes."""
-        total = hashlib.sha256()
-        for name in sorted(os.listdir(out)):
-            with open(os.path.join(out, name), "rb") as file:
-                total.update(name.encode() + b"\0")
-                while piece := file.read(1 << 20):
-                    total.update(piece)
-        key = total.digest()
+        key = key_of(out)
         if key not in self.statuses:
             place = os.path.join(self.work, "tried")
             shutil.rmtree(place, ignore_errors=True)
-            shutil.copytree(out, place)
+            copied_set(out, place)
             status = subprocess.run(["sh", "-c", f'{self.command} "$1"', "sh", place], stdin=subprocess.DEVNULL, stdout=sys.stderr, check=False).returncode
             self.statuses[key] = status if status >= 0 else 128 - status
             if status:
                 self.failed += 1
                 if self.keep:
-                    shutil.copytree(out, os.path.join(self.keep, f"cut-{cut}-{what}"))
+                    copied_set(out, os.path.join(self.keep, f"cut-{cut}-{what}"))
         return f":{self.statuses[key]}"
 
     def steps(self):

@@ -1,12 +1,12 @@
 """Sizes with units: 16K is 16384."""
 import re
 
-UNITS = {"": 1, "K": 1 << 10, "M": 1 << 20, "G": 1 << 30}
+UNITS = {"": 1, "K": 1 << 10, "M": 1 << 20, "G": 1 << 30, "T": 1 << 40}
 
 
 def bytes_of(text):
     """A size in plain bytes; None if it is no size with a unit."""
-    found = re.fullmatch(r"(0|[1-9]\d*)([KMGkmg])(?:i?[Bb])?", text)
+    found = re.fullmatch(r"(0|[1-9]\d*)([KMGTkmgt])(?:i?[Bb])?", text)
     return int(found.group(1)) * UNITS[found.group(2).upper()] if found else None
 
 
@@ -21,13 +21,13 @@ def size_word(text):
 
     size = plain_or_bytes(text)
     if size is None:
-        raise argparse.ArgumentTypeError(f"'{text}' is no size: give bytes in decimal digits, or a number with K, M or G")
+        raise argparse.ArgumentTypeError(f"'{text}' is no size: give bytes in decimal digits, or a number with K, M, G or T")
     return size
 
 
 def shown(size):
     """A size as bytes, and with the largest unit that it is a multiple of."""
-    for unit in "GMK":
+    for unit in "TGMK":
         if size and size % UNITS[unit] == 0:
             return f"{size} ({size // UNITS[unit]}{unit})"
     return str(size)

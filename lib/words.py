@@ -98,7 +98,7 @@ def fault_of_value(command, name, value, ask=None):
         return f"'{name} {value}': give it in decimal digits: {int(value, 16)}"
     if re.fullmatch(r"[+]?0*[0-9]+", value):
         return f"'{name} {value}': give it without sign and leading zeros: {int(value)}"
-    units = ", or with K, M or G behind it" if what == "a size" else ""
+    units = ", or with K, M, G or T behind it" if what == "a size" else ""
     return f"'{name} {value}': {value or 'nothing'} is no number; give decimal digits{units}"
 
 

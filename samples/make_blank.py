@@ -5,9 +5,9 @@ All modules together are region 0, an interleave set with lines of 4,096 bytes. 
 fields of ACPI 6.5, section 5.2.25, without the program.
 usage: make_blank.py DIRECTORY [--modules N] [--size BYTES] [--labels BYTES]
 
-N is 1 to 64 (default 2). --size is the contents of each module: a multiple of 4,096, at most 512 MiB in all modules together
+N is 1 to 64 (default 2). --size is the contents of each module: a multiple of 4,096, at most 16 TiB in all modules together
 (default 1 MiB). --labels is the label area of each module: a multiple of 256 from 1,024 to 1 MiB (default 128 KiB). Sizes may end with K,
-M or G, as 64K. The files are holes, so they take no room until something is written.
+M, G or T, as 64K. The files are holes, so they take no room until something is written.
 """
 import argparse
 import os
@@ -46,8 +46,12 @@ def main():
     for m in range(asked.modules):
         sizes |= {f"labels-{m}.bin": asked.labels, f"contents-{m}.bin": asked.size}
     for name, size in sorted(sizes.items(), reverse=True):
-        with open(os.path.join(asked.directory, name), "wb") as file:
-            file.truncate(size)
+        path = os.path.join(asked.directory, name)
+        try:
+            with open(path, "wb") as file:
+                file.truncate(size)
+        except OSError as fault:
+            words.error(f"{path} can't have {size} bytes ({fault.strerror}): take a smaller --size, or a directory on another file system")
 
 
 if __name__ == "__main__":

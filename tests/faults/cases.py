@@ -3,7 +3,7 @@
 import struct
 
 from sets import FIRST, INNER, LANES, LINE, OUTER, SECOND, SIZE, SLOTS, THIRD, area, checked, control, info, interleave, mapping, of_version, pair, part
-from sets import chain, sectors, spa, table, two
+from sets import HELD, chain, group, past_the_limit, sectors, spa, table, two, wide
 
 CREATE = ["OUT", "create", "--uuid", str(THIRD), "--name", "c", "--region", "0", "--size", "8192", "--mode", "raw"]
 LIST, NFIT, LABELS, INFO, READ = ["-", "list"], ["-", "nfit"], ["-", "labels", "0"], ["-", "info", str(FIRST)], ["-", "read", str(FIRST), "0"]
@@ -103,7 +103,8 @@ def objects():
     yield image("contents 0 Size 100", {**whole(), "contents-0.bin": 100}, LIST, f"is cut off: by the firmware's table module 0 has at least {SIZE} (64K) bytes, so {SIZE - 100} bytes")
     yield image("contents 0 Size 4096", {**whole(), "contents-0.bin": 4096}, LIST, f"is cut off: by the firmware's table module 0 has at least {SIZE} (64K) bytes, so {SIZE - 4096} bytes")
     yield image(f"contents 1 Size {SIZE + 5}", {**whole(), "contents-1.bin": SIZE + 5}, LIST, "has 5 bytes more than a multiple of 4096")
-    yield image(f"contents 1 Size {300 << 20}", {**whole(), "contents-0.bin": 300 << 20, "contents-1.bin": 300 << 20}, LIST, "the modules up to 1 have 629145600 (600M) bytes together")
+    yield image(f"contents 5 Size {3 << 40}", past_the_limit(), LIST, "the modules up to 5 have 19791209299968 (18T) bytes together, and a set has at most 17592186044416 (16T)")
+    yield {**whole(), "contents-0.bin": 3 << 40, "contents-1.bin": 3 << 40}, LIST, 0, "complete", None
     yield image("labels 1 Size 4000", {**whole(), "labels-1.bin": whole()["labels-1.bin"][:4000]}, LIST, "is cut off: its index block counts 14 slots, so the area has at least 4096 (4K) bytes, and 96 are missing")
     yield image("badranges 0 Size 15", {**whole(), "badranges-0.bin": bytes(15)}, LIST)
     yield {**whole(), "contents-0.bin": None}, LIST, 5, "read fault", "no regular file"
@@ -192,6 +193,7 @@ def refusals():
             ("Length 0 4096", sectors(), [*WRITE[:-1], "hex:"]), ("Length 513 4096", sectors(), [*WRITE[:-1], "hex:" + 513 * "5a"]),
             ("Arenas 2", chain(), REPLAY)):
         yield refused(text, files, words)
+    yield from too_large()
     yield refused(f"Length 0 {OUTER * 4096}", sectors(), IMPORT, f"the namespace, which has {OUTER * 4096};")
     # the set has 57344 bytes of each module free at one offset
     for size, words, hint in (
@@ -209,6 +211,24 @@ def refusals():
 def session(*lines):
     """Returns a script of one session."""
     return "".join(f"{it}\n" for it in ("session 0", *lines))
+
+
+def too_large():
+    """Arenas of more than 1 GiB together: `replay`, `serve` and `load` open none of them."""
+    more, each = HELD + 4096, 600 << 20
+    for words in (REPLAY, [*LOAD, "--sessions", "4"]):
+        yield refused(f"TooLarge {more}", wide(more), words, f"the arenas that the command opens in memory have {more} bytes together")
+    yield *refused(f"TooLarge {more}", wide(more), SERVE), session(f"open {FIRST}")
+    # those of both namespaces count, each once, and no session begins
+    yield *refused(f"TooLarge {2 * each}", wide(each, each), SERVE), session(f"rename {FIRST} z", f"open {FIRST}", "close", f"open {SECOND}", "close", f"open {FIRST}")
+    # one that isn't opened doesn't count
+    yield wide(more, 16 << 20), SERVE, 0, "ok", None, session(f"open {THIRD}", f"open {SECOND}")
+    # 1 GiB isn't too large; a broken arena comes first, also if it is behind one that is too large
+    yield refused("Range 3", wide(HELD), [*LOAD, "--sessions", "4"])
+    yield *image(f"arena {SECOND} 0 Info Signature", wide(more, 16 << 20, broken=1), SERVE), session(f"open {FIRST}", f"open {SECOND}")
+    # other commands take arenas of any size
+    for words, text in (([*READ[:-1], "2"], "ok fill:00"), (INFO, "sectors 3 blocks 259 lanes 256 moves 0"), (WRITE, "ok")):
+        yield wide(more), words, 0, text, None
 
 
 def replies():
@@ -229,11 +249,6 @@ def replies():
             (f"NoSpace {SIZE}", whole(), f"{made} 0 {2 * SIZE} c"), ("NoSlot 0", full, f"{made} 0 8192 c"), ("NoSlot 0", full, f"{other} b"), ("NoSlot 0", full, f"delete {FIRST}"),
             ("ReadOnlyLabel 1", locked, f"delete {FIRST}"), ("ReadOnlyLabel 1", locked, f"{other} b")):
         yield files, SERVE, 0, f"refused {text}", None, session(*lines)
-
-
-def group(old, new, seq, padding=bytes(32)):
-    """Returns a lane's log group with only the first half written."""
-    return struct.pack("<IIII16x", 0, old, new, seq) + padding
 
 
 def small(count):

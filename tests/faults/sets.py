@@ -113,6 +113,41 @@ def sectors(first=None, entries=(), halves=(), mode=BTT_2_0):
     return {"nfit.bin": nfit, "labels-0.bin": labels, "contents-0.bin": (ARENA, pieces), "complete": b""}
 
 
+# the most bytes of arenas that a command opens in memory
+HELD = 1 << 30
+
+
+def group(old, new, seq, padding=bytes(32)):
+    """A lane's log group with only the first half written."""
+    return struct.pack("<IIII16x", 0, old, new, seq) + padding
+
+
+def few_sectors(who, count, size, first=None):
+    """The pieces of an arena of so many bytes, most of them unused, with so many sectors."""
+    block = info(parent=who.bytes, outer=count, inner=count + LANES, backup=size - 4096)
+    return {0: block if first is None else first, size - 4096: block, MAP_AT: b"".join(struct.pack("<I", 1 << 31 | 1 << 30 | i) for i in range(count)),
+            LOG_AT: b"".join(group(count + lane, count + lane, 1) for lane in range(LANES))}
+
+
+def wide(*sizes, broken=None):
+    """A set of one module of holes, with a sector namespace of 3 sectors in one arena for each of these sizes. That of one place may have no info block."""
+    ends = [sum(sizes[: it + 1]) for it in range(len(sizes))]
+    labels, pieces = [], {}
+    for slot, (who, size, end) in enumerate(zip((FIRST, SECOND, THIRD), sizes, ends)):
+        start = end - size
+        labels.append(label(who, b"n%d" % slot, slot, size, dpa=start, count=1, position=0, cookie=cookie(1), lba=SECTOR, abstraction=BTT_2_0))
+        pieces |= {start + at: piece for at, piece in few_sectors(who, 3, size, bytes(4096) if slot == broken else None).items()}
+    nfit = table(spa(length=ends[-1]), mapping(0, size=ends[-1], lines=0, ways=1), control(0))
+    return {"nfit.bin": nfit, "labels-0.bin": area(labels), "contents-0.bin": (ends[-1], pieces), "complete": b""}
+
+
+def past_the_limit():
+    """A set of six modules of holes with 3 TiB each, which file systems of small blocks take, too: 18 TiB, and the first five have 15."""
+    size = 3 << 40
+    nfit = table(spa(length=6 * size), *(mapping(m, size=size, ways=6) for m in range(6)), interleave(), *(control(m) for m in range(6)))
+    return {"nfit.bin": nfit, **{f"contents-{m}.bin": size for m in range(6)}, "complete": b""}
+
+
 def chain():
     """A set of one module with a sector namespace of two arenas of 16 MiB, of which the first names the second."""
     _, pieces = sectors()["contents-0.bin"]

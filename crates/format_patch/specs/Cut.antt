@@ -1,6 +1,6 @@
 -- A format that a power cut may stop, and what a crash leaves of the words of all modules: this project's rules over UEFI 2.10, section 6.2 (BTT
 -- Info Block).
-use Rattle.std.specs.Prelude.{◌≡◌, ℕ, ◌+◌, ◌*◌, ◌/◌, Bool, true, false, List, length, take, Option}
+use Rattle.std.specs.Prelude.{◌≡◌, ℕ, ◌+◌, ◌*◌, ◌/◌, Bool, true, false, List, [], ◌∷◌, length, take, Option}
 use Rattle.nfit_reader.specs.declared.table.Mapping.{Mapping}
 use Rattle.interleave.specs.Places.{LiesAt}
 use Rattle.cut_words.specs.Words.{IsLeft, Words, settled}
@@ -46,6 +46,10 @@ pub record IsFormatPatch (set : List Mapping) (offset raw : ℕ) (l : Layout) (u
   pub block : IsBlock l uuid (spelling_of (new_info l uuid uuid))
   pub laid : (modules : List Words) → IsLaid (over set offset raw modules)
   pub puts : PutsFirst set offset raw l uuid k p
+
+-- it is the only one
+abbrev pub AreFormatPatch : List Mapping → ℕ → ℕ → Layout → List ℕ → ℕ → List BytePatch → Type 0
+AreFormatPatch set offset raw l uuid k patches = (p : BytePatch) × (patches ≡ p ∷ []) × IsFormatPatch set offset raw l uuid k p
 
 -- ---- the chooser
 

@@ -4,13 +4,13 @@ ghost use Rattle.interleave.specs.Places.{unit_of};
 ghost use Rattle.interleave.specs.Sound.{span_of};
 ghost use Rattle.arena_layout.specs.Layout.{IsLayout};
 ghost use Rattle.arena_open.specs.Format.{format_count};
-ghost use Rattle.format_patch.specs.Cut.{AsksFor, IsFormatPatch};
+ghost use Rattle.format_patch.specs.Cut.{AreFormatPatch, AsksFor};
 ghost use Rattle.format_patch.specs.Format.{count_behind, place_of_write};
 
 use crate::area_words::{block_bytes, bytes_behind, new_block};
 use arena_layout::Layout;
 use interleave::InterleaveSet;
-use namespace_bytes::{NamespacePatch, NewBytes, Run};
+use namespace_bytes::{NewBytes, Run, SetPatch};
 use nvd_media::Chooser;
 use nvd_words::Items;
 use power_cut::SetExtent;
@@ -85,14 +85,14 @@ pub fn format_patch(
     layout: &Layout,
     uuid: &Uuid,
     words: u64,
-) -> Result<NamespacePatch, AllocError>
+) -> Result<SetPatch, AllocError>
     requires from { offset % unit_of set ≡ 0 }
     requires to { raw % unit_of set ≡ 0 }
     requires inside { offset + raw ≤ span_of set }
     requires layout { IsLayout layout.now }
     requires room { layout.now.size ≤ length set * raw }
     requires few { words ≤ count_behind layout.now + 512 }
-    ensures { IfOk result (IsFormatPatch set offset raw layout.now uuid.now words) }
+    ensures { IfOk result (AreFormatPatch set offset raw layout.now uuid.now words) }
 {
     // Its clause says where the namespace lies, whatever the contents are.
     let _extent = SetExtent::of(&set, offset, raw);
@@ -110,5 +110,5 @@ pub fn format_patch(
     runs.push(map)?;
     runs.push(info)?;
     let bytes = NewBytes::Runs(Items::from_vec(runs));
-    Ok(NamespacePatch::new(set, offset, raw, bytes))
+    SetPatch::one(alloc, set, offset, raw, bytes)
 }

@@ -12,6 +12,7 @@ use Rattle.nvd_media.specs.declared.object.Object.TheVariants as object
 use Rattle.nfit_reader.proofs.Missing.{here, more, ended}
 use Rattle.image_set.specs.declared.fault.LoadFault.{LoadFault}
 use Rattle.image_set.specs.declared.sizes.Sizes.{Sizes}
+use Rattle.image_set.specs.Limits.{most_contents}
 use Rattle.image_set.specs.Load.{module_fault, modules_fault, size_before, AnswersRead}
 use Rattle.image_set.specs.Sizes.{sizes_of, contents_of, IsSized, AreSized}
 use Rattle.image_set.proofs.Asked.{stopped, passed}
@@ -33,7 +34,7 @@ pub record Counted (held : Option Images) (all : List Sizes) (before m count : �
   pub within : m ≤ count
   pub each : All IsSized all
   pub total : sum (contents_of all) ≡ before
-  pub few : before ≤ 536870912
+  pub few : before ≤ most_contents
   pub told : (set : Images) → held ≡ Some set → Told set all m count
 
 sum_more : (xs : List ℕ) (x : ℕ) → sum (xs ++ x ∷ []) ≡ sum xs + x
@@ -78,7 +79,7 @@ here_is : (m count : ℕ) → m < count → get_or (range_with_len 0 count) m 0 
 here_is m count lt = get_or-range_with_len 0 count m 0 lt ∙ omega arith
 
 pub counted_on : (held held' : Option Images) (all : List Sizes) (before m count : ℕ) (s : Sizes) (r : Result Sizes LoadFault) → Counted held all before m count → held' ≡ held → m < count
-    → r ≡ Ok s → IsSized s → before + s.contents ≤ 536870912 → ((set : Images) → held' ≡ Some set → AnswersRead r (value_unless (sizes_of set m) (module_fault set before m)))
+    → r ≡ Ok s → IsSized s → before + s.contents ≤ most_contents → ((set : Images) → held' ≡ Some set → AnswersRead r (value_unless (sizes_of set m) (module_fault set before m)))
     → Counted held (all ++ s ∷ []) (before + s.contents) (m + 1) count
 counted_on held held' all before m count s r c same lt is sized few told = record {
   counted = length-append all (s ∷ []) ∙ omega (arith, c.counted);

@@ -7,7 +7,7 @@ use Rattle.nvd_words.proofs.Checks.{fault_next, fault_none}
 use Rattle.nvd_media.specs.declared.object.Object.TheVariants as object
 use Rattle.nvd_media.specs.Images.{Images, bytes_of}
 use Rattle.label_index.specs.Area.{is_area_size, IsAreaSize}
-use Rattle.image_set.specs.Limits.{is_contents_size, is_bad_size}
+use Rattle.image_set.specs.Limits.{most_contents, is_contents_size, is_bad_size}
 use Rattle.image_set.specs.Load.{needed_fault, optional_fault, module_fault}
 use Rattle.image_set.specs.Sizes.{sizes_of, IsSized}
 
@@ -21,7 +21,7 @@ unfolding module_fault
 module_passes set before m labels contents bad a b d la co ba =
     fault_next _ _ _ _ a (fault_next _ _ _ _ b (fault_next _ _ _ _ d (fault_none _ _ _ refl (rw (la, co, ba) refl))))
 
-pub contents_sized : (before bytes : ℕ) → is_contents_size before bytes ≡ true → (0 < bytes) × (bytes % 4096 ≡ 0) × (before + bytes ≤ 536870912)
+pub contents_sized : (before bytes : ℕ) → is_contents_size before bytes ≡ true → (0 < bytes) × (bytes % 4096 ≡ 0) × (before + bytes ≤ most_contents)
 contents_sized before bytes fits = (grind (arith, nat_tests), grind (arith, nat_tests), grind (arith, nat_tests))
 
 bad_sized : (bytes : ℕ) → is_bad_size bytes ≡ true → (bytes % 16 ≡ 0) × (bytes ≤ 65536)

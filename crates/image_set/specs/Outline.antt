@@ -18,6 +18,7 @@ use Rattle.image_set.specs.declared.changing.OutlineLeft.{OutlineLeft}
 use Rattle.image_set.specs.declared.changing.OutlineRest.{OutlineRest}
 use Rattle.image_set.specs.Load.{AnswersRead, ImageSet, bytes_kept, loading}
 use Rattle.image_set.specs.Changed.{objects_of, with_area}
+use Rattle.image_set.specs.Limits.{most_contents}
 use Rattle.image_set.specs.Patches.{patched_contents, patched_row}
 use Rattle.image_set.specs.Save.{front_of, with_module}
 use Rattle.image_set.specs.Sizes.{IsContentsSize}
@@ -65,7 +66,7 @@ pub record IsOutlined (outline : Outline) : Type 0 where
 pub record IsLoadable (outline : Outline) : Type 0 where
   pub count : length outline.sizes ≡ length outline.nfit.modules
   pub sized : All IsContentsSize outline.sizes
-  pub total : sum outline.sizes ≤ 536870912
+  pub total : sum outline.sizes ≤ most_contents
   pub mapped : All (AreMapped outline.sizes) outline.nfit.regions
 
 -- ---- an outline after a crash

@@ -9,6 +9,7 @@ use Rattle.nvd_media.specs.Images.{Images, bytes_of}
 use Rattle.nfit_reader.specs.declared.table.Mapping.{Mapping}
 use Rattle.nfit_reader.specs.declared.table.Region.{Region}
 use Rattle.label_index.specs.Area.{IsAreaSize}
+use Rattle.image_set.specs.Limits.{most_contents}
 use Rattle.image_set.specs.declared.fault.LoadFault.{LoadFault}
 use Rattle.image_set.specs.declared.fault.LoadFault.TheVariants as fault
 use Rattle.image_set.specs.declared.sizes.Sizes.{Sizes}
@@ -44,7 +45,7 @@ contents_of sizes = map (λ s. s.contents) sizes
 -- all of them are, and so is their sum
 pub record AreSized (sizes : List Sizes) : Type 0 where
   pub each : All IsSized sizes
-  pub total : sum (contents_of sizes) ≤ 536870912
+  pub total : sum (contents_of sizes) ≤ most_contents
 
 -- a mapping passes the end of its module's contents
 unfoldable pub mapping_fault_by : List ℕ → Mapping → Option LoadFault

@@ -7,6 +7,7 @@ use Rattle.nfit_reader.specs.declared.table.Mapping.{Mapping}
 use Rattle.nfit_reader.specs.Table.{nfit_reading}
 use Rattle.nfit_reader.specs.Counted.{AreCounted, NamesItsModules}
 use Rattle.label_index.specs.Area.{IsAreaSize}
+use Rattle.image_set.specs.Limits.{most_contents}
 use Rattle.image_set.specs.declared.loading.Loaded.{Loaded}
 
 -- the size of words, in bytes
@@ -62,5 +63,5 @@ pub record IsSound (loaded : Loaded) : Type 0 where
   pub areas : All IsArea loaded.labels
   pub words : All IsContents loaded.contents
   pub ranges : All IsBadRanges loaded.bad
-  pub total : sum (map size_of loaded.contents) ≤ 536870912
+  pub total : sum (map size_of loaded.contents) ≤ most_contents
   pub mapped : All (AreMapped (map size_of loaded.contents)) loaded.nfit.regions

@@ -8,7 +8,7 @@
 //! mark ── table ── module 0: labels, contents, bad ranges ── module 1: .. ── mappings
 //!
 //!         there?   labels    a multiple of 256 from 1,024 bytes to 1 MiB, or absent
-//!         1 MiB?   contents  there, a positive multiple of 4,096; 512 MiB with those before
+//!         1 MiB?   contents  there, a positive multiple of 4,096; 16 TiB with those before
 //!         read?    bad       a multiple of 16, at most 64 KiB, or absent
 //! ```
 //!

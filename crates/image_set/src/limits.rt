@@ -1,6 +1,6 @@
 //! The sizes that objects may have (this project's limits).
 ghost use Rattle.std.specs.Prelude.{◌≡◌, ◌≤◌};
-ghost use Rattle.image_set.specs.Limits.{is_nfit_size, is_contents_size, is_bad_size};
+ghost use Rattle.image_set.specs.Limits.{most_contents, is_nfit_size, is_contents_size, is_bad_size};
 
 /// The most bytes of the firmware's table.
 const NFIT_BYTES: u64 = 1 << 20;
@@ -9,7 +9,7 @@ const NFIT_BYTES: u64 = 1 << 20;
 const PAGE_BYTES: u64 = 4096;
 
 /// The most bytes of all contents together.
-const CONTENTS_BYTES: u64 = 512 << 20;
+const CONTENTS_BYTES: u64 = 1 << 44;
 
 /// The bytes of one bad range: its start and its length.
 const RANGE_BYTES: u64 = 16;
@@ -27,7 +27,7 @@ pub(crate) fn is_nfit_size(bytes: u64) -> bool
 /// Returns whether the contents of a module may have this size, after `before` bytes of the modules
 /// before it.
 pub(crate) fn is_contents_size(before: u64, bytes: u64) -> bool
-    requires { before ≤ 536870912 }
+    requires { before ≤ most_contents }
     ensures { result ≡ is_contents_size before bytes }
 {
     1 <= bytes && bytes % PAGE_BYTES == 0 && bytes <= CONTENTS_BYTES - before

@@ -6,7 +6,7 @@ ghost use Rattle.nvd_words.specs.Checks.{first_fault, value_unless};
 ghost use Rattle.nvd_media.specs.Causes.{LeavesSource};
 ghost use Rattle.nvd_media.specs.Images.{bytes_of};
 ghost use Rattle.label_index.specs.Area.{is_area_size, IsAreaSize};
-ghost use Rattle.image_set.specs.Limits.{is_nfit_size, is_contents_size, is_bad_size};
+ghost use Rattle.image_set.specs.Limits.{most_contents, is_nfit_size, is_contents_size, is_bad_size};
 ghost use Rattle.image_set.specs.Load.{needed_fault, optional_fault, table_fault, module_fault, modules_fault, AnswersRead};
 ghost use Rattle.image_set.specs.Sizes.{sizes_of, IsSized, AreSized};
 
@@ -92,7 +92,7 @@ fn labels_size<S: ImageSource>(images: &mut S, module: u32) -> Result<Option<u64
 
 /// Returns the size of a module's contents, after `before` bytes of those before it.
 fn contents_size<S: ImageSource>(images: &mut S, module: u32, before: u64) -> Result<u64, LoadFault>
-    requires { before ≤ 536870912 }
+    requires { before ≤ most_contents }
     ensures told { ForSome (S.held images.old) (λ set. AnswersRead result
         (value_unless (length (bytes_of set (Object.Contents «module»)))
         (needed_fault (is_contents_size before) (Object.Contents «module»)
@@ -136,11 +136,11 @@ fn module_sizes<S: ImageSource>(
     module: u32,
     before: u64,
 ) -> Result<Sizes, LoadFault>
-    requires { before ≤ 536870912 }
+    requires { before ≤ most_contents }
     ensures told { ForSome (S.held images.old) (λ set. AnswersRead result
         (value_unless (sizes_of set «module») (module_fault set before «module»))) }
     ensures sized { IfOk result IsSized }
-    ensures few { IfOk result (λ sizes. before + sizes.contents ≤ 536870912) }
+    ensures few { IfOk result (λ sizes. before + sizes.contents ≤ most_contents) }
     ensures apart { result ≢ Err (LoadFault.Nfit NfitFault.OutOfMemory) }
     ensures source { LeavesSource (S.held images.old) (S.held images.new)
         (S.faults images.old) (S.faults images.new) result LoadFault.ReadFault }

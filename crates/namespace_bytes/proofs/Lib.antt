@@ -6,6 +6,8 @@ pub mod Sizes
 pub mod Flagged
 pub mod Patched
 pub mod WholePatch
+pub mod Several
+pub mod Parts
 pub mod ByteWords
 pub mod Owners
 pub mod MapWords

@@ -3,7 +3,7 @@ use Rattle.std.proofs.Common.{◌≡◌, ℕ, [], ◌∷◌, Some, refl}
 use Rattle.nfit_reader.specs.declared.table.Mapping.{Mapping}
 use Rattle.image_set.specs.Patches.{patched_contents}
 use Rattle.namespace_bytes.specs.declared.new_bytes.NewBytes.TheVariants.{Raw}
-use Rattle.namespace_bytes.specs.Patching.{BytePatch, byte_patched}
+use Rattle.namespace_bytes.specs.Patching.{BytePatch, all_patched, byte_patched}
 
 -- a mapping of two lines of 8 bytes, with a line of another module after each
 abbrev striped : ℕ → ℕ → ℕ → Mapping
@@ -39,3 +39,17 @@ contents : patched_contents (byte_patched second) ((0 ∷ 1 ∷ 2 ∷ 3 ∷ 4 �
     ≡ (0 ∷ 1 ∷ 2 ∷ 3 ∷ 4 ∷ 5 ∷ 6 ∷ 7 ∷ 8 ∷ 9 ∷ 10 ∷ 11 ∷ 12 ∷ 13 ∷ 14 ∷ 15 ∷ 58 ∷ 59 ∷ 60 ∷ 61 ∷ []) ∷ (20 ∷ 21 ∷ 22 ∷ 23 ∷ 24 ∷ 25 ∷ 26 ∷ 27 ∷ 50 ∷ 51 ∷ []) ∷ []
 unfolding byte_patched
 contents = refl
+
+-- the namespace of the lines before
+abbrev first : BytePatch
+first = record {
+  set = striped 1 0 0 ∷ striped 0 8 8 ∷ [];
+  offset = 0;
+  raw = 8;
+  bytes = Raw (70 ∷ 71 ∷ 72 ∷ 73 ∷ 74 ∷ 75 ∷ 76 ∷ 77 ∷ 78 ∷ 79 ∷ 80 ∷ 81 ∷ 82 ∷ 83 ∷ 84 ∷ 85 ∷ []);
+}
+
+both : patched_contents (all_patched (second ∷ first ∷ [])) ((0 ∷ 1 ∷ 2 ∷ 3 ∷ 4 ∷ 5 ∷ 6 ∷ 7 ∷ 8 ∷ 9 ∷ 10 ∷ 11 ∷ 12 ∷ 13 ∷ 14 ∷ 15 ∷ 16 ∷ 17 ∷ 18 ∷ 19 ∷ []) ∷ (20 ∷ 21 ∷ 22 ∷ 23 ∷ 24 ∷ 25 ∷ 26 ∷ 27 ∷ 28 ∷ 29 ∷ []) ∷ [])
+    ≡ (0 ∷ 1 ∷ 2 ∷ 3 ∷ 4 ∷ 5 ∷ 6 ∷ 7 ∷ 78 ∷ 79 ∷ 80 ∷ 81 ∷ 82 ∷ 83 ∷ 84 ∷ 85 ∷ 58 ∷ 59 ∷ 60 ∷ 61 ∷ []) ∷ (70 ∷ 71 ∷ 72 ∷ 73 ∷ 74 ∷ 75 ∷ 76 ∷ 77 ∷ 50 ∷ 51 ∷ []) ∷ []
+unfolding byte_patched
+both = refl

@@ -1,17 +1,20 @@
 -- A namespace whose bytes are changed, each by itself, while the contents of modules are copied: ACPI 6.5, section 5.2.25.4, by the formula of the
 -- places of an interleave set.
-use Rattle.std.specs.Prelude.{◌≡◌, ⊤, ℕ, ◌+◌, ◌-◌, ◌*◌, ◌%◌, ◌<◌, ◌==◌, nat_le, nat_lt, Bool, ◌&&◌, if◌then◌else◌, List, [], length, map, slice_index, slice_index_or, find, Option, Some, None}
+use Rattle.std.specs.Prelude.{◌≡◌, ⊤, ℕ, ◌+◌, ◌-◌, ◌*◌, ◌%◌, ◌<◌, ◌≤◌, ◌==◌, nat_le, nat_lt, Bool, ◌&&◌, if◌then◌else◌, List, [], ◌∷◌, length, map, slice_index, slice_index_or, find, Option, Some, None}
 use Rattle.std.specs.Option.{option_map}
 use Rattle.std.specs.List.{All, range_with_len}
 use Rattle.nfit_reader.specs.declared.table.Mapping.{Mapping}
-use Rattle.interleave.specs.Places.{LiesAt, region_byte}
+use Rattle.interleave.specs.Places.{LiesAt, region_byte, unit_of}
+use Rattle.interleave.specs.Sound.{span_of}
 use Rattle.cut_words.specs.Words.{Words, settled}
 use Rattle.cut_words.specs.WordBytes.{words_in}
 use Rattle.image_set.specs.Patches.{patched_contents}
 use Rattle.power_cut.specs.Namespace.{IsLaid, beside_of, over, place_of, words_of}
+use Rattle.namespace_areas.specs.Finding.{set_at}
 use Rattle.sector_namespaces.specs.View.{rows_of}
 use Rattle.namespace_bytes.specs.declared.new_bytes.NewBytes.{NewBytes}
 use Rattle.namespace_bytes.specs.declared.new_bytes.NewBytes.TheVariants.{Raw, Runs, Sectors}
+use Rattle.namespace_bytes.specs.declared.patch.NamespacePatch.{NamespacePatch}
 use Rattle.namespace_bytes.specs.Changed.{changed_from}
 use Rattle.namespace_bytes.specs.Runs.{runs_byte}
 use Rattle.namespace_bytes.specs.SectorBytes.{sector_byte}
@@ -64,9 +67,39 @@ patched_by p address old (Some m) = if is_within p m address then new_of p.bytes
 unfoldable pub byte_patched : BytePatch → ℕ → ℕ → ℕ → ℕ
 byte_patched p which address old = patched_by p address old (mapping_of p.set which)
 
+-- the new value of a byte after these, one after another
+abbrev pub all_patched : List BytePatch → ℕ → ℕ → ℕ → ℕ
+all_patched [] = λ which address old. old
+all_patched (p ∷ ps) = λ which address old. all_patched ps which address (byte_patched p which address old)
+
 -- the namespace lies in the set
 pub record IsBytePatch (p : BytePatch) : Type 0 where
   pub laid : (modules : List Words) → IsLaid (over p.set p.offset p.raw modules)
+
+-- ---- namespaces of the sets of a list
+
+-- a namespace's new bytes, on its set
+abbrev pub patch_on : List Mapping → NamespacePatch → BytePatch
+patch_on set part = record { set = set; offset = part.offset; raw = part.raw; bytes = part.bytes }
+
+abbrev pub patch_in : List (List Mapping) → NamespacePatch → BytePatch
+patch_in sets part = patch_on (set_at sets part.region) part
+
+-- the namespace lies in whole units of its set, and a raw one gets as many bytes as it has
+pub record IsPart (sets : List (List Mapping)) (part : NamespacePatch) : Type 0 where
+  pub region : part.region < length sets
+  pub from : part.offset % unit_of (set_at sets part.region) ≡ 0
+  pub to : part.raw % unit_of (set_at sets part.region) ≡ 0
+  pub inside : part.offset + part.raw ≤ span_of (set_at sets part.region)
+  pub long : IsFor part.bytes (length (set_at sets part.region) * part.raw)
+
+-- what a SetPatch keeps of that
+pub record IsLaidPart (sets : List (List Mapping)) (part : NamespacePatch) : Type 0 where
+  pub region : part.region < length sets
+  pub laid : IsBytePatch (patch_in sets part)
+  pub long : IsFor part.bytes (length (set_at sets part.region) * part.raw)
+
+-- ---- places
 
 -- `count` bytes of a module from an address on are those of the namespace from number `from` on
 abbrev pub AreBytesAt : BytePatch → ℕ → ℕ → ℕ → ℕ → Type 0

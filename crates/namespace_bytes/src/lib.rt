@@ -1,8 +1,8 @@
-//! The new bytes of a namespace, raw or of sectors, put into the contents of its modules while these are copied.
+//! The new bytes of namespaces, raw or of sectors, put into the contents of their modules while these are copied.
 //!
 //! ```text
-//! bytes ──┬── raw ────────────────────────► NewBytes ──► NamespacePatch ──► each piece of a module's contents
-//!         └── sectors ──► SectorBytes ────────▲ ▲
+//! bytes ──┬── raw ────────────────────────► NewBytes ──► NamespacePatch ──┬──► SetPatch ──► each piece of a module's contents
+//!         └── sectors ──► SectorBytes ────────▲ ▲        others, if any ──┘
 //! arenas ─────────────────────┘                 │
 //! runs of bytes ────────────────────────────────┘
 //! ```
@@ -11,9 +11,9 @@
 //! sector, in order. `read_arenas` reads the arenas of a namespace of sectors. `first_bad` finds its first bad sector by the map
 //! entries alone.
 //!
-//! **Pieces.** Contents are copied from one set to another in pieces (`image_set::Patch`), and `NamespacePatch` changes each piece.
-//! So neither the contents nor the namespace's words are in memory. `NewBytes` says what a byte becomes, from its number in the
-//! namespace and its old value. So each piece is done by itself, in any order.
+//! **Pieces.** Contents are copied from one set to another in pieces (`image_set::Patch`), and `SetPatch` changes each piece, one
+//! namespace after another. So neither the contents nor the namespaces' words are in memory. `NewBytes` says what a byte becomes,
+//! from its number in the namespace and its old value. So each piece is done by itself, in any order.
 //!
 //! ```text
 //! bytes           | line 0 | line 1 | line 2 | line 3 |
@@ -47,6 +47,7 @@
 //! | what | definition |
 //! |---|---|
 //! | a byte of a module's contents, patched | `byte_patched` of `specs/Patching.antt` |
+//! | a byte after the patches of several namespaces | `all_patched` of `specs/Patching.antt` |
 //! | a byte of a namespace of sectors, patched | `sector_byte` of `specs/SectorBytes.antt` |
 //! | a byte of a namespace after runs of bytes | `runs_byte` of `specs/Runs.antt` |
 //! | the words of its sectors, put one sector after another | `put_links` of `specs/Putting.antt` |
@@ -68,7 +69,7 @@ mod sector_bytes;
 
 pub use bad::first_bad;
 pub use new_bytes::NewBytes;
-pub use patch::NamespacePatch;
+pub use patch::{NamespacePatch, SetPatch};
 pub use reading::{ArenaAt, read_arenas, size_of_all};
 pub use runs::Run;
 pub use sector_bytes::SectorBytes;

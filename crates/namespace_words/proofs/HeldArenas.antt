@@ -40,7 +40,7 @@ use Rattle.arena_open.proofs.Pending.{moves_fit}
 use Rattle.arena_open.proofs.Bytes.{length_words, word_index}
 use Rattle.namespace_bytes.specs.SectorBytes.{HaveMapsOfBytes}
 use Rattle.namespace_bytes.specs.SectorPut.{HasBlocks}
-use Rattle.namespace_words.specs.Source.{AreBytesOf, AreWithin, IsMapOfBytes, IsWithin, map_bytes}
+use Rattle.namespace_words.specs.Source.{AreBytesFrom, AreBytesOf, AreWithin, IsMapOfBytes, IsWithin, size_of, sizes_of}
 use Rattle.namespace_bytes.proofs.WholePatch.{same_number}
 
 -- ---- answers
@@ -100,16 +100,14 @@ info_is words bytes long fit are =
 
 -- ---- the map
 
-pub map_is : (all map : List ℕ) (at : ℕ) (l : Layout) → AreBytes map → length map ≡ map_bytes l → map ≡ take (length map) (drop (8 * at + l.map_off) all) → IsMapOfBytes all at l
-map_is all map at l fit long are i from to =
-    let j : ℕ = i - l.map_off in
-    let sum : 8 * at + l.map_off + (i - l.map_off) ≡ 8 * at + i = omega (arith, from) in
-    let less : i - l.map_off < length map = omega (arith, from, to, long) in
-    let here : get_or map (i - l.map_off) 0 ≡ get_or all (8 * at + i) 0 =
-    ap (λ (row : List ℕ). get_or row (i - l.map_off) 0) are
-    ∙ get_or-take (length map) (drop (8 * at + l.map_off) all) (i - l.map_off) 0 less ∙ get_or-drop (8 * at + l.map_off) all (i - l.map_off) 0
-    ∙ ap (λ (k : ℕ). get_or all k 0) sum in
-    omega (arith, here, fit.each (i - l.map_off))
+-- a part of the map
+pub bytes_from : (all piece : List ℕ) (from : ℕ) → AreBytes piece → piece ≡ take (length piece) (drop from all) → AreBytesFrom all from (length piece)
+bytes_from all piece from fit are i le lt =
+    let less : i - from < length piece = omega (arith, le, lt) in
+    let sum : from + (i - from) ≡ i = omega (arith, le) in
+    let here : get_or piece (i - from) 0 ≡ get_or all i 0 =
+    ap (λ (row : List ℕ). get_or row (i - from) 0) are ∙ get_or-take (length piece) (drop from all) (i - from) 0 less ∙ get_or-drop from all (i - from) 0 ∙ ap (λ (k : ℕ). get_or all k 0) sum in
+    omega (arith, here, fit.each (i - from))
 
 -- ---- the log
 
@@ -238,6 +236,17 @@ sum_next bytes at parent links more opened is arena inside before =
     let fits : link_bytes (record { at = at; opened = opened }) ≤ 8 * (opened.info.layout.size / 8) = bytes_fit opened.info.layout ok in (
       omega (arith, sum, fits, before, inside, arena.size_inside),
       λ some. omega (arith, sum, fits, before, next_size opened.info.next opened.info.layout.size arena.sound.next some),
+    )
+
+-- so does all of it
+pub sizes_next : (bytes at : ℕ) (parent : List ℕ) (links more : List Link) (opened : Opened) → more ≡ links ++ record { at = at; opened = opened } ∷ [] → IsArenaOf parent (bytes - 8 * at) opened.info
+    → 8 * at ≤ bytes → sizes_of links ≤ 8 * at → (sizes_of more ≤ bytes) × (opened.info.next ≢ 0 → sizes_of more ≤ 8 * (at + opened.info.next / 8))
+sizes_next bytes at parent links more opened is arena inside before =
+    let ok : IsLayout opened.info.layout = arena.sound.layout in
+    let sum : sizes_of more ≡ sizes_of links + opened.info.layout.size = ap sizes_of is ∙ sum_by_push size_of links (record { at = at; opened = opened }) in
+    let whole : opened.info.layout.size % 8 ≡ 0 = omega (arith, ok.size_is, ok.info_whole) in (
+      omega (arith, sum, before, inside, arena.size_inside),
+      λ some. omega (arith, sum, whole, before, next_size opened.info.next opened.info.layout.size arena.sound.next some),
     )
 
 pub follows : (bytes at : ℕ) (parent : List ℕ) (info : Info) → bytes % 4096 ≡ 0 → at % 512 ≡ 0 → 8 * at ≤ bytes → IsArenaOf parent (bytes - 8 * at) info → info.next ≢ 0 → Follows bytes at info.next

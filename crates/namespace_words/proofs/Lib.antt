@@ -4,3 +4,4 @@ pub mod HeldCells
 pub mod LoadedArenas
 pub mod WordRows
 pub mod MadeMoves
+pub mod UncutArenas

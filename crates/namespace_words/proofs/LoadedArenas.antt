@@ -157,7 +157,7 @@ module _ {T E : Type 0} (items : T → List ℕ) (uuid : List ℕ) (result : Res
       opened has ∙ ap (λ (ws : List ℕ). opened_view ws uuid) (front ∙ ap (λ (n : ℕ). take n words) long) ∙ front_opens words uuid count links all (ends_further end count links le ends) fits
   loaded_as words links count end (Err e) front long opened memory all ends le fits has = absurd (has 0 (memory refl))
 
-  pub loaded_some : (read : Result T E) → IfOk read (λ w. HasMemory result → result ≡ opened_view (items w) uuid) → (is_err read ≡ true → result ≡ Err (wants_memory 0))
-      → (words : List ℕ) × (HasMemory result → result ≡ opened_view words uuid)
-  loaded_some (Ok w) opened memory = (items w, opened)
-  loaded_some (Err e) opened memory = ([], λ has. absurd (has 0 (memory refl)))
+  pub loaded_some : (bytes count : ℕ) (read : Result T E) → IfOk read (λ w. length (items w) ≡ count) → 8 * count ≤ bytes → IfOk read (λ w. HasMemory result → result ≡ opened_view (items w) uuid)
+      → (is_err read ≡ true → result ≡ Err (wants_memory 0)) → (words : List ℕ) × (8 * length words ≤ bytes) × (HasMemory result → result ≡ opened_view words uuid)
+  loaded_some bytes count (Ok w) long fits opened memory = (items w, omega (arith, long, fits), opened)
+  loaded_some bytes count (Err e) long fits opened memory = ([], omega arith, λ has. absurd (has 0 (memory refl)))

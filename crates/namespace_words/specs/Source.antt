@@ -1,6 +1,6 @@
 -- A namespace whose contents stay in an image source: ACPI 6.5, section 5.2.25.4, by the formula of the places of an interleave set; its arenas:
 -- UEFI 2.10, section 6.2 (BTT data structures).
-use Rattle.std.specs.Prelude.{◌≡◌, ℕ, ◌+◌, ◌*◌, ◌/◌, ◌<◌, ◌≤◌, List, length, take, drop, slice_index, Option, Some}
+use Rattle.std.specs.Prelude.{◌≡◌, ℕ, ◌+◌, ◌*◌, ◌/◌, ◌<◌, ◌≤◌, List, length, take, drop, slice_index, sum_by, Option, Some}
 use Rattle.std.specs.Option.{ForSome}
 use Rattle.std.specs.List.{All}
 use Rattle.nvd_media.specs.Images.{Images}
@@ -54,6 +54,10 @@ map_bytes l = 8 * ((l.external + 1) / 2)
 abbrev pub IsMapOfBytes : List ℕ → ℕ → Layout → Type 0
 IsMapOfBytes row at l = (i : ℕ) → l.map_off ≤ i → i < l.map_off + map_bytes l → slice_index row (8 * at + i) < 256
 
+-- so many numbers of a list, from a place on, are bytes
+abbrev pub AreBytesFrom : List ℕ → ℕ → ℕ → Type 0
+AreBytesFrom row from count = (i : ℕ) → from ≤ i → i < from + count → slice_index row i < 256
+
 -- an arena ends in a namespace of so many bytes
 abbrev pub IsWithin : ℕ → Link → Type 0
 IsWithin bytes link = 8 * link.at + link.opened.info.layout.size ≤ bytes
@@ -61,3 +65,10 @@ IsWithin bytes link = 8 * link.at + link.opened.info.layout.size ≤ bytes
 -- so do all of these
 abbrev pub AreWithin : ℕ → List Link → Type 0
 AreWithin bytes links = All (IsWithin bytes) links
+
+-- how many bytes these have together
+abbrev pub size_of : Link → ℕ
+size_of link = link.opened.info.layout.size
+
+abbrev pub sizes_of : List Link → ℕ
+sizes_of links = sum_by size_of links

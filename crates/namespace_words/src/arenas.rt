@@ -1,5 +1,6 @@
 //! The arenas of a namespace are read from a source, without the other contents.
-ghost use Rattle.std.specs.Prelude.{◌≡◌, ◌≢◌, ℕ, ◌+◌, ◌-◌, ◌*◌, ◌/◌, ◌%◌, ◌^◌, ◌<◌, ◌≤◌, IfOk, None, Ok, Err, List, length, map, drop};
+ghost use Rattle.std.specs.Prelude.{◌≡◌, ◌≢◌, ℕ, ◌+◌, ◌-◌, ◌*◌, ◌/◌, ◌%◌, ◌^◌, ◌<◌, ◌≤◌, IfOk, OnOk, None, Ok, Err, List, length, map, drop};
+ghost use Rattle.std.specs.List.{range_with_len};
 ghost use Rattle.nvd_words.specs.Checks.{Answers};
 ghost use Rattle.nvd_media.specs.Causes.{HasCause};
 ghost use Rattle.arena_layout.specs.Info.{IsArenaOf, info_reading};
@@ -17,7 +18,7 @@ ghost use Rattle.namespace_bytes.specs.Putting.{AreAll, Linked};
 ghost use Rattle.namespace_bytes.specs.Patching.{bytes_by_place};
 ghost use Rattle.namespace_bytes.specs.SectorBytes.{HaveMapsOfBytes};
 ghost use Rattle.namespace_bytes.specs.SectorPut.{AreSized, HasBlocks};
-ghost use Rattle.namespace_words.specs.Source.{AreBytesOf, AreWithin, HasEnds, IsMapOfBytes, Reveals, bytes_by, map_bytes, words_by};
+ghost use Rattle.namespace_words.specs.Source.{AreBytesFrom, AreBytesOf, AreWithin, HasEnds, IsMapOfBytes, Reveals, bytes_by, sizes_of, words_by};
 
 use crate::arena_read::ArenaRead;
 use crate::extent::read_extent;
@@ -128,28 +129,70 @@ fn read_log<S: ImageSource>(
     Ok(groups_of(alloc, log, layout))
 }
 
-/// Returns the entry of a sector, from the bytes of the map.
-fn map_entry(map: &[u8], sector: u32) -> u32
-    requires { 8 * (sector / 2) + 8 ≤ length map.now }
-    ensures { (words : List ℕ) (l : Layout) → AreBytesOf words (l.map_off / 8) map.now → result ≡ entry_at l words sector }
+/// Returns the entry of a sector, from bytes of the map that begin with the word of an even sector `first`.
+fn map_entry(bytes: &[u8], first: u32, sector: u32) -> u32
+    requires even { first % 2 ≡ 0 }
+    requires from { first ≤ sector }
+    requires long { 8 * ((sector - first) / 2) + 8 ≤ length bytes.now }
+    ensures { (words : List ℕ) (l : Layout) → AreBytesOf words (l.map_off / 8 + first / 2) bytes.now → result ≡ entry_at l words sector }
 {
-    entry_in(word_at(map, 8 * (sector / 2) as usize), sector)
+    let place = 8 * ((sector - first) / 2) as usize;
+    entry_in(word_at(bytes, place), sector)
 }
 
-/// Returns the entries of all sectors, from the bytes of the map.
-fn entries_of(alloc: Global, map: &[u8], layout: &Layout) -> Result<Vec<u32>, AllocError>
-    requires { length map.now ≡ map_bytes layout.now }
-    ensures told { (words : List ℕ) → AreBytesOf words (layout.now.map_off / 8) map.now → IfOk result (λ entries. entries.items ≡ map_in layout.now words) }
-    ensures count { IfOk result (λ entries. length entries.items ≡ layout.now.external) }
+/// Appends the entries of sectors from an even one `first` up to `end` to those of the sectors before, from bytes of the map that
+/// begin with the word of `first`.
+fn add_entries(bytes: &[u8], first: u32, end: u32, entries: &mut Vec<u32>) -> Result<(), AllocError>
+    requires even { first % 2 ≡ 0 }
+    requires order { first ≤ end }
+    requires long { 8 * ((end - first + 1) / 2) ≤ length bytes.now }
+    ensures told { (words : List ℕ) (l : Layout) → AreBytesOf words (l.map_off / 8 + first / 2) bytes.now → entries.old.items ≡ map (entry_at l words) (range_with_len 0 first) → OnOk result (entries.new.items ≡ map (entry_at l words) (range_with_len 0 end)) }
+    ensures count { OnOk result (length entries.new.items ≡ length entries.old.items + (end - first)) }
 {
-    let mut entries = Vec::with_capacity(alloc, layout.external as usize)?;
-    for sector in 0..layout.external {
-        entries.push(map_entry(map, sector))?;
+    for sector in first..end {
+        entries.push(map_entry(bytes, first, sector))?;
     }
-    Ok(entries)
+    Ok(())
 }
 
-/// Reads the entries of all sectors of the arena whose first word is `at`.
+/// How many entries of a map are read at a time: 65,536, which are 256 KiB.
+const ENTRIES: u32 = 1 << 16;
+
+/// Reads the entries of sectors from an even one `first` up to `end`, and appends them to those of the sectors before. The map
+/// begins with byte `start` of the namespace.
+fn read_entries<S: ImageSource>(
+    images: &mut S,
+    extent: &SetExtent<'_>,
+    start: u64,
+    first: u32,
+    end: u32,
+    room: &mut [u8],
+    entries: &mut Vec<u32>,
+) -> Result<Result<(), AllocError>, Failed>
+    requires even { first % 2 ≡ 0 }
+    requires order { first ≤ end }
+    requires last { end ≤ 2 ^ 31 }
+    requires room { 8 * ((end - first + 1) / 2) ≤ length room.old }
+    requires whole { start % 8 ≡ 0 }
+    requires inside { start + 4 * first + 8 * ((end - first + 1) / 2) ≤ raw_bytes extent.now }
+    requires few { raw_bytes extent.now ≤ 2 ^ 55 }
+    requires there { HasEnds (S.held images.old) extent.now.set }
+    ensures told { (contents : List (List ℕ)) → Reveals (S.held images.old) extent.now.set contents → (at : ℕ) (l : Layout) → start ≡ 8 * at + l.map_off → l.map_off % 8 ≡ 0
+        → entries.old.items ≡ map (entry_at l (drop at (words_by extent.now contents))) (range_with_len 0 first)
+        → IfOk result (λ done. OnOk done (entries.new.items ≡ map (entry_at l (drop at (words_by extent.now contents))) (range_with_len 0 end))) }
+    ensures count { IfOk result (λ done. OnOk done (length entries.new.items ≡ length entries.old.items + (end - first))) }
+    ensures bytes { (contents : List (List ℕ)) → Reveals (S.held images.old) extent.now.set contents → IfOk result (λ _. AreBytesFrom (bytes_by extent.now contents) (start + 4 * first) (8 * ((end - first + 1) / 2))) }
+    ensures room { length room.new ≡ length room.old }
+    ensures same { S.held images.new ≡ S.held images.old }
+    ensures cause { HasCause (S.faults images.old) (S.faults images.new) result }
+{
+    let size = 8 * ((end - first + 1) / 2) as usize;
+    let piece = &mut room[..size];
+    read_extent(images, extent, start + 4 * u64::from(first), piece)?;
+    Ok(add_entries(piece, first, end, entries))
+}
+
+/// Reads the entries of all sectors of the arena whose first word is `at`, by pieces of the map.
 fn read_map<S: ImageSource>(
     alloc: Global,
     images: &mut S,
@@ -167,13 +210,23 @@ fn read_map<S: ImageSource>(
     ensures same { S.held images.new ≡ S.held images.old }
     ensures cause { HasCause (S.faults images.old) (S.faults images.new) result }
 {
-    let count = 8 * ((layout.external as usize + 1) / 2);
-    let Ok(mut room) = vec![in alloc; 0; count] else {
+    let Ok(mut entries) = Vec::with_capacity(alloc, layout.external as usize) else {
         return Ok(Err(AllocError));
     };
-    let map = room.as_mut_slice();
-    read_extent(images, extent, 8 * at + layout.map_off, map)?;
-    Ok(entries_of(alloc, map, layout))
+    let Ok(mut room) = vec![in alloc; 0; 4 * ENTRIES as usize] else {
+        return Ok(Err(AllocError));
+    };
+    let piece = room.as_mut_slice();
+    let start = 8 * at + layout.map_off;
+    let mut first = 0;
+    while first < layout.external {
+        let end = layout.external.min(first + ENTRIES);
+        if read_entries(images, extent, start, first, end, piece, &mut entries)?.is_err() {
+            return Ok(Err(AllocError));
+        }
+        first = end;
+    }
+    Ok(Ok(entries))
 }
 
 /// Reads the arena whose first word is `at`: its info block, its lanes, and its map with the pending moves applied. Nothing else
@@ -232,6 +285,7 @@ fn read_chain_from<S: ImageSource>(
     ensures running { IfOk result (λ found. (f : ChainRefused) → found ≡ Err f → f.fault ≢ OpenRefused.PowerCut) }
     ensures sized { IfOk result (λ found. IfOk found AreSized) }
     ensures within { IfOk result (λ found. IfOk found (AreWithin (raw_bytes extent.now))) }
+    ensures total { IfOk result (λ found. IfOk found (λ links. sizes_of links ≤ raw_bytes extent.now)) }
     ensures bytes { (contents : List (List ℕ)) → Reveals (S.held images.old) extent.now.set contents → IfOk result (λ found. IfOk found (HaveMapsOfBytes (bytes_by extent.now contents))) }
     ensures refused { (contents : List (List ℕ)) → Reveals (S.held images.old) extent.now.set contents → IfOk result (λ found. (f : ChainRefused) → found ≡ Err f → IsFinding f → chain_answer None (words_by extent.now contents) parent.now first ≡ Err f) }
     ensures same { S.held images.new ≡ S.held images.old }
@@ -270,7 +324,7 @@ fn read_chain_from<S: ImageSource>(
 ///
 /// `all`: if the source reveals its contents, these are all arenas in the namespace's words. A refusal names the first arena that
 /// isn't opened, but never `PowerCut`, since no word is stored; `OutOfMemory` may come in place of any answer. `bytes`: the numbers of
-/// each map are bytes. `sized`, `within`: whatever the source reveals, the arenas are sound, are no larger than
+/// each map are bytes. `sized`, `within`, `total`: whatever the source reveals, the arenas are sound, are no larger than
 /// the namespace together, and each lies in it. `Failed` means that the source's count of failures rose.
 pub fn read_arenas_from<S: ImageSource>(
     alloc: Global,
@@ -291,6 +345,7 @@ pub fn read_arenas_from<S: ImageSource>(
     ensures running { IfOk result (λ found. (f : ChainRefused) → found ≡ Err f → f.fault ≢ OpenRefused.PowerCut) }
     ensures sized { IfOk result (λ found. IfOk found AreSized) }
     ensures within { IfOk result (λ found. IfOk found (AreWithin (length set.now * raw))) }
+    ensures total { IfOk result (λ found. IfOk found (λ links. sizes_of links ≤ length set.now * raw)) }
     ensures bytes { (contents : List (List ℕ)) → Reveals (S.held images.old) set.now contents → IfOk result (λ found. IfOk found (HaveMapsOfBytes (bytes_by_place set.now offset raw contents))) }
     ensures same { S.held images.new ≡ S.held images.old }
     ensures cause { HasCause (S.faults images.old) (S.faults images.new) result }

@@ -194,8 +194,8 @@ fn open_read(
 ///
 /// `told`: unless memory runs out, the states are those of these arenas in the words that the source reveals. A source that
 /// reveals nothing may have changed since the arenas were read: then they are those that it has now, or a refusal names the first
-/// that isn't opened (`refused`). Whatever it reveals, the states that are returned are sound. `Failed` means that the source's count of
-/// failures rose.
+/// that isn't opened (`refused`). Whatever it reveals, the states that are returned are sound, and were opened in no more words
+/// than the namespace has. `Failed` means that the source's count of failures rose.
 pub fn load_arenas<S: ImageSource>(
     alloc: Global,
     images: &mut S,
@@ -209,7 +209,7 @@ pub fn load_arenas<S: ImageSource>(
     requires few { raw_bytes extent.now ≤ 2 ^ 55 }
     requires there { HasEnds (S.held images.old) extent.now.set }
     ensures told { (contents : List (List ℕ)) → Reveals (S.held images.old) extent.now.set contents → AreAll (words_by extent.now contents) uuid.now arenas.now → IfOk result (λ loaded. HasMemory loaded → loaded ≡ Ok (map (state_at (words_by extent.now contents)) arenas.now)) }
-    ensures refused { IfOk result (λ loaded. (words : List ℕ) × (HasMemory loaded → loaded ≡ opened_view words uuid.now)) }
+    ensures refused { IfOk result (λ loaded. (words : List ℕ) × (8 * length words ≤ raw_bytes extent.now) × (HasMemory loaded → loaded ≡ opened_view words uuid.now)) }
     ensures same { S.held images.new ≡ S.held images.old }
     ensures cause { HasCause (S.faults images.old) (S.faults images.new) result }
 {

@@ -1,4 +1,5 @@
 pub mod Views
+pub mod Spans
 pub mod Usable
 mod Good
 pub mod Formats

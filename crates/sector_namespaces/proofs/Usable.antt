@@ -8,22 +8,23 @@ use Rattle.std.proofs.lemmas.Option.{none-some}
 use Rattle.std.proofs.lemmas.Nat.{pow_pos, pow-add, pow_below}
 use Rattle.std.proofs.lemmas.List.{get_or-map, length-map}
 use Rattle.std.proofs.lemmas.List.Elements.{All-contains, All-get_or}
-use Rattle.std.proofs.lemmas.List.Sums.{get_or-le-sum_by}
 use Rattle.nvd_words.specs.Checks.{first_fault}
 use Rattle.cut_words.specs.Words.{Words}
 use Rattle.nfit_reader.specs.declared.table.Mapping.{Mapping}
 use Rattle.nfit_reader.specs.declared.table.Region.{Region}
 use Rattle.interleave.specs.Places.{line_size_of, line_count_of, by_offset, unit_of}
 use Rattle.interleave.specs.Sets.{faults_of, set_reading}
-use Rattle.interleave.specs.Sound.{IsShare, IsSound, span_of}
+use Rattle.interleave.specs.Sound.{IsShare, IsSound}
 use Rattle.interleave.proofs.Holders.{In, in_from, in_to}
 use Rattle.interleave.proofs.Checked.{no_fault}
 use Rattle.interleave.proofs.Sorted.{Sound, sound_set, in_by_offset}
+use Rattle.image_set.specs.Limits.{most_contents}
 use Rattle.image_set.specs.Sound.{size_of, IsMapped, AreMapped}
 use Rattle.namespace_laws.specs.Regions.{AreSetsOf}
 use Rattle.namespace_areas.specs.Finding.{set_at}
 use Rattle.power_cut.specs.Namespace.{HasBytes, row_of}
 use Rattle.sector_namespaces.specs.View.{IsUsable, AreUsable}
+use Rattle.sector_namespaces.proofs.Spans.{spans_within}
 
 -- ---- units
 
@@ -69,13 +70,7 @@ module _ (rows : List Words) where
       let lt : m.«module» < length rows = omega (arith, mapped.there, length-map rows size_of) in
       record { there = lt; reaches = omega (arith, mapped.inside, size_at m.«module» lt) }
 
-  short_by : (set : List Mapping) → ((m : Mapping) → Contains set m → IsMapped sizes m) → sum sizes ≤ 536870912 → span_of set ≤ 536870912
-  short_by [] all total = omega arith
-  short_by (m ∷ ms) all total =
-      let mapped : IsMapped sizes m = all m (in_to (m ∷ ms) m (inl refl)) in
-      omega (arith, mapped.inside, get_or-le-sum_by (λ (x : ℕ). x) sizes m.«module» 0 mapped.there, total)
-
-  pub usable : (r : Region) (set : List Mapping) → set_reading r ≡ Ok set → AreMapped sizes r → sum sizes ≤ 536870912 → IsUsable set rows
+  pub usable : (r : Region) (set : List Mapping) → set_reading r ≡ Ok set → AreMapped sizes r → sum sizes ≤ most_contents → IsUsable set rows
   usable r set read mapped total =
       let s : Sound r set = sound_set r set read in
       let same : by_offset r.mappings ≡ set = (no_fault (by_offset r.mappings) set (first_fault (faults_of r r.mappings)) read).1 in
@@ -86,7 +81,7 @@ module _ (rows : List Words) where
       record {
         pages = (pages.count, pages.is);
         reach = λ m c. has_bytes m (each m c);
-        short = short_by set each total;
+        short = omega (arith, spans_within sizes r set read mapped, total);
       }
 
 -- ---- all regions
@@ -101,7 +96,7 @@ there [] k d x e = absurd (none-some x e)
 there (y ∷ ys) zero d x e = (omega arith, (let h = e in cc))
 there (y ∷ ys) (suc k) d x e = let h = there ys k d x e in (omega (arith, h.0), h.1)
 
-pub usable_sets : (regions : List Region) (sets : List (List Mapping)) (rows : List Words) → All (AreMapped (map size_of rows)) regions → sum (map size_of rows) ≤ 536870912
+pub usable_sets : (regions : List Region) (sets : List (List Mapping)) (rows : List Words) → All (AreMapped (map size_of rows)) regions → sum (map size_of rows) ≤ most_contents
     → AreSetsOf regions sets → AreUsable sets rows
 usable_sets regions sets rows mapped total are region lt =
     let own = are region (set_at sets region) (got sets region [] lt) in

@@ -12,6 +12,7 @@ use Rattle.arena_open.specs.declared.state.ArenaState.{ArenaState}
 use Rattle.arena_open.specs.declared.chain_refused.ChainRefused.{ChainRefused}
 use Rattle.arena_open.specs.Chain.{chain_answer}
 use Rattle.power_cut.specs.Namespace.{words_of, over, ReachEnds}
+use Rattle.image_set.specs.Limits.{most_contents}
 use Rattle.namespace_areas.specs.declared.found.Found.{Found}
 use Rattle.namespace_areas.specs.Finding.{set_at}
 
@@ -36,11 +37,11 @@ pub record LiesOn (set : List Mapping) (found : Found) : Type 0 where
 
 -- ---- sets in which a namespace can be opened
 
--- the unit is whole pages, the modules have the words of all mappings, and none is longer than 512 MiB
+-- the unit is whole pages, the modules have the words of all mappings, and the set is no longer than all contents may be
 pub record IsUsable (set : List Mapping) (rows : List Words) : Type 0 where
   pub pages : (count : ℕ) × (unit_of set ≡ 4096 * (count + 1))
   pub reach : ReachEnds set rows
-  pub short : span_of set ≤ 536870912
+  pub short : length set * span_of set ≤ most_contents
 
 abbrev pub AreUsable : List (List Mapping) → List Words → Type 0
 AreUsable sets rows = (region : ℕ) → region < length sets → IsUsable (set_at sets region) rows

@@ -2,7 +2,7 @@
 ghost use Rattle.sector_namespaces.specs.Laws.{LoadedSetsAreUsable};
 
 /// A law: in the interleave set of each region of a table a namespace can be opened, if each mapping lies inside its
-/// module's contents and the contents have at most 512 MiB together. Every set that was loaded has this.
+/// module's contents and the contents have at most 16 TiB together. Every set that was loaded has this.
 pub fn loaded_sets_are_usable()
     ensures { LoadedSetsAreUsable }
 {}

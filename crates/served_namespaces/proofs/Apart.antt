@@ -1,21 +1,16 @@
 -- The words of one namespace change, and those of others don't.
-use Rattle.std.proofs.Common.{◌≡◌, ℕ, zero, suc, ◌+◌, ◌-◌, ◌*◌, ◌/◌, ◌<◌, ◌≤◌, true, false, List, [], ◌∷◌, length, map, drop, get_or, replicate, Option, None, refl, sym, ap, ◌∙◌, subst, inl, inr, arith}
+use Rattle.std.proofs.Common.{◌≡◌, ℕ, zero, suc, ◌+◌, ◌-◌, ◌*◌, ◌/◌, ◌<◌, ◌≤◌, true, false, List, [], ◌∷◌, length, map, drop, get_or, None, refl, sym, ap, ◌∙◌, subst, inl, inr, arith}
 use Rattle.std.proofs.lemmas.Bool.{cases_Bool, cases_lt}
-use Rattle.std.proofs.lemmas.List.{ext_get_or, get_or-drop, get_or-map, length-map, length-replicate}
-use Rattle.std.proofs.lemmas.List.Elements.{All-get_or}
-use Rattle.cut_words.specs.Words.{Words, settled}
-use Rattle.cut_words.proofs.Guarded.{settled_none}
+use Rattle.std.proofs.lemmas.List.{ext_get_or, get_or-drop}
+use Rattle.cut_words.specs.Words.{Words}
 use Rattle.nfit_reader.specs.declared.table.Mapping.{Mapping}
 use Rattle.interleave.specs.Places.{LiesAt}
 use Rattle.interleave.specs.Sound.{HasPlace}
-use Rattle.arena_open.specs.Writes.{IsSettled}
-use Rattle.power_cut.specs.Namespace.{HasBytes, IsLaid, Namespace, beside_of, byte_at, count_of, kept_at, place_of, row_of, stored_at, stored_by, words_of}
-use Rattle.power_cut.proofs.Beside.{are_same_outside, row_at, rows_beside, same_count}
-use Rattle.power_cut.proofs.Spread.{blank, count_is, eighth, kept_is, length_range, stored_is}
+use Rattle.power_cut.specs.Namespace.{IsLaid, Namespace, beside_of, byte_at, count_of, kept_at, place_of, stored_at, stored_by, words_of}
+use Rattle.power_cut.proofs.Beside.{are_same_outside}
+use Rattle.power_cut.proofs.Spread.{count_is, kept_is, length_range, stored_is}
 use Rattle.namespace_areas.specs.declared.found.Found.{Found}
 use Rattle.namespace_areas.specs.Finding.{LiesInSet, set_at}
-use Rattle.sector_namespaces.specs.Creation.{AreSettled}
-use Rattle.sector_namespaces.specs.View.{AreUsable, IsUsable}
 use Rattle.sector_namespaces.proofs.Formats.{same_counts}
 use Rattle.served_namespaces.proofs.Extents.{HasWord, has_place, place_inside, place_whole, word_inside}
 use Rattle.served_namespaces.specs.Places.{ShareNoAddress, PlaceBytes, PlacesBytes, has_address, place_in, words_at}
@@ -121,67 +116,8 @@ module _ (sets : List (List Mapping)) (sound : PlaceBytes sets) (found : Found) 
       | inr other ↦ (outside which k other).0
     ]
 
-    -- and if none of its words is pending, none of the modules is
-    module _ (all : AreSettled rows) (own : IsSettled (words_of (place_in sets found now))) where
-      old_none : (which k : ℕ) → get_or (row_of rows which).stored k None ≡ None
-      old_none which k = elim (cases_lt which (length rows)) [
-        | inl lt ↦ ap (λ (w : Words). get_or w.stored k None) (All-get_or (λ w. w ≡ settled w.kept) rows which blank lt all) ∙ settled_none (length (row_of rows which).kept) k
-        | inr past ↦ ap (λ (w : Words). get_or w.stored k None) (get_past rows which past)
-      ]
-        where
-          get_past : (ws : List Words) (i : ℕ) → length ws ≤ i → row_of ws i ≡ blank
-          get_past [] i past = refl
-          get_past (w ∷ ws) zero past = absurd (omega (arith, past))
-          get_past (w ∷ ws) (suc i) past = get_past ws i (omega (arith, past))
-
-      none_now : (which k : ℕ) → which < length now → get_or (row_of now which).stored k None ≡ None
-      none_now which k lt = elim (cases_Bool (has_address sets found which (8 * k))) [
-        | inl inside ↦
-            let w : HasWord (place_in sets found now) laid_now which (8 * k) = word_inside (place_in sets found now) laid_now which (8 * k) (omega arith) inside in
-            ap (λ (j : ℕ). get_or (row_of now which).stored j None) (sym (eighth k))
-            ∙ sym (stored_is (place_in sets found now) w.word which (8 * k) laid_now w.below w.lies)
-            ∙ ap (λ (ws : Words). get_or ws.stored w.word None) own
-            ∙ settled_none (length (words_of (place_in sets found now)).kept) w.word
-        | inr other ↦
-            (rows_beside (set_at sets found.region) found.offset found.raw now rows which (row_at (set_at sets found.region) found.offset found.raw now rows which beside lt)).stored k other
-            ∙ old_none which k
-      ]
-
-      row_settled : (which : ℕ) → which < length now → row_of now which ≡ settled (row_of now which).kept
-      row_settled which lt =
-          let b = rows_beside (set_at sets found.region) found.offset found.raw now rows which (row_at (set_at sets found.region) found.offset found.raw now rows which beside lt) in
-          let in_rows : which < length rows = omega (arith, lt, same_count (set_at sets found.region) found.offset found.raw now rows beside) in
-          let old : row_of rows which ≡ settled (row_of rows which).kept = All-get_or (λ w. w ≡ settled w.kept) rows which blank in_rows all in
-          let long : length (row_of now which).stored ≡ length (row_of now which).kept =
-          b.long_stored ∙ ap (λ (w : Words). length w.stored) old ∙ length-replicate (length (row_of rows which).kept) None ∙ sym b.long_kept in
-          let stored : (row_of now which).stored ≡ replicate (length (row_of now which).kept) None =
-          ext_get_or None (row_of now which).stored (replicate (length (row_of now which).kept) None) (long ∙ sym (length-replicate (length (row_of now which).kept) None))
-          (λ k below. none_now which k lt ∙ sym (settled_none (length (row_of now which).kept) k)) in
-          ap (λ (os : List (Option ℕ)). record { kept = (row_of now which).kept; stored = os }) stored
-
-      pub settled_now : AreSettled now
-      settled_now = λ k d lt.
-          subst (λ (w : Words). w ≡ settled w.kept) (any_default now k blank d lt) (row_settled k lt)
-
 -- a namespace that shares no address with another keeps its words if only the other's change
 pub others_stay : (sets : List (List Mapping)) → PlaceBytes sets → (found other : Found) → LiesInSet sets found → LiesInSet sets other → ShareNoAddress sets other found → (rows now : List Words)
     → beside_of (place_in sets found now) ≡ beside_of (place_in sets found rows) → words_of (place_in sets other now) ≡ words_of (place_in sets other rows)
 others_stay sets sound found other lies in_set apart rows now beside =
     same_words sets sound other in_set rows now (λ which k inside. outside sets sound found lies rows now beside which k (apart which (8 * k) inside))
-
--- ---- modules with as many words
-
-pub usable_same : (sets : List (List Mapping)) (rows now : List Words) → map (λ (w : Words). length w.kept) now ≡ map (λ (w : Words). length w.kept) rows → AreUsable sets rows → AreUsable sets now
-usable_same sets rows now same usable region lt =
-    let u : IsUsable (set_at sets region) rows = usable region lt in
-    let long : length now ≡ length rows = sym (length-map now (λ (w : Words). length w.kept)) ∙ ap length same ∙ length-map rows (λ (w : Words). length w.kept) in
-    let row : (which : ℕ) → which < length rows → length (row_of now which).kept ≡ length (row_of rows which).kept =
-    λ which below.
-    sym (get_or-map (λ (w : Words). length w.kept) now which blank 0 (omega (arith, below, long))) ∙ ap (λ (xs : List ℕ). get_or xs which 0) same ∙ get_or-map (λ (w : Words). length w.kept) rows which blank 0 below in
-    record {
-      pages = u.pages;
-      reach = λ m c.
-          let h : HasBytes rows m.«module» m.start m.size = u.reach m c in
-          record { there = omega (arith, h.there, long); reaches = omega (arith, h.reaches, row m.«module» h.there) };
-      short = u.short;
-    }

@@ -5,8 +5,9 @@ pub mod Parts
 pub mod Claimable
 pub mod Disjoint
 pub mod Steps
+pub mod ReadInTurn
+pub mod LoadedInTurn
 pub mod PutBack
-pub mod WordPuts
-pub mod WordRuns
+pub mod PutInTurn
 pub mod Firsts
 mod Rows

@@ -12,7 +12,7 @@ use Rattle.served_namespaces.specs.declared.places.FoundNamespace.{FoundNamespac
 use Rattle.served_namespaces.specs.Opening.{firsts, opened_each}
 use Rattle.served_namespaces.specs.Places.{has_address, words_at}
 use Rattle.served_namespaces.specs.Putting.{put_parts}
-use Rattle.served_namespaces.specs.Steps.{added}
+use Rattle.served_namespaces.specs.Steps.{ArePartRuns, added}
 
 -- each UUID once, in order of its first place
 once : firsts ((1 ∷ []) ∷ (2 ∷ []) ∷ (1 ∷ []) ∷ (3 ∷ []) ∷ (2 ∷ []) ∷ []) ≡ (1 ∷ []) ∷ (2 ∷ []) ∷ (3 ∷ []) ∷ []
@@ -67,3 +67,8 @@ answers = (refl, refl)
 -- one behind the other, from the first word on
 put : put_parts 0 ((1 ∷ 2 ∷ []) ∷ (3 ∷ []) ∷ []) (10 ∷ 11 ∷ 12 ∷ 13 ∷ 14 ∷ []) ≡ 1 ∷ 2 ∷ 3 ∷ 13 ∷ 14 ∷ []
 put = refl
+
+-- and as runs of bytes, the low byte first
+runs : ArePartRuns 0 ((1 ∷ 2 ∷ []) ∷ (3 ∷ []) ∷ [])
+    (record { first = 0; bytes = 1 ∷ 0 ∷ 0 ∷ 0 ∷ 0 ∷ 0 ∷ 0 ∷ 0 ∷ 2 ∷ 0 ∷ 0 ∷ 0 ∷ 0 ∷ 0 ∷ 0 ∷ 0 ∷ [] } ∷ record { first = 16; bytes = 3 ∷ 0 ∷ 0 ∷ 0 ∷ 0 ∷ 0 ∷ 0 ∷ 0 ∷ [] } ∷ [])
+runs = (refl, refl, refl, (refl, refl, refl, tt))

@@ -1,5 +1,6 @@
 pub mod Places
 pub mod Opening
+pub mod Reading
 pub mod Serving
 pub mod Putting
 pub mod Steps

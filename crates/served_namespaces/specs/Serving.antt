@@ -1,39 +1,15 @@
--- Namespaces whose arenas are opened, over the words of all modules, and what putting their arenas back makes of these words.
-use Rattle.std.specs.Prelude.{◌≡◌, ℕ, ◌++◌, List, flat_map, length, map, slice_get, take, Contains, Some, Ok}
+-- What putting the arenas of namespaces back makes of the words of all modules.
+use Rattle.std.specs.Prelude.{◌≡◌, ℕ, ◌++◌, List, flat_map, length, map, slice_get, take, Some, Ok}
 use Rattle.cut_words.specs.Words.{Words}
 use Rattle.nfit_reader.specs.declared.table.Mapping.{Mapping}
 use Rattle.arena_open.specs.declared.opened.Opened.{Opened}
 use Rattle.arena_open.specs.declared.state.ArenaState.{ArenaState}
-use Rattle.arena_open.specs.Chain.{found_again}
-use Rattle.arena_open.specs.ChainCells.{AreOpen}
 use Rattle.arena_open.specs.Moves.{state_of}
 use Rattle.arena_open.specs.Reading.{opening}
-use Rattle.namespace_areas.specs.declared.found.Found.{Found}
-use Rattle.namespace_areas.specs.Finding.{LiesInSet}
 use Rattle.sector_namespaces.specs.Creation.{AreSettled}
-use Rattle.sector_namespaces.specs.View.{AreUsable, opened_view}
+use Rattle.sector_namespaces.specs.View.{opened_view}
 use Rattle.served_namespaces.specs.declared.places.OpenedNamespace.{OpenedNamespace}
-use Rattle.served_namespaces.specs.Places.{ShareNoAddress, AreDisjoint, CanOpen, KeepsBeside, arena_words, words_at}
-
--- ---- while they are open
-
--- The words of a namespace hold its arenas, and no move is pending.
-pub record IsHeld (sets : List (List Mapping)) (rows : List Words) (o : OpenedNamespace) : Type 0 where
-  pub can : CanOpen sets o.place
-  pub found : opened_view (words_at sets o.place.found rows) o.place.uuid ≡ Ok (map found_again o.states)
-  pub are_open : AreOpen o.states
-
--- These namespaces are open over the words of the modules, which were loaded as others.
-pub record AreServing (sets : List (List Mapping)) (loaded : List Words) (opened : List OpenedNamespace) (now : List Words) : Type 0 where
-  pub held : (o : OpenedNamespace) → Contains opened o → IsHeld sets now o
-  pub disjoint : AreDisjoint sets (map (λ (o : OpenedNamespace). o.place) opened)
-  -- no word is pending
-  pub settled : AreSettled now
-  pub usable : AreUsable sets now
-  -- their arenas' pending moves are all that has changed
-  pub beside : KeepsBeside sets opened loaded now
-  -- a namespace that shares no address with any of them has the words that were loaded
-  pub others : (found : Found) → LiesInSet sets found → ((o : OpenedNamespace) → Contains opened o → ShareNoAddress sets found o.place.found) → words_at sets found now ≡ words_at sets found loaded
+use Rattle.served_namespaces.specs.Places.{KeepsBeside, arena_words, words_at}
 
 -- ---- what is put back
 

@@ -1,8 +1,8 @@
 ghost use Rattle.std.specs.Prelude.{◌≡◌};
 
 use arena_open::{ArenaState, ChainRefused};
-use cut_words::CutWords;
 use namespace_areas::Found;
+use namespace_words::ArenaRead;
 use nvd_words::Items;
 use std::alloc::AllocError;
 use uuid::Uuid;
@@ -14,21 +14,20 @@ pub struct FoundNamespace {
     pub found: Found,
 }
 
+/// A namespace whose arenas were read.
+#[derive(Debug, Drop)]
+pub struct ReadNamespace {
+    pub place: FoundNamespace,
+    /// Its arenas, in order.
+    pub arenas: Items<ArenaRead>,
+}
+
 /// A namespace whose arenas are opened.
 #[derive(Debug, Drop)]
 pub struct OpenedNamespace {
     pub place: FoundNamespace,
     /// Its arenas, in order.
     pub states: Items<ArenaState>,
-}
-
-/// Namespaces that are open at once.
-#[derive(Drop)]
-pub struct OpenedSet {
-    /// In the order in which they were opened.
-    pub namespaces: Items<OpenedNamespace>,
-    /// The contents of all modules by number, with all pending moves of these arenas made.
-    pub modules: Vec<CutWords>,
 }
 
 /// Why namespaces aren't opened.

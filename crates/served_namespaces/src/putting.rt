@@ -1,117 +1,80 @@
-//! The arenas of namespaces are put back into the words of the modules.
-ghost use Rattle.std.specs.Prelude.{◌≡◌, ◌^◌, ◌+◌, ◌<◌, ◌≤◌, IfOk, List, length, map};
-ghost use Rattle.cut_words.specs.WordBytes.{put_at};
-ghost use Rattle.cut_words.specs.Words.{Words, settled};
-ghost use Rattle.arena_open.specs.Writes.{IsSettled};
-ghost use Rattle.power_cut.specs.Namespace.{beside_of, over, words_of};
-ghost use Rattle.power_cut.specs.Placed.{beside_and_place};
-ghost use Rattle.sector_namespaces.specs.Creation.{AreSettled};
-ghost use Rattle.sector_namespaces.specs.View.{IsUsable, LiesOn};
+//! The words of arenas, as a patch that puts them into contents while these are copied.
+ghost use Rattle.std.specs.Prelude.{◌≡◌, ℕ, ◌^◌, ◌<◌, ◌≤◌, IfOk, List, length};
+ghost use Rattle.image_set.specs.Patches.{patched_contents};
+ghost use Rattle.namespace_bytes.specs.Patching.{AreWhole, all_patched};
+ghost use Rattle.sector_namespaces.specs.View.{rows_of};
 ghost use Rattle.served_namespaces.specs.declared.places.OpenedNamespace.{OpenedNamespace as Opened};
-ghost use Rattle.served_namespaces.specs.Putting.{put_parts, total_of};
-ghost use Rattle.served_namespaces.specs.Steps.{IsReady};
+ghost use Rattle.served_namespaces.specs.Putting.{total_of};
+ghost use Rattle.served_namespaces.specs.Reading.{AreHeld};
 ghost use Rattle.served_namespaces.specs.Serving.{AreLeft};
+ghost use Rattle.served_namespaces.specs.Steps.{ArePartRuns, IsPartOf, IsReady, ReachAll};
 
 use crate::places::FoundNamespace;
-use crate::plain_words::{PlainRow, PlainWords, cut_rows, plain_rows};
-use crate::sets::{know_sets, set_at};
-use cut_words::CutWords;
+use crate::sets::know_sets;
 use interleave::InterleaveSet;
+use namespace_bytes::{NamespacePatch, NewBytes, Run, SetPatch};
+use namespace_words::words_run;
 use nvd_words::Items;
-use power_cut::beside_tells_the_place;
 use std::alloc::{AllocError, Global};
 
-/// Puts words into those of a namespace from word `first` on, where they must fit. The namespace has fewer than 2^60 words, of
-/// which none is pending.
-///
-/// No word beside the namespace changes.
-fn put_words(space: &mut PlainWords<'_>, first: u64, words: &[u64])
-    requires inside { first + length words.now ≤ length (words_of space.old).kept }
-    requires small { length (words_of space.old).kept < 2 ^ 60 }
-    requires settled { IsSettled (words_of space.old) }
-    ensures put { words_of space.new ≡ settled (put_at (words_of space.old).kept first words.now) }
-    ensures beside { beside_and_place space.new ≡ beside_and_place space.old }
+/// Returns the runs of bytes that put parts one behind another, from the namespace's first byte on. Each part is dropped once it is
+/// a run.
+fn parts_runs(alloc: Global, parts: Items<Items<u64>>) -> Result<Items<Run>, AllocError>
+    requires { total_of parts ≤ 2 ^ 52 }
+    ensures { IfOk result (ArePartRuns 0 parts) }
 {
-    let mut done = 0;
-    while done < words.len() {
-        done += space.put_words_run(first + done as u64, &words[done..]);
-    }
-}
-
-/// Puts parts one behind another, from the first word of the namespace on.
-fn put_parts(space: &mut PlainWords<'_>, parts: &[Items<u64>])
-    requires room { total_of parts.now ≤ length (words_of space.old).kept }
-    requires small { length (words_of space.old).kept < 2 ^ 60 }
-    requires settled { IsSettled (words_of space.old) }
-    ensures put { words_of space.new ≡ settled (put_parts 0 parts.now (words_of space.old).kept) }
-    ensures beside { beside_and_place space.new ≡ beside_and_place space.old }
-{
+    let mut runs = Items::new(alloc);
     let mut at = 0;
-    for part in parts {
-        put_words(space, at, part.as_slice());
-        at += part.len() as u64;
+    for part in parts.into_vec() {
+        let count = part.len() as u64;
+        runs.push(words_run(alloc, at, part.into_vec())?)?;
+        at += count;
     }
+    Ok(runs)
 }
 
-/// Puts the words of all arenas of a namespace of a set, and returns the words of all modules.
-fn put_arenas(
-    set: &InterleaveSet,
-    place: &FoundNamespace,
-    parts: &[Items<u64>],
-    modules: Vec<PlainRow>,
-) -> Vec<PlainRow>
-    requires lies { LiesOn set.now place.now.found }
-    requires settled { AreSettled modules.items }
-    requires usable { IsUsable set.now modules.items }
-    requires room { total_of parts.now ≤ length (words_of (over set.now place.now.found.offset place.now.found.raw modules.items)).kept }
-    ensures put { words_of (over set.now place.now.found.offset place.now.found.raw result.items) ≡ settled (put_parts 0 parts.now (words_of (over set.now place.now.found.offset place.now.found.raw modules.items)).kept) }
-    ensures beside { beside_of (over set.now place.now.found.offset place.now.found.raw result.items) ≡ beside_of (over set.now place.now.found.offset place.now.found.raw modules.items) }
-{
-    beside_tells_the_place();
-    let _few = set.ways();
-    let mut space = PlainWords::of_rows(set, place.found.offset, place.found.raw, modules);
-    put_parts(&mut space, parts);
-    space.into_rows()
-}
-
-/// Puts the words of all arenas of all namespaces.
-fn put_namespaces(
-    sets: &[InterleaveSet],
-    places: &[FoundNamespace],
-    words: &[Items<Items<u64>>],
-    modules: Vec<PlainRow>,
-) -> Vec<PlainRow>
-    requires ready { (loaded : List Words) × ((opened : List Opened) × IsReady sets.now loaded places.now opened words.now modules.items) }
-    ensures { (loaded : List Words) (opened : List Opened) → IsReady sets.now loaded places.now opened words.now modules.items → AreLeft sets.now loaded opened words.now result.items }
-{
-    know_sets(sets);
-    let mut modules = modules;
-    for i in 0..places.len() {
-        let set = set_at(sets, places[i].found.region);
-        modules = put_arenas(set, &places[i], words[i].as_slice(), modules);
-    }
-    modules
-}
-
-/// Puts the words of all arenas of namespaces that are open back into the words of the modules.
-///
-/// `places` are those with which `open_each` opened them, and `modules` the words that it returned. `words` has for each namespace, in
-/// order, the words of each of its arenas, in order. They must open wherever the arena's own words
-/// did (`ArenaFits`); a power cut behind sessions leaves such words.
-///
-/// Each namespace begins with these words, one arena behind another, and opens in its place as
-/// arenas with the same info, which are what opening finds in these words (`IsOpenedFrom`). No word is pending, and no word that isn't an arena's has changed
-/// since the words were loaded (`AreLeft`). The call takes a few bytes for each module; it fails only if memory runs out.
-pub fn put_each(
+/// Returns the new bytes of a namespace that begins with these parts.
+fn part_of(
     alloc: Global,
-    sets: &[InterleaveSet],
-    places: &[FoundNamespace],
-    words: &[Items<Items<u64>>],
-    modules: Vec<CutWords>,
-) -> Result<Vec<CutWords>, AllocError>
-    requires ready { (loaded : List Words) × ((opened : List Opened) × IsReady sets.now loaded places.now opened words.now modules.items) }
-    ensures { IfOk result (λ now. (loaded : List Words) (opened : List Opened) → IsReady sets.now loaded places.now opened words.now modules.items → AreLeft sets.now loaded opened words.now now.items) }
+    place: &FoundNamespace,
+    parts: Items<Items<u64>>,
+) -> Result<NamespacePatch, AllocError>
+    requires { total_of parts ≤ 2 ^ 52 }
+    ensures { IfOk result (IsPartOf place.now parts) }
 {
-    let rows = plain_rows(alloc, modules)?;
-    cut_rows(alloc, put_namespaces(sets, places, words, rows))
+    let runs = parts_runs(alloc, parts)?;
+    Ok(NamespacePatch {
+        region: place.found.region,
+        offset: place.found.offset,
+        raw: place.found.raw,
+        bytes: NewBytes::Runs(runs),
+    })
+}
+
+/// Returns the patch that puts the words of all arenas of namespaces that are open back.
+///
+/// `places` are those of the namespaces, which `load_each` opened, and `sets` all interleave sets. `words` has for each namespace, in
+/// order, the words of each of its arenas, in order. They must open wherever the arena's own words
+/// did (`ArenaFits`); a power cut behind sessions leaves such words. They are dropped.
+///
+/// In contents that hold the arenas of these namespaces, each begins with its words then, one arena behind another, and opens in its
+/// place as arenas with the same info, which are what opening finds in these words (`IsOpenedFrom`). No word that isn't an arena's
+/// changes (`AreLeft`). The call fails only if memory runs out.
+pub fn patch_of(
+    alloc: Global,
+    sets: Items<InterleaveSet>,
+    places: &[FoundNamespace],
+    words: Vec<Items<Items<u64>>>,
+) -> Result<SetPatch, AllocError>
+    requires { (opened : List Opened) × IsReady sets places.now opened words.items }
+    ensures { IfOk result (λ patch. (opened : List Opened) (contents : List (List ℕ)) → IsReady sets places.now opened words.items → AreHeld sets (rows_of contents) opened → AreWhole contents → ReachAll sets contents
+        → AreLeft sets (rows_of contents) opened words.items (rows_of (patched_contents (all_patched patch) contents))) }
+{
+    know_sets(sets.as_slice());
+    let mut each = Items::new(alloc);
+    for parts in words {
+        let place = &places[each.len()];
+        each.push(part_of(alloc, place, parts)?)?;
+    }
+    Ok(SetPatch::new(sets, each))
 }

@@ -10,7 +10,7 @@ use Rattle.nvd_media.specs.Images.{Images, Becomes, IsSameSet, IsUnfinished}
 use Rattle.image_set.specs.declared.changing.OutlineLeft.{OutlineLeft}
 use Rattle.image_set.specs.declared.fault.CopyFault.{CopyFault}
 use Rattle.image_set.specs.Outline.{CopiesSet, PatchesSet, objects_with}
-use Rattle.namespace_bytes.specs.Patching.{BytePatch, byte_patched}
+use Rattle.namespace_bytes.specs.Patching.{BytePatch, all_patched}
 use Rattle.shell_reports.specs.Saved.{Saves}
 use Rattle.shell_changes.specs.declared.answer.Left.TheVariants.{Copied, Patched}
 use Rattle.shell_changes.specs.Saved.{AreObjects, AreWholeSizes, Stores}
@@ -38,9 +38,9 @@ module _ {T : Type 0} (held : Option Images) (left : OutlineLeft) (made made' ke
       subst (λ (x : Result T CopyFault). Becomes made made' (λ set now. MatchResult x (λ _. IsSameSet now (objects_with left copies.contents)) (λ _. IsUnfinished set now))) failed copies.told
 
   -- the same with contents that are changed
-  pub patched_saves : (patch : BytePatch) → AreWholeSizes left.sizes → (r : Result T CopyFault) → PatchesSet (byte_patched patch) held left made made' kept kept' r
-      → OnOk r ((objects : Images) × AreObjects held (Patched left patch) objects × Saves (Some objects) made made' × Stores (Some objects) kept kept')
-  patched_saves patch whole (Ok x) copies = (
+  pub patched_saves : (patches : List BytePatch) → AreWholeSizes left.sizes → (r : Result T CopyFault) → PatchesSet (all_patched patches) held left made made' kept kept' r
+      → OnOk r ((objects : Images) × AreObjects held (Patched left patches) objects × Saves (Some objects) made made' × Stores (Some objects) kept kept')
+  patched_saves patches whole (Ok x) copies = (
     objects_with left copies.contents,
     (λ source at.
         ap (objects_with left)
@@ -48,7 +48,7 @@ module _ {T : Type 0} (held : Option Images) (left : OutlineLeft) (made made' ke
     copies.told,
     copies.holds,
   )
-  patched_saves patch whole (Err fault) copies = tt
+  patched_saves patches whole (Err fault) copies = tt
 
   pub patched_unfinished : (f : ℕ → ℕ → ℕ → ℕ) (r : Result T CopyFault) (fault : CopyFault) → PatchesSet f held left made made' kept kept' r → r ≡ Err fault → Becomes made made' IsUnfinished
   patched_unfinished f r fault copies failed =

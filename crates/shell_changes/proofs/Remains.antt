@@ -86,9 +86,9 @@ module _ {C : Type 0} (picks : C → ℕ → Bool → C → Type 0) (e : Ending)
         let left = s.leaves.left in
         let l = s.leaves.areas in
         let is : left ≡ record { nfit = rest.nfit_bytes; labels = left.labels; sizes = rest.sizes; bad = rest.bad } = (λ i. record { nfit = l.nfit i; labels = left.labels; sizes = l.sizes i; bad = l.bad i }) in
-        let words : contents_with s.leaves.patch contents ≡ map bytes_of (map words_in (patched_contents (byte_patched s.leaves.patch) contents)) = sym (map-map bytes_of words_in (patched_contents (byte_patched s.leaves.patch) contents)) in
+        let words : contents_with (s.leaves.patch ∷ []) contents ≡ map bytes_of (map words_in (patched_contents (byte_patched s.leaves.patch) contents)) = sym (map-map bytes_of words_in (patched_contents (byte_patched s.leaves.patch) contents)) in
         saving s.set (objects_by rest (map bytes_of (map words_in (patched_contents (byte_patched s.leaves.patch) contents))) left.labels) contents s.ends_so s.says s.saves
-        (λ o. ap (λ (set : Left). objects_saved contents set o) s.leaves.is ∙ ap (λ (x : OutlineLeft). outlined.objects_with x (contents_with s.leaves.patch contents) o) is
+        (λ o. ap (λ (set : Left). objects_saved contents set o) s.leaves.is ∙ ap (λ (x : OutlineLeft). outlined.objects_with x (contents_with (s.leaves.patch ∷ []) contents) o) is
         ∙ ap (λ (cs : List (List ℕ)). outlined.objects_with (record { nfit = rest.nfit_bytes; labels = left.labels; sizes = rest.sizes; bad = rest.bad }) cs o) words)
 
     pub formatted_sizes : HasSizes rest.sizes answer

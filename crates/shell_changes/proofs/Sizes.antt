@@ -8,6 +8,7 @@ use Rattle.cut_words.specs.Words.{Words}
 use Rattle.cut_words.specs.WordBytes.{words_in}
 use Rattle.arena_open.proofs.Bytes.{length_words}
 use Rattle.image_set.specs.declared.changing.OutlineRest.{OutlineRest}
+use Rattle.image_set.specs.Limits.{most_contents}
 use Rattle.image_set.specs.Sizes.{IsContentsSize}
 use Rattle.image_set.specs.Sound.{AreMapped, size_of}
 use Rattle.namespace_bytes.specs.Patching.{AreWhole}
@@ -43,6 +44,6 @@ hold_sets nfit labels rest contents parted usable have sound =
     let sizes : rest.sizes ≡ map size_of (rows_of contents) = sym (row_sizes contents whole ∙ have) in
     record {
       whole = whole;
-      usable = usable nfit.regions (sets_of nfit) (rows_of contents) (subst (λ (ns : List ℕ). All (AreMapped ns) nfit.regions) sizes parted.mapped) (subst (λ (ns : List ℕ). sum ns ≤ 536870912) sizes parted.total)
+      usable = usable nfit.regions (sets_of nfit) (rows_of contents) (subst (λ (ns : List ℕ). All (AreMapped ns) nfit.regions) sizes parted.mapped) (subst (λ (ns : List ℕ). sum ns ≤ most_contents) sizes parted.total)
           (sets_are nfit.regions 0 sound);
     }

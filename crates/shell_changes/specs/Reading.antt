@@ -11,6 +11,7 @@ use Rattle.namespace_map.specs.declared.commands.Command.{Command}
 use Rattle.namespace_ops.specs.Carried.{HasGoodName}
 use Rattle.namespace_ops.specs.Registered.{Registered}
 use Rattle.image_set.specs.declared.changing.OutlineRest.{OutlineRest}
+use Rattle.image_set.specs.Limits.{most_contents}
 use Rattle.image_set.specs.Load.{ImageSet}
 use Rattle.image_set.specs.Outline.{IsOutlineRest, image_set_with}
 use Rattle.image_set.specs.Sizes.{IsContentsSize}
@@ -34,7 +35,7 @@ pub record IsParted (nfit : Nfit) (labels : List (Option Words)) (rest : Outline
   pub rest_is : IsOutlineRest rest
   -- contents can be read: each size is within its limits, and so is their sum, and they hold the mappings
   pub sized : All IsContentsSize rest.sizes
-  pub total : sum rest.sizes ≤ 536870912
+  pub total : sum rest.sizes ≤ most_contents
   pub mapped : All (AreMapped rest.sizes) nfit.regions
 
 -- ---- a command on these parts

@@ -1,5 +1,5 @@
 -- What remains of an image set as a command ends, and the answer that saves it.
-use Rattle.std.specs.Prelude.{◌≡◌, ℕ, ◌<◌, Bool, List, length, Option, Some, None}
+use Rattle.std.specs.Prelude.{◌≡◌, ℕ, ◌<◌, Bool, List, [], ◌∷◌, length, Option, Some, None}
 use Rattle.cut_words.specs.Words.{Words}
 use Rattle.power_cut.specs.Left.{InTurn, LeavesOption}
 use Rattle.image_set.specs.declared.changing.OutlineLeft.{OutlineLeft}
@@ -54,7 +54,7 @@ pub record LeavesFormatted {C : Type 0} (picks : C → ℕ → Bool → C → Ty
   pub asks : AsksFor picks new.set new.offset new.layout new.steps words between after
   pub patch : BytePatch
   pub puts : IsFormatPatch new.set new.offset new.raw new.layout new.uuid words patch
-  pub is : set ≡ Patched left patch
+  pub is : set ≡ Patched left (patch ∷ [])
 
 -- the set that is left, and what became of the chooser
 abbrev pub LeavesSet : {C : Type 0} → (C → ℕ → Bool → C → Type 0) → Remains → Left → C → C → Type 0

@@ -10,7 +10,7 @@ ghost use Rattle.shell_changes.specs.Answers.{outcome_with};
 ghost use Rattle.shell_changes.specs.Saved.{AreObjects, AreWholeSizes, CanBeSaved, HasItsContents, Stores, is_copied};
 
 use image_set::{CopyFault, OutlineLeft, SaveFault, SetLeft};
-use namespace_bytes::NamespacePatch;
+use namespace_bytes::SetPatch;
 use nvd_media::{ImageSink, ImageSource};
 use shell_reports::{Report, RunStop};
 use std::alloc::{AllocError, Global};
@@ -23,8 +23,8 @@ pub enum Left {
     Whole(SetLeft),
     /// Its contents are copied from the source as it is saved.
     Copied(OutlineLeft),
-    /// Its contents are copied from the source as it is saved, with the new bytes of a namespace.
-    Patched(OutlineLeft, NamespacePatch),
+    /// Its contents are copied from the source as it is saved, with the new bytes of namespaces.
+    Patched(OutlineLeft, SetPatch),
 }
 
 /// Saves a set that is in memory.
@@ -64,11 +64,11 @@ fn save_copied<S: ImageSource, K: ImageSink>(
     set.save(alloc, images, out)
 }
 
-/// Saves a set with the contents that the source has, and the new bytes of a namespace.
+/// Saves a set with the contents that the source has, and the new bytes of namespaces.
 fn save_patched<S: ImageSource, K: ImageSink>(
     alloc: Global,
     set: &OutlineLeft,
-    patch: &NamespacePatch,
+    patch: &SetPatch,
     images: &mut S,
     out: &mut K,
 ) -> Result<(), CopyFault>
@@ -113,7 +113,7 @@ impl SavedSet {
     }
 
     /// Saves it. Nothing was written to `out` before, if it tells. Contents that aren't in memory are those of the source,
-    /// with the new bytes of a namespace if it has some, and have the sizes that are stated.
+    /// with the new bytes of namespaces if it has some, and have the sizes that are stated.
     ///
     /// - `saved`: after `Ok` the sink has exactly the set's objects and the mark, as far as the source tells its contents. So has
     ///   one that tells that everything was stored.

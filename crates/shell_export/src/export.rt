@@ -120,7 +120,6 @@ fn named_answer<S: ImageSource, O: TextSink>(
     match find_place(alloc, registry, uuid) {
         Ok(Ok(found)) => {
             let set = registry.set(found.region);
-            let _ways = set.ways();
             found_answer(alloc, set, &found, uuid, zeros, images, text)
         }
         Ok(Err(refused)) => print_made(op_refused_answer(alloc, refused), text),

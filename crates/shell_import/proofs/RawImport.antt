@@ -1,5 +1,5 @@
 -- From an outline to what an import into one of its raw namespaces comes to.
-use Rattle.std.proofs.Common.{◌≡◌, ℕ, ◌+◌, ◌*◌, ◌/◌, ◌%◌, Bool, false, List, length, map, Option, Some, None, Result, Ok, Err, refl, sym, ap, ◌∙◌, subst, arith, inl, inr}
+use Rattle.std.proofs.Common.{◌≡◌, ℕ, ◌+◌, ◌*◌, ◌/◌, ◌%◌, Bool, false, List, [], ◌∷◌, length, map, Option, Some, None, Result, Ok, Err, refl, sym, ap, ◌∙◌, subst, arith, inl, inr}
 use Rattle.std.specs.Prelude.{MatchOption}
 use Rattle.std.proofs.lemmas.Nat.{div-add-mod', mod-mul-add}
 use Rattle.cut_words.specs.Words.{Words}
@@ -105,7 +105,7 @@ module _ (outline : Outline) (registry : Registered) (rest : OutlineRest) (o : I
           ∙ ap (λ (sets : List (List Mapping)). 8 * length (words_of (over (set_at sets found.region) found.offset found.raw (rows_of contents))).kept) o.sets
 
       fits : (fit : Option (List ℕ)) → length_refusal (length bytes) (length set * found.raw) ≡ fit
-          → MatchOption fit (SavesPatched patch rest (map area_words registry.areas) answer × Patches registry.sets found patch) (λ refusal. (answer.saved ≡ None) × ((cs : List (List ℕ)) → outcome_with answer cs ≡ refused_outcome refusal))
+          → MatchOption fit (SavesPatched (patch ∷ []) rest (map area_words registry.areas) answer × Patches registry.sets found patch) (λ refusal. (answer.saved ≡ None) × ((cs : List (List ℕ)) → outcome_with answer cs ≡ refused_outcome refusal))
           → ImportFits found loaded (length bytes) (8 * length (view_words (set_at (sets_of loaded.nfit) found.region) found (rows_of loaded.contents))) (λ now. now ≡ words_in bytes) (outcome_with answer contents)
       fits fit is due = subst Fits (sym is ∙ ap (length_refusal (length bytes)) had_is) (by fit is due)
         where
@@ -113,7 +113,7 @@ module _ (outline : Outline) (registry : Registered) (rest : OutlineRest) (o : I
           Fits f = MatchOption f (SavesNamespace found loaded (λ now. now ≡ words_in bytes) ending.Done done_text (outcome_with answer contents)) (λ refusal. outcome_with answer contents ≡ refused_outcome refusal)
 
           by : (f : Option (List ℕ)) → length_refusal (length bytes) (length set * found.raw) ≡ f
-              → MatchOption f (SavesPatched patch rest (map area_words registry.areas) answer × Patches registry.sets found patch) (λ refusal. (answer.saved ≡ None) × ((cs : List (List ℕ)) → outcome_with answer cs ≡ refused_outcome refusal))
+              → MatchOption f (SavesPatched (patch ∷ []) rest (map area_words registry.areas) answer × Patches registry.sets found patch) (λ refusal. (answer.saved ≡ None) × ((cs : List (List ℕ)) → outcome_with answer cs ≡ refused_outcome refusal))
               → Fits f
           by None fit (s, puts) =
               saves outline registry rest o found lies (Raw bytes) answer s contents have puts (λ now. now ≡ words_in bytes)
@@ -122,7 +122,7 @@ module _ (outline : Outline) (registry : Registered) (rest : OutlineRest) (o : I
           by (Some refusal) fit (nothing, says) = says contents
 
     sizes_kept : (fit : Option (List ℕ))
-        → MatchOption fit (SavesPatched patch rest (map area_words registry.areas) answer × Patches registry.sets found patch) (λ refusal. (answer.saved ≡ None) × ((cs : List (List ℕ)) → outcome_with answer cs ≡ refused_outcome refusal))
+        → MatchOption fit (SavesPatched (patch ∷ []) rest (map area_words registry.areas) answer × Patches registry.sets found patch) (λ refusal. (answer.saved ≡ None) × ((cs : List (List ℕ)) → outcome_with answer cs ≡ refused_outcome refusal))
         → HasSizes outline.sizes answer
     sizes_kept None (s, puts) = sizes_saved outline registry rest o found lies (Raw bytes) answer s
     sizes_kept (Some refusal) (nothing, says) = no_sizes outline.sizes answer nothing

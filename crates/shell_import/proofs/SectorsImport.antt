@@ -1,12 +1,9 @@
 -- From an outline to what an import into one of its namespaces of sectors comes to.
-use Rattle.std.proofs.Common.{◌≡◌, ◌≢◌, ◌+◌, ℕ, ◌*◌, ◌/◌, ◌%◌, ◌^◌, ◌<◌, ◌≤◌, Bool, true, List, length, map, Option, Some, None, Result, Ok, Err, sym, ap, ◌∙◌, subst, arith}
+use Rattle.std.proofs.Common.{◌≡◌, ◌≢◌, ℕ, ◌*◌, ◌%◌, ◌^◌, ◌≤◌, Bool, true, List, [], ◌∷◌, length, map, Option, Some, None, Result, Ok, Err, sym, ap, ◌∙◌, subst}
 use Rattle.std.specs.Prelude.{MatchOption}
-use Rattle.std.proofs.lemmas.Nat.{div-add-mod', mod-mul-add, mul-le}
 use Rattle.cut_words.specs.Words.{Words}
 use Rattle.cut_words.specs.WordBytes.{words_in}
-use Rattle.nvd_media.specs.declared.object.Object.TheVariants as object
 use Rattle.nfit_reader.specs.declared.table.Mapping.{Mapping}
-use Rattle.interleave.specs.Places.{unit_of}
 use Rattle.power_cut.specs.Namespace.{over, words_of}
 use Rattle.image_set.specs.declared.changing.OutlineRest.{OutlineRest}
 use Rattle.image_set.specs.declared.outline.Outline.{Outline}
@@ -55,14 +52,12 @@ use Rattle.shell_reports.specs.Causes.{opened_in}
 use Rattle.shell_reports.specs.Faults.{arena_outcome}
 use Rattle.shell_sectors.specs.Found.{OnArenas}
 use Rattle.shell_import.specs.Import.{ImportsArenas}
-use Rattle.std.specs.Prelude.{IfOk}
 use Rattle.std.specs.Option.{ForSome}
-use Rattle.nvd_media.specs.Images.{Images, bytes_of as bytes_in}
+use Rattle.nvd_media.specs.Images.{Images}
 use Rattle.image_set.specs.Outline.{HasContents as HasSizesOf, contents_in}
 use Rattle.namespace_areas.specs.declared.area.Area.{Area}
 use Rattle.namespace_areas.specs.Opening.{AreWhole}
 use Rattle.power_cut.specs.Namespace.{ReachEnds}
-use Rattle.power_cut.proofs.Spread.{length_range}
 use Rattle.shell_sectors.specs.Write.{length_text}
 use Rattle.shell_import.specs.declared.sectors.SectorImport.{SectorImport}
 use Rattle.shell_import.specs.Beginning.{Fills, ImportsFrom, IsSectorImport}
@@ -121,7 +116,7 @@ module _ (outline : Outline) (registry : Registered) (rest : OutlineRest) (o : I
       misfit_comes refusal e says = fits_as (Some refusal) e says
 
       module _ (have : HaveSizes outline.sizes contents) (none : length_refusal (length bytes) (sum_by link_bytes links) ≡ None)
-          (s : SavesPatched (patch_of registry.sets found (Sectors (record { links = links; bytes = bytes }))) rest (map area_words registry.areas) answer)
+          (s : SavesPatched (patch_of registry.sets found (Sectors (record { links = links; bytes = bytes })) ∷ []) rest (map area_words registry.areas) answer)
           (puts : Patches registry.sets found (patch_of registry.sets found (Sectors (record { links = links; bytes = bytes })))) where
         abbrev row : List ℕ
         row = bytes_by_place set found.offset found.raw contents
@@ -164,9 +159,9 @@ module _ (uuid bytes : List ℕ) (outline : Outline) (s : SectorImport) (it : Is
   pub whole_pages : length s.set * s.found.raw % 4096 ≡ 0
   whole_pages = found_pages outline it.registry s.rest parts s.found it.placed.lies s.set it.set
 
-  -- a set has few modules, each with few bytes
-  pub few_bytes : length s.set < 2 ^ 16 → length s.set * s.found.raw ≤ 2 ^ 55
-  few_bytes ways = found_few outline it.registry s.rest parts s.found it.placed.lies s.set it.set ways
+  -- it has no more bytes than all contents may have
+  pub few_bytes : length s.set * s.found.raw ≤ 2 ^ 55
+  few_bytes = found_few outline it.registry s.rest parts s.found it.placed.lies s.set it.set
 
   pub areas_whole : AreWhole (map area_words s.areas.items)
   areas_whole =
@@ -220,7 +215,7 @@ module _ (uuid bytes : List ℕ) (outline : Outline) (s : SectorImport) (it : Is
       abbrev pub new : NewBytes
       new = Sectors (record { links = links; bytes = bytes })
 
-      pub all_filled : length bytes ≡ sum_by link_bytes links → SavesPatched (patch_of it.registry.sets s.found new) s.rest (map area_words it.registry.areas) answer → Patches it.registry.sets s.found (patch_of it.registry.sets s.found new)
+      pub all_filled : length bytes ≡ sum_by link_bytes links → SavesPatched (patch_of it.registry.sets s.found new ∷ []) s.rest (map area_words it.registry.areas) answer → Patches it.registry.sets s.found (patch_of it.registry.sets s.found new)
           → Fills uuid bytes outline s links answer
       all_filled long saved puts = record {
         comes = λ contents have all small.

@@ -1,36 +1,29 @@
 -- How `import` begins, on a set that was loaded without its contents: this project's rules.
-use Rattle.std.specs.Prelude.{◌≡◌, ℕ, ◌*◌, ◌%◌, ◌<◌, ◌≤◌, true, false, List, length, map, MatchOption, Option, None, Some, Ok}
+use Rattle.std.specs.Prelude.{◌≡◌, ℕ, ◌*◌, true, List, [], ◌∷◌, length, map, MatchOption, Option, None, Ok}
 use Rattle.std.specs.Option.{ForSome}
 use Rattle.image_set.specs.declared.changing.OutlineRest.{OutlineRest}
 use Rattle.image_set.specs.declared.outline.Outline.{Outline}
-use Rattle.image_set.specs.Outline.{IsOutlineRest, contents_in, image_set_with}
+use Rattle.image_set.specs.Outline.{contents_in, image_set_with}
 use Rattle.nvd_media.specs.Images.{Images}
 use Rattle.arena_open.specs.Chain.{Link}
 use Rattle.namespace_bytes.specs.Putting.{AreAll}
 use Rattle.namespace_bytes.specs.SectorBytes.{HaveMapsOfBytes}
-use Rattle.interleave.specs.Places.{unit_of}
-use Rattle.interleave.specs.Sound.{span_of}
 use Rattle.namespace_areas.specs.declared.found.Found.{Found}
 use Rattle.namespace_areas.specs.Finding.{LiesInSet, set_at}
-use Rattle.namespace_areas.specs.Opening.{AreWhole}
-use Rattle.namespace_areas.specs.Seen.{AreHeld, words_of}
+use Rattle.namespace_areas.specs.Seen.{words_of}
 use Rattle.namespace_bytes.specs.declared.new_bytes.NewBytes.TheVariants.{Raw}
 use Rattle.namespace_bytes.specs.Patching.{bytes_by_place}
 use Rattle.namespace_map.specs.Commands.{is_sector}
-use Rattle.namespace_map.specs.Namespaces.{entry_at, lookup}
+use Rattle.namespace_map.specs.Namespaces.{lookup}
 use Rattle.namespace_ops.specs.Counted.{namespaces_in}
-use Rattle.namespace_ops.specs.Opening.{sets_of}
 use Rattle.namespace_ops.specs.Registered.{Registered, state_of}
 use Rattle.power_cut.specs.Namespace.{over}
 use Rattle.power_cut.specs.Namespace.{words_of as namespace_words}
 use Rattle.sector_namespaces.specs.View.{rows_of}
 use Rattle.shell_changes.specs.declared.answer.Answer.{Answer}
 use Rattle.shell_changes.specs.Answers.{HasSizes, outcome_with}
-use Rattle.shell_changes.specs.Saved.{AreWholeSizes}
 use Rattle.shell_export.specs.Export.{place_of}
-use Rattle.shell_reports.specs.Causes.{fault_in}
 use Rattle.shell_reports.specs.Faults.{refused_outcome}
-use Rattle.shell_reports.specs.List.{labels_in_set}
 use Rattle.shell_sectors.specs.Opening.{HaveSizes, IsOpenOutline}
 use Rattle.shell_sectors.specs.Patched.{Patches, SavesPatched, patch_of}
 use Rattle.shell_sectors.specs.Write.{length_refusal}
@@ -53,7 +46,7 @@ pub record IsPlacedOn (outline : Outline) (uuid : List ℕ) (found : Found) (reg
 abbrev pub PutsRaw : Registered → Found → OutlineRest → List ℕ → Answer → Type 0
 PutsRaw registry found rest bytes answer =
     MatchOption (length_refusal (length bytes) (length (set_at registry.sets found.region) * found.raw))
-    (SavesPatched (patch_of registry.sets found (Raw bytes)) rest (map words_of registry.areas) answer × Patches registry.sets found (patch_of registry.sets found (Raw bytes)))
+    (SavesPatched (patch_of registry.sets found (Raw bytes) ∷ []) rest (map words_of registry.areas) answer × Patches registry.sets found (patch_of registry.sets found (Raw bytes)))
     (λ refusal. (answer.saved ≡ None) × ((contents : List (List ℕ)) → outcome_with answer contents ≡ refused_outcome refusal))
 
 -- ---- the command

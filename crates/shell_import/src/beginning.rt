@@ -14,7 +14,7 @@ use crate::import::length_answer;
 use crate::sectors::SectorImport;
 use image_set::{Outline, OutlineRest};
 use namespace_areas::Found;
-use namespace_bytes::{NamespacePatch, NewBytes};
+use namespace_bytes::{NewBytes, SetPatch};
 use namespace_ops::Registry;
 use nvd_words::Items;
 use shell_changes::{Answer, without_set};
@@ -58,7 +58,7 @@ fn raw_answer(
         return Ok(without_set(length_answer(alloc, bytes.len(), had)?));
     }
     let bytes = NewBytes::Raw(Items::from_vec(bytes));
-    let patch = NamespacePatch::new(set, found.offset, found.raw, bytes);
+    let patch = SetPatch::one(alloc, set, found.offset, found.raw, bytes)?;
     patched_answer(alloc, patch, rest, areas)
 }
 

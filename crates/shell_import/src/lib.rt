@@ -4,7 +4,7 @@
 //! outline ── labels ──► namespace ──┬── raw ──────────────────────────► NewBytes::Raw ──────┐
 //!                                   └── sectors ── read_arenas_from ──► NewBytes::Sectors ──┤
 //!                                                                                           ▼
-//! saved set ◄── put in while contents are copied ◄────────────────────────────── NamespacePatch
+//! saved set ◄── put in while contents are copied ◄────────────────────────────── SetPatch
 //!
 //! refusals: labels and table as for `list`; the namespace isn't found; of sectors, image arena
 //!           UUID K FAULT; refused Length, if the namespace has more bytes or fewer

@@ -11,7 +11,7 @@ use crate::import::length_answer;
 use image_set::OutlineRest;
 use interleave::InterleaveSet;
 use namespace_areas::{Area, Found};
-use namespace_bytes::{ArenaAt, NamespacePatch, NewBytes, SectorBytes, size_of_all};
+use namespace_bytes::{ArenaAt, NewBytes, SectorBytes, SetPatch, size_of_all};
 use namespace_words::{ArenaRead, into_arenas, read_arenas_from};
 use nvd_media::{Failed, ImageSource};
 use nvd_words::Items;
@@ -52,7 +52,7 @@ impl SectorImport {
             return Ok(without_set(length_answer(alloc, bytes.len(), had)?));
         }
         let put = NewBytes::Sectors(SectorBytes::of(alloc, arenas, bytes)?);
-        let patch = NamespacePatch::new(set, found.offset, found.raw, put);
+        let patch = SetPatch::one(alloc, set, found.offset, found.raw, put)?;
         patched_answer(alloc, patch, rest, areas)
     }
 
@@ -81,7 +81,6 @@ impl SectorImport {
         ensures failed { result ≡ Err RunStop.ReadFault → Rose (S.faults images.old) (S.faults images.new) }
         ensures later { S.faults images.old ≤ S.faults images.new }
     {
-        let _ways = self.set.ways();
         match read_arenas_from(
             alloc,
             images,

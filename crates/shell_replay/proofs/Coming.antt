@@ -1,6 +1,8 @@
 -- From an outline to what the command comes to.
-use Rattle.std.proofs.Common.{◌≡◌, ◌≢◌, ℕ, ◌+◌, ◌*◌, ◌/◌, ◌≤◌, List, [], ◌∷◌, length, drop, map, Option, Some, None, Result, Ok, Err, refl, sym, ap, ◌∙◌, subst, inl, inr, arith}
+use Rattle.std.proofs.Common.{◌≡◌, ◌≢◌, ℕ, ◌+◌, ◌*◌, ◌/◌, ◌≤◌, Bool, true, false, List, [], ◌∷◌, length, drop, get_or, map, Option, Some, None, Result, Ok, Err, refl, sym, ap, ◌∙◌, subst, inl, inr, arith}
+use Rattle.std.specs.Prelude.{MatchBool, nat_lt}
 use Rattle.std.specs.Option.{ForSome}
+use Rattle.std.proofs.lemmas.List.{length-map}
 use Rattle.std.proofs.lemmas.List.Sums.{sum_by-cons}
 use Rattle.cut_words.specs.Words.{Words}
 use Rattle.cut_words.specs.WordBytes.{put_at, words_in}
@@ -49,7 +51,7 @@ use Rattle.shell_changes.specs.Answers.{outcome_with}
 use Rattle.shell_changes.specs.Saved.{AreWholeSizes}
 use Rattle.shell_changes.proofs.Remains.{no_sizes}
 use Rattle.shell_reports.specs.Causes.{fault_in, found_in, opened_in}
-use Rattle.shell_reports.specs.Faults.{arena_outcome, refusal_text, refused_outcome}
+use Rattle.shell_reports.specs.Faults.{arena_outcome, held_text, most_held, refusal_text, refused_outcome}
 use Rattle.shell_reports.specs.List.{open_outcome}
 use Rattle.shell_reports.specs.Outcome.{Outcome}
 use Rattle.shell_sectors.specs.declared.write.SectorPlace.{SectorPlace}
@@ -62,8 +64,8 @@ use Rattle.shell_sectors.proofs.Coming.{named_comes, unfound_comes}
 use Rattle.shell_sectors.proofs.Outlined.{whole_rows}
 use Rattle.shell_sectors.proofs.Patched.{saves, sizes_saved}
 use Rattle.shell_replay.specs.declared.schedule.Schedule.{Schedule}
-use Rattle.shell_replay.specs.Answering.{ReplaysFrom, ReplaysOn, ReplaysWith}
-use Rattle.shell_replay.specs.Replay.{HasReplayed, ReplayComes, ReplaysArenas, arenas_refusal, held_at_end}
+use Rattle.shell_replay.specs.Answering.{AreSmall, ReplaysFrom, ReplaysOn, ReplaysWith}
+use Rattle.shell_replay.specs.Replay.{HasReplayed, ReplayComes, Replays, ReplaysArenas, arenas_refusal, held_at_end}
 use Rattle.shell_replay.proofs.Placed.{has_replayed, left_fits}
 
 -- ---- what was loaded
@@ -79,6 +81,27 @@ never_refused r refused due is finding told =
     let has : HasMemory r = λ k e.
     finding (let both = sym is ∙ e in let same : refused ≡ wants_memory k = cc in ap (λ (f : ChainRefused). f.fault) same) in
     let clash = sym is ∙ told has in cc
+
+-- ---- one arena that was read
+
+-- what was read of it, if it is the only one
+pub only_link : (links : List Link) (link : Link) → length links ≡ 1 → link ≡ get_or links 0 link → links ≡ link ∷ []
+only_link [] link one is = absurd (omega (arith, one))
+only_link (l ∷ []) link one is = ap (λ (x : Link). x ∷ []) (sym is)
+only_link (l ∷ next ∷ links) link one is = absurd (omega (arith, one))
+
+pub small_one : (links : List Link) (link : Link) → length links ≡ 1 → link ≡ get_or links 0 link → nat_lt most_held link.opened.info.layout.size ≡ false → AreSmall links
+small_one links link one is small l only =
+    let same : link ≡ l = (let both = sym (only_link links link one is) ∙ only in cc) in
+    subst (λ (x : Link). nat_lt most_held x.opened.info.layout.size ≡ false) same small
+
+-- it isn't too large as it opens, either
+small_state : (words : List ℕ) (links : List Link) (state : ArenaState) → state ∷ [] ≡ map (state_at words) links → AreSmall links → nat_lt most_held state.info.layout.size ≡ false
+small_state words [] state one small = absurd (let n = ap (λ (ss : List ArenaState). length ss) one in omega (arith, n))
+small_state words (link ∷ []) state one small =
+    let same : state ≡ state_at words link = (let both = one in cc) in
+    ap (λ (s : ArenaState). nat_lt most_held s.info.layout.size) same ∙ small link refl
+small_state words (link ∷ next ∷ links) state one small = absurd (let n = ap (λ (ss : List ArenaState). length ss) one in omega (arith, n))
 
 -- ---- the relation
 
@@ -149,9 +172,19 @@ module _ (leaves : ℕ → List (Option Words) → List (Option (List ℕ)) → 
       pub others_comes : (states : List ArenaState) → opened_view was uuid ≡ Ok states → length states ≢ 1 → outcome ≡ refused_outcome (arenas_refusal (length states)) → ReplayComes leaves uuid schedule loaded outcome
       others_comes states e other said = on_arenas (Ok states) e (others states other said)
 
+      -- the one arena, by whether it is too large
+      one_by : (state : ArenaState) (large : Bool) → nat_lt most_held state.info.layout.size ≡ large
+          → MatchBool large (outcome ≡ refused_outcome (held_text state.info.layout.size)) (Replays leaves uuid schedule loaded outcome found state) → ReplaysArenas leaves uuid schedule loaded outcome found (state ∷ [])
+      one_by state large is on = subst (λ (b : Bool). MatchBool b (outcome ≡ refused_outcome (held_text state.info.layout.size)) (Replays leaves uuid schedule loaded outcome found state)) (sym is) on
+
+      -- it has too many bytes
+      pub large_comes : (state : ArenaState) → opened_view was uuid ≡ Ok (state ∷ []) → nat_lt most_held state.info.layout.size ≡ true → outcome ≡ refused_outcome (held_text state.info.layout.size)
+          → ReplayComes leaves uuid schedule loaded outcome
+      large_comes state e large said = on_arenas (Ok (state ∷ [])) e (one_by state true large said)
+
       module _ (links : List Link) (all : AreAll was uuid links) (small : HaveMapsOfBytes (bytes_by_place set found.offset found.raw contents) links) (state : ArenaState) (one : state ∷ [] ≡ map (state_at was) links)
           (is_open : IsOpenState state) (have : HaveSizes outline.sizes contents) (run : Run) (left : List ℕ) (first : run.first ≡ 0) (long : length run.bytes ≡ 8 * length left) (words : words_in run.bytes ≡ left) (size : length left ≡ length state.words)
-          (s : PrintsPatched (replay_text (opened_held state) schedule.lines) (patch_of registry.sets found (Runs (run ∷ []))) rest (map area_words registry.areas) answer)
+          (s : PrintsPatched (replay_text (opened_held state) schedule.lines) (patch_of registry.sets found (Runs (run ∷ [])) ∷ []) rest (map area_words registry.areas) answer)
           (puts : Patches registry.sets found (patch_of registry.sets found (Runs (run ∷ [])))) where
         abbrev row : List ℕ
         row = bytes_by_place set found.offset found.raw contents
@@ -203,10 +236,11 @@ module _ (leaves : ℕ → List (Option Words) → List (Option (List ℕ)) → 
               (has_replayed uuid was made state is_open found_made kept left size leaves schedule r law stand cut now now_is)
 
           -- the schedule is played, and power is cut
-          pub replayed_comes : ReplayComes leaves uuid schedule loaded outcome
-          replayed_comes =
+          pub replayed_comes : AreSmall links → ReplayComes leaves uuid schedule loaded outcome
+          replayed_comes few =
               on_arenas (Ok (state ∷ [])) (all.read ∙ ap (λ (ss : List ArenaState). Ok ss) (sym one))
-              (saves outline registry rest o found lies (Runs (run ∷ [])) answer s contents have puts (HasReplayed leaves uuid schedule state (words_of (place_of loaded found (rows_of loaded.contents))).kept) has)
+              (one_by state false (small_state was links state one few)
+              (saves outline registry rest o found lies (Runs (run ∷ [])) answer s contents have puts (HasReplayed leaves uuid schedule state (words_of (place_of loaded found (rows_of loaded.contents))).kept) has))
 
   -- ---- in a place that was found
 
@@ -235,7 +269,7 @@ module _ (leaves : ℕ → List (Option Words) → List (Option (List ℕ)) → 
     pub replays_others : (states : List ArenaState) → length states ≢ 1 → answer.saved ≡ None → ((contents : List (List ℕ)) → outcome_with answer contents ≡ refused_outcome (arenas_refusal (length states)))
         → ReplaysWith leaves uuid schedule outline s states answer
     replays_others states other nothing says = record {
-      comes = λ contents links have h are.
+      comes = λ contents links have h are few.
           others_comes it.registry s.rest it.parts s.found it.lies it.place answer contents states
           ((at_set contents links h.all).read ∙ ap (λ (ss : List ArenaState). Ok ss) (sym (are_at contents states links are))) other (says contents);
       sizes = no_sizes outline.sizes answer nothing;
@@ -246,19 +280,19 @@ module _ (leaves : ℕ → List (Option Words) → List (Option (List ℕ)) → 
         → SavesRuns (replay_text (opened_held state) schedule.lines) it.registry s (run ∷ []) answer → Reopens state (MaySurvive (first_cells state) (held_at_end state schedule.lines)) left → OneArenaChanges → ReplaysStand
         → leaves schedule.seed (Some (row_words (held_at_end state schedule.lines).row) ∷ []) (Some left ∷ []) → ReplaysWith leaves uuid schedule outline s (state ∷ []) answer
     replays_run state is_open run left first long words size (saved, puts) r law stand cut = record {
-      comes = λ contents links have h are.
+      comes = λ contents links have h are few.
           replayed_comes it.registry s.rest it.parts s.found it.lies it.place answer contents links (at_set contents links h.all)
           (subst (λ (ms : List Mapping). HaveMapsOfBytes (bytes_by_place ms s.found.offset s.found.raw contents) links) it.set h.maps) state (are_at contents (state ∷ []) links are)
-          is_open have run left first long words size saved puts r law stand cut;
+          is_open have run left first long words size saved puts r law stand cut few;
       sizes = sizes_saved outline it.registry s.rest it.parts s.found it.lies (Runs (run ∷ [])) answer saved;
     }
 
     -- from the states that were loaded
-    pub replays_loaded : (held : Option Images) (links : List Link) (states : List ArenaState) → ReplaysWith leaves uuid schedule outline s states answer
+    pub replays_loaded : (held : Option Images) (links : List Link) (states : List ArenaState) → AreSmall links → ReplaysWith leaves uuid schedule outline s states answer
         → ((contents : List (List ℕ)) → Reveals held s.set contents → AreAll (words_of (over s.set s.found.offset s.found.raw (rows_of contents))).kept uuid links
         → states ≡ map (state_at (words_of (over s.set s.found.offset s.found.raw (rows_of contents))).kept) links) → ReplaysOn leaves held uuid schedule outline s links answer
-    replays_loaded held links states replays loaded = record {
-      comes = λ contents shown have h. replays.comes contents links have h (loaded contents shown h.all);
+    replays_loaded held links states few replays loaded = record {
+      comes = λ contents shown have h. replays.comes contents links have h (loaded contents shown h.all) few;
       sizes = replays.sizes;
     }
 
@@ -267,6 +301,29 @@ module _ (leaves : ℕ → List (Option Words) → List (Option (List ℕ)) → 
         → ReplaysOn leaves held uuid schedule outline s links answer
     replays_hidden held links nothing none = record {
       comes = λ contents shown have h. absurd (none contents shown h.all);
+      sizes = no_sizes outline.sizes answer nothing;
+    }
+
+    -- other arenas than one were read
+    pub reads_others : (held : Option Images) (links : List Link) → length links ≢ 1 → answer.saved ≡ None → ((contents : List (List ℕ)) → outcome_with answer contents ≡ refused_outcome (arenas_refusal (length links)))
+        → ReplaysOn leaves held uuid schedule outline s links answer
+    reads_others held links other nothing says = record {
+      comes = λ contents shown have h.
+          let was : List ℕ = (words_of (over (set_at it.registry.sets s.found.region) s.found.offset s.found.raw (rows_of contents))).kept in
+          let count : length (map (state_at was) links) ≡ length links = length-map links (state_at was) in
+          others_comes it.registry s.rest it.parts s.found it.lies it.place answer contents (map (state_at was) links) (at_set contents links h.all).read
+          (λ e. other (sym count ∙ e)) (says contents ∙ ap (λ (n : ℕ). refused_outcome (arenas_refusal n)) (sym count));
+      sizes = no_sizes outline.sizes answer nothing;
+    }
+
+    -- the one that was read is too large
+    pub reads_large : (held : Option Images) (links : List Link) (link : Link) → links ≡ link ∷ [] → nat_lt most_held link.opened.info.layout.size ≡ true → answer.saved ≡ None
+        → ((contents : List (List ℕ)) → outcome_with answer contents ≡ refused_outcome (held_text link.opened.info.layout.size)) → ReplaysOn leaves held uuid schedule outline s links answer
+    reads_large held links link only large nothing says = record {
+      comes = λ contents shown have h.
+          let was : List ℕ = (words_of (over (set_at it.registry.sets s.found.region) s.found.offset s.found.raw (rows_of contents))).kept in
+          large_comes it.registry s.rest it.parts s.found it.lies it.place answer contents (state_at was link)
+          ((at_set contents links h.all).read ∙ ap (λ (ls : List Link). Ok (map (state_at was) ls)) only) large (says contents);
       sizes = no_sizes outline.sizes answer nothing;
     }
 

@@ -1,5 +1,5 @@
 -- From an outline to the answer of `replay`.
-use Rattle.std.specs.Prelude.{◌≡◌, ℕ, List, length, map, Option}
+use Rattle.std.specs.Prelude.{◌≡◌, ℕ, nat_lt, false, List, [], ◌∷◌, length, map, Option}
 use Rattle.std.specs.Option.{ForSome}
 use Rattle.cut_words.specs.Words.{Words}
 use Rattle.nvd_media.specs.Images.{Images}
@@ -15,6 +15,7 @@ use Rattle.power_cut.specs.Namespace.{over, words_of}
 use Rattle.sector_namespaces.specs.View.{rows_of}
 use Rattle.shell_changes.specs.declared.answer.Answer.{Answer}
 use Rattle.shell_changes.specs.Answers.{HasSizes, outcome_with}
+use Rattle.shell_reports.specs.Faults.{most_held}
 use Rattle.shell_sectors.specs.declared.write.SectorPlace.{SectorPlace}
 use Rattle.shell_sectors.specs.Opening.{HaveSizes}
 use Rattle.shell_replay.specs.declared.schedule.Schedule.{Schedule}
@@ -29,9 +30,13 @@ pub record HasArenas (uuid : List ℕ) (s : SectorPlace) (contents : List (List 
   pub all : AreAll (words_at s contents) uuid links
   pub maps : HaveMapsOfBytes (bytes_by_place s.set s.found.offset s.found.raw contents) links
 
+-- One arena isn't too large to be opened in memory.
+abbrev pub AreSmall : List Link → Type 0
+AreSmall links = (link : Link) → links ≡ link ∷ [] → nat_lt most_held link.opened.info.layout.size ≡ false
+
 -- An answer is what `replay` comes to, if the namespace's arenas open as these.
 pub record ReplaysWith (leaves : ℕ → List (Option Words) → List (Option (List ℕ)) → Type 0) (uuid : List ℕ) (schedule : Schedule) (outline : Outline) (s : SectorPlace) (states : List ArenaState) (answer : Answer) : Type 0 where
-  pub comes : (contents : List (List ℕ)) (links : List Link) → HaveSizes outline.sizes contents → HasArenas uuid s contents links → states ≡ map (state_at (words_at s contents)) links
+  pub comes : (contents : List (List ℕ)) (links : List Link) → HaveSizes outline.sizes contents → HasArenas uuid s contents links → states ≡ map (state_at (words_at s contents)) links → AreSmall links
       → ReplayComes leaves uuid schedule (image_set_with outline contents) (outcome_with answer contents)
   pub sizes : HasSizes outline.sizes answer
 

@@ -1,6 +1,6 @@
 -- The command `replay`: the lanes of one arena take their steps by a schedule, and power is cut. The algorithm is that of Linux's BTT
 -- document, over UEFI 2.10, section 6.3; schedules and texts are this project's rules.
-use Rattle.std.specs.Prelude.{◌≡◌, ℕ, ◌<◌, List, [], ◌∷◌, ◌++◌, length, Option, Some, codes, Ok}
+use Rattle.std.specs.Prelude.{◌≡◌, ℕ, ◌<◌, nat_lt, List, [], ◌∷◌, ◌++◌, length, Option, Some, codes, Ok, MatchBool}
 use Rattle.std.specs.Fmt.{decimal}
 use Rattle.cut_words.specs.Words.{Words}
 use Rattle.cut_words.specs.WordBytes.{put_at}
@@ -17,7 +17,7 @@ use Rattle.image_set.specs.Load.{ImageSet}
 use Rattle.namespace_areas.specs.declared.found.Found.{Found}
 use Rattle.sector_namespaces.specs.View.{opened_view, rows_of}
 use Rattle.shell_reports.specs.declared.status.Ending.TheVariants as ending
-use Rattle.shell_reports.specs.Faults.{refused_outcome}
+use Rattle.shell_reports.specs.Faults.{held_text, most_held, refused_outcome}
 use Rattle.shell_reports.specs.Outcome.{Outcome}
 use Rattle.shell_sectors.specs.Found.{OnSet, SavesNamespace, place_of}
 use Rattle.shell_replay.specs.declared.schedule.Schedule.{Schedule}
@@ -61,9 +61,10 @@ Replays leaves uuid schedule loaded outcome found state =
     SavesNamespace found loaded (HasReplayed leaves uuid schedule state (words_of (place_of loaded found (rows_of loaded.contents))).kept)
     ending.Done (replay_text (opened_held state) schedule.lines) outcome
 
--- on the arenas of a namespace
+-- on the arenas of a namespace: one that isn't too large to be opened in memory
 abbrev pub ReplaysArenas : (ℕ → List (Option Words) → List (Option (List ℕ)) → Type 0) → List ℕ → Schedule → ImageSet → Outcome → Found → List ArenaState → Type 0
-ReplaysArenas leaves uuid schedule loaded outcome found (state ∷ []) = Replays leaves uuid schedule loaded outcome found state
+ReplaysArenas leaves uuid schedule loaded outcome found (state ∷ []) =
+    MatchBool (nat_lt most_held state.info.layout.size) (outcome ≡ refused_outcome (held_text state.info.layout.size)) (Replays leaves uuid schedule loaded outcome found state)
 ReplaysArenas leaves uuid schedule loaded outcome found states = outcome ≡ refused_outcome (arenas_refusal (length states))
 
 -- what the command may come to on a set that is loaded

@@ -4,7 +4,7 @@
 //! if power is lost at a certain step. A schedule states this way, so that it can be run:
 //!
 //! ```text
-//! outline ──► namespace ──► its one arena, read from the image source   refused Arenas N
+//! outline ──► namespace ──► its one arena, read from the image source   refused Arenas N, TooLarge BYTES
 //!                                   │                                   and its pending moves made
 //!                                   ▼
 //!              line by line: lane 1 begins to write, makes 138 steps, ..       text

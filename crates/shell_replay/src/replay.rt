@@ -1,5 +1,5 @@
 //! The command `replay`: a schedule of the lanes of a namespace's one arena.
-ghost use Rattle.std.specs.Prelude.{◌≡◌, ◌<◌, ◌*◌, ◌^◌, ◌≤◌, ℕ, List, [], ◌∷◌, IfOk, Err, length};
+ghost use Rattle.std.specs.Prelude.{◌≡◌, ◌<◌, ◌*◌, ◌^◌, ◌≤◌, ℕ, List, [], ◌∷◌, IfOk, None, Err, length};
 ghost use Rattle.std.specs.Option.{ForSome};
 ghost use Rattle.nvd_media.specs.Causes.{Rose};
 ghost use Rattle.arena_open.specs.Moves.{IsOpenState};
@@ -7,12 +7,13 @@ ghost use Rattle.image_set.specs.declared.outline.Outline.{Outline as OutlineRea
 ghost use Rattle.image_set.specs.Outline.{HasContents, IsLoadable, IsOutlined};
 ghost use Rattle.namespace_bytes.specs.SectorPut.{AreSized};
 ghost use Rattle.namespace_words.specs.Source.{AreWithin};
+ghost use Rattle.shell_changes.specs.Answers.{outcome_with};
 ghost use Rattle.shell_changes.specs.Remains.{LeavesBy};
-ghost use Rattle.shell_reports.specs.Faults.{refused_outcome};
+ghost use Rattle.shell_reports.specs.Faults.{held_text, refused_outcome};
 ghost use Rattle.shell_reports.specs.Saved.{outcome_of};
 ghost use Rattle.shell_sectors.specs.Opening.{IsOpenOutline};
 ghost use Rattle.shell_sectors.specs.Writing.{IsSectorPlace};
-ghost use Rattle.shell_replay.specs.Answering.{ReplaysFrom, ReplaysOn, ReplaysWith};
+ghost use Rattle.shell_replay.specs.Answering.{AreSmall, ReplaysFrom, ReplaysOn, ReplaysWith};
 ghost use Rattle.shell_replay.specs.Replay.{arenas_refusal};
 
 use crate::opening::only_arena;
@@ -29,7 +30,7 @@ use nvd_words::Items;
 use power_cut::SetExtent;
 use sector_namespaces::one_arena_changes;
 use shell_changes::{Answer, in_memory, without_set};
-use shell_reports::{Ending, Report, RunStop, refused_answer};
+use shell_reports::{Ending, Report, RunStop, held_answer, is_too_large, refused_answer};
 use shell_sectors::{
     OutlineOpened, SectorPlace, open_outline, place_in, unfound_answer, unopened_answer,
 };
@@ -97,8 +98,55 @@ fn replay_chain<C: Chooser>(
     }
 }
 
-/// Loads the arenas of a namespace, which were read, and plays a schedule on them.
+/// Loads the arenas of a namespace, which were read, and plays a schedule on them. If there is one, it isn't too large to be opened
+/// in memory.
 fn replay_arenas<S: ImageSource, C: Chooser>(
+    alloc: Global,
+    uuid: &Uuid,
+    place: SectorPlace,
+    arenas: &[ArenaRead],
+    schedule: &Schedule,
+    images: &mut S,
+    choose: &mut C,
+) -> Result<Answer, RunStop>
+    requires few { length schedule.now.lines < 2 ^ 32 }
+    requires found { (outline : OutlineRead) × IsSectorPlace uuid.now outline place }
+    requires there { ForSome (S.held images.old) (HasContents place.rest.sizes) }
+    requires sized { AreSized arenas.now }
+    requires within { AreWithin (length place.set * place.found.raw) arenas.now }
+    requires small { AreSmall arenas.now }
+    ensures comes { IfOk result (λ answer. (outline : OutlineRead) → IsSectorPlace uuid.now outline place → ReplaysOn (LeavesBy C.begins C.picks choose.old) (S.held images.old) uuid.now schedule.now outline place arenas.now answer) }
+    ensures same { S.held images.new ≡ S.held images.old }
+    ensures failed { result ≡ Err RunStop.ReadFault → Rose (S.faults images.old) (S.faults images.new) }
+    ensures later { S.faults images.old ≤ S.faults images.new }
+{
+    let extent = SetExtent::of(&place.set, place.found.offset, place.found.raw);
+    match load_arenas(alloc, images, &extent, arenas, uuid) {
+        Ok(Ok(chain)) => in_memory(replay_chain(alloc, place, chain, schedule, choose)),
+        Ok(Err(refused)) => in_memory(unopened_answer(alloc, uuid, refused)),
+        Err(Failed) => Err(RunStop::ReadFault),
+    }
+}
+
+/// The answer that nothing is changed, since there isn't one arena.
+fn others_answer(alloc: Global, count: usize) -> Result<Answer, AllocError>
+    ensures text { IfOk result (λ answer. (contents : List (List ℕ)) → outcome_with answer contents ≡ refused_outcome (arenas_refusal count)) }
+    ensures saved { IfOk result (λ answer. answer.saved ≡ None) }
+{
+    Ok(without_set(arenas_answer(alloc, count)?))
+}
+
+/// The answer that nothing is changed, since the arena has too many bytes to be opened in memory.
+fn large_answer(alloc: Global, bytes: u128) -> Result<Answer, AllocError>
+    ensures text { IfOk result (λ answer. (contents : List (List ℕ)) → outcome_with answer contents ≡ refused_outcome (held_text bytes)) }
+    ensures saved { IfOk result (λ answer. answer.saved ≡ None) }
+{
+    Ok(without_set(held_answer(alloc, bytes)?))
+}
+
+/// Plays a schedule on the arenas of a namespace, which were read, if there is one that isn't too large to be opened in memory. Only
+/// then it is loaded.
+fn replay_read<S: ImageSource, C: Chooser>(
     alloc: Global,
     uuid: &Uuid,
     place: SectorPlace,
@@ -117,13 +165,14 @@ fn replay_arenas<S: ImageSource, C: Chooser>(
     ensures failed { result ≡ Err RunStop.ReadFault → Rose (S.faults images.old) (S.faults images.new) }
     ensures later { S.faults images.old ≤ S.faults images.new }
 {
-    let _ways = place.set.ways();
-    let extent = SetExtent::of(&place.set, place.found.offset, place.found.raw);
-    match load_arenas(alloc, images, &extent, arenas, uuid) {
-        Ok(Ok(chain)) => in_memory(replay_chain(alloc, place, chain, schedule, choose)),
-        Ok(Err(refused)) => in_memory(unopened_answer(alloc, uuid, refused)),
-        Err(Failed) => Err(RunStop::ReadFault),
+    if arenas.len() != 1 {
+        return in_memory(others_answer(alloc, arenas.len()));
     }
+    let bytes = u128::from(arenas[0].parts().info.layout.size);
+    if is_too_large(bytes) {
+        return in_memory(large_answer(alloc, bytes));
+    }
+    replay_arenas(alloc, uuid, place, arenas, schedule, images, choose)
 }
 
 /// Reads the arenas of a namespace that was found from the source, and plays a schedule on them.
@@ -143,7 +192,6 @@ fn replay_found<S: ImageSource, C: Chooser>(
     ensures failed { result ≡ Err RunStop.ReadFault → Rose (S.faults images.old) (S.faults images.new) }
     ensures later { S.faults images.old ≤ S.faults images.new }
 {
-    let _ways = place.set.ways();
     match read_arenas_from(
         alloc,
         images,
@@ -154,7 +202,7 @@ fn replay_found<S: ImageSource, C: Chooser>(
     ) {
         Ok(Ok(arenas)) => {
             let arenas = arenas.as_slice();
-            replay_arenas(alloc, uuid, place, arenas, schedule, images, choose)
+            replay_read(alloc, uuid, place, arenas, schedule, images, choose)
         }
         Ok(Err(refused)) => in_memory(unopened_answer(alloc, uuid, refused)),
         Err(Failed) => Err(RunStop::ReadFault),
@@ -191,14 +239,14 @@ fn replay_named<S: ImageSource, C: Chooser>(
 /// Answers `replay` on an image set that was loaded without its contents: what the lines of the schedule print, and the set after
 /// a power cut behind the last line; or the first region that isn't an interleave set, or the first two UUIDs with overlapping
 /// extents; or why the namespace isn't found; or the first of its arenas that violates the format; or `Arenas` with their number,
-/// if it hasn't exactly one.
+/// if it hasn't exactly one; or `TooLarge` with the arena's size in bytes, if it is more than 1 GiB.
 ///
 /// The pending moves of the arena are completed first. Then its lanes are in no call, and make the calls and steps of the lines.
 /// At the cut the chooser is begun once, with the schedule's number, and decides for each word that was stored and not flushed,
 /// in rising order. Labels aren't recovered: label areas, and all contents but the arena's, are saved as they were loaded. After a
 /// refusal nothing is saved.
 ///
-/// Of the contents only the arenas' info blocks, logs and maps are read, and then the arena's words. Everything else is read as
+/// Of the contents only the arenas' info blocks, logs and maps are read, and then the words of the one arena, if it isn't too large. Everything else is read as
 /// the set is saved, and the arena's words are put in then. `comes` speaks of the contents that the source has, as far as it
 /// reveals them. `failed`: `ReadFault` means that the source's count of failures rose in this call.
 ///

@@ -5,5 +5,4 @@ pub mod Listing
 pub mod Arenas
 pub mod Causes
 pub mod Uncut
-pub mod UncutArenas
 pub mod Opened

@@ -84,6 +84,14 @@ refusal_text op.OutOfMemory = no_text
 abbrev pub range_text : ℕ → List ℕ
 range_text count = codes "Range " ++ decimal count
 
+-- the most bytes of arenas that a command opens in memory: 1 GiB, this project's limit
+abbrev pub most_held : ℕ
+most_held = 1073741824
+
+-- arenas that have so many bytes, which are too many
+abbrev pub held_text : ℕ → List ℕ
+held_text bytes = codes "TooLarge " ++ decimal bytes
+
 -- refused REFUSAL
 abbrev pub refused_outcome : List ℕ → Outcome
 refused_outcome refusal = record { ending = ending.Refused; text = joined (codes "refused " ∷ refusal ∷ lf ∷ []); saved = None }

@@ -65,7 +65,9 @@ pub use load_faults::load_answer;
 pub use nfit::{nfit_answer, set_fault_text};
 pub use outcome::{Report, done_answer, image_answer, printed_answer, usage_answer};
 pub use power::{Power, cut_line, fuse_of, steps_of};
-pub use refusals::{op_refused_answer, range_answer, refusal_text, refused_answer};
+pub use refusals::{
+    held_answer, is_too_large, op_refused_answer, range_answer, refusal_text, refused_answer,
+};
 pub use sector_faults::arena_answer;
 pub use status::{Ending, RunStop, Status};
 pub use texts::{label_fault_text, mode_text, name_text};

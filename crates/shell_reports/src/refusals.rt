@@ -1,6 +1,6 @@
 //! The texts of commands that are refused.
-ghost use Rattle.std.specs.Prelude.{◌≡◌, ◌≢◌, IfOk, string_bytes};
-ghost use Rattle.shell_reports.specs.Faults.{range_text, refusal_text, refused_outcome};
+ghost use Rattle.std.specs.Prelude.{◌≡◌, ◌≢◌, IfOk, nat_lt, string_bytes};
+ghost use Rattle.shell_reports.specs.Faults.{held_text, most_held, range_text, refusal_text, refused_outcome};
 ghost use Rattle.shell_reports.specs.Saved.{outcome_of};
 
 use crate::{Ending, Report};
@@ -47,6 +47,24 @@ pub fn range_answer(alloc: Global, sectors: u64) -> Result<Report, AllocError>
     ensures { IfOk result (λ answer. outcome_of answer ≡ refused_outcome (range_text sectors)) }
 {
     refused_answer(alloc, &format!(in alloc; "Range {}", sectors)?)
+}
+
+/// The most bytes of arenas that a command opens in memory (this project's limit).
+const MOST_HELD: u128 = 1 << 30;
+
+/// Returns whether arenas of so many bytes together are too many to be opened in memory.
+pub fn is_too_large(bytes: u128) -> bool
+    ensures { result ≡ nat_lt most_held bytes }
+{
+    MOST_HELD < bytes
+}
+
+/// The answer of a command whose arenas have too many bytes together: `TooLarge` with their number. The call fails only if memory runs
+/// out.
+pub fn held_answer(alloc: Global, bytes: u128) -> Result<Report, AllocError>
+    ensures { IfOk result (λ answer. outcome_of answer ≡ refused_outcome (held_text bytes)) }
+{
+    refused_answer(alloc, &format!(in alloc; "TooLarge {}", bytes)?)
 }
 
 /// The answer of a command that is refused on namespaces. Power wasn't cut. Out of memory isn't a finding.

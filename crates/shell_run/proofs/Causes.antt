@@ -40,7 +40,7 @@ use Rattle.arena_open.specs.declared.chain_refused.ChainRefused.{ChainRefused}
 use Rattle.arena_open.specs.declared.state.ArenaState.{ArenaState}
 use Rattle.arena_open.specs.ChainCells.{sectors_of}
 use Rattle.namespace_areas.specs.declared.found.Found.{Found}
-use Rattle.shell_reports.specs.Faults.{arena_outcome, refusal_text, refused_outcome}
+use Rattle.shell_reports.specs.Faults.{arena_outcome, held_text, most_held, refusal_text, refused_outcome}
 use Rattle.shell_reports.specs.Sectors.{arena_lines, sector_outcome}
 use Rattle.shell_reports.specs.Causes.{breaks, fault_in, found_in, is_broken, is_unfound, lacks, lacks_found, opened_in}
 use Rattle.shell_reports.proofs.Causes.{SectorsCase, faulty, unfound, broken, opened, sectors_case}
@@ -60,18 +60,18 @@ use Rattle.shell_replay.specs.declared.schedule.Schedule.{Schedule}
 use Rattle.shell_import.specs.Import.{ImportComes}
 use Rattle.shell_import.proofs.Causes.{import_ends}
 use Rattle.shell_serve.specs.declared.load.Load.{Load as Loading}
-use Rattle.shell_serve.specs.Causes.{breaks_load, breaks_serve, refuses_load}
+use Rattle.shell_serve.specs.Causes.{breaks_load, breaks_serve, refuses_load, refuses_serve}
 use Rattle.shell_serve.specs.Laws as due
 use Rattle.shell_serve.specs.Load.{LoadComes}
 use Rattle.shell_serve.specs.Serve.{ServeComes}
 use Rattle.shell_serve.proofs.Causes.{load_due, serve_due}
-use Rattle.shell_replay.specs.Causes.{has_others, others_found}
-use Rattle.shell_replay.specs.Replay.{ReplayComes, ReplaysArenas, arenas_refusal}
+use Rattle.shell_replay.specs.Causes.{cannot_replay, refused_on}
+use Rattle.shell_replay.specs.Replay.{ReplayComes, Replays, ReplaysArenas, arenas_refusal}
 use Rattle.shell_run.specs.declared.scripts.ScriptRefused.{ScriptRefused}
 use Rattle.shell_run.specs.Run.{Comes, LoadedComes, OnImages, OnLoaded, OnScript, ComesTold, reads_script}
 use Rattle.shell_run.specs.declared.scripts.ScriptRefused.TheVariants as refused
-use Rattle.shell_run.specs.Scripts.{bytes_in, most_contents, script_in, script_outcome}
-use Rattle.shell_run.specs.Statuses.{breaks_sessions, ending_by, ending_due, ending_on, ending_scripted, ending_with, has_block, is_barred, is_cut, is_short, keeps_area, refuses_area, refuses_images}
+use Rattle.shell_run.specs.Scripts.{bytes_in, most_file_bytes, script_in, script_outcome}
+use Rattle.shell_run.specs.Statuses.{bars_sessions, breaks_sessions, ending_by, ending_due, ending_on, ending_scripted, ending_with, has_block, is_barred, is_cut, is_short, keeps_area, refuses_area, refuses_images}
 use Rattle.shell_run.specs.Laws.{StatusIsDue}
 
 -- the ways in which a command on images is answered
@@ -235,20 +235,29 @@ write_case uuid sector value loaded outcome (set_broken found fault is read e) =
 write_case uuid sector value loaded outcome (set_opened found states none is read on) =
     taken_case uuid sector value loaded outcome found states (opened_reads uuid loaded found states none is read) is read (write_refusal sector value states) refl on
 
+-- one arena is too large, or it isn't
+large_case : (leaves : ℕ → List (Option Words) → List (Option (List ℕ)) → Type 0) (uuid : List ℕ) (seed : ℕ) (schedule : Schedule) (loaded : ImageSet) (outcome : Outcome) (found : Found) (state : ArenaState) → is_broken loaded uuid ≡ false
+    → found_in loaded uuid ≡ Ok found → opened_in loaded uuid found ≡ Ok (state ∷ []) → (large : Bool) → nat_lt most_held state.info.layout.size ≡ large
+    → MatchBool large (outcome ≡ refused_outcome (held_text state.info.layout.size)) (Replays leaves uuid schedule loaded outcome found state) → CommandCase (Replay uuid seed) (Ok loaded) outcome.ending
+large_case leaves uuid seed schedule loaded outcome found state readable is read true large said =
+    is_turned_down readable refl (ap (refused_on loaded uuid) is ∙ ap cannot_replay read ∙ ap (λ (b : Bool). not (not b)) large) (ending_of outcome (refused_outcome (held_text state.info.layout.size)) said)
+large_case leaves uuid seed schedule loaded outcome found state readable is read false few saved =
+    is_done readable refl (ap (refused_on loaded uuid) is ∙ ap cannot_replay read ∙ ap (λ (b : Bool). not (not b)) few) saved.saves.ends
+
 -- there is one arena, or there are others
 one_case : (leaves : ℕ → List (Option Words) → List (Option (List ℕ)) → Type 0) (uuid : List ℕ) (seed : ℕ) (schedule : Schedule) (loaded : ImageSet) (outcome : Outcome) (found : Found) (states : List ArenaState) → is_broken loaded uuid ≡ false
     → found_in loaded uuid ≡ Ok found → opened_in loaded uuid found ≡ Ok states → ReplaysArenas leaves uuid schedule loaded outcome found states → CommandCase (Replay uuid seed) (Ok loaded) outcome.ending
 one_case leaves uuid seed schedule loaded outcome found [] readable is read said =
-    is_turned_down readable refl (ap (others_found loaded uuid) is ∙ ap has_others read) (ending_of outcome (refused_outcome (arenas_refusal 0)) said)
-one_case leaves uuid seed schedule loaded outcome found (state ∷ []) readable is read saved = is_done readable refl (ap (others_found loaded uuid) is ∙ ap has_others read) saved.saves.ends
+    is_turned_down readable refl (ap (refused_on loaded uuid) is ∙ ap cannot_replay read) (ending_of outcome (refused_outcome (arenas_refusal 0)) said)
+one_case leaves uuid seed schedule loaded outcome found (state ∷ []) readable is read comes = large_case leaves uuid seed schedule loaded outcome found state readable is read (nat_lt most_held state.info.layout.size) refl comes
 one_case leaves uuid seed schedule loaded outcome found (state ∷ next ∷ states) readable is read said =
-    is_turned_down readable refl (ap (others_found loaded uuid) is ∙ ap has_others read) (ending_of outcome (refused_outcome (arenas_refusal (length (state ∷ next ∷ states)))) said)
+    is_turned_down readable refl (ap (refused_on loaded uuid) is ∙ ap cannot_replay read) (ending_of outcome (refused_outcome (arenas_refusal (length (state ∷ next ∷ states)))) said)
 
 replay_case : (leaves : ℕ → List (Option Words) → List (Option (List ℕ)) → Type 0) (uuid : List ℕ) (seed : ℕ) (schedule : Schedule) (loaded : ImageSet) (outcome : Outcome)
     → SetCase (ReplaysArenas leaves uuid schedule loaded outcome) loaded uuid outcome → CommandCase (Replay uuid seed) (Ok loaded) outcome.ending
 replay_case leaves uuid seed schedule loaded outcome (set_faulty fault is e) = is_refused (table_broken uuid loaded fault is) (ending_of outcome (open_outcome fault) e)
 replay_case leaves uuid seed schedule loaded outcome (set_unfound refusal none is e) =
-    is_turned_down (unfound_reads uuid loaded refusal none is) refl (ap (others_found loaded uuid) is) (ending_of outcome (refused_outcome (refusal_text refusal)) e)
+    is_turned_down (unfound_reads uuid loaded refusal none is) refl (ap (refused_on loaded uuid) is) (ending_of outcome (refused_outcome (refusal_text refusal)) e)
 replay_case leaves uuid seed schedule loaded outcome (set_broken found fault is read e) =
     is_refused (arena_broken uuid loaded found fault is read) (ending_of outcome (arena_outcome uuid fault) e)
 replay_case leaves uuid seed schedule loaded outcome (set_opened found states none is read on) =
@@ -274,7 +283,7 @@ same_by false script bytes why e = let same : script ≡ bytes = cc in sym same
 
 -- the bytes are the script
 bytes_same : (script bytes : List ℕ) → bytes_in script ≡ Ok bytes → bytes ≡ script
-bytes_same script bytes e = same_by (nat_lt most_contents (length script)) script bytes (refused.TooLong most_contents) e
+bytes_same script bytes e = same_by (nat_lt most_file_bytes (length script)) script bytes (refused.TooLong most_file_bytes) e
 
 -- ---- `load`
 
@@ -288,16 +297,18 @@ load_case leaves l workers loaded outcome comes = load_by l workers loaded outco
 
 -- ---- `serve`
 
-serve_by : (b : Bool) → due.ending_by b false ≡ ending_by b false false
-serve_by true = refl
-serve_by false = refl
+serve_by : (b c : Bool) → due.ending_by b c ≡ ending_by b false c
+serve_by true c = refl
+serve_by false true = refl
+serve_by false false = refl
 
-serve_found : (leaves : List (Option Words) → List (Option (List ℕ)) → Type 0) (script : Script) (found : Result ImageSet LoadFault) (outcome : Outcome) → OnLoaded (ServeComes leaves script) found outcome → outcome.ending ≡ ending_by (breaks_sessions (Ok script) found) false false
-serve_found leaves script (Ok loaded) outcome comes = serve_due leaves script loaded outcome comes ∙ serve_by (breaks_serve loaded script)
+serve_found : (leaves : List (Option Words) → List (Option (List ℕ)) → Type 0) (script : Script) (found : Result ImageSet LoadFault) (outcome : Outcome) → OnLoaded (ServeComes leaves script) found outcome
+    → outcome.ending ≡ ending_by (breaks_sessions (Ok script) found) false (bars_sessions (Ok script) found)
+serve_found leaves script (Ok loaded) outcome comes = serve_due leaves script loaded outcome comes ∙ serve_by (breaks_serve loaded script) (refuses_serve loaded script)
 serve_found leaves script (Err fault) outcome comes = ending_of outcome _ comes
 
 abbrev serve_for : Images → Result Script ScriptRefused → Ending
-serve_for set r = if is_err r then ending.Usage else ending_by (breaks_sessions r (loading set)) false false
+serve_for set r = if is_err r then ending.Usage else ending_by (breaks_sessions r (loading set)) false (bars_sessions r (loading set))
 
 serve_ending : (leaves : List (Option Words) → List (Option (List ℕ)) → Type 0) (set : Images) (outcome : Outcome) (r : Result Script ScriptRefused) → OnScript (λ (lines : Script). OnImages (ServeComes leaves lines) (Some set)) r outcome → outcome.ending ≡ serve_for set r
 serve_ending leaves set outcome (Ok script) on = serve_found leaves script (loading set) outcome (on set refl)

@@ -36,7 +36,7 @@ use Rattle.shell_run.specs.declared.words.CommandLine.{CommandLine}
 use Rattle.shell_run.specs.declared.words.CommandLine.TheVariants.{Labels, Nfit, Init, Change, Info, Read, Write, Replay as AskReplay, Export, Import, Serve, Load}
 use Rattle.shell_run.specs.declared.words.CommandLine.TheVariants as command
 use Rattle.shell_run.specs.Printed.{Exports, IsReported, IsUnloaded}
-use Rattle.shell_run.specs.Run.{Comes, ComesTold, IsDue, LoadedComes, OnImages, OnLoaded, OnScript, OnSource, copies, copies_by, copies_found, has_sessions, needs_contents, reads_script, streams, streams_by, streams_found}
+use Rattle.shell_run.specs.Run.{Comes, ComesTold, IsDue, LoadedComes, OnImages, OnLoaded, OnScript, OnSource, copies, copies_by, copies_found, has_sessions, reads_script, streams, streams_by, streams_found}
 use Rattle.shell_run.specs.Scripts.{bytes_in, script_in, script_outcome}
 use Rattle.shell_run.specs.Words.{command_of}
 
@@ -123,22 +123,6 @@ pub report_is : {E F : Type 0} (r : Result Report E) (a : Result Answer F) (due 
     → IfOk r (λ report. outcome_of report ≡ due) → IfOk a (λ answer. (contents : List (List ℕ)) → outcome_with answer contents ≡ due)
 report_is {E} r a due same none says =
     report_comes r a (λ _. due) same none (if_more _ (λ report. (contents : List (List ℕ)) → outcome_of report ≡ due) r (λ report said contents. said) says)
-
--- a command that makes an answer of the loaded set alone, and starts no sessions, needs no contents in memory
-pub plain_outlined : (c : CommandLine) → reads_script c ≡ false → streams c ≡ false → has_sessions c ≡ false → needs_contents c ≡ false
-plain_outlined (command.Labels m) plain told alone = refl
-plain_outlined command.Nfit plain told alone = refl
-plain_outlined command.List plain told alone = refl
-plain_outlined (command.Init m power) plain told alone = refl
-plain_outlined (command.Change c power) plain told alone = refl
-plain_outlined (command.Info uuid) plain told alone = refl
-plain_outlined (command.Read uuid sector) plain told alone = refl
-plain_outlined (command.Write uuid sector value) plain told alone = refl
-plain_outlined (command.Replay uuid seed) plain told alone = absurd (false≢true (sym plain))
-plain_outlined (command.Export uuid zeros) plain told alone = refl
-plain_outlined (command.Import uuid) plain told alone = refl
-plain_outlined (command.Serve running) plain told alone = absurd (false≢true (sym plain))
-plain_outlined (command.Load l workers) plain told alone = absurd (false≢true (sym alone))
 
 -- ---- contents that are copied
 
@@ -242,15 +226,21 @@ module _ (comes : ImageSet → Outcome → Type 0) (held : Option Images) where
       let none : Err fault ≡ loading set = told' set at (λ e. unloaded.0 (let h = e in cc)) (λ e. unloaded.1 (let h = e in cc)) in
       subst (λ (l : Result ImageSet LoadFault). OnLoaded comes l outcome) none unloaded.2
 
-  pub loaded_told : (found : Result Loaded LoadFault) (loaded : Loaded) (answer : Answer) → found ≡ Ok loaded → ForSome held (Loads found) → copies_contents answer.saved ≡ false
-      → comes (image_set_in loaded) (whole_outcome answer) → IsTold answer
-  loaded_told found loaded answer is told whole due = λ outcome from.
-      subst (λ (o : Outcome). OnImages comes held o) (sym (from_whole held [] answer outcome whole from)) (loaded_on found loaded (whole_outcome answer) is told due)
-
-  pub unloaded_told : (found : Result Loaded LoadFault) (fault : LoadFault) (answer : Answer) → found ≡ Err fault → ForSome held (Loads found) → answer.saved ≡ None
-      → ((contents : List (List ℕ)) → outcome_with answer contents ≡ load_outcome fault) → fault ≢ ReadFault → fault ≢ OutOfMemory → IsTold answer
-  unloaded_told found fault answer is told nothing says read memory = λ outcome from.
-      unloaded_on found fault outcome is told (read, memory, from_none held answer outcome (load_outcome fault) nothing says from)
+-- a command with sessions copies contents as it saves
+pub session_copies : (c : CommandLine) → has_sessions c ≡ true → IsTrue (copies c)
+session_copies (command.Labels m) some = let e = some in cc
+session_copies command.Nfit some = let e = some in cc
+session_copies command.List some = let e = some in cc
+session_copies (command.Init m power) some = let e = some in cc
+session_copies (command.Change c power) some = let e = some in cc
+session_copies (command.Info uuid) some = let e = some in cc
+session_copies (command.Read uuid sector) some = let e = some in cc
+session_copies (command.Write uuid sector value) some = let e = some in cc
+session_copies (command.Replay uuid seed) some = let e = some in cc
+session_copies (command.Export uuid zeros) some = let e = some in cc
+session_copies (command.Import uuid) some = let e = some in cc
+session_copies (command.Serve running) some = refl
+session_copies (command.Load l workers) some = refl
 
 -- an answer on a set that isn't loaded, from the four things that are known of it
 pub if_told : {E : Type 0} (P : Answer → Type 0) (r : Result Answer E) (fault : LoadFault)

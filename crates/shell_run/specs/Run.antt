@@ -154,24 +154,8 @@ copies (Write uuid sector value) = true
 copies (Replay uuid seed) = true
 copies (Export uuid zeros) = false
 copies (Import uuid) = true
-copies (Serve running) = false
-copies (Load l workers) = false
-
--- whether a command has the contents of modules in memory, so that they are loaded; the others read from the source what they need of them
-abbrev pub needs_contents : CommandLine → Bool
-needs_contents (Labels m) = false
-needs_contents Nfit = false
-needs_contents command.List = false
-needs_contents (Init m power) = false
-needs_contents (Change c power) = false
-needs_contents (Info uuid) = false
-needs_contents (Read uuid sector) = false
-needs_contents (Write uuid sector value) = false
-needs_contents (Replay uuid seed) = false
-needs_contents (Export uuid zeros) = false
-needs_contents (Import uuid) = false
-needs_contents (Serve running) = true
-needs_contents (Load l workers) = true
+copies (Serve running) = true
+copies (Load l workers) = true
 
 -- whether the words are those of a command that copies contents
 abbrev pub copies_found : Option CommandLine → Bool

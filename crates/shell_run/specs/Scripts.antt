@@ -18,9 +18,9 @@ use Rattle.shell_run.specs.declared.scripts.ScriptRefused.TheVariants as refused
 abbrev pub most_bytes : ℕ
 most_bytes = 16777216
 
--- the greatest number of bytes of a namespace, since all contents together have no more
-abbrev pub most_contents : ℕ
-most_contents = 536870912
+-- the greatest number of bytes of import's FILE, which is read into memory
+abbrev pub most_file_bytes : ℕ
+most_file_bytes = 536870912
 
 abbrev pub or_refused : {A : Type 0} → Result A ScriptFault → Result A ScriptRefused
 or_refused (Ok script) = Ok script
@@ -32,7 +32,7 @@ script_in reading text = if nat_lt most_bytes (length text) then Err (refused.To
 
 -- the bytes for a namespace, which may be any
 abbrev pub bytes_in : List ℕ → Result (List ℕ) ScriptRefused
-bytes_in text = if nat_lt most_contents (length text) then Err (refused.TooLong most_contents) else Ok text
+bytes_in text = if nat_lt most_file_bytes (length text) then Err (refused.TooLong most_file_bytes) else Ok text
 
 -- ---- the texts of refusals
 

@@ -25,7 +25,7 @@ use Rattle.shell_replay.specs.Causes.{refuses_replay}
 use Rattle.session_script.specs.declared.script.Script.{Script}
 use Rattle.session_script.specs.Schedule.{replay_reading}
 use Rattle.session_script.specs.Script.{script_reading}
-use Rattle.shell_serve.specs.Causes.{breaks_load, breaks_serve, refuses_load}
+use Rattle.shell_serve.specs.Causes.{breaks_load, breaks_serve, refuses_load, refuses_serve}
 use Rattle.shell_run.specs.declared.scripts.ScriptRefused.{ScriptRefused}
 use Rattle.shell_run.specs.Scripts.{bytes_in, script_in}
 use Rattle.shell_run.specs.declared.words.CommandLine.{CommandLine}
@@ -118,10 +118,15 @@ breaks_sessions lines (Err fault) = true
 breaks_sessions (Ok script) (Ok loaded) = breaks_serve loaded script
 breaks_sessions (Err why) (Ok loaded) = false
 
+-- the arenas that sessions open have too many bytes together
+abbrev pub bars_sessions : Result Script ScriptRefused → Result ImageSet LoadFault → Bool
+bars_sessions (Ok script) (Ok loaded) = refuses_serve loaded script
+bars_sessions lines found = false
+
 -- a refusal of `import` is by its script, too, and so are the arenas that `serve` opens
 abbrev pub ending_scripted : CommandLine → List ℕ → Result ImageSet LoadFault → Ending
 ending_scripted (Import uuid) script found = ending_by (refuses_images (Import uuid) found) false (bars_bytes uuid script found)
-ending_scripted (Serve running) script found = ending_by (breaks_sessions (script_in script_reading script) found) false false
+ending_scripted (Serve running) script found = ending_by (breaks_sessions (script_in script_reading script) found) false (bars_sessions (script_in script_reading script) found)
 ending_scripted command script found = ending_on command found
 
 abbrev pub ending_with : Option CommandLine → List ℕ → Result ImageSet LoadFault → Ending

@@ -18,13 +18,12 @@
 //! each of them returns.
 //!
 //! A command is an entry of the table in `specs/Commands.antt`, a case of `Comes` in `specs/Run.antt`, and a handler that
-//! makes an answer from the set that was loaded, without a source or a sink. A command with a script reads it to its end
+//! makes an answer from the set, which was loaded without its contents. A command with a script reads it to its end
 //! before anything is loaded (`OnScript`); its handler gets what was read. `export` alone gets the text sink (`streams`), since its
-//! text may be as long as the contents. `info`, `read`, `write`, `replay`, `import` and `export` get the image source, from which they read the arenas of
-//! a sector namespace, `read` the sector, and `export` all bytes (`OnSource`).
+//! text may be as long as the contents. Commands on sectors get the image source, from which they read the arenas of
+//! sector namespaces, `read` the sector, and `export` all bytes (`OnSource`).
 //! Loading, faults of reading and writing and running out of memory are handled once, for all commands, by `OnLoaded`, by
-//! `Ends` and in `top`. Contents are loaded for `serve` and `load` alone; the other commands that save copy them
-//! (`copies`).
+//! `Ends` and in `top`. Commands that write a set copy the contents as they save (`copies`).
 #![tactic(auto)]
 
 mod commands;

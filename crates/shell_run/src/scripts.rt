@@ -18,8 +18,8 @@ use std::alloc::{AllocError, Global};
 /// The greatest number of bytes of a script of lines.
 const MOST_BYTES: usize = 16777216;
 
-/// The greatest number of bytes of a namespace: all contents together have no more.
-const MOST_CONTENTS: usize = 536870912;
+/// The greatest number of bytes of import's FILE, which is read into memory.
+const MOST_FILE_BYTES: usize = 536870912;
 
 /// Why a script isn't taken.
 #[derive(Clone, Copy, Debug, PartialEq, Eq)]
@@ -133,8 +133,8 @@ pub(crate) fn read_sessions<T: TextSource>(
 
 /// Reads the bytes for a namespace, which are all that is left of the script.
 ///
-/// They are refused with `TooLong`, if they are more than all contents of a set can have. It stops with `ReadFault` only if the
-/// script's count of faults rose in this call.
+/// They are refused with `TooLong` if they are more than 512 MiB. It stops with `ReadFault` only if the script's count of faults
+/// rose in this call.
 pub(crate) fn read_bytes<T: TextSource>(
     alloc: Global,
     script: &mut T,
@@ -143,7 +143,7 @@ pub(crate) fn read_bytes<T: TextSource>(
     ensures refused { (why : ScriptRefused) → result ≡ Err (ScriptStop.Refused why) → ForSome (T.left script.old) (λ text. bytes_in text ≡ Err why) }
     ensures failed { result ≡ Err (ScriptStop.Stop RunStop.ReadFault) → Rose (T.faults script.old) (T.faults script.new) }
 {
-    text_in(alloc, script, MOST_CONTENTS)
+    text_in(alloc, script, MOST_FILE_BYTES)
 }
 
 fn kind_text(kind: LineKind) -> &'static str

@@ -3,12 +3,10 @@ ghost use Rattle.std.specs.Prelude.{◌≡◌, ◌⊎◌, ◌≤◌, ◌<◌, fa
 ghost use Rattle.std.specs.Option.{ForSome};
 ghost use Rattle.nvd_media.specs.Causes.{Rose};
 ghost use Rattle.nvd_media.specs.Images.{IsEmptySet};
-ghost use Rattle.image_set.specs.Load.{image_set_in};
-ghost use Rattle.image_set.specs.Sound.{IsSound};
 ghost use Rattle.shell_reports.specs.Outcome.{Outcome};
-ghost use Rattle.shell_changes.specs.Answers.{ComesFrom, whole_outcome};
+ghost use Rattle.shell_changes.specs.Answers.{ComesFrom};
 ghost use Rattle.shell_changes.specs.Remains.{LeavesBy};
-ghost use Rattle.shell_changes.specs.Saved.{copies_contents};
+ghost use Rattle.shell_changes.specs.Saved.{HasContentsOf};
 ghost use Rattle.session_script.specs.Names.{ScriptHasText};
 ghost use Rattle.shell_serve.specs.Load.{LoadComes};
 ghost use Rattle.shell_serve.specs.Serve.{ServeComes};
@@ -18,13 +16,13 @@ ghost use Rattle.shell_run.specs.Words.{HasGoodValues};
 use crate::scripts::{ScriptStop, read_sessions};
 use crate::top::{carry_out, conclude, has_sessions, misread, stopped, unloaded};
 use crate::words::CommandLine;
-use image_set::{Loaded, load};
+use image_set::load_outline;
 use lane_calls::Waiting;
 use nvd_media::{Chooser, Gate, ImageSink, ImageSource, TextSink, TextSource};
 use session_script::Script;
-use shell_changes::{Answer, in_memory};
+use shell_changes::Answer;
 use shell_reports::{RunStop, Status};
-use shell_serve::{Load, Running, serve_answer};
+use shell_serve::{Load, Running, load_answer, serve_answer};
 use std::alloc::{AllocError, Global};
 use std::sync::Wait;
 use std::thread::Threads;
@@ -36,26 +34,7 @@ pub(crate) struct Tools<'a, R: Threads + Wait + Sync, G: Gate> {
     pub(crate) alloc: Global,
 }
 
-/// What `load` comes to on the set that it loads, in so many threads.
-fn load_found<R: Threads + Wait + Sync, C: Chooser, G: Gate>(
-    waiting: &Waiting<R, G>,
-    alloc: Global,
-    work: &Load,
-    workers: u32,
-    loaded: Loaded,
-    choose: &mut C,
-) -> Result<Answer, AllocError>
-    requires workers { 0 < workers }
-    requires some { 0 < work.now.sessions }
-    requires sound { IsSound loaded }
-    ensures comes { IfOk result (λ answer. LoadComes (LeavesBy C.begins C.picks choose.old 0) work.now (image_set_in loaded) (whole_outcome answer)) }
-    ensures whole { IfOk result (λ answer. copies_contents answer.saved ≡ false) }
-{
-    let running = Running { workers, seed: 0 };
-    shell_serve::load_answer(waiting, alloc, running, work, loaded, choose)
-}
-
-/// What `load` comes to: the whole set is loaded.
+/// What `load` comes to: the set is loaded but for its contents.
 fn perform_load<R: Threads + Wait + Sync, S: ImageSource, C: Chooser, G: Gate>(
     waiting: &Waiting<R, G>,
     alloc: Global,
@@ -67,19 +46,20 @@ fn perform_load<R: Threads + Wait + Sync, S: ImageSource, C: Chooser, G: Gate>(
     requires workers { 0 < workers }
     requires some { 0 < work.now.sessions }
     ensures told { IfOk result (λ answer. (outcome : Outcome) → ComesFrom (S.held images.old) answer outcome → OnImages (LoadComes (LeavesBy C.begins C.picks choose.old 0) work.now) (S.held images.old) outcome) }
-    ensures whole { IfOk result (λ answer. copies_contents answer.saved ≡ false) }
+    ensures there { IfOk result (λ answer. HasContentsOf (S.held images.old) answer.saved) }
     ensures same { S.held images.new ≡ S.held images.old }
     ensures failed { result ≡ Err RunStop.ReadFault → Rose (S.faults images.old) (S.faults images.new) }
     ensures later { S.faults images.old ≤ S.faults images.new }
 {
-    match load(alloc, images) {
-        Ok(loaded) => in_memory(load_found(waiting, alloc, work, workers, loaded, choose)),
+    let running = Running { workers, seed: 0 };
+    match load_outline(alloc, images) {
+        Ok(outline) => load_answer(waiting, alloc, running, work, outline, images, choose),
         Err(why) => unloaded(alloc, why),
     }
 }
 
-/// What `serve` comes to once its script is read: the whole set is loaded.
-fn serve_loaded<R: Threads + Wait + Sync, S: ImageSource, C: Chooser, G: Gate>(
+/// What `serve` comes to once its script is read: the set is loaded but for its contents.
+fn serve_outlined<R: Threads + Wait + Sync, S: ImageSource, C: Chooser, G: Gate>(
     waiting: &Waiting<R, G>,
     alloc: Global,
     running: Running,
@@ -90,13 +70,13 @@ fn serve_loaded<R: Threads + Wait + Sync, S: ImageSource, C: Chooser, G: Gate>(
     requires workers { 0 < running.workers }
     requires text { ScriptHasText script.now }
     ensures told { IfOk result (λ answer. (outcome : Outcome) → ComesFrom (S.held images.old) answer outcome → OnImages (ServeComes (LeavesBy C.begins C.picks choose.old running.seed) script.now) (S.held images.old) outcome) }
-    ensures whole { IfOk result (λ answer. copies_contents answer.saved ≡ false) }
+    ensures there { IfOk result (λ answer. HasContentsOf (S.held images.old) answer.saved) }
     ensures same { S.held images.new ≡ S.held images.old }
     ensures failed { result ≡ Err RunStop.ReadFault → Rose (S.faults images.old) (S.faults images.new) }
     ensures later { S.faults images.old ≤ S.faults images.new }
 {
-    match load(alloc, images) {
-        Ok(loaded) => in_memory(serve_answer(waiting, alloc, running, script, loaded, choose)),
+    match load_outline(alloc, images) {
+        Ok(outline) => serve_answer(waiting, alloc, running, script, outline, images, choose),
         Err(why) => unloaded(alloc, why),
     }
 }
@@ -112,13 +92,13 @@ fn perform_serve<R: Threads + Wait + Sync, S: ImageSource, T: TextSource, C: Cho
 ) -> Result<Answer, RunStop>
     requires workers { 0 < running.workers }
     ensures told { IfOk result (λ answer. (outcome : Outcome) → ComesFrom (S.held images.old) answer outcome → ComesTold (LeavesBy C.begins C.picks choose.old) (CommandLine.Serve running) (S.held images.old) (T.left script.old) outcome) }
-    ensures whole { IfOk result (λ answer. copies_contents answer.saved ≡ false) }
+    ensures there { IfOk result (λ answer. HasContentsOf (S.held images.old) answer.saved) }
     ensures same { S.held images.new ≡ S.held images.old }
     ensures failed { result ≡ Err RunStop.ReadFault → Rose (S.faults images.old) (S.faults images.new) ⊎ Rose (T.faults script.old) (T.faults script.new) }
     ensures later { S.faults images.old ≤ S.faults images.new }
 {
     match read_sessions(alloc, script) {
-        Ok(lines) => serve_loaded(waiting, alloc, running, &lines, images, choose),
+        Ok(lines) => serve_outlined(waiting, alloc, running, &lines, images, choose),
         Err(ScriptStop::Refused(why)) => misread(alloc, why),
         Err(ScriptStop::Stop(stop)) => Err(stop),
     }
@@ -136,7 +116,7 @@ fn perform_sessions<R: Threads + Wait + Sync, S: ImageSource, T: TextSource, C: 
     requires sessions { has_sessions command ≡ true }
     requires good { HasGoodValues command }
     ensures told { IfOk result (λ answer. (outcome : Outcome) → ComesFrom (S.held images.old) answer outcome → ComesTold (LeavesBy C.begins C.picks choose.old) command (S.held images.old) (T.left script.old) outcome) }
-    ensures whole { IfOk result (λ answer. copies_contents answer.saved ≡ false) }
+    ensures there { IfOk result (λ answer. HasContentsOf (S.held images.old) answer.saved) }
     ensures same { S.held images.new ≡ S.held images.old }
     ensures unread { reads_script command ≡ false → T.left script.new ≡ T.left script.old }
     ensures failed { result ≡ Err RunStop.ReadFault → Rose (S.faults images.old) (S.faults images.new) ⊎ Rose (T.faults script.old) (T.faults script.new) }

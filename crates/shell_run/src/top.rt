@@ -18,7 +18,7 @@ ghost use Rattle.shell_export.specs.Printing.{ExportsFrom};
 ghost use Rattle.shell_import.specs.Import.{ImportComes};
 ghost use Rattle.shell_replay.specs.Replay.{ReplayComes};
 ghost use Rattle.shell_run.specs.Scripts.{script_outcome};
-ghost use Rattle.shell_run.specs.Run.{AppendsPart, ComesTold, Ends, Holds, IsAnswered, IsDue, IsPlain, LeavesScript, LoadedComes, OnImages, OnSource, copies, copies_by, has_sessions, needs_contents, reads_script, streams, streams_by};
+ghost use Rattle.shell_run.specs.Run.{AppendsPart, ComesTold, Ends, Holds, IsAnswered, IsDue, IsPlain, LeavesScript, LoadedComes, OnImages, OnSource, copies, copies_by, has_sessions, reads_script, streams, streams_by};
 ghost use Rattle.shell_run.specs.Printed.{EndsPrinting, Exports, HoldsPrinted, IsMisused, IsReported, IsUnloaded};
 ghost use Rattle.shell_run.specs.Words.{HasGoodValues};
 
@@ -184,8 +184,8 @@ fn outlined_answer<S: ImageSource, C: Chooser>(
     requires loadable { IsLoadable outline }
     requires there { ForSome (S.held images.old) (HasContents outline.sizes) }
     requires name { HasGoodValues command }
-    requires outlined { needs_contents command ≡ false }
     requires plain { IsPlain command }
+    requires alone { has_sessions command ≡ false }
     ensures comes { IfOk result (OnSource (LoadedComes (LeavesBy C.begins C.picks choose.old) command) (S.held images.old) outline) }
     ensures sizes { IfOk result (HasSizes outline.sizes) }
     ensures copying { IfOk result (λ answer. IsTrue (copies_contents answer.saved) → IsTrue (copies command)) }
@@ -239,8 +239,8 @@ fn perform_outlined<S: ImageSource, C: Chooser>(
     choose: &mut C,
 ) -> Result<Answer, RunStop>
     requires name { HasGoodValues command }
-    requires outlined { needs_contents command ≡ false }
     requires plain { IsPlain command }
+    requires alone { has_sessions command ≡ false }
     ensures told { IfOk result (λ answer. (outcome : Outcome) → ComesFrom (S.held images.old) answer outcome → OnImages (LoadedComes (LeavesBy C.begins C.picks choose.old) command) (S.held images.old) outcome) }
     ensures copying { IfOk result (λ answer. IsTrue (copies_contents answer.saved) → IsTrue (copies command)) }
     ensures there { IfOk result (λ answer. HasContentsOf (S.held images.old) answer.saved) }

@@ -1,12 +1,13 @@
 -- From an outline whose labels are read to what `info` comes to on its set.
-use Rattle.std.proofs.Common.{◌≡◌, ℕ, ◌+◌, ◌*◌, ◌/◌, ◌%◌, ◌^◌, ◌<◌, ◌≤◌, List, length, Option, Some, Result, Ok, Err, get_or, refl, sym, ap, ◌∙◌, subst, arith}
+use Rattle.std.proofs.Common.{◌≡◌, ℕ, ◌+◌, ◌*◌, ◌%◌, ◌^◌, ◌<◌, ◌≤◌, List, length, Option, Some, Result, Ok, Err, get_or, refl, sym, ap, ◌∙◌, subst, arith}
 use Rattle.std.specs.Prelude.{IfOk}
 use Rattle.std.specs.Option.{ForSome}
 use Rattle.std.proofs.lemmas.Bool.{le-ltb, lt-ltb}
-use Rattle.std.proofs.lemmas.Nat.{div-add-mod', mod-mul-add, mul-le}
+use Rattle.std.proofs.lemmas.Nat.{mul-le}
 use Rattle.nvd_media.specs.Images.{Images}
 use Rattle.nfit_reader.specs.declared.table.Mapping.{Mapping}
 use Rattle.interleave.specs.Places.{unit_of}
+use Rattle.interleave.specs.Sound.{span_of}
 use Rattle.arena_open.specs.declared.state.ArenaState.{ArenaState}
 use Rattle.arena_open.specs.declared.cell.Cell.TheVariants as cell
 use Rattle.arena_open.specs.ChainCells.{contents_of, sectors_of}
@@ -25,6 +26,7 @@ use Rattle.namespace_ops.specs.Counted.{namespaces_in}
 use Rattle.namespace_ops.specs.Opening.{sets_of}
 use Rattle.namespace_ops.specs.Registered.{Registered, state_of}
 use Rattle.sector_namespaces.specs.View.{opened_view, rows_of, view_words}
+use Rattle.served_namespaces.proofs.ReadInTurn.{whole_pages}
 use Rattle.shell_reports.specs.Causes.{fault_in}
 use Rattle.shell_reports.specs.Faults.{range_text, refusal_text, refused_outcome}
 use Rattle.shell_reports.specs.List.{labels_in_set, open_outcome}
@@ -72,26 +74,19 @@ module _ (outline : Outline) (uuid : List ℕ) (f : List ArenaState → Outcome)
 
 -- ---- a namespace that was found
 
--- whole units are whole pages
-pages_of : (unit raw ways : ℕ) → unit % 4096 ≡ 0 → raw % unit ≡ 0 → ways * raw % 4096 ≡ 0
-pages_of unit raw ways pages units =
-    let unit_is : unit ≡ 4096 * (unit / 4096) = omega (arith, pages) in
-    let raw_is : raw ≡ raw / unit * unit = omega (arith, div-add-mod' raw unit, units) in
-    let raw_pages : raw ≡ raw / unit * (unit / 4096) * 4096 = raw_is ∙ ap (λ (u : ℕ). raw / unit * u) unit_is ∙ omega arith in
-    let product : ways * raw ≡ ways * (raw / unit * (unit / 4096)) * 4096 + 0 = ap (λ (r : ℕ). ways * r) raw_pages ∙ omega arith in
-    ap (λ (n : ℕ). n % 4096) product ∙ mod-mul-add (ways * (raw / unit * (unit / 4096))) 4096 0 (omega arith)
-
 module _ (outline : Outline) (registry : Registered) (rest : OutlineRest) (o : IsOpenOutline outline registry rest) (found : Found) (lies : LiesInSet registry.sets found) (set : List Mapping) (is : set ≡ set_at registry.sets found.region) where
   pub found_pages : length set * found.raw % 4096 ≡ 0
   found_pages =
       subst (λ (ms : List Mapping). length ms * found.raw % 4096 ≡ 0) (sym is)
-      (pages_of (unit_of (set_at registry.sets found.region)) found.raw (length (set_at registry.sets found.region)) (o.pages found.region lies.region) lies.to)
+      (whole_pages (unit_of (set_at registry.sets found.region)) found.raw (length (set_at registry.sets found.region)) (o.pages found.region lies.region) lies.to)
 
-  -- a set has few modules, each with few bytes
-  pub found_few : length set < 2 ^ 16 → length set * found.raw ≤ 2 ^ 55
-  found_few ways =
-      let raw : found.raw ≤ 536870912 = omega (arith, o.spans found.region lies.region, lies.inside) in
-      omega (arith, mul-le (length set) found.raw 65536 536870912 (omega (arith, ways)) raw)
+  -- it has no more bytes than all contents may have
+  pub found_few : length set * found.raw ≤ 2 ^ 55
+  found_few =
+      let own : List Mapping = set_at registry.sets found.region in
+      let raw : found.raw ≤ span_of own = omega (arith, lies.inside) in
+      subst (λ (ms : List Mapping). length ms * found.raw ≤ 2 ^ 55) (sym is)
+      (omega (arith, mul-le (length own) found.raw (length own) (span_of own) (omega arith) raw, o.spans found.region lies.region))
 
   module _ (held : Option Images) (source : Images) (told : held ≡ Some source) (has : HasContents rest.sizes source) where
     have : HaveSizes outline.sizes (contents_in source (length outline.sizes))

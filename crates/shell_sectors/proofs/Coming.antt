@@ -16,8 +16,7 @@ use Rattle.sector_namespaces.specs.View.{opened_view, rows_of, view_words}
 use Rattle.shell_reports.specs.Causes.{fault_in, found_in, opened_in}
 use Rattle.shell_reports.specs.List.{open_outcome}
 use Rattle.shell_reports.specs.Outcome.{Outcome}
-use Rattle.shell_sectors.specs.declared.finding.FoundSet.{FoundSet}
-use Rattle.shell_sectors.specs.Found.{IsFoundIn, IsUnfound, OnArenas, OnFound, OnSet, place_of}
+use Rattle.shell_sectors.specs.Found.{IsUnfound, OnArenas, OnFound, OnSet, place_of}
 
 -- ---- the relation
 
@@ -33,9 +32,6 @@ module _ (on : Found → List ArenaState → Type 0) (uuid : List ℕ) (loaded :
   pub named_comes : (found : Found) → fault_in loaded ≡ None → found_in loaded uuid ≡ Ok found → OnArenas (on found) uuid outcome (opened_in loaded uuid found) → OnSet on uuid loaded outcome
   named_comes found none is arenas =
       subst (λ (o : Option OpenFault). OnFault o) (sym none) (subst (λ (r : Result Found OpRefused). OnFound on uuid loaded outcome r) (sym is) arenas)
-
-  pub found_comes : (set : FoundSet) → IsFoundIn loaded uuid set → OnArenas (on set.found) uuid outcome (opened_in loaded uuid set.found) → OnSet on uuid loaded outcome
-  found_comes set f arenas = named_comes set.found f.none f.is arenas
 
   -- the arenas are those in the namespace's words
   pub on_words : (found : Found) (r : Result (List ArenaState) ChainRefused) → opened_view (words_of (place_of loaded found (rows_of loaded.contents))).kept uuid ≡ r

@@ -1,12 +1,11 @@
 -- From an outline to one whose labels are read.
-use Rattle.std.proofs.Common.{◌≡◌, ℕ, ◌+◌, ◌-◌, ◌*◌, ◌/◌, ◌%◌, ◌^◌, ◌<◌, ◌≤◌, max, List, [], ◌∷◌, inl, inr, length, map, sum, get_or, Some, Ok, Err, refl, sym, ap, ◌∙◌, subst, arith}
+use Rattle.std.proofs.Common.{◌≡◌, ℕ, ◌+◌, ◌-◌, ◌*◌, ◌/◌, ◌%◌, ◌^◌, ◌<◌, ◌≤◌, max, List, [], ◌∷◌, inl, inr, length, map, get_or, Some, Ok, Err, refl, sym, ap, ◌∙◌, subst, arith}
 use Rattle.std.specs.List.{All}
 use Rattle.std.proofs.Math.Nat.{max-eq_left, max-eq_right}
 use Rattle.std.proofs.lemmas.Bool.{cases_lt}
 use Rattle.std.proofs.lemmas.Nat.{pow-add, pow_below}
 use Rattle.std.proofs.lemmas.List.{get_or-map, length-map}
 use Rattle.std.proofs.lemmas.List.Elements.{All-contains}
-use Rattle.std.proofs.lemmas.List.Sums.{get_or-le-sum_by}
 use Rattle.std.proofs.lemmas.Option.{get_or_from_slice_get, slice_get-get_or, slice_get_within}
 use Rattle.nvd_words.specs.Checks.{first_fault}
 use Rattle.cut_words.specs.Words.{Words, settled}
@@ -23,6 +22,7 @@ use Rattle.label_set.specs.declared.placed.Placed.{Placed}
 use Rattle.arena_open.proofs.Bytes.{length_words}
 use Rattle.power_cut.specs.Namespace.{HasBytes, ReachEnds, row_of}
 use Rattle.image_set.specs.declared.outline.Outline.{Outline}
+use Rattle.image_set.specs.Limits.{most_contents}
 use Rattle.image_set.specs.Outline.{IsLoadable, IsOutlined, image_set_with}
 use Rattle.image_set.specs.Sizes.{IsContentsSize}
 use Rattle.image_set.specs.Sound.{AreMapped, IsMapped}
@@ -41,6 +41,7 @@ use Rattle.namespace_ops.specs.Registered.{Registered, state_of}
 use Rattle.namespace_ops.proofs.Regions.{sets_are as sets_checked}
 use Rattle.namespace_ops.proofs.Shown.{shown_at}
 use Rattle.sector_namespaces.specs.View.{rows_of}
+use Rattle.sector_namespaces.proofs.Spans.{spans_within}
 use Rattle.shell_changes.specs.Saved.{AreWholeSizes}
 use Rattle.shell_reports.specs.Causes.{fault_in}
 use Rattle.shell_reports.specs.List.{labels_in_set}
@@ -82,16 +83,6 @@ module _ (sizes : List ℕ) (contents : List (List ℕ)) (have : HaveSizes sizes
   reach_of r set read mapped = λ m c.
       let same : by_offset r.mappings ≡ set = (no_fault (by_offset r.mappings) set (first_fault (faults_of r r.mappings)) read).1 in
       has_bytes m (All-contains (IsMapped sizes) r.mappings m mapped (in_to r.mappings m (in_by_offset r.mappings m (subst (λ (ms : List Mapping). In ms m) (sym same) (in_from set m c)))))
-
--- ---- mappings
-
--- no mapping of a set is larger than all contents together
-span_in : (sizes : List ℕ) (r : Region) (set : List Mapping) → set_reading r ≡ Ok set → AreMapped sizes r → span_of set ≤ sum sizes
-span_in sizes r [] read mapped = omega arith
-span_in sizes r (m ∷ ms) read mapped =
-    let same : by_offset r.mappings ≡ m ∷ ms = (no_fault (by_offset r.mappings) (m ∷ ms) (first_fault (faults_of r r.mappings)) read).1 in
-    let own : IsMapped sizes m = All-contains (IsMapped sizes) r.mappings m mapped (in_to r.mappings m (in_by_offset r.mappings m (subst (λ (l : List Mapping). In l m) (sym same) (inl refl)))) in
-    omega (arith, own.inside, get_or-le-sum_by (λ (n : ℕ). n) sizes m.«module» 0 own.there)
 
 -- ---- units
 
@@ -177,11 +168,11 @@ module _ (outline : Outline) (sound : IsOutlined outline) (loadable : IsLoadable
         subst (λ (sets : List (List Mapping)). ReachEnds (set_at sets region) (rows_of contents)) (sym sets_are)
         (reach_of outline.sizes contents have whole own.0 (set_at (sets_of outline.nfit) region) own.1.0 own.1.1)
 
-    spans : (region : ℕ) → region < length registry.sets → span_of (set_at registry.sets region) ≤ 536870912
+    spans : (region : ℕ) → region < length registry.sets → length (set_at registry.sets region) * span_of (set_at registry.sets region) ≤ most_contents
     spans region lt =
         let own = region_of region lt in
-        subst (λ (sets : List (List Mapping)). span_of (set_at sets region) ≤ 536870912) (sym sets_are)
-        (omega (arith, loadable.total, span_in outline.sizes own.0 (set_at (sets_of outline.nfit) region) own.1.0 own.1.1))
+        subst (λ (sets : List (List Mapping)). length (set_at sets region) * span_of (set_at sets region) ≤ most_contents) (sym sets_are)
+        (omega (arith, loadable.total, spans_within outline.sizes own.0 (set_at (sets_of outline.nfit) region) own.1.0 own.1.1))
 
     pages : (region : ℕ) → region < length registry.sets → unit_of (set_at registry.sets region) % 4096 ≡ 0
     pages region lt =
@@ -191,6 +182,7 @@ module _ (outline : Outline) (sound : IsOutlined outline) (loadable : IsLoadable
 
     pub open_outline : IsOpenOutline outline registry (rest_of outline)
     open_outline = record {
+      is = is ∙ ap (registry_opening outline.nfit) are;
       none = λ contents. fault_was outline contents areas are ∙ o.none;
       running = ap (λ (r : Registered). r.stopped) o.is;
       held = subst AreHeld (sym (ap (λ (r : Registered). r.areas) o.is)) held;

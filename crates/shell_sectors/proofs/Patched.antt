@@ -42,7 +42,7 @@ labels_back (None ∷ labels) = ap (λ (ls : List (Option (List ℕ))). None ∷
 labels_back (Some w ∷ labels) = ap (λ (ls : List (Option (List ℕ))). Some (bytes_of w.kept) ∷ ls) (labels_back labels)
 
 module _ {text : List ℕ} (outline : Outline) (registry : Registered) (rest : OutlineRest) (o : IsOpenOutline outline registry rest) (found : Found) (lies : LiesInSet registry.sets found) (new : NewBytes) (answer : Answer)
-    (s : PrintsPatched text (patch_of registry.sets found new) rest (map area_words registry.areas) answer) where
+    (s : PrintsPatched text (patch_of registry.sets found new ∷ []) rest (map area_words registry.areas) answer) where
   abbrev patch : BytePatch
   patch = patch_of registry.sets found new
 
@@ -60,7 +60,7 @@ module _ {text : List ℕ} (outline : Outline) (registry : Registered) (rest : O
     labels_same : map (option_map bytes_of) s.left.labels ≡ map (option_map bytes_kept) outline.labels
     labels_same = ap (map (option_map bytes_of)) (s.kept ∙ ap (map (option_map (λ w. w.kept))) o.labels) ∙ labels_back outline.labels
 
-    same_objects : IsSameSet (objects_with s.left (contents_with patch contents)) (objects_of (with_contents loaded rows))
+    same_objects : IsSameSet (objects_with s.left (contents_with (patch ∷ []) contents)) (objects_of (with_contents loaded rows))
     unfolding objects_of image_set_with
     same_objects object.Mark = refl
     same_objects object.Nfit = ap (λ (bytes : List ℕ). Some bytes) (s.nfit ∙ ap (λ (r : OutlineRest). r.nfit_bytes) o.rest_is)
@@ -96,7 +96,7 @@ module _ {text : List ℕ} (outline : Outline) (registry : Registered) (rest : O
         saves = record {
           ends = s.ends;
           says = s.says;
-          saved = objects_saved contents (Patched s.left patch);
+          saved = objects_saved contents (Patched s.left (patch ∷ []));
           saves = ap (option_map (objects_saved contents)) s.saves;
           same = same_objects;
         };

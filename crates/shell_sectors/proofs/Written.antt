@@ -1,5 +1,5 @@
 -- From an outline to what a write of one sector of one of its namespaces comes to.
-use Rattle.std.proofs.Common.{◌≡◌, ◌≢◌, ℕ, ◌*◌, ◌%◌, ◌^◌, ◌<◌, ◌≤◌, ◌++◌, List, length, map, get_or, Option, Some, None, Result, Ok, Err, sym, ap, ◌∙◌, subst, inl, inr}
+use Rattle.std.proofs.Common.{◌≡◌, ◌≢◌, ℕ, ◌*◌, ◌%◌, ◌^◌, ◌≤◌, ◌++◌, List, [], ◌∷◌, length, map, get_or, Option, Some, None, Result, Ok, Err, sym, ap, ◌∙◌, subst, inl, inr}
 use Rattle.std.specs.Prelude.{IfOk, MatchOption, slice_index}
 use Rattle.std.specs.Option.{ForSome}
 use Rattle.std.proofs.lemmas.List.{get_or-map}
@@ -149,7 +149,7 @@ module _ (outline : Outline) (registry : Registered) (rest : OutlineRest) (o : I
         runs = move_runs links ++ lone_runs link own (bytes_for had value)
 
         module _ (small : HaveMapsOfBytes (bytes_by_place set found.offset found.raw contents) links) (have : HaveSizes outline.sizes contents) (fit : length (bytes_for had value) ≡ had)
-            (s : SavesPatched (patch_of registry.sets found (Runs runs)) rest (map area_words registry.areas) answer) (puts : Patches registry.sets found (patch_of registry.sets found (Runs runs))) where
+            (s : SavesPatched (patch_of registry.sets found (Runs runs) ∷ []) rest (map area_words registry.areas) answer) (puts : Patches registry.sets found (patch_of registry.sets found (Runs runs))) where
           abbrev row : List ℕ
           row = bytes_by_place set found.offset found.raw contents
 
@@ -209,9 +209,9 @@ module _ (uuid : List ℕ) (outline : Outline) (s : SectorPlace) (it : IsSectorP
   pub whole_pages : length s.set * s.found.raw % 4096 ≡ 0
   whole_pages = found_pages outline it.registry s.rest it.parts s.found it.lies s.set it.set
 
-  -- a set has few modules, each with few bytes
-  pub few_bytes : length s.set < 2 ^ 16 → length s.set * s.found.raw ≤ 2 ^ 55
-  few_bytes ways = found_few outline it.registry s.rest it.parts s.found it.lies s.set it.set ways
+  -- it has no more bytes than all contents may have
+  pub few_bytes : length s.set * s.found.raw ≤ 2 ^ 55
+  few_bytes = found_few outline it.registry s.rest it.parts s.found it.lies s.set it.set
 
   pub areas_whole : AreWhole (map area_words s.areas.items)
   areas_whole =

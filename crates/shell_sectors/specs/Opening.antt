@@ -1,21 +1,22 @@
 -- An outline whose labels are read, and commands that print what its contents hold: this project's rules.
-use Rattle.std.specs.Prelude.{◌≡◌, ℕ, ◌%◌, ◌<◌, ◌≤◌, false, List, length, map, Option, None, Some}
+use Rattle.std.specs.Prelude.{◌≡◌, ℕ, ◌*◌, ◌%◌, ◌<◌, ◌≤◌, false, List, length, map, Option, None, Some, Ok, Err}
 use Rattle.std.specs.Option.{ForSome}
 use Rattle.nvd_media.specs.Images.{Images}
 use Rattle.interleave.specs.Places.{unit_of}
 use Rattle.interleave.specs.Sound.{span_of}
 use Rattle.power_cut.specs.Namespace.{ReachEnds}
+use Rattle.image_set.specs.Limits.{most_contents}
 use Rattle.image_set.specs.Load.{ImageSet}
 use Rattle.image_set.specs.declared.changing.OutlineRest.{OutlineRest}
 use Rattle.image_set.specs.declared.outline.Outline.{Outline}
 use Rattle.image_set.specs.Outline.{IsOutlineRest, contents_in, image_set_with}
 use Rattle.namespace_areas.specs.Finding.{set_at}
-use Rattle.namespace_areas.specs.Opening.{AreWhole}
+use Rattle.namespace_areas.specs.Opening.{AreWhole, opened_as}
 use Rattle.namespace_areas.specs.Seen.{AreHeld, words_of}
 use Rattle.namespace_map.specs.Namespaces.{entry_at, lookup}
 use Rattle.namespace_ops.specs.declared.registry.OpenFault.{OpenFault}
 use Rattle.namespace_ops.specs.Counted.{namespaces_in}
-use Rattle.namespace_ops.specs.Opening.{sets_of}
+use Rattle.namespace_ops.specs.Opening.{registry_opening, sets_of}
 use Rattle.namespace_ops.specs.Registered.{Registered, state_of}
 use Rattle.sector_namespaces.specs.View.{rows_of}
 use Rattle.shell_reports.specs.declared.outcome.Report.{Report}
@@ -39,6 +40,7 @@ rest_of outline = record { nfit_bytes = outline.nfit_bytes; sizes = outline.size
 
 -- All parts of an outline whose labels are read. None of it depends on the contents.
 pub record IsOpenOutline (outline : Outline) (registry : Registered) (rest : OutlineRest) : Type 0 where
+  pub is : Ok registry ≡ registry_opening outline.nfit (map opened_as outline.labels)
   pub none : (contents : List (List ℕ)) → fault_in (image_set_with outline contents) ≡ None
   pub running : registry.stopped ≡ false
   pub held : AreHeld registry.areas
@@ -53,8 +55,8 @@ pub record IsOpenOutline (outline : Outline) (registry : Registered) (rest : Out
   pub sizes : AreWholeSizes rest.sizes
   -- the unit of each set is whole pages
   pub pages : (region : ℕ) → region < length registry.sets → unit_of (set_at registry.sets region) % 4096 ≡ 0
-  -- no mapping is larger than all contents together may be: 512 MiB
-  pub spans : (region : ℕ) → region < length registry.sets → span_of (set_at registry.sets region) ≤ 536870912
+  -- no set is larger than all contents together may be
+  pub spans : (region : ℕ) → region < length registry.sets → length (set_at registry.sets region) * span_of (set_at registry.sets region) ≤ most_contents
   -- contents of these sizes hold the mappings of all sets
   pub reach : (contents : List (List ℕ)) → HaveSizes outline.sizes contents → (region : ℕ) → region < length registry.sets → ReachEnds (set_at registry.sets region) (rows_of contents)
 
@@ -62,7 +64,9 @@ pub record IsOpenOutline (outline : Outline) (registry : Registered) (rest : Out
 
 -- the table or the labels have this fault, whatever the contents are
 abbrev pub IsFaulty : Outline → Report → Type 0
-IsFaulty outline report = (fault : OpenFault) × ((contents : List (List ℕ)) → fault_in (image_set_with outline contents) ≡ Some fault) × (outcome_of report ≡ open_outcome fault)
+IsFaulty outline report =
+    (fault : OpenFault) × ((contents : List (List ℕ)) → fault_in (image_set_with outline contents) ≡ Some fault) × (outcome_of report ≡ open_outcome fault)
+    × (Err fault ≡ registry_opening outline.nfit (map opened_as outline.labels))
 
 abbrev pub OpensOutline : Outline → OutlineOpened → Type 0
 OpensOutline outline (opened.Done registry rest) = IsOpenOutline outline registry rest

@@ -1,4 +1,4 @@
--- A set whose contents are copied with new bytes for one namespace: this project's rules.
+-- A set whose contents are copied with new bytes for namespaces: this project's rules.
 use Rattle.std.specs.Prelude.{◌≡◌, ℕ, List, map, Option, Some}
 use Rattle.std.specs.Option.{option_map}
 use Rattle.cut_words.specs.Words.{Words}
@@ -21,19 +21,19 @@ abbrev pub patch_of : List (List Mapping) → Found → NewBytes → BytePatch
 patch_of sets found bytes = record { set = set_at sets found.region; offset = found.offset; raw = found.raw; bytes = bytes }
 
 -- An answer prints this text, and saves a set of which these are the words of the label areas, and whose contents are copied and patched.
-pub record PrintsPatched (text : List ℕ) (patch : BytePatch) (rest : OutlineRest) (labels : List (Option Words)) (answer : Answer) : Type 0 where
+pub record PrintsPatched (text : List ℕ) (patches : List BytePatch) (rest : OutlineRest) (labels : List (Option Words)) (answer : Answer) : Type 0 where
   pub ends : answer.report.ending ≡ ending.Done
   pub says : answer.report.text.items ≡ text
   pub left : OutlineLeft
-  pub saves : answer.saved ≡ Some (Patched left patch)
+  pub saves : answer.saved ≡ Some (Patched left patches)
   pub nfit : left.nfit ≡ rest.nfit_bytes
   pub kept : left.labels ≡ map (option_map (λ w. w.kept)) labels
   pub sizes : left.sizes ≡ rest.sizes
   pub bad : left.bad ≡ rest.bad
 
 -- the same with `ok` as the text
-abbrev pub SavesPatched : BytePatch → OutlineRest → List (Option Words) → Answer → Type 0
-SavesPatched patch rest labels answer = PrintsPatched done_text patch rest labels answer
+abbrev pub SavesPatched : List BytePatch → OutlineRest → List (Option Words) → Answer → Type 0
+SavesPatched patches rest labels answer = PrintsPatched done_text patches rest labels answer
 
 -- the patch puts the bytes there and nowhere else
 abbrev pub Patches : List (List Mapping) → Found → BytePatch → Type 0

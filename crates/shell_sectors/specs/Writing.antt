@@ -1,5 +1,5 @@
 -- The command `write` on a set that was loaded without its contents: this project's rules.
-use Rattle.std.specs.Prelude.{◌≡◌, ℕ, List, length, map, Option, Ok}
+use Rattle.std.specs.Prelude.{◌≡◌, ℕ, List, [], ◌∷◌, length, map, Option, Ok}
 use Rattle.std.specs.Option.{ForSome}
 use Rattle.nvd_media.specs.Images.{Images}
 use Rattle.arena_open.specs.Chain.{Link}
@@ -38,7 +38,7 @@ pub record IsSectorPlace (uuid : List ℕ) (outline : Outline) (s : SectorPlace)
 -- this text is printed, and the set is saved with these runs in the namespace
 abbrev pub SavesRuns : List ℕ → Registered → SectorPlace → List Run → Answer → Type 0
 SavesRuns text registry s runs answer =
-    PrintsPatched text (patch_of registry.sets s.found (Runs runs)) s.rest (map words_of registry.areas) answer × Patches registry.sets s.found (patch_of registry.sets s.found (Runs runs))
+    PrintsPatched text (patch_of registry.sets s.found (Runs runs) ∷ []) s.rest (map words_of registry.areas) answer × Patches registry.sets s.found (patch_of registry.sets s.found (Runs runs))
 
 -- An answer is what `write` comes to, if the namespace has these arenas.
 pub record WritesWith (uuid : List ℕ) (sector : ℕ) (value : Payload) (outline : Outline) (s : SectorPlace) (links : List Link) (answer : Answer) : Type 0 where

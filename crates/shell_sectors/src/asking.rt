@@ -119,7 +119,6 @@ fn named_answer<S: ImageSource>(
     match registry.find(uuid) {
         Ok(found) => {
             let set = registry.set(found.region);
-            let _ways = set.ways();
             found_answer(alloc, set, &found, uuid, ask, images)
         }
         Err(refused) => reported(op_refused_answer(alloc, refused)),

@@ -45,31 +45,23 @@
 //!
 //! # Steps for other commands
 //!
-//! `import` saves by `patched_answer` too. A command that has the whole set in memory begins by `find_in_set` or `read_labels`, and ends by
-//! `put_arena`, `saved_answer` or `left_answer`. One that leaves contents in the source begins by `place_in`, and saves runs of bytes by
-//! `SectorPlace::save`.
+//! Each begins by `open_outline`. `import` saves by `patched_answer`, `replay` by `SectorPlace::save`.
 //!
 //! Labels, the firmware's table and bad ranges are saved as read. The order of refusals and the texts
 //! are this project's rules over UEFI 2.10, chapter 6.
 #![tactic(auto)]
 
 mod asking;
-mod changing;
-mod finding;
 mod info;
 mod lone;
 mod opening;
 mod patching;
 mod read;
-mod saving;
 mod value;
 mod write;
 
-pub use changing::put_arena;
-pub use finding::{FoundSet, LabelsRead, OpenSet, SetFound, Unchanged, find_in_set, read_labels};
 pub use info::info_answer;
 pub use opening::{OutlineOpened, open_outline};
 pub use patching::{patched_answer, printed_patched, set_of, unopened_answer};
 pub use read::read_answer;
-pub use saving::{left_answer, saved_answer};
 pub use write::{SectorPlace, place_in, unfound_answer, write_answer};

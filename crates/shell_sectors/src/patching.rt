@@ -1,4 +1,4 @@
-//! How a command ends that puts new bytes into one namespace while the contents of a set are copied.
+//! How a command ends that puts new bytes into namespaces while the contents of a set are copied.
 ghost use Rattle.std.specs.Prelude.{◌≡◌, ◌≢◌, ◌<◌, ℕ, List, IfOk, None, length, map};
 ghost use Rattle.arena_open.specs.declared.refused.OpenRefused.TheVariants as open_refused;
 ghost use Rattle.image_set.specs.Outline.{IsOutlineRest};
@@ -15,7 +15,7 @@ use arena_open::ChainRefused;
 use image_set::OutlineRest;
 use interleave::InterleaveSet;
 use namespace_areas::{Area, into_words};
-use namespace_bytes::NamespacePatch;
+use namespace_bytes::SetPatch;
 use nvd_media::ListChooser;
 use nvd_words::Items;
 use shell_changes::{Answer, Left, SavedSet, without_set};
@@ -39,7 +39,7 @@ pub fn set_of(sets: Items<InterleaveSet>, region: u32) -> InterleaveSet
 pub fn printed_patched(
     alloc: Global,
     report: Report,
-    patch: NamespacePatch,
+    patch: SetPatch,
     rest: OutlineRest,
     areas: Vec<Area>,
 ) -> Result<Answer, AllocError>
@@ -64,7 +64,7 @@ pub fn printed_patched(
 /// No word of the label areas is pending. The call fails only if memory runs out.
 pub fn patched_answer(
     alloc: Global,
-    patch: NamespacePatch,
+    patch: SetPatch,
     rest: OutlineRest,
     areas: Vec<Area>,
 ) -> Result<Answer, AllocError>

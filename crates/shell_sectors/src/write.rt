@@ -24,7 +24,7 @@ use crate::value::{bytes_for, length_for};
 use image_set::{Outline, OutlineRest};
 use interleave::InterleaveSet;
 use namespace_areas::{Area, Found};
-use namespace_bytes::{NamespacePatch, NewBytes, Run};
+use namespace_bytes::{NewBytes, Run, SetPatch};
 use namespace_map::OpRefused;
 use namespace_ops::Registry;
 use namespace_words::{ArenaRead, arena_at, locate, move_runs, read_arenas_from, sectors_of_all};
@@ -97,7 +97,8 @@ impl SectorPlace {
             areas,
             rest,
         } = self;
-        let patch = NamespacePatch::new(set, found.offset, found.raw, NewBytes::Runs(runs));
+        let bytes = NewBytes::Runs(runs);
+        let patch = SetPatch::one(alloc, set, found.offset, found.raw, bytes)?;
         printed_patched(alloc, report, patch, rest, areas)
     }
 
@@ -161,7 +162,6 @@ impl SectorPlace {
         ensures failed { result ≡ Err RunStop.ReadFault → Rose (S.faults images.old) (S.faults images.new) }
         ensures later { S.faults images.old ≤ S.faults images.new }
     {
-        let _ways = self.set.ways();
         match read_arenas_from(
             alloc,
             images,

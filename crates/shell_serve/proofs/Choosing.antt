@@ -12,8 +12,8 @@ use Rattle.served_namespaces.specs.declared.places.OpenedNamespace.{OpenedNamesp
 use Rattle.session_account.specs.Account.{Histories}
 use Rattle.session_account.specs.Survival.{Flight}
 use Rattle.shell_changes.specs.Remains.{LeavesBy}
-use Rattle.shell_sectors.specs.Saving.{LeavesOn}
 use Rattle.shell_serve.specs.Chosen.{ArenasChosen, IsChosen, LeavesArenas, LeavesTo, all_words, words_left}
+use Rattle.shell_serve.specs.Saving.{LeavesOn}
 
 in_turn_both : {C X Y : Type 0} (leaves : X → Y → C → C → Type 0) (xs vs : List X) (ys ws : List Y) (a b c : C) → InTurn leaves xs ys a b → InTurn leaves vs ws b c → InTurn leaves (xs ++ vs) (ys ++ ws) a c
 in_turn_both leaves [] vs ys ws a b c (none, same) more = subst (λ zs. InTurn leaves vs (zs ++ ws) a c) (sym none) (subst (λ s. InTurn leaves vs ws s c) same more)

@@ -1,36 +1,39 @@
 -- The set that is saved after sessions.
-use Rattle.std.proofs.Common.{◌≡◌, ℕ, List, [], ◌∷◌, length, map, get_or, Option, None, refl, sym, ap, ◌∙◌}
+use Rattle.std.proofs.Common.{◌≡◌, ℕ, List, [], ◌∷◌, length, map, get_or, Option, None, Some, refl, sym, ap, ◌∙◌, subst}
+use Rattle.std.specs.Prelude.{IfSome, slice_get}
 use Rattle.std.specs.Option.{option_map}
-use Rattle.std.proofs.lemmas.List.Elements.{All-head, All-tail}
-use Rattle.cut_words.specs.Words.{Words, IsLeft, settled}
-use Rattle.cut_words.specs.WordBytes.{bytes_of}
+use Rattle.std.proofs.Math.ListN.{get_or-map}
+use Rattle.std.proofs.lemmas.Simd.{map-map}
+use Rattle.cut_words.specs.Words.{Words, settled}
+use Rattle.cut_words.specs.WordBytes.{bytes_of, words_in}
 use Rattle.nvd_media.specs.declared.object.Object.TheVariants as object
-use Rattle.power_cut.specs.Left.{Each}
+use Rattle.nvd_media.specs.Images.{IsSameSet}
+use Rattle.image_set.specs.declared.changing.OutlineRest.{OutlineRest}
 use Rattle.image_set.specs.Changed.{objects_of}
 use Rattle.image_set.specs.Load.{ImageSet}
+use Rattle.image_set.specs.Outline.{objects_with}
+use Rattle.image_set.specs.Patches.{patched_contents}
 use Rattle.namespace_areas.specs.declared.area.Area.{Area}
 use Rattle.namespace_areas.specs.Seen.{AreLeft as AreasLeft, areas_shown}
-use Rattle.namespace_areas.proofs.Seen.{left_kept}
-use Rattle.sector_namespaces.specs.Creation.{AreSettled}
+use Rattle.namespace_bytes.specs.Patching.{BytePatch, all_patched}
+use Rattle.sector_namespaces.specs.View.{rows_of}
+use Rattle.shell_changes.specs.declared.answer.Answer.{Answer}
+use Rattle.shell_changes.specs.declared.answer.Left.{Left}
+use Rattle.shell_changes.specs.declared.answer.Left.TheVariants.{Patched}
+use Rattle.shell_changes.specs.Answers.{HasSizes, outcome_with}
 use Rattle.shell_changes.specs.Areas.{area_in, with_labels}
+use Rattle.shell_changes.specs.Saved.{HasSize, contents_with, objects_saved}
 use Rattle.shell_changes.proofs.Areas.{rows_shown, sized_all, unread_all}
+use Rattle.shell_reports.specs.declared.outcome.Report.{Report}
 use Rattle.shell_reports.specs.declared.status.Ending.{Ending}
 use Rattle.shell_reports.specs.declared.status.Ending.TheVariants as ending
 use Rattle.shell_reports.specs.Outcome.{Outcome}
 use Rattle.shell_reports.specs.Saved.{IsSaving}
 use Rattle.shell_sectors.specs.Found.{with_contents}
+use Rattle.shell_serve.specs.declared.recovered.RecoveredSet.{RecoveredSet}
 use Rattle.shell_serve.specs.Recovered.{KeepsLabels}
+use Rattle.shell_serve.specs.Saving.{SavesLeft}
 use Rattle.shell_serve.specs.Serving.{SavesParts}
-
--- ---- contents of which no word is pending are saved as they are kept
-
-pub rows_settled : (contents : List Words) (rows : List (List ℕ)) → AreSettled contents → Each IsLeft contents rows → map settled rows ≡ contents
-rows_settled [] rows all is = ap (map settled) is
-rows_settled (words ∷ contents) rows all (first, rest, is, here, more) =
-    let own : words ≡ settled words.kept = All-head (λ (w : Words). w ≡ settled w.kept) words contents all in
-    let one : settled first ≡ words = ap settled (left_kept words first own here) ∙ sym own in
-    let others : map settled rest ≡ contents = rows_settled contents rest (All-tail (λ (w : Words). w ≡ settled w.kept) words contents all) more in
-    ap (map settled) is ∙ (λ i. one i ∷ others i)
 
 -- ---- label areas
 
@@ -50,3 +53,35 @@ saves_parts loaded areas keeps labels rows end said text outcome left ends says 
       has = record { labels = map (option_map bytes_of) labels; shown = rows_shown labels; unread = unread; sizes = sizes; objects = λ object. refl };
       saves = record { ends = saves.ends ∙ ends; says = saves.says ∙ says; saved = saves.saved; saves = saves.saves; same = saves.same };
     }
+
+-- ---- contents that are copied and patched
+
+module _ (loaded : ImageSet) (contents : List (List ℕ)) (set : RecoveredSet) (nfit : loaded.nfit_bytes ≡ set.rest.nfit_bytes) (bad : loaded.bad ≡ set.rest.bad) (patch : List BytePatch) where
+  -- the words of all modules, with the bytes put in
+  abbrev pub rows_with : List (List ℕ)
+  rows_with = map words_in (patched_contents (all_patched patch) contents)
+
+  pub rows_same : map settled (map words_in (patched_contents (all_patched patch) contents)) ≡ rows_of (patched_contents (all_patched patch) contents)
+  rows_same = map-map settled words_in (patched_contents (all_patched patch) contents)
+
+  module _ {leaves : List (Option Words) → List (Option (List ℕ)) → Type 0} (report : Report) (areas : List Area) (answer : Answer) (s : SavesLeft leaves report areas set.rest patch answer) where
+    same_objects : IsSameSet (objects_with s.left (contents_with patch contents)) (objects_of (with_labels (with_contents loaded (map words_in (patched_contents (all_patched patch) contents))) (map (option_map bytes_of) s.left.labels)))
+    unfolding objects_of
+    same_objects object.Mark = refl
+    same_objects object.Nfit = ap (λ (bytes : List ℕ). Some bytes) (s.nfit ∙ sym nfit)
+    same_objects (object.Labels k) = sym (get_or-map (option_map bytes_of) s.left.labels k None)
+    same_objects (object.Contents k) = ap (λ (cs : List (List ℕ)). slice_get cs k) (sym (map-map bytes_of words_in (patched_contents (all_patched patch) contents)))
+    same_objects (object.BadRanges k) = ap (λ (bs : List (Option (List ℕ))). get_or bs k None) (s.bad ∙ sym bad)
+
+    pub is_saving : IsSaving report.ending report.text.items (objects_of (with_labels (with_contents loaded (map words_in (patched_contents (all_patched patch) contents))) (map (option_map bytes_of) s.left.labels))) (outcome_with answer contents)
+    is_saving = record {
+      ends = ap (λ (r : Report). r.ending) s.is;
+      says = ap (λ (r : Report). r.text.items) s.is;
+      saved = objects_saved contents (Patched s.left patch);
+      saves = ap (option_map (objects_saved contents)) s.saves;
+      same = same_objects;
+    }
+
+-- the contents that are copied have the outline's sizes
+pub sizes_left : {leaves : List (Option Words) → List (Option (List ℕ)) → Type 0} (report : Report) (areas : List Area) (rest own : OutlineRest) (patch : List BytePatch) (answer : Answer) → rest ≡ own → SavesLeft leaves report areas rest patch answer → HasSizes own.sizes answer
+sizes_left report areas rest own patch answer same s = subst (λ (saved : Option Left). IfSome saved (HasSize own.sizes)) (sym s.saves) (s.sizes ∙ ap (λ (r : OutlineRest). r.sizes) same)

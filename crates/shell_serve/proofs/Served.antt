@@ -1,6 +1,7 @@
 -- From what sessions come to on arenas to the set after the cut.
 use Rattle.std.proofs.Common.{◌≡◌, ℕ, ◌<◌, ◌^◌, Bool, true, false, List, [], ◌∷◌, ◌++◌, length, map, get_or, Option, Some, Result, Ok, refl, sym, ap, ◌∙◌, subst, Global, arith}
 use Rattle.std.specs.Prelude.{All, Contains, Vec, slice_get, slice_index_or}
+use Rattle.std.specs.List.{All as AllOf}
 use Rattle.std.proofs.lemmas.List.{length-map}
 use Rattle.std.proofs.lemmas.Option.{get_or_from_slice_get, slice_get-get_or, slice_get_within}
 use Rattle.turn_lock.specs.Rows.{items_at}
@@ -17,7 +18,7 @@ use Rattle.arena_open.specs.Reading.{cell_at}
 use Rattle.lane_core.specs.History.{IsLegal}
 use Rattle.lane_core.specs.Reopening.{Reopens, first_cells}
 use Rattle.power_cut.specs.Left.{Each}
-use Rattle.image_set.specs.Load.{ImageSet}
+use Rattle.image_set.specs.declared.outline.Outline.{Outline}
 use Rattle.image_set.proofs.Kept.{each_length}
 use Rattle.namespace_areas.specs.declared.area.Area.{Area}
 use Rattle.namespace_areas.specs.Seen.{AreHeld, AreLeft as AreasLeft, areas_seen, areas_shown, words_of as area_words}
@@ -29,9 +30,9 @@ use Rattle.namespace_ops.specs.Registered.{Registered}
 use Rattle.sector_namespaces.specs.View.{rows_of}
 use Rattle.served_namespaces.specs.declared.places.FoundNamespace.{FoundNamespace}
 use Rattle.served_namespaces.specs.declared.places.OpenedNamespace.{OpenedNamespace}
-use Rattle.served_namespaces.specs.declared.places.OpenedSet.{OpenedSet}
-use Rattle.served_namespaces.specs.Places.{words_at}
-use Rattle.served_namespaces.specs.Serving.{AllFit, AreServing, ArenaFits, IsOpenedFrom}
+use Rattle.served_namespaces.specs.Places.{AreDisjoint, words_at}
+use Rattle.served_namespaces.specs.Reading.{IsOpened}
+use Rattle.served_namespaces.specs.Serving.{AllFit, ArenaFits, IsOpenedFrom}
 use Rattle.served_namespaces.specs.Serving as put
 use Rattle.served_namespaces.specs.Steps.{IsReady}
 use Rattle.session_account.specs.Account.{Accounts, flights_on}
@@ -44,7 +45,7 @@ use Rattle.session_service.specs.declared.ending.Ran.{Ran}
 use Rattle.session_service.specs.declared.namespaces.ServedNamespace.{ServedNamespace}
 use Rattle.session_service.specs.Namespaces as service
 use Rattle.session_service.specs.Ran.{HasServed, IsRunArena, journal_of}
-use Rattle.shell_sectors.specs.declared.finding.Unchanged.{Unchanged}
+use Rattle.shell_serve.specs.declared.recovered.RecoveredSet.{RecoveredSet}
 use Rattle.shell_serve.specs.Answering.{AreSame, IsOpen, IsServed}
 use Rattle.shell_serve.specs.Chosen.{ArenasAtCut, ArenasChosen, all_words, words_left}
 use Rattle.shell_serve.specs.Serving.{AreLegal, ArenasSurvive, servings_of, unclaimed}
@@ -244,56 +245,41 @@ module _ (namespaces : List OpenedNamespace) (served : List ServedNamespace) (sa
 
 -- ---- all of it
 
-module _ (loaded : ImageSet) (rest : Unchanged) (set : OpenedSet) (is : IsOpen loaded rest set) (served : List ServedNamespace) (same : AreSame set.namespaces served) (script : Script) (ran : Ran) (has : HasServed rest.registry served script ran)
+module _ (outline : Outline) (set : RecoveredSet) (namespaces : List OpenedNamespace) (is : IsOpen outline set namespaces) (served : List ServedNamespace) (same : AreSame namespaces served) (script : Script) (ran : Ran) (has : HasServed set.registry served script ran)
     (words : List (List (List ℕ))) (cut : Each (λ own parts. Each IsLeft own.items parts) ran.arenas.items words) where
   -- the words may be put back
-  pub is_ready : (places : List FoundNamespace) (sets : List (List Mapping)) → places ≡ map (λ (o : OpenedNamespace). o.place) set.namespaces → sets ≡ ran.registry.sets → IsReady sets (rows_of loaded.contents) places set.namespaces words set.modules.items
+  pub is_ready : (places : List FoundNamespace) (sets : List (List Mapping)) → places ≡ map (λ (o : OpenedNamespace). o.place) namespaces → sets ≡ ran.registry.sets → IsReady sets places namespaces words
   is_ready places sets are held = record {
     places_are = sym are;
-    serving = subst (λ (s : List (List Mapping)). AreServing s (rows_of loaded.contents) set.namespaces set.modules.items) (sym (held ∙ has.sets)) is.serving;
-    fit = all_fit set.namespaces served same rest.registry script ran has words cut;
+    each = subst (λ (s : List (List Mapping)). AllOf (IsOpened s) namespaces) (sym (held ∙ has.sets)) is.each;
+    disjoint = subst (λ (ps : List FoundNamespace). AreDisjoint sets ps) (sym are)
+        (subst (λ (s : List (List Mapping)). AreDisjoint s (map (λ (o : OpenedNamespace). o.place) namespaces)) (sym (held ∙ has.sets)) is.disjoint);
+    fit = all_fit namespaces served same set.registry script ran has words cut;
   }
 
-  counted : (now : List Words) → map (λ (w : Words). length w.kept) now ≡ map (λ (w : Words). length w.kept) (rows_of loaded.contents) → length now ≡ length loaded.contents
-  counted now sizes =
-      sym (length-map now (λ (w : Words). length w.kept)) ∙ ap (λ (ns : List ℕ). length ns) sizes ∙ length-map (rows_of loaded.contents) (λ (w : Words). length w.kept)
-      ∙ length-map loaded.contents (λ (bytes : List ℕ). settled (words_in bytes))
+  -- there are as many label areas as before
+  pub areas_count : length ran.registry.areas ≡ length set.registry.areas
+  areas_count = sym (length-map ran.registry.areas size_of) ∙ ap (λ (ns : List ℕ). length ns) has.areas.sizes ∙ length-map set.registry.areas size_of
 
-  pub is_served : (leaves : List (Option Words) → List (Option (List ℕ)) → Type 0) → leaves (all_words (map items_of ran.arenas.items)) (words_left words) → (now : Vec Words Global) (sets : List (List Mapping)) → sets ≡ ran.registry.sets
-      → put.AreLeft sets (rows_of loaded.contents) set.namespaces words now.items
-      → IsServed leaves loaded rest.registry.sets (areas_seen rest.registry.areas) (label_rows rest.registry.areas) set.namespaces script
-      (record { texts = ran.texts; rest = record { registry = ran.registry; nfit_bytes = rest.nfit_bytes; bad = rest.bad }; modules = now })
-  is_served leaves chosen now sets held left =
-      let here : put.AreLeft rest.registry.sets (rows_of loaded.contents) set.namespaces words now.items = subst (λ (s : List (List Mapping)). put.AreLeft s (rows_of loaded.contents) set.namespaces words now.items) (held ∙ has.sets) left in
-      let r = is.recovered in
-      record {
-        replies = has.replies;
-        texts = has.texts;
-        journal = journal_of ran;
-        histories = has.histories;
-        commands = subst (λ (xs : List Area). IsJournal rest.registry.sets (unclaimed (areas_seen xs)) script.labelcut (journal_of ran)) r.opening has.commands;
-        legal = legal set.namespaces served same rest.registry script ran has words cut rest.registry.sets (rows_of loaded.contents) now.items here;
-        accounts = subst (λ (all : List Serving). Accounts all script has.replies (journal_of ran) has.histories) (same_servings set.namespaces served same) has.accounts;
-        labels = labels_left set.namespaces served same rest.registry script ran has r.opening r.held;
-        hold = labels_hold set.namespaces served same rest.registry script ran has r.opening r.held;
-        survive = survives set.namespaces served same rest.registry script ran has words cut rest.registry.sets (rows_of loaded.contents) now.items here;
-        beside = here.beside;
-        chosen = arenas_chosen set.namespaces served same rest.registry script ran has words cut rest.registry.sets (rows_of loaded.contents) now.items here leaves chosen;
-        settled = here.settled;
-        keeps = record {
-          words = r.labels.words;
-          are = r.labels.are;
-          whole = r.labels.whole;
-          beside = has.areas.beside ∙ r.labels.beside;
-          sizes = has.areas.sizes ∙ r.labels.sizes;
-        };
-        nfit = r.nfit;
-        bad = r.bad;
-        modules = record {
-          labels =
-              length-map ran.registry.areas area_words ∙ sym (length-map ran.registry.areas size_of) ∙ ap (λ (ns : List ℕ). length ns) has.areas.sizes ∙ length-map rest.registry.areas size_of
-              ∙ sym (length-map rest.registry.areas area_words) ∙ r.modules.labels ∙ sym (counted now.items here.beside.sizes);
-          bad = r.modules.bad ∙ sym (counted now.items here.beside.sizes);
-          few = subst (λ (n : ℕ). n < 2 ^ 32) (sym (counted now.items here.beside.sizes)) r.modules.few;
-        };
-      }
+  module _ (contents : List (List ℕ)) where
+    pub is_served : (leaves : List (Option Words) → List (Option (List ℕ)) → Type 0) → leaves (all_words (map items_of ran.arenas.items)) (words_left words) → (now : List Words) (sets : List (List Mapping)) → sets ≡ ran.registry.sets
+        → put.AreLeft sets (rows_of contents) namespaces words now → IsServed leaves set.registry.sets set.registry.areas ran.registry.areas contents namespaces script now ran.texts.items
+    is_served leaves chosen now sets held left =
+        let here : put.AreLeft set.registry.sets (rows_of contents) namespaces words now = subst (λ (s : List (List Mapping)). put.AreLeft s (rows_of contents) namespaces words now) (held ∙ has.sets) left in
+        let r = is.recovered.is contents in
+        record {
+          replies = has.replies;
+          texts = has.texts;
+          journal = journal_of ran;
+          histories = has.histories;
+          commands = subst (λ (xs : List Area). IsJournal set.registry.sets (unclaimed (areas_seen xs)) script.labelcut (journal_of ran)) r.opening has.commands;
+          legal = legal namespaces served same set.registry script ran has words cut set.registry.sets (rows_of contents) now here;
+          accounts = subst (λ (all : List Serving). Accounts all script has.replies (journal_of ran) has.histories) (same_servings namespaces served same) has.accounts;
+          labels = labels_left namespaces served same set.registry script ran has r.opening r.held;
+          hold = labels_hold namespaces served same set.registry script ran has r.opening r.held;
+          survive = survives namespaces served same set.registry script ran has words cut set.registry.sets (rows_of contents) now here;
+          beside = here.beside;
+          chosen = arenas_chosen namespaces served same set.registry script ran has words cut set.registry.sets (rows_of contents) now here leaves chosen;
+          unread = has.areas.beside;
+          sizes = has.areas.sizes;
+        }

@@ -1,5 +1,5 @@
 -- Why `serve` and `load` end with their statuses: this project's rules.
-use Rattle.std.specs.Prelude.{nat_lt, Bool, true, false, List, Option, Result, Ok, Err, is_err}
+use Rattle.std.specs.Prelude.{◌||◌, nat_lt, Bool, true, false, List, Option, Result, Ok, Err, is_err}
 use Rattle.nfit_reader.specs.declared.table.Mapping.{Mapping}
 use Rattle.arena_open.specs.declared.chain_refused.ChainRefused.{ChainRefused}
 use Rattle.arena_open.specs.declared.state.ArenaState.{ArenaState}
@@ -13,11 +13,16 @@ use Rattle.namespace_areas.specs.Finding.{found_of}
 use Rattle.namespace_ops.specs.declared.registry.OpenFault.{OpenFault}
 use Rattle.image_set.specs.Load.{ImageSet}
 use Rattle.sector_namespaces.specs.View.{opened_view, rows_of}
+use Rattle.served_namespaces.specs.declared.places.OpenedNamespace.{OpenedNamespace}
+use Rattle.served_namespaces.specs.Opening.{Broken}
 use Rattle.served_namespaces.specs.Places.{words_at}
+use Rattle.served_namespaces.specs.Reading.{opened_bytes}
 use Rattle.session_script.specs.declared.script.Script.{Script}
 use Rattle.shell_changes.specs.Areas.{areas_in}
 use Rattle.shell_changes.specs.Namespaces.{sets_in}
 use Rattle.shell_serve.specs.declared.load.Load.{Load}
+use Rattle.shell_reports.specs.Faults.{most_held}
+use Rattle.shell_serve.specs.Load.{one_opened}
 use Rattle.shell_serve.specs.Serve.{served_in}
 
 -- ---- `serve`
@@ -29,6 +34,19 @@ breaks_on loaded script (Err fault) = true
 -- the images are refused: the table or the labels have a fault, or an arena of a namespace that the script opens breaks the format
 abbrev pub breaks_serve : ImageSet → Script → Bool
 breaks_serve loaded script = breaks_on loaded script (sets_in loaded)
+
+-- these are opened, and have too many bytes together
+abbrev pub are_large : Result (List OpenedNamespace) Broken → Bool
+are_large (Ok opened) = nat_lt most_held (opened_bytes opened)
+are_large (Err broken) = false
+
+abbrev pub bars_on : ImageSet → Script → Result (List (List Mapping)) OpenFault → Bool
+bars_on loaded script (Ok sets) = are_large (served_in sets (recovered_areas sets (areas_in loaded.labels)) loaded script)
+bars_on loaded script (Err fault) = false
+
+-- the arenas of the namespaces that the script opens have too many bytes together
+abbrev pub refuses_serve : ImageSet → Script → Bool
+refuses_serve loaded script = bars_on loaded script (sets_in loaded)
 
 -- ---- `load`
 
@@ -52,19 +70,19 @@ breaks_sets l loaded (Err fault) = true
 abbrev pub breaks_load : Load → ImageSet → Bool
 breaks_load l loaded = breaks_sets l loaded (sets_in loaded)
 
--- arenas with fewer sectors than there are sessions
-abbrev pub are_few : Load → Result (List ArenaState) ChainRefused → Bool
-are_few l (Ok states) = nat_lt (sectors_of states) l.sessions
-are_few l (Err fault) = false
+-- arenas with too many bytes together, or with fewer sectors than there are sessions
+abbrev pub are_barred : Load → Found → Result (List ArenaState) ChainRefused → Bool
+are_barred l found (Ok states) = nat_lt most_held (opened_bytes (one_opened l found states)) || nat_lt (sectors_of states) l.sessions
+are_barred l found (Err fault) = false
 
 abbrev pub bars_found : Load → List (List Mapping) → ImageSet → Result Found OpRefused → Bool
-bars_found l sets loaded (Ok found) = are_few l (arenas_on l sets loaded found)
+bars_found l sets loaded (Ok found) = are_barred l found (arenas_on l sets loaded found)
 bars_found l sets loaded (Err refusal) = true
 
 abbrev pub bars_sets : Load → ImageSet → Result (List (List Mapping)) OpenFault → Bool
 bars_sets l loaded (Ok sets) = bars_found l sets loaded (found_on l sets (recovered_areas sets (areas_in loaded.labels)))
 bars_sets l loaded (Err fault) = false
 
--- the namespace isn't found, or it has fewer sectors than there are sessions
+-- the namespace isn't found, its arenas have too many bytes together, or it has fewer sectors than there are sessions
 abbrev pub refuses_load : Load → ImageSet → Bool
 refuses_load l loaded = bars_sets l loaded (sets_in loaded)

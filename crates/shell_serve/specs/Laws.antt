@@ -16,7 +16,7 @@ use Rattle.shell_reports.specs.declared.status.Ending.{Ending}
 use Rattle.shell_reports.specs.declared.status.Ending.TheVariants as ending
 use Rattle.shell_reports.specs.Outcome.{Outcome}
 use Rattle.shell_serve.specs.declared.load.Load.{Load}
-use Rattle.shell_serve.specs.Causes.{breaks_load, breaks_serve, refuses_load}
+use Rattle.shell_serve.specs.Causes.{breaks_load, breaks_serve, refuses_load, refuses_serve}
 use Rattle.shell_serve.specs.Load.{LoadComes}
 use Rattle.shell_serve.specs.Serve.{ServeComes}
 use Rattle.shell_serve.specs.Serving.{Serves}
@@ -39,7 +39,7 @@ ending_by false false = ending.Done
 
 -- a law: the ending is the one that is due, whatever was cut
 abbrev pub ServeEndsDue : (List (Option Words) → List (Option (List ℕ)) → Type 0) → Type 0
-ServeEndsDue leaves = (script : Script) (loaded : ImageSet) (outcome : Outcome) → ServeComes leaves script loaded outcome → outcome.ending ≡ ending_by (breaks_serve loaded script) false
+ServeEndsDue leaves = (script : Script) (loaded : ImageSet) (outcome : Outcome) → ServeComes leaves script loaded outcome → outcome.ending ≡ ending_by (breaks_serve loaded script) (refuses_serve loaded script)
 
 abbrev pub LoadEndsDue : (List (Option Words) → List (Option (List ℕ)) → Type 0) → Type 0
 LoadEndsDue leaves = (l : Load) (loaded : ImageSet) (outcome : Outcome) → LoadComes leaves l loaded outcome → outcome.ending ≡ ending_by (breaks_load l loaded) (refuses_load l loaded)

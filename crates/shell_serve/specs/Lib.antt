@@ -8,3 +8,4 @@ pub mod Causes
 pub mod Laws
 pub mod Recovered
 pub mod Answering
+pub mod Saving

@@ -26,6 +26,7 @@ use Rattle.shell_reports.specs.List.{open_outcome}
 use Rattle.shell_reports.specs.Outcome.{Outcome}
 use Rattle.shell_serve.specs.declared.load.Load.{Load}
 use Rattle.shell_serve.specs.Recovered.{recovered_words}
+use Rattle.shell_serve.specs.Serve.{OnHeld}
 use Rattle.shell_serve.specs.Serving.{Serves}
 use Rattle.shell_serve.specs.Texts.{summary}
 
@@ -41,10 +42,14 @@ abbrev pub LoadsOn : (List (Option Words) → List (Option (List ℕ)) → Type 
 LoadsOn leaves l sets loaded areas words found states outcome =
     Serves leaves (summary (script_for l (sectors_of states))) sets loaded areas words (one_opened l found states) (script_for l (sectors_of states)) outcome
 
--- on its arenas: it is refused if the namespace has fewer sectors than there are sessions
-abbrev pub LoadsOnArenas : (List (Option Words) → List (Option (List ℕ)) → Type 0) → Load → List (List Mapping) → ImageSet → List (Option Area) → Rows → Found → Result (List ArenaState) ChainRefused → Outcome → Type 0
-LoadsOnArenas leaves l sets loaded areas words found (Ok states) outcome =
+-- on its arenas that are open: it is refused if the namespace has fewer sectors than there are sessions
+abbrev pub LoadsOnStates : (List (Option Words) → List (Option (List ℕ)) → Type 0) → Load → List (List Mapping) → ImageSet → List (Option Area) → Rows → Found → List ArenaState → Outcome → Type 0
+LoadsOnStates leaves l sets loaded areas words found states outcome =
     MatchBool (nat_lt (sectors_of states) l.sessions) (outcome ≡ refused_outcome (range_text (sectors_of states))) (LoadsOn leaves l sets loaded areas words found states outcome)
+
+-- on its arenas: it is refused if they have too many bytes together
+abbrev pub LoadsOnArenas : (List (Option Words) → List (Option (List ℕ)) → Type 0) → Load → List (List Mapping) → ImageSet → List (Option Area) → Rows → Found → Result (List ArenaState) ChainRefused → Outcome → Type 0
+LoadsOnArenas leaves l sets loaded areas words found (Ok states) outcome = OnHeld (λ opened. LoadsOnStates leaves l sets loaded areas words found states) (one_opened l found states) outcome
 LoadsOnArenas leaves l sets loaded areas words found (Err fault) outcome = outcome ≡ arena_outcome l.uuid fault
 
 -- on the namespace, or why it isn't found
@@ -62,6 +67,6 @@ LoadsOnSets leaves l loaded (Ok sets) outcome = LoadsRecovered leaves l sets loa
 LoadsOnSets leaves l loaded (Err fault) outcome = outcome ≡ open_outcome fault
 
 -- what `load` may come to on a set that is loaded: as `serve` up to the namespaces; then the namespace is found, its arenas are opened,
--- and the script is made and served. `leaves` is as for `serve`.
+-- unless they have too many bytes together, and the script is made and served. `leaves` is as for `serve`.
 abbrev pub LoadComes : (List (Option Words) → List (Option (List ℕ)) → Type 0) → Load → ImageSet → Outcome → Type 0
 LoadComes leaves l loaded outcome = LoadsOnSets leaves l loaded (sets_in loaded) outcome

@@ -1,8 +1,11 @@
--- A loaded set whose labels are recovered, so that sessions can begin.
+-- An outline whose labels are recovered, so that sessions can begin.
 use Rattle.std.specs.Prelude.{◌≡◌, ℕ, true, List, length, map, Option, None, Ok, Err}
 use Rattle.std.specs.Option.{option_map}
 use Rattle.cut_words.specs.Words.{Words}
 use Rattle.nfit_reader.specs.declared.table.Mapping.{Mapping}
+use Rattle.image_set.specs.declared.outline.Outline.{Outline}
+use Rattle.image_set.specs.Load.{ImageSet, bytes_kept}
+use Rattle.image_set.specs.Outline.{image_set_with}
 use Rattle.namespace_areas.specs.declared.area.Area.{Area}
 use Rattle.namespace_areas.specs.Opening.{AreWhole, opened_as}
 use Rattle.namespace_areas.specs.Seen.{AreHeld, areas_seen}
@@ -13,19 +16,15 @@ use Rattle.namespace_map.specs.Changes.{namespaces_of, recovered_areas, recovery
 use Rattle.namespace_map.specs.Left.{LabelsAreRead, AreRegions}
 use Rattle.namespace_ops.specs.declared.registry.OpenFault.{OpenFault}
 use Rattle.namespace_ops.specs.Registered.{Registered}
-use Rattle.image_set.specs.Load.{ImageSet, bytes_kept}
-use Rattle.sector_namespaces.specs.Creation.{AreSettled}
-use Rattle.sector_namespaces.specs.View.{AreUsable, rows_of}
 use Rattle.shell_changes.specs.Areas.{areas_in, rows_in}
 use Rattle.shell_changes.specs.Namespaces.{sets_in}
 use Rattle.shell_changes.specs.Reading.{IsFresh}
 use Rattle.shell_reports.specs.List.{open_outcome}
 use Rattle.shell_reports.specs.Saved.{outcome_of}
-use Rattle.shell_sectors.specs.declared.finding.LabelsRead.{LabelsRead}
-use Rattle.shell_sectors.specs.declared.finding.LabelsRead.TheVariants as read
-use Rattle.shell_sectors.specs.declared.finding.OpenSet.{OpenSet}
-use Rattle.shell_sectors.specs.declared.finding.Unchanged.{Unchanged}
-use Rattle.shell_sectors.specs.Found.{HasModules}
+use Rattle.shell_sectors.specs.Opening.{IsOpenOutline}
+use Rattle.shell_serve.specs.declared.recovered.RecoveredSet.{RecoveredSet}
+use Rattle.shell_serve.specs.declared.recovered.SetRecovered.{SetRecovered}
+use Rattle.shell_serve.specs.declared.recovered.SetRecovered.TheVariants as recovered
 
 -- ---- recovery
 
@@ -36,10 +35,6 @@ pub record IsRecovery (old new : Registered) : Type 0 where
   pub sets : new.sets ≡ old.sets
   pub opening : new.opening ≡ new.areas
   pub running : IsFresh old → IsFresh new
-
--- a set with another registry
-abbrev pub with_registry : OpenSet → Registered → OpenSet
-with_registry set registry = record { contents = set.contents; rest = record { registry = registry; nfit_bytes = set.rest.nfit_bytes; bad = set.rest.bad } }
 
 -- the words of the label areas then, as recovery's stores and flushes make them of those that were loaded
 abbrev pub recovered_words : List (List Mapping) → ImageSet → Rows
@@ -57,35 +52,34 @@ pub record KeepsLabels (labels : List (Option (List ℕ))) (areas : List Area) :
 
 -- ---- a set that is ready for sessions
 
--- its registry, and what else is in it
-pub record IsRecoveredIn (loaded : ImageSet) (rest : Unchanged) : Type 0 where
-  pub sets : sets_in loaded ≡ Ok rest.registry.sets
-  pub areas : areas_seen rest.registry.areas ≡ recovered_areas rest.registry.sets (areas_in loaded.labels)
-  pub words : label_rows rest.registry.areas ≡ recovered_words rest.registry.sets loaded
+-- Its registry, and what else is in it, as those of a set that is loaded.
+pub record IsRecoveredIn (loaded : ImageSet) (set : RecoveredSet) : Type 0 where
+  pub sets : sets_in loaded ≡ Ok set.registry.sets
+  pub areas : areas_seen set.registry.areas ≡ recovered_areas set.registry.sets (areas_in loaded.labels)
+  pub words : label_rows set.registry.areas ≡ recovered_words set.registry.sets loaded
   -- labels are those of regions that are interleave sets, and no two namespaces have extents that meet
-  pub regions : AreRegions rest.registry.sets
-  pub read : LabelsAreRead (areas_seen rest.registry.areas)
-  pub apart : EntriesApart (namespaces_of rest.registry.sets (areas_seen rest.registry.areas))
+  pub regions : AreRegions set.registry.sets
+  pub read : LabelsAreRead (areas_seen set.registry.areas)
+  pub apart : EntriesApart (namespaces_of set.registry.sets (areas_seen set.registry.areas))
   -- none of them stands in the middle of a change
-  pub held : AreHeld rest.registry.areas
-  pub fresh : IsFresh rest.registry
-  pub opening : rest.registry.opening ≡ rest.registry.areas
-  pub labels : KeepsLabels loaded.labels rest.registry.areas
-  pub nfit : loaded.nfit_bytes ≡ rest.nfit_bytes
-  pub bad : loaded.bad ≡ rest.bad
-  pub modules : HasModules rest (length loaded.contents)
+  pub held : AreHeld set.registry.areas
+  pub fresh : IsFresh set.registry
+  pub opening : set.registry.opening ≡ set.registry.areas
+  pub labels : KeepsLabels loaded.labels set.registry.areas
+  pub nfit : loaded.nfit_bytes ≡ set.rest.nfit_bytes
+  pub bad : loaded.bad ≡ set.rest.bad
 
--- its contents
-pub record HoldsContents (loaded : ImageSet) (sets : List (List Mapping)) (contents : List Words) : Type 0 where
-  pub are : contents ≡ rows_of loaded.contents
-  pub settled : AreSettled contents
-  pub usable : AreUsable sets contents
+-- It is that of an outline, whatever the contents are.
+pub record IsRecovered (outline : Outline) (set : RecoveredSet) : Type 0 where
+  -- as its labels were read
+  pub before : Registered
+  pub opened : IsOpenOutline outline before set.rest
+  pub sets : set.registry.sets ≡ before.sets
+  pub fresh : IsFresh set.registry
+  pub count : length set.registry.areas ≡ length set.rest.sizes
+  pub is : (contents : List (List ℕ)) → IsRecoveredIn (image_set_with outline contents) set
 
-pub record IsRecovered (loaded : ImageSet) (set : OpenSet) : Type 0 where
-  pub rest : IsRecoveredIn loaded set.rest
-  pub contents : HoldsContents loaded set.rest.registry.sets set.contents
-
--- labels are recovered, or the table or the labels have a fault
-abbrev pub RecoversIn : ImageSet → LabelsRead → Type 0
-RecoversIn loaded (read.Done set) = IsRecovered loaded set
-RecoversIn loaded (read.Not report) = (fault : OpenFault) × (sets_in loaded ≡ Err fault) × (outcome_of report ≡ open_outcome fault)
+-- labels are recovered, or the table or the labels have a fault, whatever the contents are
+abbrev pub RecoversIn : Outline → SetRecovered → Type 0
+RecoversIn outline (recovered.Done set) = IsRecovered outline set
+RecoversIn outline (recovered.Not report) = (fault : OpenFault) × ((contents : List (List ℕ)) → sets_in (image_set_with outline contents) ≡ Err fault) × (outcome_of report ≡ open_outcome fault)

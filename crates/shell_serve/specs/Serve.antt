@@ -1,5 +1,5 @@
 -- The command `serve`: the sessions of a script, on the namespaces that it opens. This project's rules.
-use Rattle.std.specs.Prelude.{◌≡◌, ℕ, List, Option, Result, Ok, Err}
+use Rattle.std.specs.Prelude.{◌≡◌, ℕ, nat_lt, List, Option, Result, Ok, Err, MatchBool}
 use Rattle.cut_words.specs.Words.{Words}
 use Rattle.nfit_reader.specs.declared.table.Mapping.{Mapping}
 use Rattle.namespace_map.specs.Areas.{Area}
@@ -10,10 +10,11 @@ use Rattle.image_set.specs.Load.{ImageSet}
 use Rattle.sector_namespaces.specs.View.{rows_of}
 use Rattle.served_namespaces.specs.declared.places.OpenedNamespace.{OpenedNamespace}
 use Rattle.served_namespaces.specs.Opening.{Broken, found_each, opened_each}
+use Rattle.served_namespaces.specs.Reading.{opened_bytes}
 use Rattle.session_script.specs.declared.script.Script.{Script}
 use Rattle.shell_changes.specs.Areas.{areas_in}
 use Rattle.shell_changes.specs.Namespaces.{sets_in}
-use Rattle.shell_reports.specs.Faults.{arena_outcome}
+use Rattle.shell_reports.specs.Faults.{arena_outcome, held_text, most_held, refused_outcome}
 use Rattle.shell_reports.specs.List.{open_outcome}
 use Rattle.shell_reports.specs.Outcome.{Outcome}
 use Rattle.shell_serve.specs.Recovered.{recovered_words}
@@ -26,9 +27,13 @@ use Rattle.shell_serve.specs.Texts.{serve_text}
 abbrev pub served_in : List (List Mapping) → List (Option Area) → ImageSet → Script → Result (List OpenedNamespace) Broken
 served_in sets areas loaded script = opened_each sets (rows_of loaded.contents) (found_each sets (namespaces_of sets areas) (opened_by script))
 
--- on the namespaces that are open, or the first that has an arena that breaks the format
+-- on namespaces that are open: it is refused if their arenas have too many bytes together
+abbrev pub OnHeld : (List OpenedNamespace → Outcome → Type 0) → List OpenedNamespace → Outcome → Type 0
+OnHeld comes opened outcome = MatchBool (nat_lt most_held (opened_bytes opened)) (outcome ≡ refused_outcome (held_text (opened_bytes opened))) (comes opened outcome)
+
+-- on the namespaces, or the first that has an arena that breaks the format
 abbrev pub OnOpened : (List OpenedNamespace → Outcome → Type 0) → Result (List OpenedNamespace) Broken → Outcome → Type 0
-OnOpened comes (Ok opened) outcome = comes opened outcome
+OnOpened comes (Ok opened) outcome = OnHeld comes opened outcome
 OnOpened comes (Err broken) outcome = outcome ≡ arena_outcome broken.uuid broken.fault
 
 -- on label areas that recovery has left, with these words
@@ -41,6 +46,6 @@ ServesOnSets leaves loaded script (Ok sets) outcome = OnRecovered leaves sets lo
 ServesOnSets leaves loaded script (Err fault) outcome = outcome ≡ open_outcome fault
 
 -- what `serve` may come to on a set that is loaded: the table and the labels are checked, labels are recovered with power that stays on,
--- the namespaces are opened, and then the sessions run. `leaves` says what rows of words may be after a crash behind them.
+-- the namespaces are opened, unless their arenas have too many bytes together, and then the sessions run. `leaves` says what rows of words may be after a crash behind them.
 abbrev pub ServeComes : (List (Option Words) → List (Option (List ℕ)) → Type 0) → Script → ImageSet → Outcome → Type 0
 ServeComes leaves script loaded outcome = ServesOnSets leaves loaded script (sets_in loaded) outcome

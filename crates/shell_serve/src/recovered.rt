@@ -1,14 +1,32 @@
-//! The labels of a loaded set are read and recovered.
+//! The labels of an outline are read and recovered.
 ghost use Rattle.std.specs.Prelude.{◌≡◌, [], false, IfOk};
-ghost use Rattle.image_set.specs.Load.{image_set_in};
-ghost use Rattle.image_set.specs.Sound.{IsSound};
-ghost use Rattle.shell_serve.specs.Recovered.{IsRecovery, RecoversIn, with_registry};
+ghost use Rattle.image_set.specs.Outline.{IsLoadable, IsOutlined};
+ghost use Rattle.shell_serve.specs.Recovered.{IsRecovery, RecoversIn};
 
 use cut_words::{Fuse, PowerCut};
-use image_set::Loaded;
+use image_set::{Outline, OutlineRest};
 use namespace_ops::Registry;
-use shell_sectors::{LabelsRead, OpenSet, Unchanged, read_labels};
+use shell_reports::Report;
+use shell_sectors::{OutlineOpened, open_outline};
 use std::alloc::{AllocError, Global};
+
+/// An outline whose labels are recovered.
+#[derive(Drop)]
+pub(crate) struct RecoveredSet {
+    /// The interleave sets and the label areas.
+    pub(crate) registry: Registry,
+    /// The other parts of the outline.
+    pub(crate) rest: OutlineRest,
+}
+
+/// What reading and recovering the labels of an outline comes to.
+#[derive(Drop)]
+pub(crate) enum SetRecovered {
+    /// They are recovered.
+    Done(RecoveredSet),
+    /// The answer that says why they aren't read.
+    Not(Report),
+}
 
 /// Recovers labels with power that stays on.
 fn recover(registry: Registry) -> Registry
@@ -23,37 +41,19 @@ fn recover(registry: Registry) -> Registry
     }
 }
 
-/// Recovers the labels of a set.
-fn recover_labels(set: OpenSet) -> OpenSet
-    requires running { set.rest.registry.stopped ≡ false }
-    requires first { set.rest.registry.journal ≡ [] }
-    ensures registry { IsRecovery set.rest.registry result.rest.registry }
-    ensures parts { result ≡ with_registry set result.rest.registry }
-{
-    let OpenSet { contents, rest } = set;
-    let Unchanged {
-        registry,
-        nfit_bytes,
-        bad,
-    } = rest;
-    let rest = Unchanged {
-        registry: recover(registry),
-        nfit_bytes,
-        bad,
-    };
-    OpenSet { contents, rest }
-}
-
-/// Reads the labels of a loaded set and recovers them.
+/// Reads the labels of an outline and recovers them.
 ///
-/// If they aren't read it answers why (`read_labels`). The call fails only if memory runs out. Then the set is dropped.
-pub(crate) fn recover_set(alloc: Global, loaded: Loaded) -> Result<LabelsRead, AllocError>
-    requires { IsSound loaded }
-    ensures { IfOk result (RecoversIn (image_set_in loaded)) }
+/// If they aren't read it answers why (`open_outline`). The call fails only if memory runs out.
+pub(crate) fn recover_set(alloc: Global, outline: Outline) -> Result<SetRecovered, AllocError>
+    requires sound { IsOutlined outline }
+    requires loadable { IsLoadable outline }
+    ensures { IfOk result (RecoversIn outline) }
 {
-    let read = read_labels(alloc, loaded)?;
-    match read {
-        LabelsRead::Done(set) => Ok(LabelsRead::Done(recover_labels(set))),
-        LabelsRead::Not(report) => Ok(LabelsRead::Not(report)),
+    match open_outline(alloc, outline)? {
+        OutlineOpened::Done(registry, rest) => Ok(SetRecovered::Done(RecoveredSet {
+            registry: recover(registry),
+            rest,
+        })),
+        OutlineOpened::Not(report) => Ok(SetRecovered::Not(report)),
     }
 }

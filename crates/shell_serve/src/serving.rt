@@ -1,25 +1,28 @@
 //! Sessions run on namespaces that are open, and power is cut behind them.
-ghost use Rattle.std.specs.Prelude.{◌≡◌, ◌<◌, IfOk, map, All};
-ghost use Rattle.image_set.specs.Load.{ImageSet};
-ghost use Rattle.namespace_areas.specs.Seen.{areas_seen};
-ghost use Rattle.namespace_areas.specs.Steps.{rows_of};
+ghost use Rattle.std.specs.Prelude.{◌≡◌, ◌<◌, ℕ, IfOk, List, length, map, All};
+ghost use Rattle.image_set.specs.declared.outline.Outline.{Outline as OutlineRead};
+ghost use Rattle.image_set.specs.Patches.{patched_contents};
+ghost use Rattle.namespace_bytes.specs.Patching.{all_patched};
+ghost use Rattle.sector_namespaces.specs.View.{rows_of};
 ghost use Rattle.session_script.specs.Names.{ScriptHasText};
 ghost use Rattle.session_service.specs.Made.{IsUnused};
 ghost use Rattle.session_service.specs.Namespaces.{AreOpened};
 ghost use Rattle.session_service.specs.Ran.{HasServed};
-ghost use Rattle.shell_serve.specs.Answering.{AreSame, IsOpen, IsServed};
+ghost use Rattle.shell_serve.specs.Answering.{AreSame, HoldsIn, IsOpen, IsServed};
 ghost use Rattle.shell_serve.specs.Chosen.{LeavesTo};
 
 use crate::cutting::cut_all;
-use cut_words::CutWords;
+use crate::recovered::RecoveredSet;
+use image_set::OutlineRest;
 use lane_calls::Waiting;
+use namespace_areas::Area;
+use namespace_bytes::SetPatch;
 use namespace_ops::Registry;
 use nvd_media::{Chooser, Gate};
 use nvd_words::Items;
-use served_namespaces::{FoundNamespace, OpenedNamespace, OpenedSet, put_each};
+use served_namespaces::{FoundNamespace, OpenedNamespace, patch_of};
 use session_script::Script;
 use session_service::{Ran, ServedNamespace, close, of_namespaces, run_sessions};
-use shell_sectors::Unchanged;
 use std::alloc::{AllocError, Global};
 use std::sync::Wait;
 use std::thread::Threads;
@@ -38,10 +41,12 @@ pub struct Running {
 pub(crate) struct Served {
     /// By session, a line for each reply.
     pub(crate) texts: Vec<Vec<u8>>,
-    /// The registry after all commands, and what else is in the set.
-    pub(crate) rest: Unchanged,
-    /// The contents of each module, with the arenas' words after the power cut.
-    pub(crate) modules: Vec<CutWords>,
+    /// The label areas after all commands.
+    pub(crate) areas: Vec<Area>,
+    /// The other parts of the outline.
+    pub(crate) rest: OutlineRest,
+    /// What puts the words of the arenas after the power cut into contents.
+    pub(crate) patch: SetPatch,
 }
 
 /// Namespaces that are open, as sessions get them, and their places.
@@ -89,8 +94,8 @@ fn run_all<R: Threads + Wait + Sync, G: Gate>(
     close(alloc, service, script, runners)
 }
 
-/// Runs the sessions of a script on namespaces that are open. When all have ended, power is cut, and the arenas' words after
-/// it are put back.
+/// Runs the sessions of a script on namespaces that are open. When all have ended, power is cut. The arenas' words after it become a
+/// patch of the contents.
 ///
 /// The chooser is begun once, and asked for each word of the arenas that has two values, in order. The call fails only if memory runs out,
 /// here or in a session.
@@ -99,34 +104,23 @@ pub(crate) fn serve_opened<R: Threads + Wait + Sync, C: Chooser, G: Gate>(
     alloc: Global,
     running: Running,
     script: &Script,
-    opened: OpenedSet,
-    rest: Unchanged,
+    opened: Items<OpenedNamespace>,
+    set: RecoveredSet,
     choose: &mut C,
 ) -> Result<Served, AllocError>
     requires workers { 0 < running.workers }
     requires text { ScriptHasText script.now }
-    requires open { (loaded : ImageSet) × IsOpen loaded rest opened }
-    ensures { IfOk result (λ served. (loaded : ImageSet) → IsOpen loaded rest opened → IsServed (LeavesTo C.begins C.picks choose.old running.seed choose.new) loaded rest.registry.sets (areas_seen rest.registry.areas) (rows_of rest.registry.areas) opened.namespaces script.now served) }
+    requires open { (outline : OutlineRead) × IsOpen outline set opened }
+    ensures count { IfOk result (λ served. length served.areas.items ≡ length set.registry.areas) }
+    ensures rest { IfOk result (λ served. served.rest ≡ set.rest) }
+    ensures served { IfOk result (λ served. (outline : OutlineRead) (contents : List (List ℕ)) → IsOpen outline set opened → HoldsIn outline set contents opened
+        → IsServed (LeavesTo C.begins C.picks choose.old running.seed choose.new) set.registry.sets set.registry.areas served.areas.items contents opened script.now (rows_of (patched_contents (all_patched served.patch) contents)) served.texts.items) }
 {
-    let OpenedSet {
-        namespaces,
-        modules,
-    } = opened;
-    let Unchanged {
-        registry,
-        nfit_bytes,
-        bad,
-    } = rest;
-    let parted = part(alloc, namespaces)?;
+    let RecoveredSet { registry, rest } = set;
+    let parted = part(alloc, opened)?;
     let PartedNamespaces { places, served } = parted;
-    let ran = run_all(
-        waiting,
-        alloc,
-        running.workers as usize,
-        script,
-        registry,
-        served,
-    )?;
+    let workers = running.workers as usize;
+    let ran = run_all(waiting, alloc, workers, script, registry, served)?;
     let Ran {
         registry,
         arenas,
@@ -134,14 +128,12 @@ pub(crate) fn serve_opened<R: Threads + Wait + Sync, C: Chooser, G: Gate>(
     } = ran;
     choose.begin(running.seed);
     let words = cut_all(alloc, arenas, choose)?;
-    let modules = put_each(alloc, registry.sets(), &places, &words, modules)?;
+    let (sets, areas) = registry.into_parts();
+    let patch = patch_of(alloc, sets, &places, words)?;
     Ok(Served {
         texts,
-        rest: Unchanged {
-            registry,
-            nfit_bytes,
-            bad,
-        },
-        modules,
+        areas,
+        rest,
+        patch,
     })
 }

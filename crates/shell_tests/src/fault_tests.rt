@@ -47,8 +47,8 @@ fn failing<R: Threads + Wait + Sync>(
     run_on(rt, alloc, words, script, objects, &mut choose, fails)
 }
 
-/// Calls on the source: the text is `read fault`, and no set gets its mark. Only `init` writes anything before it has read all:
-/// its last two calls copy contents.
+/// Calls on the source: the text is `read fault`, and no set gets its mark. `init` and `serve` write before they have read all: their
+/// last two calls copy contents.
 #[test]
 fn each_call_on_the_source_fails_in_turn(rt: HostRuntime) -> Result<(), AllocError> {
     let alloc = rt.alloc();
@@ -60,7 +60,7 @@ fn each_call_on_the_source_fails_in_turn(rt: HostRuntime) -> Result<(), AllocErr
         (&["labels", "0"], &ready, false, Status::Ok, labels),
         (&["list"], &ready, false, Status::Ok, ""),
         (&["init", "0"], &blank, true, Status::Ok, "ok\n"),
-        (&["serve"], &ready, false, Status::Ok, REPLIES),
+        (&["serve"], &ready, true, Status::Ok, REPLIES),
         (LOAD, &ready, false, Status::Refused, "refused NoSuch\n"),
     ];
     for (words, objects, copies, ended, want) in commands {
@@ -179,8 +179,8 @@ fn calls_of_a_load_fail(rt: HostRuntime) -> Result<(), AllocError> {
     let sectors = with_sectors(&rt, alloc)?;
     let rows: [(&[u64], &[u64], &[u64], &[u64], Status, &str, bool); 10] = [
         // no such call: it reads no script
-        (&[75], &[0], &[68], &[1], Status::Ok, LOADED, true),
-        // the mark, the last part of the last module's contents
+        (&[u64::MAX], &[0], &[68], &[1], Status::Ok, LOADED, true),
+        // the mark, a part of the arena
         (
             &[0],
             &[],
@@ -191,7 +191,7 @@ fn calls_of_a_load_fail(rt: HostRuntime) -> Result<(), AllocError> {
             false,
         ),
         (
-            &[74],
+            &[299],
             &[],
             &[],
             &[],

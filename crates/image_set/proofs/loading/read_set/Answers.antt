@@ -5,6 +5,7 @@ use Rattle.image_set.specs.Sound.{AreMapped, size_of}
 use Rattle.std.specs.List.{All}
 use Rattle.std.proofs.lemmas.List.{length-map}
 use Rattle.image_set.specs.declared.sizes.Sizes.{Sizes}
+use Rattle.image_set.specs.Limits.{most_contents}
 use Rattle.image_set.specs.Outline.{contents_in}
 use Rattle.image_set.specs.Sizes.{IsContentsSize, contents_of}
 use Rattle.image_set.proofs.Chain.{set_is}
@@ -51,6 +52,6 @@ returns-clause-sound g c =
       areas = c.in_ok-labels.ensures.sound;
       words = c.in_ok-contents.ensures.sound;
       ranges = c.in_ok-bad.ensures.sound;
-      total = subst (λ (xs : List ℕ). sum xs ≤ 536870912) (sym sizes) c.requires.checked.sized.total;
+      total = subst (λ (xs : List ℕ). sum xs ≤ most_contents) (sym sizes) c.requires.checked.sized.total;
       mapped = subst (λ (xs : List ℕ). All (AreMapped xs) c.args.nfit.regions) (sym sizes) c.requires.mapped;
     }

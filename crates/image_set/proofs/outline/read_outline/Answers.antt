@@ -3,6 +3,7 @@ use Rattle.std.specs.List.{All}
 use Rattle.std.proofs.lemmas.List.{length-map}
 use Rattle.nfit_reader.specs.Table.{nfit_reading}
 use Rattle.image_set.specs.declared.sizes.Sizes.{Sizes}
+use Rattle.image_set.specs.Limits.{most_contents}
 use Rattle.image_set.specs.Sizes.{IsContentsSize}
 use Rattle.image_set.specs.Sound.{AreMapped}
 use Rattle.image_set.proofs.Chain.{outline_is}
@@ -32,7 +33,7 @@ pub returns-clause-loadable : goal.returns-clause-loadable
 returns-clause-loadable g c = record {
   count = ap length c.in_ok-of_contents.ensures ∙ length-map c.args.sizes.now (λ (s : Sizes). s.contents) ∙ c.requires.checked.count;
   sized = subst (All IsContentsSize) (sym c.in_ok-of_contents.ensures) (contents_sized c.args.sizes.now c.requires.checked.sized.each);
-  total = subst (λ (sizes : List ℕ). sum sizes ≤ 536870912) (sym c.in_ok-of_contents.ensures) c.requires.checked.sized.total;
+  total = subst (λ (sizes : List ℕ). sum sizes ≤ most_contents) (sym c.in_ok-of_contents.ensures) c.requires.checked.sized.total;
   mapped = subst (λ (sizes : List ℕ). All (AreMapped sizes) c.args.nfit.regions) (sym c.in_ok-of_contents.ensures) c.requires.mapped;
 }
 

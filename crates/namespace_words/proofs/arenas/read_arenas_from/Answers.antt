@@ -1,4 +1,4 @@
-use Rattle.std.proofs.Common.{◌≡◌, ◌≢◌, ◌%◌, List, [], length, Err, ap, sym, subst, ◌∙◌, arith}
+use Rattle.std.proofs.Common.{◌≡◌, ◌≢◌, ◌%◌, ◌≤◌, List, [], length, Err, ap, sym, subst, ◌∙◌, arith}
 use Rattle.std.specs.Prelude.{IfOk}
 use Rattle.arena_open.specs.declared.chain_refused.ChainRefused.{ChainRefused}
 use Rattle.arena_open.specs.Chain.{Link}
@@ -8,7 +8,7 @@ use Rattle.sector_namespaces.specs.View.{opened_view}
 use Rattle.sector_namespaces.proofs.Views.{no_words}
 use Rattle.namespace_bytes.specs.Putting.{AreAll}
 use Rattle.namespace_bytes.specs.SectorBytes.{HaveMapsOfBytes}
-use Rattle.namespace_words.specs.Source.{AreWithin, HasEnds, Reveals, bytes_by, words_by}
+use Rattle.namespace_words.specs.Source.{AreWithin, HasEnds, Reveals, bytes_by, sizes_of, words_by}
 use Rattle.namespace_words.proofs.HeldArenas.{all_found, refused_found}
 use Rattle.namespace_words.proofs.HeldBytes.{words_long}
 use Rattle.namespace_words.proofs.arenas.read_arenas_from.Goals as goal
@@ -49,3 +49,7 @@ returns-clause-bytes g c = λ contents reveals.
 pub returns-clause-within : goal.returns-clause-within
 returns-clause-within g c =
     subst (λ (e : Namespace). IfOk c.read_chain_from.result (λ found. IfOk found (AreWithin (raw_bytes e)))) c.of-extent.ensures.made c.read_chain_from.ensures.within
+
+pub returns-clause-total : goal.returns-clause-total
+returns-clause-total g c =
+    subst (λ (e : Namespace). IfOk c.read_chain_from.result (λ found. IfOk found (λ links. sizes_of links ≤ raw_bytes e))) c.of-extent.ensures.made c.read_chain_from.ensures.total

@@ -13,9 +13,9 @@ use Rattle.namespace_bytes.specs.Putting.{Linked, link_bytes}
 use Rattle.namespace_bytes.specs.SectorBytes.{HaveMapsOfBytes}
 use Rattle.namespace_bytes.specs.SectorPut.{HasBlocks}
 use Rattle.power_cut.specs.Namespace.{raw_bytes}
-use Rattle.namespace_words.specs.Source.{AreWithin, IsMapOfBytes, IsWithin, Reveals, bytes_by, words_by}
+use Rattle.namespace_words.specs.Source.{AreWithin, IsMapOfBytes, IsWithin, Reveals, bytes_by, sizes_of, words_by}
 use Rattle.namespace_bytes.proofs.Sizes.{joined_linked}
-use Rattle.namespace_words.proofs.HeldArenas.{Follows, answered_err, answered_ok, blocks_more, follows, links_long, maps_more, ok_holds, sum_next, within_more}
+use Rattle.namespace_words.proofs.HeldArenas.{Follows, answered_err, answered_ok, blocks_more, follows, links_long, maps_more, ok_holds, sizes_next, sum_next, within_more}
 use Rattle.namespace_words.proofs.HeldBytes.{words_long}
 use Rattle.namespace_words.proofs.arenas.read_chain_from.Goals as goal
 
@@ -31,6 +31,7 @@ arenas-init g c = record {
   each = subst (λ (ls : List Link). All HasBlocks ls) (sym c.new-arenas.ensures.items) (All-nil HasBlocks);
   within = subst (λ (ls : List Link). AreWithin (raw_bytes c.args.extent.now) ls) (sym c.new-arenas.ensures.items) (All-nil (IsWithin (raw_bytes c.args.extent.now)));
   sum = omega (arith, ap (sum_by link_bytes) c.new-arenas.ensures.items);
+  sizes = omega (arith, ap sizes_of c.new-arenas.ensures.items);
   same = refl;
   later = omega arith;
   so_far = λ contents reveals.
@@ -96,6 +97,14 @@ returns-then-next-eq0-clause-within g c =
     ok_holds (λ (o : Opened). IsArenaOf c.args.parent.now (raw_bytes c.args.extent.now - 8 * c.arenas.at) o.info) c.in_ok-opened.field-0 c.in-Ok.opened c.in-Ok.is c.in_ok-opened.ensures.sound in
     within_more (raw_bytes c.args.extent.now) c.arenas.at c.args.parent.now c.arenas.arenas.items c.from_vec.result c.in-Ok.opened links_are sound (omega (arith, c.arenas.invariant.inside)) c.arenas.invariant.within
 
+pub returns-then-next-eq0-clause-total : goal.returns-then-next-eq0-clause-total
+returns-then-next-eq0-clause-total g c =
+    let links_are : c.from_vec.result ≡ c.arenas.arenas.items ++ record { at = c.arenas.at; opened = c.in-Ok.opened } ∷ [] =
+    c.from_vec.ensures ∙ c.push_reserved.ensures.items ∙ ap (λ (ls : List Link). ls ++ c.new.result ∷ []) c.reserve.ensures.items ∙ ap (λ (link : Link). c.arenas.arenas.items ++ link ∷ []) c.new.ensures in
+    let sound : IsArenaOf c.args.parent.now (raw_bytes c.args.extent.now - 8 * c.arenas.at) c.in-Ok.opened.info =
+    ok_holds (λ (o : Opened). IsArenaOf c.args.parent.now (raw_bytes c.args.extent.now - 8 * c.arenas.at) o.info) c.in_ok-opened.field-0 c.in-Ok.opened c.in-Ok.is c.in_ok-opened.ensures.sound in
+    (sizes_next (raw_bytes c.args.extent.now) c.arenas.at c.args.parent.now c.arenas.arenas.items c.from_vec.result c.in-Ok.opened links_are sound (omega (arith, c.arenas.invariant.inside)) c.arenas.invariant.sizes).0
+
 pub arenas-smaller : goal.arenas-smaller
 arenas-smaller g c =
     let sound : IsArenaOf c.args.parent.now (raw_bytes c.args.extent.now - 8 * c.arenas.at) c.in-Ok.opened.info =
@@ -121,6 +130,8 @@ arenas-preserved g c =
       each = subst (λ (ls : List Link). All HasBlocks ls) (sym links_are) (blocks_more c.arenas.arenas.items (record { at = c.arenas.at; opened = c.in-Ok.opened }) c.arenas.invariant.each blocks);
       within = within_more (raw_bytes c.args.extent.now) c.arenas.at c.args.parent.now c.arenas.arenas.items c.push_reserved.new.self.items c.in-Ok.opened links_are sound (omega (arith, c.arenas.invariant.inside)) c.arenas.invariant.within;
       sum = (sum_next (raw_bytes c.args.extent.now) c.arenas.at c.args.parent.now c.arenas.arenas.items c.push_reserved.new.self.items c.in-Ok.opened links_are sound (omega (arith, c.arenas.invariant.inside)) c.arenas.invariant.sum).1
+          c.if-next-eq0.false;
+      sizes = (sizes_next (raw_bytes c.args.extent.now) c.arenas.at c.args.parent.now c.arenas.arenas.items c.push_reserved.new.self.items c.in-Ok.opened links_are sound (omega (arith, c.arenas.invariant.inside)) c.arenas.invariant.sizes).1
           c.if-next-eq0.false;
       same = c.in_ok-opened.ensures.same ∙ c.arenas.invariant.same;
       later = omega (arith, c.in_ok-opened.ensures.cause.later, c.arenas.invariant.later);

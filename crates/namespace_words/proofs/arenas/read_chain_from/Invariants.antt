@@ -5,7 +5,7 @@ use Rattle.arena_open.proofs.ChainInPlace.{ReadSoFar}
 use Rattle.namespace_bytes.specs.SectorBytes.{HaveMapsOfBytes}
 use Rattle.namespace_bytes.specs.SectorPut.{HasBlocks}
 use Rattle.power_cut.specs.Namespace.{raw_bytes}
-use Rattle.namespace_words.specs.Source.{AreWithin, Reveals, bytes_by, words_by}
+use Rattle.namespace_words.specs.Source.{AreWithin, Reveals, bytes_by, sizes_of, words_by}
 use Rattle.namespace_bytes.specs.Putting.{link_bytes}
 use Rattle.namespace_words.proofs.arenas.read_chain_from.Given as goal
 
@@ -17,6 +17,7 @@ invariant-arenas g l = record {
   each : All HasBlocks l.arenas.items;
   within : AreWithin (raw_bytes l.extent) l.arenas.items;
   sum : sum_by link_bytes l.arenas.items ≤ 8 * l.at;
+  sizes : sizes_of l.arenas.items ≤ 8 * l.at;
   same : g.S.ImageSource.held l.images ≡ g.S.ImageSource.held l.fn.images;
   later : g.S.ImageSource.faults l.fn.images ≤ g.S.ImageSource.faults l.images;
   -- if the source reveals its contents, these are the namespace's first arenas

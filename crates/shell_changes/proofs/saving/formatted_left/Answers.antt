@@ -1,4 +1,5 @@
-use Rattle.std.proofs.Common.{sym, subst}
+use Rattle.std.proofs.Common.{sym, ap, ◌∙◌, subst}
+use Rattle.shell_changes.specs.declared.answer.Left.TheVariants.{Patched}
 use Rattle.shell_changes.specs.Saved.{AreWholeSizes}
 use Rattle.shell_changes.proofs.saving.formatted_left.Goals as goal
 
@@ -12,7 +13,7 @@ returns g c = record {
   areas = c.in_ok-areas.ensures.left;
   words = c.words_left-words.result;
   asks = c.words_left-words.ensures.asks;
-  patch = c.in_ok-patch.patch;
-  puts = c.in_ok-patch.ensures;
-  is = c.new.ensures;
+  patch = c.in_ok-patch.ensures.0;
+  puts = c.in_ok-patch.ensures.2;
+  is = c.new.ensures ∙ ap (Patched c.in_ok-areas.areas) c.in_ok-patch.ensures.1;
 }

@@ -51,7 +51,7 @@ found_answer-requires-clause-pages g c =
 pub found_answer-requires-clause-few : goal.found_answer-requires-clause-few
 found_answer-requires-clause-few g c =
     found_few c.requires.0 c.args.registry.now c.requires.1.0 c.requires.1.1 c.in-Ok-Ok.found (lies_of c.args.registry.now.sets _ c.in-Ok-Ok.found c.in-Ok-Ok.field-0-is c.in-Ok-Ok.ensures.lies)
-    c.set-set.result.now c.set-set.ensures (omega (arith, c.ways-ways.ensures.ways, c.ways-ways.ensures.few))
+    c.set-set.result.now c.set-set.ensures
 
 pub found_answer-requires-clause-there : goal.found_answer-requires-clause-there
 found_answer-requires-clause-there g c =

@@ -1,13 +1,13 @@
-use Rattle.std.proofs.Common.{◌≡◌, ◌%◌, ◌^◌, ◌≤◌, map, Ok, sym, subst, arith}
+use Rattle.std.proofs.Common.{◌≡◌, ◌%◌, ◌^◌, ◌≤◌, map, Ok, sym, subst}
 use Rattle.image_set.specs.declared.outline.Outline.{Outline}
 use Rattle.arena_open.specs.Chain.{HasMemory, state_at}
 use Rattle.namespace_bytes.specs.Putting.{AreAll}
 use Rattle.namespace_words.specs.Source.{AreWithin, HasEnds, Reveals, words_by}
+use Rattle.namespace_words.proofs.UncutArenas.{read_uncut}
 use Rattle.power_cut.specs.Namespace.{Namespace, raw_bytes}
 use Rattle.sector_namespaces.specs.View.{opened_view}
 use Rattle.shell_changes.specs.Remains.{LeavesBy}
 use Rattle.shell_reports.proofs.More.{if_both, if_more}
-use Rattle.shell_reports.proofs.UncutArenas.{read_uncut}
 use Rattle.shell_sectors.specs.Writing.{IsSectorPlace}
 use Rattle.shell_sectors.proofs.Asked.{found_ends, kept}
 use Rattle.shell_sectors.proofs.Written.{few_bytes, whole_pages}
@@ -25,7 +25,7 @@ load_arenas-requires-clause-pages g c =
 pub load_arenas-requires-clause-few : goal.load_arenas-requires-clause-few
 load_arenas-requires-clause-few g c =
     subst (λ (e : Namespace). raw_bytes e ≤ 2 ^ 55) (sym c.of-extent.ensures.made)
-    (few_bytes c.args.uuid.now c.requires.found.0 c.args.place c.requires.found.1 (omega (arith, c.ways-ways.ensures.ways, c.ways-ways.ensures.few)))
+    (few_bytes c.args.uuid.now c.requires.found.0 c.args.place c.requires.found.1)
 
 pub load_arenas-requires-clause-there : goal.load_arenas-requires-clause-there
 load_arenas-requires-clause-there g c =
@@ -37,7 +37,7 @@ load_arenas-requires-clause-there g c =
 pub unopened_answer-requires : goal.unopened_answer-requires
 unopened_answer-requires g c =
     let some = c.in-Ok-Err.ensures.refused in
-    read_uncut some.0 c.args.uuid.now c.in-Ok-Err.refused (subst (λ r. HasMemory r → r ≡ opened_view some.0 c.args.uuid.now) c.in-Ok-Err.field-0-is some.1)
+    read_uncut some.0 c.args.uuid.now c.in-Ok-Err.refused (subst (λ r. HasMemory r → r ≡ opened_view some.0 c.args.uuid.now) c.in-Ok-Err.field-0-is some.2)
 
 pub returns-in-Ok-Ok-clause-comes : goal.returns-in-Ok-Ok-clause-comes
 returns-in-Ok-Ok-clause-comes g c =
@@ -47,7 +47,7 @@ returns-in-Ok-Ok-clause-comes g c =
     c.replay_chain.result c.in_memory.result c.in_memory.ensures.same
     (if_more _ _ c.replay_chain.result
     (λ answer comes outline it.
-    replays_loaded leaves c.args.schedule.now c.args.uuid.now outline c.args.place it answer held c.args.arenas.now c.in-Ok-Ok.chain (comes outline c.args.uuid.now it)
+    replays_loaded leaves c.args.schedule.now c.args.uuid.now outline c.args.place it answer held c.args.arenas.now c.in-Ok-Ok.chain c.requires.small (comes outline c.args.uuid.now it)
     (λ contents shown all.
     loaded_chain _ c.in-Ok-Ok.chain _ c.in-Ok-Ok.field-0-is
     (subst (λ (e : Namespace). Reveals held e.set contents → AreAll (words_by e contents) c.args.uuid.now c.args.arenas.now → HasMemory c.in-Ok-Ok.field-0 → c.in-Ok-Ok.field-0 ≡ Ok (map (state_at (words_by e contents)) c.args.arenas.now))

@@ -1,4 +1,4 @@
-use Rattle.std.proofs.Common.{List, subst, arith}
+use Rattle.std.proofs.Common.{List, subst}
 use Rattle.std.specs.Prelude.{IfOk}
 use Rattle.image_set.specs.declared.outline.Outline.{Outline}
 use Rattle.arena_open.specs.Chain.{Link}
@@ -20,7 +20,7 @@ pub read_arenas_from-requires-clause-pages : goal.read_arenas_from-requires-clau
 read_arenas_from-requires-clause-pages g c = whole_pages c.args.uuid.now c.requires.found.0 c.args.place c.requires.found.1
 
 pub read_arenas_from-requires-clause-few : goal.read_arenas_from-requires-clause-few
-read_arenas_from-requires-clause-few g c = few_bytes c.args.uuid.now c.requires.found.0 c.args.place c.requires.found.1 (omega (arith, c.ways-ways.ensures.ways, c.ways-ways.ensures.few))
+read_arenas_from-requires-clause-few g c = few_bytes c.args.uuid.now c.requires.found.0 c.args.place c.requires.found.1
 
 pub read_arenas_from-requires-clause-there : goal.read_arenas_from-requires-clause-there
 read_arenas_from-requires-clause-there g c =
@@ -31,14 +31,14 @@ pub returns-in-Ok-Ok-clause-comes : goal.returns-in-Ok-Ok-clause-comes
 returns-in-Ok-Ok-clause-comes g c =
     let held = g.S.ImageSource.held c.args.images.now in
     let leaves = LeavesBy g.C.Chooser.begins g.C.Chooser.picks c.args.choose.now in
-    if_more _ _ c.replay_arenas.result
+    if_more _ _ c.replay_read.result
     (λ answer comes outline it.
     replays_from leaves c.args.schedule.now c.args.uuid.now outline c.args.place it answer held c.in-Ok-Ok.arenas
     (subst (λ (links : List Link). ReplaysOn leaves held c.args.uuid.now c.args.schedule.now outline c.args.place links answer) c.as_slice-arenas.ensures
     (subst (λ h. ReplaysOn leaves h c.args.uuid.now c.args.schedule.now outline c.args.place c.as_slice-arenas.result.now answer) c.in-Ok-Ok.ensures.same (comes outline it))) c.requires.there
     (λ contents shown. subst (λ r. IfOk r (AreAll (words_of (over c.args.place.set c.args.place.found.offset c.args.place.found.raw (rows_of contents))).kept c.args.uuid.now)) c.in-Ok-Ok.field-0-is (c.in-Ok-Ok.ensures.all contents shown))
     (λ contents shown. subst (λ r. IfOk r (HaveMapsOfBytes (bytes_by_place c.args.place.set c.args.place.found.offset c.args.place.found.raw contents))) c.in-Ok-Ok.field-0-is (c.in-Ok-Ok.ensures.bytes contents shown)))
-    c.replay_arenas.ensures.comes
+    c.replay_read.ensures.comes
 
 pub returns-in-Ok-Err-clause-comes : goal.returns-in-Ok-Err-clause-comes
 returns-in-Ok-Err-clause-comes g c =

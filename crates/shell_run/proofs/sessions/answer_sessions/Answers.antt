@@ -5,14 +5,14 @@ use Rattle.nvd_media.specs.Causes.{Rose}
 use Rattle.shell_reports.specs.declared.status.RunStop.{RunStop}
 use Rattle.shell_changes.specs.Answers.{ComesFrom}
 use Rattle.shell_changes.specs.Remains.{LeavesBy}
-use Rattle.shell_changes.specs.Saved.{copies_contents}
+use Rattle.shell_changes.specs.Saved.{HasContentsOf, copies_contents}
 use Rattle.shell_run.specs.Run.{ComesTold, Ends, Holds, copies, streams}
-use Rattle.shell_run.proofs.Comes.{none_copied, whole_there}
+use Rattle.shell_run.proofs.Comes.{session_copies}
 use Rattle.shell_run.proofs.Ending.{ends_more, ends_stopped, holds_more, holds_stopped}
 use Rattle.shell_run.proofs.sessions.answer_sessions.Goals as goal
 
 pub conclude-requires-clause-there : goal.conclude-requires-clause-there
-conclude-requires-clause-there g c = whole_there (g.S.ImageSource.held c.perform_sessions.new.images) c.in-Ok.answer.saved c.in-Ok.ensures.whole
+conclude-requires-clause-there g c = subst (λ (held : Option Images). HasContentsOf held c.in-Ok.answer.saved) (sym c.perform_sessions.ensures.same) c.in-Ok.ensures.there
 
 pub returns-in-Ok-clause-ends : goal.returns-in-Ok-clause-ends
 returns-in-Ok-clause-ends g c =
@@ -27,7 +27,7 @@ returns-in-Ok-clause-ends g c =
     let between = g.S.ImageSource.faults c.perform_sessions.new.images in
     let after = g.S.ImageSource.faults c.conclude.new.images in
     let later = c.perform_sessions.ensures.later in
-    ends_more (Rose between after) (Rose before after ⊎ Rose (g.T.TextSource.faults c.args.script.now) (g.T.TextSource.faults c.perform_sessions.new.script)) (copies_contents answer.saved) (copies c.args.command) false (streams c.args.command) (ComesFrom held answer) due made made' text text' c.conclude.result (λ rose. inl (omega (arith, later, rose))) (none_copied answer.saved (IsTrue (copies c.args.command)) c.in-Ok.ensures.whole) (λ never. absurd (let e = never in cc)) c.in-Ok.ensures.told
+    ends_more (Rose between after) (Rose before after ⊎ Rose (g.T.TextSource.faults c.args.script.now) (g.T.TextSource.faults c.perform_sessions.new.script)) (copies_contents answer.saved) (copies c.args.command) false (streams c.args.command) (ComesFrom held answer) due made made' text text' c.conclude.result (λ rose. inl (omega (arith, later, rose))) (λ copied. session_copies c.args.command c.requires.sessions) (λ never. absurd (let e = never in cc)) c.in-Ok.ensures.told
     (subst (λ (h : Option Images). Ends (Rose between after) (copies_contents answer.saved) false (ComesFrom h answer) made made' text text' c.conclude.result) c.perform_sessions.ensures.same c.conclude.ensures.ends)
 
 pub returns-in-Err-clause-ends : goal.returns-in-Err-clause-ends

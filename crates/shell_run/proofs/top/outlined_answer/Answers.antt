@@ -9,7 +9,7 @@ use Rattle.shell_changes.specs.Saved.{copies_contents}
 use Rattle.shell_changes.proofs.Remains.{copies_none, no_sizes}
 use Rattle.shell_run.specs.declared.words.CommandLine.TheVariants.{Labels, Nfit, Init, Change, Info, Read, Write}
 use Rattle.shell_run.specs.declared.words.CommandLine.TheVariants as command
-use Rattle.shell_run.specs.Run.{LoadedComes, OnSource, copies, needs_contents, reads_script, streams}
+use Rattle.shell_run.specs.Run.{LoadedComes, OnSource, copies, has_sessions, reads_script, streams}
 use Rattle.shell_run.specs.Words.{HasGoodValues}
 use Rattle.shell_run.proofs.Comes.{copies_by_it, if_same, none_copied, source_by, source_of}
 use Rattle.shell_run.proofs.top.outlined_answer.Goals as goal
@@ -134,4 +134,14 @@ unreachable-requires-in-Export g c =
 pub unreachable-requires-in-Import : goal.unreachable-requires-in-Import
 unreachable-requires-in-Import g c =
     let both = sym c.requires.plain.0 ∙ ap reads_script c.in-Import.is in
+    (let e = both in cc)
+
+pub unreachable-requires-in-Serve : goal.unreachable-requires-in-Serve
+unreachable-requires-in-Serve g c =
+    let both = sym c.requires.alone ∙ ap has_sessions c.in-Serve.is in
+    (let e = both in cc)
+
+pub unreachable-requires-in-Load : goal.unreachable-requires-in-Load
+unreachable-requires-in-Load g c =
+    let both = sym c.requires.alone ∙ ap has_sessions c.in-Load.is in
     (let e = both in cc)

@@ -1,13 +1,10 @@
 use Rattle.std.proofs.Common.{◌∙◌, sym, inl}
 use Rattle.shell_changes.specs.Remains.{LeavesBy}
-use Rattle.shell_run.proofs.Comes.{plain_due, plain_outlined}
+use Rattle.shell_run.proofs.Comes.{plain_due}
 use Rattle.shell_run.proofs.top.perform.Goals as goal
 
 pub perform_outlined-requires-clause-plain : goal.perform_outlined-requires-clause-plain
 perform_outlined-requires-clause-plain g c = (sym c.reads_script.ensures ∙ c.if-reads_script.false, c.requires.asked.1)
-
-pub perform_outlined-requires-clause-outlined : goal.perform_outlined-requires-clause-outlined
-perform_outlined-requires-clause-outlined g c = plain_outlined c.args.command (sym c.reads_script.ensures ∙ c.if-reads_script.false) c.requires.asked.1 c.requires.alone
 
 pub returns-else-reads_script-clause-told : goal.returns-else-reads_script-clause-told
 returns-else-reads_script-clause-told g c =

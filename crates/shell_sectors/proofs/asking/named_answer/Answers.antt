@@ -1,4 +1,4 @@
-use Rattle.std.proofs.Common.{◌≡◌, ◌∙◌, ◌+◌, ◌%◌, ◌≤◌, List, length, sym, subst, arith}
+use Rattle.std.proofs.Common.{◌≡◌, ◌∙◌, ◌+◌, ◌%◌, ◌≤◌, List, length, sym, subst}
 use Rattle.nfit_reader.specs.declared.table.Mapping.{Mapping}
 use Rattle.interleave.specs.Places.{unit_of}
 use Rattle.interleave.specs.Sound.{span_of}
@@ -30,7 +30,6 @@ found_answer-requires-clause-pages g c = found_pages c.requires.open.0 c.args.re
 pub found_answer-requires-clause-few : goal.found_answer-requires-clause-few
 found_answer-requires-clause-few g c =
     found_few c.requires.open.0 c.args.registry.now c.args.rest.now c.requires.open.1 c.in-Ok.found c.in-Ok.ensures.lies c.set-set.result.now c.set-set.ensures
-    (omega (arith, c.ways-ways.ensures.ways, c.ways-ways.ensures.few))
 
 pub found_answer-requires-clause-there : goal.found_answer-requires-clause-there
 found_answer-requires-clause-there g c =

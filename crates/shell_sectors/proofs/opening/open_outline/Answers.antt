@@ -1,4 +1,5 @@
-use Rattle.std.proofs.Common.{◌≡◌, length, ap, arith}
+use Rattle.std.proofs.Common.{◌≡◌, ◌∙◌, length, ap, arith}
+use Rattle.namespace_ops.specs.Opening.{registry_opening}
 use Rattle.std.proofs.lemmas.List.{length-map}
 use Rattle.namespace_areas.specs.Opening.{opened_as}
 use Rattle.shell_reports.proofs.Opened.{are_whole}
@@ -26,4 +27,5 @@ returns-in_ok-report-in-Err c = (
   (λ contents. fault_found c.args.outline contents c.in_ok-areas.areas c.in_ok-areas.ensures c.in-Err.fault
       (c.in-Err.ensures (λ e. c.in_ok-report-in-Err.ensures.finding (let same : c.in-Err.fault ≡ _ = cc in same)))),
   c.in_ok-report-in-Err.ensures.text,
+  c.in-Err.ensures (λ e. c.in_ok-report-in-Err.ensures.finding (let same : c.in-Err.fault ≡ _ = cc in same)) ∙ ap (registry_opening c.args.outline.nfit) c.in_ok-areas.ensures,
 )

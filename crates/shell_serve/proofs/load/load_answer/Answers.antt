@@ -1,27 +1,49 @@
-use Rattle.std.proofs.Common.{◌∙◌, [], subst}
-use Rattle.image_set.specs.Load.{image_set_in}
-use Rattle.shell_reports.proofs.More.{if_more}
+use Rattle.std.proofs.Common.{◌∙◌, ℕ, List, length, sym, subst}
+use Rattle.std.specs.Prelude.{IfOk}
+use Rattle.image_set.specs.declared.changing.OutlineRest.{OutlineRest}
+use Rattle.image_set.specs.declared.outline.Outline.{Outline}
+use Rattle.image_set.specs.Outline.{HasContents, contents_in, image_set_with}
+use Rattle.shell_reports.proofs.More.{if_both}
 use Rattle.shell_changes.specs.declared.answer.Answer.{Answer}
-use Rattle.shell_changes.specs.Answers.{whole_outcome}
+use Rattle.shell_changes.specs.Answers.{HasSizes, outcome_with}
 use Rattle.shell_changes.specs.Remains.{LeavesBy}
-use Rattle.shell_sectors.specs.declared.finding.LabelsRead.{LabelsRead}
+use Rattle.shell_changes.proofs.Remains.{no_sizes}
+use Rattle.shell_serve.specs.declared.recovered.SetRecovered.{SetRecovered}
+use Rattle.shell_serve.specs.Answering.{AnswersFrom}
 use Rattle.shell_serve.specs.Recovered.{RecoversIn}
 use Rattle.shell_serve.specs.Load.{LoadComes}
 use Rattle.shell_serve.proofs.Coming.{load_faulty, load_recovered}
+use Rattle.shell_serve.proofs.Opens.{outlined, shown, sizes_of}
 use Rattle.shell_serve.proofs.load.load_answer.Goals as goal
 
 pub recovered_answer-requires-clause-recovered : goal.recovered_answer-requires-clause-recovered
-recovered_answer-requires-clause-recovered g c = λ κs lives. (image_set_in c.args.loaded, subst (λ (s : LabelsRead). RecoversIn (image_set_in c.args.loaded) s) c.in-Done.is c.in_ok-read.ensures)
+recovered_answer-requires-clause-recovered g c = λ κs lives. (c.args.outline, subst (RecoversIn c.args.outline) c.in-Ok-Done.field-0-is c.in-Ok-Done.ensures)
 
-pub returns-in-Done-clause-comes : goal.returns-in-Done-clause-comes
-returns-in-Done-clause-comes g c =
-    let leaves = LeavesBy g.C.Chooser.begins g.C.Chooser.picks c.args.choose.now c.args.running.seed in
-    let r = subst (λ (s : LabelsRead). RecoversIn (image_set_in c.args.loaded) s) c.in-Done.is c.in_ok-read.ensures in
-    if_more _ (λ (answer : Answer). LoadComes leaves c.args.load.now (image_set_in c.args.loaded) (whole_outcome answer)) c.recovered_answer.result
-    (λ answer comes. load_recovered leaves c.args.load.now (image_set_in c.args.loaded) (whole_outcome answer) c.in-Done.set.rest r.rest (comes (image_set_in c.args.loaded) r)) c.recovered_answer.ensures.comes
+pub recovered_answer-requires-clause-there : goal.recovered_answer-requires-clause-there
+recovered_answer-requires-clause-there g c = λ κs lives. outlined c.args.outline c.in-Ok-Done.set (subst (RecoversIn c.args.outline) c.in-Ok-Done.field-0-is c.in-Ok-Done.ensures) (g.S.ImageSource.held c.args.images.now) c.requires.there
 
-pub returns-in-Not-clause-comes : goal.returns-in-Not-clause-comes
-returns-in-Not-clause-comes g c =
+pub returns-in-Ok-Done-clause-comes : goal.returns-in-Ok-Done-clause-comes
+returns-in-Ok-Done-clause-comes g c =
     let leaves = LeavesBy g.C.Chooser.begins g.C.Chooser.picks c.args.choose.now c.args.running.seed in
-    let faulty = subst (λ (s : LabelsRead). RecoversIn (image_set_in c.args.loaded) s) c.in-Not.is c.in_ok-read.ensures in
-    load_faulty leaves c.args.load.now (image_set_in c.args.loaded) _ faulty.0 faulty.1 (c.without_set.ensures.same [] ∙ faulty.2)
+    let held = g.S.ImageSource.held c.args.images.now in
+    let r = subst (RecoversIn c.args.outline) c.in-Ok-Done.field-0-is c.in-Ok-Done.ensures in
+    if_both _ (HasSizes c.in-Ok-Done.set.rest.sizes) (AnswersFrom (LoadComes leaves c.args.load.now) held c.args.outline) c.recovered_answer.result
+    (λ answer comes sizes. record {
+      comes = λ source told.
+          let cs = contents_in source (length c.args.outline.sizes) in
+          load_recovered leaves c.args.load.now (image_set_with c.args.outline cs) (outcome_with answer cs) c.in-Ok-Done.set (r.is cs)
+          (comes c.args.outline cs r (shown c.args.outline c.in-Ok-Done.set r held source told (outlined c.args.outline c.in-Ok-Done.set r held c.requires.there source told)));
+      sizes = sizes_of c.args.outline c.in-Ok-Done.set r answer sizes;
+    })
+    c.recovered_answer.ensures.comes c.recovered_answer.ensures.sizes
+
+pub returns-in-Ok-Not-clause-comes : goal.returns-in-Ok-Not-clause-comes
+returns-in-Ok-Not-clause-comes g c =
+    let leaves = LeavesBy g.C.Chooser.begins g.C.Chooser.picks c.args.choose.now c.args.running.seed in
+    let faulty = subst (RecoversIn c.args.outline) c.in-Ok-Not.field-0-is c.in-Ok-Not.ensures in
+    record {
+      comes = λ source told.
+          let cs = contents_in source (length c.args.outline.sizes) in
+          load_faulty leaves c.args.load.now (image_set_with c.args.outline cs) (outcome_with c.without_set.result cs) faulty.0 (faulty.1 cs) (c.without_set.ensures.same cs ∙ faulty.2);
+      sizes = no_sizes c.args.outline.sizes c.without_set.result c.without_set.ensures.saved;
+    }

@@ -1,26 +1,24 @@
-use Rattle.std.proofs.Common.{map, refl, subst}
-use Rattle.namespace_areas.specs.Opening.{opened_as}
-use Rattle.shell_sectors.specs.declared.finding.LabelsRead.{LabelsRead}
-use Rattle.shell_sectors.specs.Labels.{ReadsLabels}
-use Rattle.shell_serve.proofs.Recovering.{fault_found, set_recovered, was_fresh}
+use Rattle.std.proofs.Common.{subst}
+use Rattle.shell_sectors.specs.Opening.{IsFaulty, IsOpenOutline, OpensOutline}
+use Rattle.shell_serve.proofs.Recovering.{fault_found, is_recovered, was_fresh}
 use Rattle.shell_serve.proofs.recovered.recover_set.Goals as goal
 
-pub recover_labels-requires-clause-running : goal.recover_labels-requires-clause-running
-recover_labels-requires-clause-running c =
-    let read = subst (λ (r : LabelsRead). ReadsLabels c.args.loaded r) c.in-Done.is c.in_ok-read.ensures in
-    (was_fresh c.args.loaded c.requires (map opened_as c.args.loaded.labels) refl c.in-Done.set.rest.registry read.registry).running
+pub recover-requires-clause-running : goal.recover-requires-clause-running
+recover-requires-clause-running c =
+    let o : IsOpenOutline c.args.outline c.in-Done.registry c.in-Done.rest = subst (OpensOutline c.args.outline) c.in-Done.is c.in_ok-registry.ensures in
+    o.running
 
-pub recover_labels-requires-clause-first : goal.recover_labels-requires-clause-first
-recover_labels-requires-clause-first c =
-    let read = subst (λ (r : LabelsRead). ReadsLabels c.args.loaded r) c.in-Done.is c.in_ok-read.ensures in
-    (was_fresh c.args.loaded c.requires (map opened_as c.args.loaded.labels) refl c.in-Done.set.rest.registry read.registry).journal
+pub recover-requires-clause-first : goal.recover-requires-clause-first
+recover-requires-clause-first c =
+    let o : IsOpenOutline c.args.outline c.in-Done.registry c.in-Done.rest = subst (OpensOutline c.args.outline) c.in-Done.is c.in_ok-registry.ensures in
+    (was_fresh c.args.outline c.requires.sound c.in-Done.registry c.in-Done.rest o).journal
 
 pub returns-in-Done : goal.returns-in-Done
 returns-in-Done c =
-    let read = subst (λ (r : LabelsRead). ReadsLabels c.args.loaded r) c.in-Done.is c.in_ok-read.ensures in
-    set_recovered c.args.loaded c.requires c.in-Done.set c.recover_labels.result read c.recover_labels.ensures.registry c.recover_labels.ensures.parts
+    let o : IsOpenOutline c.args.outline c.in-Done.registry c.in-Done.rest = subst (OpensOutline c.args.outline) c.in-Done.is c.in_ok-registry.ensures in
+    is_recovered c.args.outline c.requires.sound c.in-Done.registry c.in-Done.rest o c.recover.result c.recover.ensures
 
 pub returns-in-Not : goal.returns-in-Not
 returns-in-Not c =
-    let faulty = subst (λ (r : LabelsRead). ReadsLabels c.args.loaded r) c.in-Not.is c.in_ok-read.ensures in
-    (faulty.0, fault_found c.args.loaded c.requires (map opened_as c.args.loaded.labels) refl faulty.0 faulty.1, faulty.2)
+    let it : IsFaulty c.args.outline c.in-Not.report = subst (OpensOutline c.args.outline) c.in-Not.is c.in_ok-registry.ensures in
+    (it.0, fault_found c.args.outline c.requires.sound it.0 it.3, it.2)

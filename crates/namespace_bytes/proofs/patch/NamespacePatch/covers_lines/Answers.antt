@@ -2,7 +2,7 @@ use Rattle.std.proofs.Common.{◌≡◌, ℕ, ◌+◌, ◌-◌, inl, inr, subst,
 use Rattle.std.proofs.lemmas.Bool.{cases_lt}
 use Rattle.image_set.specs.Patches.{IsCovered}
 use Rattle.namespace_bytes.specs.Changed.{IsFree}
-use Rattle.namespace_bytes.specs.Patching.{BytePatch, IsBytePatch, byte_patched, new_of}
+use Rattle.namespace_bytes.specs.Patching.{byte_patched, new_of, patch_on}
 use Rattle.namespace_bytes.proofs.Patched.{line_free}
 use Rattle.namespace_bytes.proofs.patch.NamespacePatch.covers_lines.Goals as goal
 
@@ -17,10 +17,8 @@ more f m at done size first next k old old' lt = elim (cases_lt k done) [
 
 pub loop-done-preserved : goal.loop-done-preserved
 loop-done-preserved c =
-    let is : IsBytePatch c.args.self.now = subst IsBytePatch c.self.view_is c.self.invariant.0 in
-    let free : IsFree (new_of c.args.self.now.bytes) c.line-from.result.0 c.line-from.result.1 =
-    subst (λ (p : BytePatch). IsFree (new_of p.bytes) c.line-from.result.0 c.line-from.result.1) c.self.view_is (c.covers.ensures c.if-not-covers.false) in (
+    let free : IsFree (new_of c.args.self.now.bytes) c.line-from.result.0 c.line-from.result.1 = c.covers.ensures c.if-not-covers.false in (
       omega (arith, c.line-from.ensures.few, c.loop-done.invariant.0),
-      more (byte_patched c.args.self.now) c.args.module c.args.at c.loop-done.done c.line-from.result.1 c.loop-done.invariant.1
-          (line_free c.args.self.now is c.args.module (c.args.at + c.loop-done.done) c.line-from.result.0 c.line-from.result.1 c.line-from.ensures.inside c.line-from.ensures.there free),
+      more (byte_patched (patch_on c.args.set.now c.args.self.now)) c.args.module c.args.at c.loop-done.done c.line-from.result.1 c.loop-done.invariant.1
+          (line_free (patch_on c.args.set.now c.args.self.now) c.requires.laid c.args.module (c.args.at + c.loop-done.done) c.line-from.result.0 c.line-from.result.1 c.line-from.ensures.inside c.line-from.ensures.there free),
     )

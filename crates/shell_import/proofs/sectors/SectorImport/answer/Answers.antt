@@ -1,4 +1,4 @@
-use Rattle.std.proofs.Common.{ℕ, List, length, subst, arith}
+use Rattle.std.proofs.Common.{ℕ, List, length, subst}
 use Rattle.std.specs.Prelude.{IfOk}
 use Rattle.image_set.specs.declared.outline.Outline.{Outline}
 use Rattle.namespace_bytes.specs.Patching.{bytes_by_place}
@@ -17,7 +17,7 @@ pub read_arenas_from-requires-clause-pages : goal.read_arenas_from-requires-clau
 read_arenas_from-requires-clause-pages g c = whole_pages c.args.uuid.now c.requires.found.1.0 c.requires.found.0 c.args.self c.requires.found.1.1
 
 pub read_arenas_from-requires-clause-few : goal.read_arenas_from-requires-clause-few
-read_arenas_from-requires-clause-few g c = few_bytes c.args.uuid.now c.requires.found.1.0 c.requires.found.0 c.args.self c.requires.found.1.1 (omega (arith, c.ways-ways.ensures.ways, c.ways-ways.ensures.few))
+read_arenas_from-requires-clause-few g c = few_bytes c.args.uuid.now c.requires.found.1.0 c.requires.found.0 c.args.self c.requires.found.1.1
 
 pub unopened_answer-requires : goal.unopened_answer-requires
 unopened_answer-requires g c = c.in-Ok-Err.ensures.running c.in-Ok-Err.refused c.in-Ok-Err.field-0-is

@@ -1,4 +1,4 @@
-use Rattle.std.proofs.Common.{◌≡◌, ◌∙◌, ℕ, List, length, map, sym, ap, subst}
+use Rattle.std.proofs.Common.{◌≡◌, ◌∙◌, ℕ, List, [], ◌∷◌, length, map, sym, ap, subst}
 use Rattle.std.specs.Prelude.{sum_by}
 use Rattle.nfit_reader.specs.declared.table.Mapping.{Mapping}
 use Rattle.power_cut.specs.Namespace.{ReachEnds}
@@ -33,15 +33,14 @@ returns c =
     if_more _ _ c.patched_answer.result
     (λ answer saves outline uuid bytes it.
     let set : c.args.self.set ≡ set_at it.registry.sets c.args.self.found.region = it.set in
-    let patch : c.new-patch.result ≡ patch_of it.registry.sets c.args.self.found (Sectors (record { links = c.args.arenas; bytes = bytes })) =
-    c.new-patch.ensures.made
-    ∙ (λ i. record { set = it.set i; offset = c.args.self.found.offset; raw = c.args.self.found.raw; bytes = Sectors (c.in_ok-of.ensures.made i) })
+    let patch : record { set = c.args.self.set; offset = c.args.self.found.offset; raw = c.args.self.found.raw; bytes = Sectors c.in_ok-of.field-0 } ≡ patch_of it.registry.sets c.args.self.found (Sectors (record { links = c.args.arenas; bytes = bytes })) =
+    (λ i. record { set = it.set i; offset = c.args.self.found.offset; raw = c.args.self.found.raw; bytes = Sectors (c.in_ok-of.ensures.made i) })
     ∙ ap (λ (bs : List ℕ). patch_of it.registry.sets c.args.self.found (Sectors (record { links = c.args.arenas; bytes = bs }))) it.given in
     let long : length bytes ≡ sum_by link_bytes c.args.arenas =
     sym (ap (λ (bs : List ℕ). length bs) it.given) ∙ sym c.args.self.bytes.ok.0 ∙ sym c.len.ensures ∙ c.if-len-had.false ∙ c.size_of_all-had.ensures.size ∙ ap (sum_by link_bytes) c.as_slice.ensures in
     let puts : Patches it.registry.sets c.args.self.found (patch_of it.registry.sets c.args.self.found (Sectors (record { links = c.args.arenas; bytes = bytes }))) = λ contents whole reach.
-    subst (λ (p : BytePatch). ArePatched p contents) patch (c.new-patch.ensures.patched contents whole (subst (λ (s : List Mapping). ReachEnds s (rows_of contents)) (sym it.set) reach)) in
+    subst (λ (p : BytePatch). ArePatched p contents) patch (c.in_ok-patch.ensures.patched contents whole (subst (λ (s : List Mapping). ReachEnds s (rows_of contents)) (sym it.set) reach)) in
     all_filled uuid bytes outline c.args.self it answer c.args.arenas long
-    (subst (λ (p : BytePatch). SavesPatched p c.args.self.rest (map words_of it.registry.areas) answer) patch
-    (subst (λ (areas : List Area). SavesPatched c.new-patch.result c.args.self.rest (map words_of areas) answer) it.areas saves)) puts)
+    (subst (λ (ps : List BytePatch). SavesPatched ps c.args.self.rest (map words_of it.registry.areas) answer) (c.in_ok-patch.ensures.made ∙ ap (λ (p : BytePatch). p ∷ []) patch)
+    (subst (λ (areas : List Area). SavesPatched c.in_ok-patch.patch c.args.self.rest (map words_of areas) answer) it.areas saves)) puts)
     c.patched_answer.ensures

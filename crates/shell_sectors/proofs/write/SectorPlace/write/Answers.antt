@@ -1,4 +1,4 @@
-use Rattle.std.proofs.Common.{List, subst, arith}
+use Rattle.std.proofs.Common.{List, subst}
 use Rattle.std.specs.Prelude.{IfOk}
 use Rattle.image_set.specs.declared.outline.Outline.{Outline}
 use Rattle.namespace_bytes.specs.Patching.{bytes_by_place}
@@ -17,7 +17,7 @@ pub read_arenas_from-requires-clause-pages : goal.read_arenas_from-requires-clau
 read_arenas_from-requires-clause-pages g c = whole_pages c.args.uuid.now c.requires.found.0 c.args.self c.requires.found.1
 
 pub read_arenas_from-requires-clause-few : goal.read_arenas_from-requires-clause-few
-read_arenas_from-requires-clause-few g c = few_bytes c.args.uuid.now c.requires.found.0 c.args.self c.requires.found.1 (omega (arith, c.ways-ways.ensures.ways, c.ways-ways.ensures.few))
+read_arenas_from-requires-clause-few g c = few_bytes c.args.uuid.now c.requires.found.0 c.args.self c.requires.found.1
 
 pub read_arenas_from-requires-clause-there : goal.read_arenas_from-requires-clause-there
 read_arenas_from-requires-clause-there g c =
