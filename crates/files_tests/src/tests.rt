@@ -108,3 +108,45 @@ fn where_no_set_is_made(rt: HostRuntime) -> io::Result<()> {
     }
     Ok(())
 }
+
+/// The directory is moved, and another one stands in its place: nothing changes there, and no mark
+/// is set.
+#[test]
+fn another_directory_is_left_alone(rt: HostRuntime) -> io::Result<()> {
+    for writes in [true, false] {
+        let mut sink = DirSink::new(&rt, "mine", "/usr");
+        assert_eq!(rt; sink.write(Object::Nfit, 0, b"table"), Ok(()));
+        fs::rename(&rt, "mine", "moved")?;
+        fs::create_dir(&rt, "mine")?;
+        fs::write(&rt, "mine/labels-0.bin", "theirs")?;
+        if writes {
+            assert_eq!(rt; sink.write(Object::Labels(0), 0, b"ours"), Err(Failed));
+        }
+        assert_eq!(rt; sink.finish(), Err(Failed));
+        let mut there = DirSource::new(&rt, "mine");
+        for (object, length) in [
+            (Object::Labels(0), Some(6)),
+            (Object::Nfit, None),
+            (Object::Mark, None),
+        ] {
+            assert_eq!(rt; there.length(object), Ok(length), "{object:?}");
+        }
+        fs::remove_file(&rt, "mine/labels-0.bin")?;
+        fs::remove_dir(&rt, "mine")?;
+        fs::remove_file(&rt, "moved/nfit.bin")?;
+        fs::remove_dir(&rt, "moved")?;
+    }
+    Ok(())
+}
+
+/// A file that another one made in the directory isn't written to.
+#[test]
+fn a_file_of_another_is_left_alone(rt: HostRuntime) -> io::Result<()> {
+    let mut sink = DirSink::new(&rt, "shared", "/usr");
+    assert_eq!(rt; sink.write(Object::Nfit, 0, b"table"), Ok(()));
+    fs::write(&rt, "shared/labels-0.bin", "theirs")?;
+    assert_eq!(rt; sink.write(Object::Labels(0), 0, b"ours"), Err(Failed));
+    let mut there = DirSource::new(&rt, "shared");
+    assert_eq!(rt; there.length(Object::Labels(0)), Ok(Some(6)));
+    Ok(())
+}

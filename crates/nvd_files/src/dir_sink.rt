@@ -3,7 +3,7 @@ ghost use Rattle.std.specs.Prelude.{◌≡◌, ◌≤◌, None};
 ghost use Rattle.nvd_media.specs.Causes.{Rose};
 
 use crate::object_file::{ObjectFile, join_all};
-use crate::paths::{above, file_path, stands_in};
+use crate::paths::{DirectoryId, above, file_path, id_of, stands_in};
 use nvd_media::{Failed, ImageSink, Object};
 use std::fs::{File, OpenOptions};
 use std::rt::Files;
@@ -13,13 +13,24 @@ use std::{fs, io, mem};
 /// At most so many objects are synced at one time.
 const SETTLING: usize = 16;
 
+/// The directory that was made.
+#[derive(Drop)]
+struct Made {
+    /// Which one it is, whatever its path leads to later.
+    id: DirectoryId,
+    /// It is open, to be synced.
+    own: File,
+    /// The directory above it, open, too.
+    above: File,
+}
+
 /// How far the directory was made.
 #[derive(Drop)]
 enum Progress {
     /// The directory doesn't exist yet.
     Untouched,
-    /// The directory was made inside this open one, and every call so far succeeded.
-    Made(File),
+    /// The directory was made, and every call so far succeeded.
+    Made(Made),
     /// A call failed, so the set is never finished.
     Broken,
 }
@@ -30,6 +41,9 @@ enum Progress {
 /// anything is made: the directory already exists; it is inside the directory that is read; the
 /// directory above it can't be opened to be synced; or it is `-`, which means none. After one
 /// failed call, all later calls fail.
+///
+/// If the directory is removed or moved meanwhile and its path leads to another one, that is a
+/// failure too: no file is made there, none that stands there is written to, and no mark is set.
 ///
 /// Threads sync an object, as far as the system's sync calls ensure, while the next ones are
 /// written. `finish` waits for them, and returns Ok once the whole set is on the disk, its mark
@@ -68,15 +82,17 @@ impl<'a, R: Files<File = File> + AllocGlobal + Threads> DirSink<'a, R> {
         file_path(self.rt.alloc(), self.directory, object)
     }
 
-    /// Makes the directory, and opens the one above it.
-    fn make(&self) -> io::Result<File> {
+    /// Makes the directory, and opens it and the one above it.
+    fn make(&self) -> io::Result<Made> {
         let above = above(self.directory);
         if self.directory == "-" || stands_in(self.rt, above, self.source)? {
             return Err(io::Error::from(io::ErrorKind::InvalidInput));
         }
-        let parent = fs::open(self.rt, above)?;
+        let above = fs::open(self.rt, above)?;
         fs::create_dir(self.rt, self.directory)?;
-        Ok(parent)
+        let own = fs::open(self.rt, self.directory)?;
+        let id = id_of(self.rt, self.directory)?;
+        Ok(Made { id, own, above })
     }
 
     /// Makes the directory before the first file in it.
@@ -126,8 +142,17 @@ impl<'a, R: Files<File = File> + AllocGlobal + Threads> DirSink<'a, R> {
         self.join_all()
     }
 
-    /// Returns the file of an object. It lets a thread sync that of another object.
-    fn object_file(&mut self, object: Object) -> io::Result<ObjectFile>
+    /// Returns the directory that was made, if its path still leads there.
+    fn here(&self) -> io::Result<&Made> {
+        match &self.progress {
+            Progress::Made(made) if id_of(self.rt, self.directory)? == made.id => Ok(made),
+            _ => Err(io::Error::from(io::ErrorKind::NotFound)),
+        }
+    }
+
+    /// Returns the file of an object that has `length` bytes so far. It lets a thread sync that of
+    /// another object.
+    fn object_file(&mut self, object: Object, length: u64) -> io::Result<ObjectFile>
         ensures { self.new.faults ≡ self.old.faults }
     {
         match self.last.take() {
@@ -135,48 +160,46 @@ impl<'a, R: Files<File = File> + AllocGlobal + Threads> DirSink<'a, R> {
             Some(file) => self.settle(file)?,
             None => {}
         }
-        ObjectFile::open(self.rt, object, &self.path(object)?)
+        self.here()?;
+        ObjectFile::open(self.rt, object, &self.path(object)?, length)
     }
 
-    /// Appends to an object. Large objects are synced as they grow.
-    fn put(&mut self, object: Object, bytes: &[u8]) -> io::Result<()>
+    /// Appends to an object that has `length` bytes so far. Large objects are synced as they grow.
+    fn put(&mut self, object: Object, length: u64, bytes: &[u8]) -> io::Result<()>
         ensures { self.new.faults ≡ self.old.faults }
     {
         self.begin()?;
-        let mut file = self.object_file(object)?;
+        let mut file = self.object_file(object, length)?;
         file.add(bytes)?;
         file.settle_behind(self.rt)?;
         self.last = Some(file);
         Ok(())
     }
 
-    fn sync_directory(&self) -> io::Result<()> {
-        fs::open(self.rt, self.directory)?.sync_all()
-    }
-
     /// Syncs the directory with its new files, and then the one above it, which names it.
     fn sync_names(&self) -> io::Result<()> {
-        self.sync_directory()?;
-        match &self.progress {
-            Progress::Made(parent) => parent.sync_all(),
-            _ => Err(io::Error::from(io::ErrorKind::Other)),
-        }
+        let made = self.here()?;
+        made.own.sync_all()?;
+        made.above.sync_all()
     }
 
     /// Makes the mark, and syncs it before the directory that names it.
     fn make_mark(&self, path: &str) -> io::Result<()> {
+        let made = self.here()?;
         let mark = OpenOptions::new()
             .write(true)
-            .create(true)
+            .create_new(true)
             .open(self.rt, path)?;
         mark.sync_all()?;
-        self.sync_directory()
+        made.own.sync_all()
     }
 
-    /// Removes the mark again, if the system allows it.
+    /// Removes the mark again, if the system allows it and it is this set's.
     fn take_back_mark(&self, path: &str) {
-        if fs::remove_file(self.rt, path).is_ok() {
-            let _ = self.sync_directory();
+        if let Ok(made) = self.here() {
+            if fs::remove_file(self.rt, path).is_ok() {
+                let _ = made.own.sync_all();
+            }
         }
     }
 
@@ -213,8 +236,8 @@ impl<R: Files<File = File> + AllocGlobal + Threads> ImageSink for DirSink<'_, R>
 
     ghost faults = { λ images. images.faults };
 
-    fn write(&mut self, object: Object, _at: u64, bytes: &[u8]) -> Result<(), Failed> {
-        match self.put(object, bytes) {
+    fn write(&mut self, object: Object, at: u64, bytes: &[u8]) -> Result<(), Failed> {
+        match self.put(object, at, bytes) {
             Ok(()) => Ok(()),
             Err(_) => Err(self.break_off()),
         }

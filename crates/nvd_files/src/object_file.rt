@@ -57,14 +57,22 @@ pub(crate) fn join_all<R: Threads>(
 }
 
 impl ObjectFile {
-    /// Opens the file of an object, and makes it if it doesn't exist.
+    /// Opens the file of an object that has `length` bytes so far. With 0 bytes the file is made, and must not exist yet; else it must have
+    /// this length. So a file of another run is never written to.
     pub(crate) fn open<R: Files<File = File> + AllocGlobal>(
         rt: &R,
         object: Object,
         path: &str,
+        length: u64,
     ) -> io::Result<ObjectFile> {
-        let file = OpenOptions::new().write(true).create(true).open(rt, path)?;
-        let length = file.metadata()?.len();
+        let is_new = length == 0;
+        let file = OpenOptions::new()
+            .write(true)
+            .create_new(is_new)
+            .open(rt, path)?;
+        if file.metadata()?.len() != length {
+            return Err(io::Error::from(io::ErrorKind::InvalidData));
+        }
         Ok(ObjectFile {
             object,
             file,

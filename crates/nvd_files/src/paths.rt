@@ -44,12 +44,13 @@ pub(crate) fn above(path: &str) -> &str {
 /// The device and the inode of a directory. Two paths have the same ones exactly if they lead to
 /// the same directory.
 #[derive(Clone, Copy, Debug, PartialEq, Eq)]
-struct DirectoryId {
+pub(crate) struct DirectoryId {
     device: u64,
     inode: u64,
 }
 
-fn id_of(rt: &impl Files, path: &str) -> io::Result<DirectoryId> {
+/// Returns which directory a path leads to.
+pub(crate) fn id_of(rt: &impl Files, path: &str) -> io::Result<DirectoryId> {
     let metadata = fs::metadata(rt, path)?;
     if !metadata.is_dir() {
         return Err(io::Error::from(io::ErrorKind::NotADirectory));
