@@ -5,14 +5,15 @@ import sys
 import uuid
 
 import explain
+from commands import commands
 from faults import explained
 from places import FAULTS, Ended, say, text_of
 from space import free_of
-from texts import NoLine, document_of, done_of, value_of_sector
+from texts import NoLine, checked_of, document_of, done_of, value_of_sector
 from words import completed, taken
 
 # what only prints lines; what says that it is done; and what prints bytes, so that its document goes to standard error
-PRINTING, DOING, EXPORT = ("labels", "nfit", "list", "info", "read"), ("init", "create", "delete", "rename", "write"), "export"
+PRINTING, DOING, EXPORT = ("labels", "nfit", "list", "info", "read", "check"), ("init", "create", "delete", "rename", "write"), "export"
 WITH_JSON = (*PRINTING, *DOING, EXPORT)
 # what a document of a fault explains; of the others nvd says on standard error what to do
 WITH_MEANING = (3, 4)
@@ -59,7 +60,7 @@ def as_json(program, words):
         rest = completed(command, words[3:], lambda it: program.records(words[0], it), lambda: str(uuid.uuid4()), say)
         if command == EXPORT:
             return export(program, [*words[:3], *rest])
-        plain = [words[0], words[1] if command in DOING else "-", command, *rest]
+        plain = [words[0], words[1] if commands()[command].writes else "-", command, *rest]
         was_there = os.path.lexists(plain[1])
         status, text = program.run(plain)
     except Ended as it:
@@ -82,6 +83,8 @@ def document(program, words, text):
     _, sink, command, *rest = words
     if command == "read":
         return {"sector": int(of_word(command, rest, "SECTOR")), **value_of_sector(text)}
+    if command == "check":
+        return checked_of(text)
     if command not in DOING:
         return document_of(command, text)
     done = done_of(text)

@@ -9,7 +9,8 @@ from runs import asked, fault_of_input
 
 OBJECTS = ("nfit.bin", "labels-", "contents-", "badranges-", "complete")
 # what takes the memory of a command; the others take little
-HELD = {"import": "it has FILE in memory", **dict.fromkeys(("replay", "serve", "load"), "it has the arenas that it opens in memory, several times over")}
+HELD = {"import": "it has FILE in memory", "replay": "it has its arena in memory, about three times over",
+        **dict.fromkeys(("serve", "load"), "it has the arenas that it opens in memory, about five times over")}
 
 
 def is_text(words):
@@ -122,6 +123,13 @@ def say_rows(text):
     for meaning, remedy in rows:
         say(f"{text}: {meaning}" + (f". To do: {remedy}" if remedy else ""))
     return bool(rows)
+
+
+def after_findings(lines):
+    """Says what the findings of `check` mean."""
+    for line in lines:
+        say_rows(line)
+    say("'nvd help check' says what to do and what check can't see, and 'nvd help FAULTS' has every finding")
 
 
 def after_images(run):

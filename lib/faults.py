@@ -2,7 +2,8 @@
 import re
 
 # A table with one of these heads has the ends of the texts that begin so; the others have whole texts.
-FAMILIES = {"FAULT of a region": r"image region (?P<REGION>\S+) ", "FAULT": r"image arena (?P<ARENA>\S+) (?P<K>\S+) "}
+FAMILIES = {"FAULT of a region": r"image region (?P<REGION>\S+) ", "FINDING": r"arena (?P<ARENA>\S+) ",
+            "FAULT": r"(?:image arena (?P<ARENA>\S+) (?P<K>\S+)|arena \S+(?= Info | Flog )) "}
 
 
 def rows_of(page):
@@ -29,19 +30,19 @@ def pattern_of(text):
         plain = word if not re.fullmatch(r"[A-Z]+", word) else None
         words.append(re.escape(plain) if plain else rf"(?P<{word}_{len(words)}>\S+)")
     if text.endswith((" FAULT", " REASON")):
-        words[-1] = r"(?P<REST>.+)"
+        words[-1] = f"(?P<{text.split()[-1]}>.+)"
     return " ".join(words)
 
 
 def filled(sentence, found):
     """A sentence of a row with the text's own words in place of those in capitals."""
-    for name, word in found.groupdict().items():
+    for name, word in found.groupdict("").items():
         sentence = re.sub(rf"\b{name.rsplit('_', 1)[0]}\b", lambda _, word=word: word, sentence)
     return sentence
 
 
 def explained(text, page):
-    """What the rows say of a text: of the whole of it, or of its end if that is a fault of a region or an arena."""
+    """What the rows say of a text: of the whole of it, or of its end if that is a fault of a region or an arena, or a finding of `check`."""
     out = []
     for texts, meaning, remedy, head in rows_of(page):
         for form in texts:

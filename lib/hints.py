@@ -1,4 +1,4 @@
-"""What nvd knows of a fault beyond its row of FAULTS: which limit a size breaks, and the sizes that fit."""
+"""What nvd knows of a fault beyond its row of FAULTS: which limit a size breaks, the sizes that fit, and what lists all faults of arenas."""
 import os
 import re
 
@@ -114,5 +114,10 @@ def labels_size(run, module, size):
         yield f"'{path}' has fewer than the least size of a label area, 1024 bytes"
 
 
+def broken_arena(_):
+    """An arena's first fault may not be the only one."""
+    yield "'nvd IN OUT check UUID' lists everything that is wrong with the arenas of a namespace"
+
+
 FORMS = [(r"refused NoSpace (\d+)", no_space), (r"refused BadSize (\d+)", bad_size), (r"image contents (\d+) Size (\d+)", contents_size),
-         (r"image labels (\d+) Size (\d+)", labels_size)]
+         (r"image labels (\d+) Size (\d+)", labels_size), (r"image arena .*", broken_arena)]

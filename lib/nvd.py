@@ -3,7 +3,7 @@
 nvd chooses the program (build.py), completes the words (words.py), runs it with nvd's own streams (runs.py), and after a fault says what to do
 (explain.py, from the tables of docs/commands/FAULTS.md). Standard input, standard output and the exit status are the program's own. What nvd
 does itself has a module each: pages (helps.py), JSON (answers.py), free space (space.py), the
-picture (picture.py), differences (differences.py), new sets (making.py) and the sweep (sweep.py).
+picture (picture.py), differences (differences.py), new sets (making.py), the sweep (sweep.py) and what the findings of `check` mean (findings.py).
 """
 import os
 import sys
@@ -140,8 +140,13 @@ def finished(program, words, was_there):
     script = None
     if row and row.script and (words[2] != "import" or program.path is None):
         script = runs.kept_script()
+    found = None
+    if row and row.name == "check" and program.path:
+        from findings import Findings
+
+        found = Findings()
     if program.path:
-        status = runs.run(program.path, words, script[0] if script and script[0] else None)
+        status = runs.run(program.path, words, script[0] if script and script[0] else None, found and found.hear)
     else:
         status, _ = by_rt(words)
     if status:
@@ -149,6 +154,10 @@ def finished(program, words, was_there):
 
         run = explain.Run(program.path, words, status, was_there, script, lambda it: program.records_or_none(words[0], it))
         explain.after(run)
+    elif found and found.first:
+        import explain
+
+        explain.after_findings(found.lines())
     if row and not row.writes and words[1] != "-" and status != 2:
         import explain
 

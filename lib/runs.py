@@ -10,6 +10,7 @@ except ImportError:
 PASSED_ON = (signal.SIGINT, signal.SIGTERM, signal.SIGHUP, signal.SIGQUIT)
 # `replay` and `serve` read no longer script than this
 LONGEST_SCRIPT = 16 << 20
+WRITE_FAULT = 6
 
 
 def environment():
@@ -29,25 +30,42 @@ def status_of(child):
     return code if code >= 0 else 128 - code
 
 
-def run(program, words, script=None):
-    """The status of a run of the program with nvd's own streams; signals to nvd are passed on to it."""
+def passed_on(reader, hear):
+    """Whether all that comes from a pipe went on to standard output; `hear` gets each piece, too."""
+    with open(reader, "rb") as file:
+        while piece := file.read1(1 << 16):
+            if hear:
+                hear(piece)
+            try:
+                while piece:
+                    piece = piece[os.write(1, piece) :]
+            except OSError:
+                return False
+    return True
+
+
+def run(program, words, script=None, hear=None):
+    """The status of a run of the program with nvd's own streams; signals to nvd are passed on to it. `hear` gets its text, piece by piece."""
     watch = None
     if os.isatty(2):
         from watched import watcher
 
         watch = watcher(words)
     descriptors = [(0, script)] if script is not None else []
-    if watch and watch.takes_text:
-        watch.reader, writer = os.pipe()
+    takes_text = bool(hear or watch and watch.takes_text)
+    if takes_text:
+        reader, writer = os.pipe()
         descriptors.append((1, writer))
     child = started(program, words, descriptors)
-    if watch and watch.takes_text:
+    if takes_text:
         os.close(writer)
     before = {it: signal.signal(it, lambda number, _: os.kill(child, number)) for it in PASSED_ON if signal.getsignal(it) is not signal.SIG_IGN}
     try:
         if watch:
-            watch.until_end(child)
-        return status_of(child)
+            watch.until_end(child, reader if takes_text else None)
+        is_whole = not takes_text or passed_on(reader, hear)
+        status = status_of(child)
+        return status if is_whole else WRITE_FAULT
     finally:
         for number, handler in before.items():
             signal.signal(number, handler)

@@ -5,6 +5,8 @@ NUMBER, UUID, HEX = r"(\d+)", r"([0-9a-f]{8}(?:-[0-9a-f]{4}){3}-[0-9a-f]{12})", 
 NAME = r'("(?:[^"\\]|\\.)*"|hex:(?:[0-9a-f]{2})*)'
 MODE = r"(raw|sector1?|other:\S+)"
 VALUE = r"(?:fill:[0-9a-f]{2}|hex:(?:[0-9a-f]{2})*)"
+INFO_FAULT = r"(Signature|Checksum|Version \d+ \d+|Parent|ErrorState|Layout (?:Sector|Inner|Free|Blocks|Areas|Size|Next))"
+FLOG_FAULT = r"(Padding|Sequences \d+ \d+|Range \d+)"
 
 # Each kind of line: its keys, and its form with a group for each key.
 LINES = {
@@ -25,12 +27,20 @@ LINES = {
     "arena": (
         ["arena", "sector", "sectors", "blocks", "lanes", "moves"],
         f"arena {NUMBER} sector {NUMBER} sectors {NUMBER} blocks {NUMBER} lanes {NUMBER} moves {NUMBER}"),
+    "finding of an info block": (["arena", "kind", "fault"], f"arena {NUMBER} (Info|Backup) {INFO_FAULT}"),
+    "finding of both info blocks": (["arena", "kind"], f"arena {NUMBER} (Unequal)"),
+    "finding of a lane": (["arena", "kind", "lane", "fault"], f"arena {NUMBER} (Flog) {NUMBER} {FLOG_FAULT}"),
+    "finding of a block": (["arena", "kind", "block"], f"arena {NUMBER} (Range|Twice|Missing) {NUMBER}"),
+    "finding of a sector": (["arena", "kind", "sector"], f"arena {NUMBER} (BadData) {NUMBER}"),
+    "finding of a word": (["arena", "kind", "word"], f"arena {NUMBER} (BadMeta) {NUMBER}"),
+    "sound": ([], "sound"),
+    "broken": (["broken"], f"broken {NUMBER}"),
     "session": (["session"], f"session {NUMBER}"),
     "reply": (["reply"], rf"(ok|ok {VALUE}|bad|cut|refused \w+(?: \d+)*)"),
     "sessions": (["sessions", "calls", "reads", "writes"], f"sessions {NUMBER} calls {NUMBER} reads {NUMBER} writes {NUMBER}"),
     "replies": (["replies"], f"replies {HEX}"),
 }
-TEXTS = {"uuid", "mode", "status", "fault", "cookie", "reply", "replies"}
+TEXTS = {"uuid", "mode", "status", "kind", "fault", "cookie", "reply", "replies"}
 
 
 class NoLine(Exception):
@@ -91,6 +101,17 @@ def document_of(command, text):
         else:
             out[places[kind]].append({**fields, "extents": []} if kind == "ns" else fields)
     return out
+
+
+def checked_of(text):
+    """What the lines of a check say: whether all is sound, how many findings there are, and those of each arena that has some."""
+    *found, (last, fields) = records_of(text) or [(None, {})]
+    if last not in ("sound", "broken") or any(kind != "finding" for kind, _ in found):
+        raise NoLine(text.rstrip("\n").rsplit("\n", 1)[-1])
+    arenas = {}
+    for _, it in found:
+        arenas.setdefault(it.pop("arena"), []).append(it)
+    return {"sound": last == "sound", "broken": fields.get("broken", 0), "arenas": [{"arena": number, "findings": its} for number, its in arenas.items()]}
 
 
 def value_of_sector(text):

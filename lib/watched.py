@@ -34,12 +34,18 @@ def place_in(descriptor):
         return None
 
 
+def has_text(reader):
+    import select
+
+    return bool(select.select([reader], [], [], 0)[0])
+
+
 class Watcher:
     """One run. The line of progress would mix with the program's text on a terminal, so that text waits here until the line is gone."""
 
     def __init__(self, row, words):
         self.row, self.source, self.sink = row, words[0], words[1]
-        self.takes_text, self.reader = row.writes and os.isatty(1), None
+        self.takes_text = row.writes and os.isatty(1)
         self.whole = size_of(self.source) or 0
 
     def far(self):
@@ -53,22 +59,14 @@ class Watcher:
         place = place_in(0) if self.row.script else None
         return f", reads its input: {place[0] // MIB} of {place[1] // MIB} MiB" if place and place[0] < place[1] else ""
 
-    def until_end(self, child):
+    def until_end(self, child, reader):
+        """Shows how far the run has come, until it ends or its text begins to come from this pipe, if there is one."""
         with Progress(self.row.name) as shown:
             pause = 0.001
             while not os.waitid(os.P_PID, child, os.WEXITED | os.WNOHANG | os.WNOWAIT):
                 time.sleep(pause)
                 pause = min(pause * 2, 0.2)
-                if self.takes_text and pause == 0.2 and self.has_text():
+                if reader is not None and pause == 0.2 and has_text(reader):
                     # text that fills the pipe must go on
                     break
                 shown.show(self.far())
-        if self.takes_text:
-            with open(self.reader, "rb") as file:
-                while piece := file.read1(1 << 16):
-                    os.write(1, piece)
-
-    def has_text(self):
-        import select
-
-        return bool(select.select([self.reader], [], [], 0)[0])

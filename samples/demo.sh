@@ -123,6 +123,14 @@ step 0 torn3 - info $first
 step 0 torn3 later replay $first <"$top/samples/races/next_write"
 step 0 later - read $first 9
 
+tell 'check lists everything that is wrong with the arenas of a namespace. Here is nothing; then a byte of the info block and a map entry are changed:'
+step 0 later looked0 check $first
+cp -r later damaged
+printf x | dd of=damaged/contents-0.bin bs=1 seek=84 conv=notrunc status=none
+printf '\012\0\0\300' | dd of=damaged/contents-0.bin bs=1 seek=$((16637952 + 4 * 11)) conv=notrunc status=none
+step 3 damaged - info $first
+step 0 damaged looked1 check $first
+
 tell 'Two sessions write one sector at once, as the script samples/scripts/two_writers says. Each reads its own value, or that of the other:'
 cat "$top/samples/scripts/two_writers"
 step 0 arena written serve <"$top/samples/scripts/two_writers"

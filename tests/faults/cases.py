@@ -1,12 +1,13 @@
 """The cases of tests/faults/run: each is an image set with one fault, the words after it, the exit status, the text (for `list`, `nfit`,
-`labels` and `serve` with status 0 the end of a line), a word that nvd must say, if any, and the script, if there is one."""
+`labels`, `check` and `serve` with status 0 the end of a line), a word that nvd must say, if any, and the script, if there is one."""
 import struct
 
 from sets import FIRST, INNER, LANES, LINE, OUTER, SECOND, SIZE, SLOTS, THIRD, area, checked, control, info, interleave, mapping, of_version, pair, part
-from sets import HELD, chain, group, past_the_limit, sectors, spa, table, two, wide
+from sets import ARENA, HELD, chain, group, past_the_limit, sectors, spa, table, two, wide
 
 CREATE = ["OUT", "create", "--uuid", str(THIRD), "--name", "c", "--region", "0", "--size", "8192", "--mode", "raw"]
 LIST, NFIT, LABELS, INFO, READ = ["-", "list"], ["-", "nfit"], ["-", "labels", "0"], ["-", "info", str(FIRST)], ["-", "read", str(FIRST), "0"]
+CHECK = ["OUT", "check", str(FIRST)]
 WRITE = ["OUT", "write", str(FIRST), "0", "fill:5a"]
 REPLAY = ["OUT", "replay", str(FIRST)]
 EXPORT = ["-", "export", str(FIRST)]
@@ -145,9 +146,9 @@ def regions():
             ("Cover 0", two(spa(), mapping(0), mapping(1), interleave((0, 0))))):
         files = {**pair(nfit=nfit), "contents-0.bin": 2 * SIZE}
         yield files, NFIT, 0, f"fault {text}", None
-        for words in (LIST, CREATE, SERVE, LOAD):
+        for words in (LIST, CREATE, CHECK, SERVE, LOAD):
             yield image(f"region 0 {text}", files, words, f"nvd: image region 0 {text}: {REGION_MEANS[text.split()[0]]}")
-    for words in (LIST, SERVE, LOAD):
+    for words in (LIST, CHECK, SERVE, LOAD):
         yield image(f"labels Overlap {FIRST} {SECOND}", pair(area([part(0), part(0, SECOND, 1)]), area([part(1)])), words)
 
 
@@ -184,10 +185,10 @@ def refusals():
             ("NoRegion 7", whole(), create("--region", "7")), ("ModuleLabels 0", blank(), CREATE),
             ("Exists", whole(), create("--uuid", str(FIRST))), (f"NoSpace {SIZE}", whole(), create("--size", str(2 * SIZE))),
             ("NoSlot 0", full, CREATE), ("NoSlot 0", full, RENAME), ("NoSlot 0", full, DELETE),
-            ("NoSuch", pair(), DELETE), ("NoSuch", pair(), RENAME), ("NoSuch", pair(), INFO), ("NoSuch", pair(), READ), ("NoSuch", pair(), WRITE), ("NoSuch", pair(), REPLAY), ("NoSuch", pair(), EXPORT), ("NoSuch", pair(), IMPORT), ("NoSuch", pair(), LOAD),
-            ("NotComplete", half, DELETE), ("NotComplete", half, RENAME), ("NotComplete", half, INFO), ("NotComplete", half, READ), ("NotComplete", half, WRITE), ("NotComplete", half, REPLAY), ("NotComplete", half, EXPORT), ("NotComplete", half, IMPORT), ("NotComplete", half, LOAD),
+            ("NoSuch", pair(), DELETE), ("NoSuch", pair(), RENAME), ("NoSuch", pair(), INFO), ("NoSuch", pair(), CHECK), ("NoSuch", pair(), READ), ("NoSuch", pair(), WRITE), ("NoSuch", pair(), REPLAY), ("NoSuch", pair(), EXPORT), ("NoSuch", pair(), IMPORT), ("NoSuch", pair(), LOAD),
+            ("NotComplete", half, DELETE), ("NotComplete", half, RENAME), ("NotComplete", half, INFO), ("NotComplete", half, CHECK), ("NotComplete", half, READ), ("NotComplete", half, WRITE), ("NotComplete", half, REPLAY), ("NotComplete", half, EXPORT), ("NotComplete", half, IMPORT), ("NotComplete", half, LOAD),
             ("ReadOnlyLabel 1", locked, DELETE), ("ReadOnlyLabel 1", locked, RENAME),
-            ("NotSector", whole(), INFO), ("NotSector", whole(), READ), ("NotSector", whole(), WRITE), ("NotSector", whole(), REPLAY), ("NotSector", whole(), LOAD), ("Range 3", small(3), LOAD),
+            ("NotSector", whole(), INFO), ("NotSector", whole(), CHECK), ("NotSector", whole(), READ), ("NotSector", whole(), WRITE), ("NotSector", whole(), REPLAY), ("NotSector", whole(), LOAD), ("Range 3", small(3), LOAD),
             ("BadSector 1", sectors(entries={1: 1 << 30 | 1, 2: 1 << 30 | 2}), EXPORT),
             (f"Range {OUTER}", sectors(), [*READ[:-1], str(OUTER)]), (f"Range {OUTER}", sectors(), [*WRITE[:-2], str(OUTER), "hex:"]),
             ("Length 0 4096", sectors(), [*WRITE[:-1], "hex:"]), ("Length 513 4096", sectors(), [*WRITE[:-1], "hex:" + 513 * "5a"]),
@@ -279,6 +280,28 @@ def arenas():
     yield *image(f"arena {FIRST} 0 Info Signature", broken, SERVE, "there is no info block: the arena was never formatted"), session(f"open {SECOND}", f"open {FIRST}")
 
 
+# how what a finding means begins
+FINDING_MEANS = {"Info": "the arena's first info block is refused", "Backup": "the info block's backup,", "Unequal": "the info block and its backup are both accepted",
+                 "Flog": "the log group of lane 0 is refused", "Range": f"the map names block {INNER},", "Twice": "map and lanes name block 1 more than once", "Missing": "neither map nor lanes name block 0;",
+                 "BadData": "sector 5, numbered in its arena, has bytes in a bad range", "BadMeta": f"word {ARENA // 8 - 1} of the namespace"}
+
+
+def findings():
+    """What `check` finds; nvd says what it means."""
+    yield sectors(), CHECK, 0, "sound", None
+    yield sectors(entries={0: 1 << 31 | 1}), CHECK, 0, "broken 2", "'nvd help check' says what to do"
+    for text, files in (
+            ("Info Checksum", sectors(info(seal=False))), ("Info Signature", sectors(bytes(4096), last=bytes(4096))), ("Backup Version 1 1", sectors(last=info(major=1, minor=1))),
+            ("Unequal", sectors(last=info(unused=b"x"))), ("Flog 0 Padding", sectors(halves={0: group(OUTER, OUTER, 1, b"x" + bytes(31))})),
+            ("Flog 0 Sequences 0 0", sectors(halves={0: group(OUTER, OUTER, 0)})), (f"Flog 0 Range {INNER}", sectors(halves={0: group(INNER, INNER, 1)})),
+            (f"Range {INNER}", sectors(entries={0: 1 << 31 | INNER})), ("Twice 1", sectors(entries={0: 1 << 31 | 1})), ("Missing 0", sectors(entries={0: 1 << 31 | 1})),
+            ("BadData 5", sectors(entries={5: 3 << 30 | 5}, ranges=[(4096 * 6, 1)])), (f"BadMeta {ARENA // 8 - 1}", sectors(ranges=[(ARENA - 1, 1)]))):
+        yield files, CHECK, 0, f"arena 0 {text}", f"nvd: arena 0 {text}: {FINDING_MEANS[text.split()[0]]}"
+    # the reason of a refused block or group is told as for other commands
+    yield sectors(info(seal=False)), CHECK, 0, "arena 0 Info Checksum", "nvd: arena 0 Info Checksum: a byte of the info block was changed"
+    yield sectors(halves={7: bytes(64)}), CHECK, 0, "arena 0 Flog 7 Sequences 0 0", "nvd: arena 0 Flog 7 Sequences 0 0: the two log halves of lane 7 have the sequence numbers 0 and 0"
+
+
 def scripts():
     """Scripts that aren't taken, which is told before any image is looked at."""
     yield REPLAY, "step 0 1\r\n", "Line 1 Encoding"
@@ -301,5 +324,5 @@ def scripts():
 
 
 def cases():
-    for some in (usage, asked_first, objects, areas, regions, statuses, refusals, replies, arenas):
+    for some in (usage, asked_first, objects, areas, regions, statuses, refusals, replies, arenas, findings):
         yield from some()

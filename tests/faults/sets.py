@@ -90,27 +90,32 @@ LOG_AT = MAP_AT + MAP_SIZE
 INFO_AT = LOG_AT + 64 * LANES
 
 
-def info(seal=True, **fields):
-    """An info block with these fields."""
+def info(seal=True, unused=b"", **fields):
+    """An info block with these fields; `unused` stands behind them."""
     it = {"signature": b"BTT_ARENA_INFO\0\0", "parent": FIRST.bytes, "flags": 0, "major": 2, "minor": 0, "sector": SECTOR, "outer": OUTER, "block": SECTOR,
           "inner": INNER, "lanes": LANES, "info": 4096, "next": 0, "data": 4096, "map": MAP_AT, "log": LOG_AT, "backup": INFO_AT, **fields}
     numbers = ["flags", "major", "minor", "sector", "outer", "block", "inner", "lanes", "info", "next", "data", "map", "log", "backup"]
     text = it["signature"] + SECOND.bytes + it["parent"] + struct.pack("<IHHIIIIIIQQQQQ", *(it[name] for name in numbers))
-    text = text.ljust(4088, b"\0")
+    text = (text + unused).ljust(4088, b"\0")
     return text + struct.pack("<Q", fletcher64(text + bytes(8)) if seal else 1)
 
 
-def sectors(first=None, entries=(), halves=(), mode=BTT_2_0):
-    """A set of one module with a sector namespace of 16 MiB, with these map entries and log halves changed."""
+def bad(*records):
+    """A list of bad ranges: pairs of a start and a length."""
+    return b"".join(struct.pack("<QQ", *it) for it in records)
+
+
+def sectors(first=None, entries=(), halves=(), mode=BTT_2_0, last=None, ranges=None):
+    """A set of one module with a sector namespace of 16 MiB, with these map entries and log groups changed, this backup and these bad ranges."""
     entry = dict(entries)
     half = dict(halves)
-    backup = info()
-    pieces = {0: backup if first is None else first, INFO_AT: backup,
+    pieces = {0: info() if first is None else first, INFO_AT: info() if last is None else last,
               MAP_AT: b"".join(struct.pack("<I", entry.get(i, 1 << 31 | i)) for i in range(OUTER)),
               LOG_AT: b"".join(half.get(lane, struct.pack("<IIII48x", lane, OUTER + lane, OUTER + lane, 1)) for lane in range(LANES))}
     labels = area([label(FIRST, b"a", 0, ARENA, count=1, position=0, cookie=cookie(1), lba=SECTOR, abstraction=mode)])
     nfit = table(spa(length=ARENA), mapping(0, size=ARENA, lines=0, ways=1), control(0))
-    return {"nfit.bin": nfit, "labels-0.bin": labels, "contents-0.bin": (ARENA, pieces), "complete": b""}
+    files = {"nfit.bin": nfit, "labels-0.bin": labels, "contents-0.bin": (ARENA, pieces), "complete": b""}
+    return files if ranges is None else {**files, "badranges-0.bin": bad(*ranges)}
 
 
 # the most bytes of arenas that a command opens in memory
@@ -148,11 +153,11 @@ def past_the_limit():
     return {"nfit.bin": nfit, **{f"contents-{m}.bin": size for m in range(6)}, "complete": b""}
 
 
-def chain():
-    """A set of one module with a sector namespace of two arenas of 16 MiB, of which the first names the second."""
+def chain(**other):
+    """A set of one module with a sector namespace of two arenas of 16 MiB, of which the first names the second; `other` changes the second one."""
     _, pieces = sectors()["contents-0.bin"]
     first = info(next=ARENA)
-    both = {**pieces, 0: first, INFO_AT: first, **{ARENA + at: piece for at, piece in pieces.items()}}
+    both = {**pieces, 0: first, INFO_AT: first, **{ARENA + at: piece for at, piece in sectors(**other)["contents-0.bin"][1].items()}}
     labels = area([label(FIRST, b"a", 0, 2 * ARENA, count=1, position=0, cookie=cookie(1), lba=SECTOR, abstraction=BTT_2_0)])
     nfit = table(spa(length=2 * ARENA), mapping(0, size=2 * ARENA, lines=0, ways=1), control(0))
     return {"nfit.bin": nfit, "labels-0.bin": labels, "contents-0.bin": (2 * ARENA, both), "complete": b""}

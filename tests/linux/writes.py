@@ -1,10 +1,11 @@
 #!/usr/bin/env python3
-"""Writes sectors of the sector namespaces of one image set, and compares what is read then with what Linux read before.
+"""Checks the sector namespaces of one image set, writes sectors of them, and compares what is read then with what Linux read before.
 
 usage: writes.py NAME TRUTH SET PROGRAM OUT   (the set is unpacked in the folder SET)
 
-For each block device of truth/sectors.txt.xz a sector that Linux wrote gets other bytes, then a sector of zeros does, then the last. After
-each write all sectors that Linux wrote are read. Only contents may differ in the set, and the backup of the info block stays.
+For each block device of truth/sectors.txt.xz the namespace is sound. A sector that Linux wrote gets other bytes, then a sector of zeros does, then
+the last. After each write all sectors that Linux wrote are read. Only contents may differ in the set, and the backup of the info block stays. After the
+last write the namespace is sound again.
 """
 import hashlib
 import lzma
@@ -56,6 +57,9 @@ def main():
         own = dict(sectors.get(device, {}))
         value = bytes(byte % 251 for byte in range(size))
         zero = next(n for n in range(count) if n not in own)
+        report(f"check of {who}", run(folder, out, "check", who), (0, "sound\n"))
+        report(f"what changed by a check of {who}", files_of(out) == was, True)
+        shutil.rmtree(out)
         for number in dict.fromkeys([*list(own)[:1], zero, count - 1]):
             what = f"write of sector {number} of {who}"
             report(what, run(folder, out, "write", who, str(number), f"hex:{value.hex()}"), (0, "ok\n"))
@@ -73,6 +77,9 @@ def main():
             for other, (another, _, _) in devices.items():
                 if other != device:
                     report(f"info of {another} after {what}", run(out, "-", "info", another), run(folder, "-", "info", another))
+            if number == count - 1:
+                report(f"check after {what}", run(out, f"{out}-checked", "check", who), (0, "sound\n"))
+                shutil.rmtree(f"{out}-checked")
             shutil.rmtree(out)
 
 

@@ -74,7 +74,7 @@ pub use law::{
     format_takes_two_steps_a_word, places_are_apart, places_are_inside, recovery_runs_again,
     writes_are_cut, writes_settle,
 };
-pub use moves::decode_arena;
+pub use moves::{decode_arena, free_blocks, make_moves, pending_moves};
 pub use open::{open_arena, read_arena};
 pub use opened::{LaneState, Opened};
 pub use refused::OpenRefused;

@@ -24,7 +24,7 @@ fn is_pending(entries: &[u32], half: &Half) -> bool
 }
 
 /// Returns the pending moves in the order of lanes, all by the same map.
-fn pending_moves(
+pub fn pending_moves(
     alloc: Global,
     entries: &[u32],
     groups: &[Group],
@@ -42,14 +42,14 @@ fn pending_moves(
 }
 
 /// Returns the lanes' free blocks.
-fn free_blocks(alloc: Global, groups: &[Group]) -> Result<Vec<u32>, AllocError>
+pub fn free_blocks(alloc: Global, groups: &[Group]) -> Result<Vec<u32>, AllocError>
     ensures { IfOk result (λ free. free.items ≡ free_of groups.now) }
 {
     groups.iter().map(|group| group.half.old).collect(alloc)
 }
 
 /// Applies moves to a map, one after another.
-fn make_moves(entries: &mut [u32], moves: &[Half])
+pub fn make_moves(entries: &mut [u32], moves: &[Half])
     requires { AreMoves (length entries.old) moves.now }
     ensures { entries.new ≡ moved entries.old moves.now }
 {

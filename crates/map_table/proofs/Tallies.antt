@@ -58,6 +58,19 @@ first_flagged named again same =
 pub counted_inside : (named again : List Bool) (view : List ℕ) (i : ℕ) → counts_of named again ≡ view → length again ≡ length named → i < length view → i < length named
 counted_inside named again view i is same lt = omega (arith, lt, length_counts named again same, ap (λ (l : List ℕ). length l) is)
 
+-- the count of a block, from its two flags
+counts_at : (named again : List Bool) (i : ℕ) → length again ≡ length named → i < length named
+    → get_or (counts_of named again) i 0 ≡ times (get_or named i false) (get_or again i false)
+counts_at [] again i same lt = absurd (omega (arith, lt))
+counts_at (n ∷ named) [] i same lt = absurd (omega (arith, same))
+counts_at (n ∷ named) (a ∷ again) zero same lt = refl
+counts_at (n ∷ named) (a ∷ again) (suc i) same lt = counts_at named again i (omega (arith, same)) (omega (arith, lt))
+
+pub times_at : (named again : List Bool) (view : List ℕ) (i : ℕ) (n a : Bool) → counts_of named again ≡ view → length again ≡ length named → i < length named
+    → get_or named i false ≡ n → get_or again i false ≡ a → times n a ≡ get_or view i 0
+times_at named again view i n a is same lt first second =
+    sym ((λ j. times (first j) (second j))) ∙ sym (counts_at named again i same lt) ∙ ap (λ (l : List ℕ). get_or l i 0) is
+
 -- ---- a search from the front
 
 rest_of_flags : (flags : List Bool) (i : ℕ) → i < length flags → drop i flags ≡ get_or flags i false ∷ drop (i + 1) flags

@@ -70,6 +70,21 @@ impl Counts {
         }
     }
 
+    /// How often a block was named, 2 at most.
+    #[inline]
+    pub fn times(&self, block: usize) -> u32
+        requires { block < length self.now }
+        ensures { result ≡ slice_index self.now block }
+    {
+        if self.again.get(block) {
+            2
+        } else if self.named.get(block) {
+            1
+        } else {
+            0
+        }
+    }
+
     /// Returns the least block with a count of 2.
     pub fn least_twice(&self) -> Option<usize>
         ensures block { result ≡ position (nat_lt 1) self.now }

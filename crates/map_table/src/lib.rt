@@ -30,5 +30,6 @@ mod kinds;
 mod words;
 
 pub use check::{BlockFault, check_blocks};
+pub use counts::Counts;
 pub use kinds::{Kind, MapEntry};
 pub use words::{entry, entry_in, normal, with_entry, zero};

@@ -27,15 +27,6 @@ contents_at f contents which d lt = at_range (λ m. patched_row f m 0 (get_or co
 pub length_at : (f : ℕ → ℕ → ℕ → ℕ) (contents : List (List ℕ)) (which : ℕ) (d : List ℕ) → which < length contents → length (get_or (patched_contents f contents) which d) ≡ length (get_or contents which [])
 length_at f contents which d lt = ap length (contents_at f contents which d lt) ∙ length_row f which 0 (get_or contents which [])
 
-pub lengths_kept : (f : ℕ → ℕ → ℕ → ℕ) (contents : List (List ℕ)) → map (λ row. length row) (patched_contents f contents) ≡ map (λ row. length row) contents
-lengths_kept f contents =
-    let count : length (patched_contents f contents) ≡ length contents = length_contents f contents in
-    ext_get_or 0 (map (λ row. length row) (patched_contents f contents)) (map (λ row. length row) contents)
-    (length-map (patched_contents f contents) (λ (row : List ℕ). length row) ∙ count ∙ sym (length-map contents (λ (row : List ℕ). length row))) (λ which lt.
-    let known : which < length contents = omega (arith, lt, count, length-map (patched_contents f contents) (λ (row : List ℕ). length row)) in
-    get_or-map (λ row. length row) (patched_contents f contents) which [] 0 (omega (arith, known, count))
-    ∙ length_at f contents which [] known ∙ sym (get_or-map (λ row. length row) contents which [] 0 known))
-
 pub whole_kept : (f : ℕ → ℕ → ℕ → ℕ) (contents : List (List ℕ)) → AreWhole contents → AreWhole (patched_contents f contents)
 whole_kept f contents whole = λ which d lt.
     let known : which < length contents = omega (arith, lt, length_contents f contents) in

@@ -45,10 +45,6 @@ use Rattle.namespace_bytes.proofs.WholePatch.{same_number}
 
 -- ---- answers
 
-pub ok_always : {A E : Type 0} (P : Type 0) (r : Result A E) → P → IfOk r (λ _. P)
-ok_always P (Ok x) holds = holds
-ok_always P (Err e) holds = tt
-
 pub ok_holds : {A E : Type 0} (P : A → Type 0) (r : Result A E) (x : A) → r ≡ Ok x → IfOk r P → P x
 ok_holds P (Ok y) x is holds = subst P (let e : y ≡ x = cc in e) holds
 ok_holds P (Err e) x is holds = absurd (let h = is in cc)

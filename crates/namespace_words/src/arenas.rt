@@ -66,7 +66,7 @@ fn log_word(log: &[u8], lane: u32, k: usize) -> u64
 }
 
 /// Returns the eight words of a lane's group, from the bytes of the log.
-fn log_group(log: &[u8], lane: u32) -> [u64; 8]
+pub fn log_group(log: &[u8], lane: u32) -> [u64; 8]
     requires { 64 * lane + 64 ≤ length log.now }
     ensures { (words : List ℕ) (l : Layout) → AreBytesOf words (l.flog_off / 8) log.now → result ≡ group_words l words lane }
 {
@@ -83,7 +83,7 @@ fn log_group(log: &[u8], lane: u32) -> [u64; 8]
 }
 
 /// Returns the current halves of all lanes, from the bytes of the log, or the fault of the first group that violates the format.
-fn groups_of(alloc: Global, log: &[u8], layout: &Layout) -> Result<Items<Group>, OpenRefused>
+pub fn groups_of(alloc: Global, log: &[u8], layout: &Layout) -> Result<Items<Group>, OpenRefused>
     requires { length log.now ≡ 64 * layout.now.lanes }
     ensures told { (words : List ℕ) → AreBytesOf words (layout.now.flog_off / 8) log.now → Answers OpenRefused.OutOfMemory result (groups_in layout.now words) }
     ensures running { result ≢ Err OpenRefused.PowerCut }
@@ -193,7 +193,10 @@ fn read_entries<S: ImageSource>(
 }
 
 /// Reads the entries of all sectors of the arena whose first word is `at`, by pieces of the map.
-fn read_map<S: ImageSource>(
+///
+/// The arena must lie in the namespace. It fails inside only if memory runs out. `Failed` means that the source's count of failures
+/// rose.
+pub fn read_map<S: ImageSource>(
     alloc: Global,
     images: &mut S,
     extent: &SetExtent<'_>,

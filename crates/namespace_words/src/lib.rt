@@ -49,7 +49,7 @@ mod moves;
 mod rows;
 
 pub use arena_read::{ArenaRead, into_arenas};
-pub use arenas::read_arenas_from;
+pub use arenas::{groups_of, log_group, read_arenas_from, read_map};
 pub use cell::{arena_at, locate, read_cell, sectors_of_all};
 pub use extent::read_extent;
 pub use loading::load_arenas;

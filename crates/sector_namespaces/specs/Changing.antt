@@ -27,18 +27,6 @@ pub record IsWithin (set : List Mapping) (found : Found) : Type 0 where
 abbrev pub IsFinding : ChainRefused → Type 0
 IsFinding fault = fault.fault ≢ refused.OutOfMemory
 
--- The arenas of a namespace, and its words once their pending moves are made.
-pub record AreServed (n now : Namespace) (uuid : List ℕ) (states : List ArenaState) : Type 0 where
-  -- they are the arenas that the words hold
-  pub read : opened_view (words_of n).kept uuid ≡ Ok states
-  -- the words hold the same arenas now, and no move is pending
-  pub found : opened_view (words_of now).kept uuid ≡ Ok (map found_again states)
-  pub settled : IsSettled (words_of now)
-  -- the words lie where they did, and no word beside them has changed
-  pub beside : IsBesideSame n now
-  pub are_open : AreOpen states
-  pub few : length (words_of now).kept ≤ 2 ^ 52
-
 -- ---- the place of an arena
 
 -- how many words arenas take up to the next one

@@ -90,11 +90,6 @@ only_link [] link one is = absurd (omega (arith, one))
 only_link (l ∷ []) link one is = ap (λ (x : Link). x ∷ []) (sym is)
 only_link (l ∷ next ∷ links) link one is = absurd (omega (arith, one))
 
-pub small_one : (links : List Link) (link : Link) → length links ≡ 1 → link ≡ get_or links 0 link → nat_lt most_held link.opened.info.layout.size ≡ false → AreSmall links
-small_one links link one is small l only =
-    let same : link ≡ l = (let both = sym (only_link links link one is) ∙ only in cc) in
-    subst (λ (x : Link). nat_lt most_held x.opened.info.layout.size ≡ false) same small
-
 -- it isn't too large as it opens, either
 small_state : (words : List ℕ) (links : List Link) (state : ArenaState) → state ∷ [] ≡ map (state_at words) links → AreSmall links → nat_lt most_held state.info.layout.size ≡ false
 small_state words [] state one small = absurd (let n = ap (λ (ss : List ArenaState). length ss) one in omega (arith, n))

@@ -29,13 +29,16 @@ field_text field.Areas = codes "Areas"
 field_text field.Size = codes "Size"
 field_text field.Next = codes "Next"
 
+abbrev pub info_fault_text : InfoFault → List ℕ
+info_fault_text info.Signature = codes "Signature"
+info_fault_text info.Checksum = codes "Checksum"
+info_fault_text (info.Version major minor) = codes "Version " ++ (decimal major ++ (codes " " ++ decimal minor))
+info_fault_text info.Parent = codes "Parent"
+info_fault_text info.ErrorState = codes "ErrorState"
+info_fault_text (info.Layout field) = codes "Layout " ++ field_text field
+
 abbrev pub info_text : InfoFault → List ℕ
-info_text info.Signature = codes "Info Signature"
-info_text info.Checksum = codes "Info Checksum"
-info_text (info.Version major minor) = codes "Info Version " ++ (decimal major ++ (codes " " ++ decimal minor))
-info_text info.Parent = codes "Info Parent"
-info_text info.ErrorState = codes "Info ErrorState"
-info_text (info.Layout field) = codes "Info Layout " ++ field_text field
+info_text fault = codes "Info " ++ info_fault_text fault
 
 abbrev pub flog_text : ℕ → FlogFault → List ℕ
 flog_text lane flog.Padding = codes "Flog " ++ (decimal lane ++ codes " Padding")

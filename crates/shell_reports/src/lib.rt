@@ -68,6 +68,6 @@ pub use power::{Power, cut_line, fuse_of, steps_of};
 pub use refusals::{
     held_answer, is_too_large, op_refused_answer, range_answer, refusal_text, refused_answer,
 };
-pub use sector_faults::arena_answer;
+pub use sector_faults::{arena_answer, flog_text, info_fault_text};
 pub use status::{Ending, RunStop, Status};
 pub use texts::{label_fault_text, mode_text, name_text};

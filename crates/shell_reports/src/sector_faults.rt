@@ -1,7 +1,7 @@
 //! The texts of why an arena isn't opened.
 ghost use Rattle.std.specs.Prelude.{◌≡◌, ◌≢◌, IfOk, string_bytes};
 ghost use Rattle.shell_reports.specs.Saved.{outcome_of};
-ghost use Rattle.shell_reports.specs.Faults.{arena_outcome, block_text, field_text, flog_text, info_text, open_refused_text};
+ghost use Rattle.shell_reports.specs.Faults.{arena_outcome, block_text, field_text, flog_text, info_fault_text, info_text, open_refused_text};
 
 use crate::{Report, image_answer};
 use arena_layout::{InfoFault, LayoutField};
@@ -26,24 +26,30 @@ fn field_text(field: LayoutField) -> &'static str
     }
 }
 
-/// Returns the text of an info block's fault.
-fn info_text(alloc: Global, fault: InfoFault) -> Result<String, AllocError>
-    ensures { IfOk result (λ text. string_bytes text ≡ info_text fault) }
+/// Returns the text of a fault of an info block or of its backup.
+pub fn info_fault_text(alloc: Global, fault: InfoFault) -> Result<String, AllocError>
+    ensures { IfOk result (λ text. string_bytes text ≡ info_fault_text fault) }
 {
     match fault {
-        InfoFault::Signature => String::from_str(alloc, "Info Signature"),
-        InfoFault::Checksum => String::from_str(alloc, "Info Checksum"),
-        InfoFault::Version { major, minor } => {
-            format!(in alloc; "Info Version {} {}", major, minor)
-        }
-        InfoFault::Parent => String::from_str(alloc, "Info Parent"),
-        InfoFault::ErrorState => String::from_str(alloc, "Info ErrorState"),
-        InfoFault::Layout { field } => format!(in alloc; "Info Layout {}", field_text(field)),
+        InfoFault::Signature => String::from_str(alloc, "Signature"),
+        InfoFault::Checksum => String::from_str(alloc, "Checksum"),
+        InfoFault::Version { major, minor } => format!(in alloc; "Version {} {}", major, minor),
+        InfoFault::Parent => String::from_str(alloc, "Parent"),
+        InfoFault::ErrorState => String::from_str(alloc, "ErrorState"),
+        InfoFault::Layout { field } => format!(in alloc; "Layout {}", field_text(field)),
     }
 }
 
+/// Returns the text of an info block's fault, with the block's name.
+fn info_text(alloc: Global, fault: InfoFault) -> Result<String, AllocError>
+    ensures { IfOk result (λ text. string_bytes text ≡ info_text fault) }
+{
+    let fault = info_fault_text(alloc, fault)?;
+    format!(in alloc; "Info {}", fault)
+}
+
 /// Returns the text of a log group's fault.
-fn flog_text(alloc: Global, lane: u32, fault: FlogFault) -> Result<String, AllocError>
+pub fn flog_text(alloc: Global, lane: u32, fault: FlogFault) -> Result<String, AllocError>
     ensures { IfOk result (λ text. string_bytes text ≡ flog_text lane fault) }
 {
     match fault {

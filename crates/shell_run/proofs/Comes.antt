@@ -18,10 +18,9 @@ use Rattle.shell_reports.proofs.More.{if_more}
 use Rattle.shell_changes.specs.declared.answer.Answer.{Answer}
 use Rattle.shell_changes.specs.declared.answer.Left.{Left}
 use Rattle.shell_changes.specs.declared.answer.Left.TheVariants.{Whole, Copied, Patched}
-use Rattle.shell_changes.specs.Answers.{ComesFrom, HasSizes, outcome_with, whole_outcome}
+use Rattle.shell_changes.specs.Answers.{ComesFrom, HasSizes, outcome_with}
 use Rattle.shell_changes.specs.Saved.{AreObjects, AreSaved, HasContentsOf, HasItsContents, HasSize, Stores, contents_with, copies_contents, objects_saved}
 use Rattle.shell_changes.proofs.Remains.{copies_none}
-use Rattle.std.proofs.lemmas.Bool.{false≢true}
 use Rattle.session_script.specs.declared.schedule.Replay.{Replay}
 use Rattle.session_script.specs.declared.script.Script.{Script}
 use Rattle.session_script.specs.Schedule.{replay_reading}
@@ -33,7 +32,7 @@ use Rattle.shell_serve.specs.declared.serving.Running.{Running}
 use Rattle.shell_serve.specs.Serve.{ServeComes}
 use Rattle.shell_run.specs.declared.scripts.ScriptRefused.{ScriptRefused}
 use Rattle.shell_run.specs.declared.words.CommandLine.{CommandLine}
-use Rattle.shell_run.specs.declared.words.CommandLine.TheVariants.{Labels, Nfit, Init, Change, Info, Read, Write, Replay as AskReplay, Export, Import, Serve, Load}
+use Rattle.shell_run.specs.declared.words.CommandLine.TheVariants.{Labels, Nfit, Init, Change, Info, Check, Read, Write, Replay as AskReplay, Export, Import, Serve, Load}
 use Rattle.shell_run.specs.declared.words.CommandLine.TheVariants as command
 use Rattle.shell_run.specs.Printed.{Exports, IsReported, IsUnloaded}
 use Rattle.shell_run.specs.Run.{Comes, ComesTold, IsDue, LoadedComes, OnImages, OnLoaded, OnScript, OnSource, copies, copies_by, copies_found, has_sessions, reads_script, streams, streams_by, streams_found}
@@ -234,6 +233,7 @@ session_copies command.List some = let e = some in cc
 session_copies (command.Init m power) some = let e = some in cc
 session_copies (command.Change c power) some = let e = some in cc
 session_copies (command.Info uuid) some = let e = some in cc
+session_copies (command.Check uuid) some = let e = some in cc
 session_copies (command.Read uuid sector) some = let e = some in cc
 session_copies (command.Write uuid sector value) some = let e = some in cc
 session_copies (command.Replay uuid seed) some = let e = some in cc
@@ -261,6 +261,7 @@ module _ (leaves : ℕ → List (Option Words) → List (Option (List ℕ)) → 
   plain_comes (Init m power) plain on = on
   plain_comes (Change c power) plain on = on
   plain_comes (Info uuid) plain on = on
+  plain_comes (Check uuid) plain on = on
   plain_comes (Read uuid sector) plain on = on
   plain_comes (Write uuid sector value) plain on = on
   plain_comes (AskReplay uuid seed) plain on = absurd (let e = plain in cc)

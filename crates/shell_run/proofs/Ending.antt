@@ -1,6 +1,6 @@
 -- How a run ends.
-use Rattle.std.proofs.Common.{◌≡◌, ◌≢◌, ℕ, Bool, true, false, List, ◌++◌, Option, Some, None, Result, Ok, Err, refl, sym, ap, subst, inl, inr, codes}
-use Rattle.std.specs.Prelude.{◌⊎◌, IfOk, IsSome, IsTrue, OnErr}
+use Rattle.std.proofs.Common.{◌≡◌, ◌≢◌, ℕ, Bool, true, false, List, ◌++◌, Option, Some, None, refl, sym, ap, subst, inl, inr, codes}
+use Rattle.std.specs.Prelude.{◌⊎◌, IsSome, IsTrue}
 use Rattle.std.specs.Io.KnownBytes.{Keeps, Appends}
 use Rattle.nvd_media.specs.Images.{Images, Becomes, IsUnfinished}
 use Rattle.nvd_media.specs.Images.{Keeps as StillTells}

@@ -42,6 +42,10 @@ pub nfit_more : command_of (codes "nfit" ∷ codes "0" ∷ []) ≡ None
 unfolding clap_on_literals parsed kind_of
 nfit_more = refl
 
+pub check_alone : command_of (codes "check" ∷ []) ≡ None
+unfolding clap_on_literals parsed kind_of
+check_alone = refl
+
 pub no_command : command_of (codes "help" ∷ []) ≡ None
 unfolding clap_on_literals parsed kind_of
 no_command = refl

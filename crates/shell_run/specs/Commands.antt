@@ -17,6 +17,7 @@ kind_of name =
     else if bytes_eq name (codes "delete") then Some kind.Delete
     else if bytes_eq name (codes "rename") then Some kind.Rename
     else if bytes_eq name (codes "info") then Some kind.Info
+    else if bytes_eq name (codes "check") then Some kind.Check
     else if bytes_eq name (codes "read") then Some kind.Read
     else if bytes_eq name (codes "write") then Some kind.Write
     else if bytes_eq name (codes "replay") then Some kind.Replay
@@ -42,6 +43,7 @@ arguments_of kind.Create =
 arguments_of kind.Delete = (codes "uuid", Place) ∷ power_arguments
 arguments_of kind.Rename = (codes "uuid", Place) ∷ (codes "name", Place) ∷ power_arguments
 arguments_of kind.Info = (codes "uuid", Place) ∷ []
+arguments_of kind.Check = (codes "uuid", Place) ∷ []
 arguments_of kind.Read = (codes "uuid", Place) ∷ (codes "sector", Place) ∷ []
 arguments_of kind.Write = (codes "uuid", Place) ∷ (codes "sector", Place) ∷ (codes "value", Place) ∷ []
 arguments_of kind.Replay = (codes "uuid", Place) ∷ (codes "evict", Optional) ∷ []

@@ -13,7 +13,7 @@ use Rattle.shell_reports.specs.declared.status.Ending.TheVariants as ending
 use Rattle.shell_reports.specs.declared.status.Status.{Status}
 use Rattle.shell_reports.specs.declared.status.Status.TheVariants as status
 use Rattle.shell_run.specs.declared.words.CommandLine.{CommandLine}
-use Rattle.shell_run.specs.declared.words.CommandLine.TheVariants.{Labels, Nfit, Init, Change, Info, Read, Write, Replay, Export, Import, Serve, Load}
+use Rattle.shell_run.specs.declared.words.CommandLine.TheVariants.{Labels, Nfit, Init, Change, Info, Check, Read, Write, Replay, Export, Import, Serve, Load}
 use Rattle.shell_run.specs.declared.words.CommandLine.TheVariants as command
 use Rattle.shell_run.specs.Words.{HasGoodValues, command_of}
 use Rattle.shell_reports.specs.Outcome.{Outcome, usage, lf, status_of}
@@ -28,6 +28,7 @@ use Rattle.shell_changes.specs.Saved.{Stores}
 use Rattle.shell_changes.specs.Namespaces.{ChangeComes}
 use Rattle.shell_reports.specs.List.{list_outcome}
 use Rattle.shell_reports.specs.Sectors.{info_outcome, read_outcome}
+use Rattle.shell_check.specs.Comes.{CheckComes}
 use Rattle.shell_sectors.specs.Write.{WriteComes}
 use Rattle.shell_export.specs.Export.{export_outcome}
 use Rattle.shell_import.specs.Import.{ImportComes}
@@ -50,6 +51,7 @@ LoadedComes leaves command.List loaded outcome = outcome ≡ list_outcome loaded
 LoadedComes leaves (Init m power) loaded outcome = InitComes leaves m power loaded outcome
 LoadedComes leaves (Change c power) loaded outcome = ChangeComes leaves c power loaded outcome
 LoadedComes leaves (Info uuid) loaded outcome = outcome ≡ info_outcome uuid loaded
+LoadedComes leaves (Check uuid) loaded outcome = CheckComes uuid loaded outcome
 LoadedComes leaves (Read uuid sector) loaded outcome = outcome ≡ read_outcome uuid sector loaded
 LoadedComes leaves (Write uuid sector value) loaded outcome = WriteComes uuid sector value loaded outcome
 LoadedComes leaves (Replay uuid seed) loaded outcome = ⊥
@@ -93,6 +95,7 @@ reads_script command.List = false
 reads_script (Init m power) = false
 reads_script (Change c power) = false
 reads_script (Info uuid) = false
+reads_script (Check uuid) = false
 reads_script (Read uuid sector) = false
 reads_script (Write uuid sector value) = false
 reads_script (Replay uuid seed) = true
@@ -109,6 +112,7 @@ streams command.List = false
 streams (Init m power) = false
 streams (Change c power) = false
 streams (Info uuid) = false
+streams (Check uuid) = false
 streams (Read uuid sector) = false
 streams (Write uuid sector value) = false
 streams (Replay uuid seed) = false
@@ -133,6 +137,7 @@ has_sessions command.List = false
 has_sessions (Init m power) = false
 has_sessions (Change c power) = false
 has_sessions (Info uuid) = false
+has_sessions (Check uuid) = false
 has_sessions (Read uuid sector) = false
 has_sessions (Write uuid sector value) = false
 has_sessions (Replay uuid seed) = false
@@ -149,6 +154,7 @@ copies command.List = false
 copies (Init m power) = true
 copies (Change c power) = true
 copies (Info uuid) = false
+copies (Check uuid) = true
 copies (Read uuid sector) = false
 copies (Write uuid sector value) = true
 copies (Replay uuid seed) = true

@@ -1,6 +1,6 @@
 -- The table of exit statuses: which one is due for a command line and images. Faults of reading and writing and out of memory stand
 -- outside it. This project's rules.
-use Rattle.std.specs.Prelude.{⊤, ℕ, ◌/◌, Bool, true, false, not, if◌then◌else◌, List, length, Option, Some, None, Result, Ok, Err, is_err}
+use Rattle.std.specs.Prelude.{⊤, ℕ, ◌/◌, Bool, true, false, not, if◌then◌else◌, List, length, Option, Some, None, is_some, Result, Ok, Err, is_err}
 use Rattle.nvd_media.specs.Images.{Images}
 use Rattle.cut_words.specs.Fuses.{lasts}
 use Rattle.label_index.specs.declared.index.IndexBlock.{IndexBlock}
@@ -15,7 +15,7 @@ use Rattle.shell_reports.specs.declared.status.Ending.TheVariants as ending
 use Rattle.shell_reports.specs.declared.status.Status.{Status}
 use Rattle.shell_reports.specs.declared.status.Status.TheVariants as status
 use Rattle.shell_reports.specs.List.{listed_of}
-use Rattle.shell_reports.specs.Causes.{is_broken, refuses_info, refuses_read}
+use Rattle.shell_reports.specs.Causes.{fault_in, is_broken, refuses_info, refuses_read}
 use Rattle.shell_changes.specs.Namespaces as changes
 use Rattle.shell_changes.specs.Namespaces.{sets_in, refuses}
 use Rattle.shell_sectors.specs.Causes.{refuses_write}
@@ -29,7 +29,7 @@ use Rattle.shell_serve.specs.Causes.{breaks_load, breaks_serve, refuses_load, re
 use Rattle.shell_run.specs.declared.scripts.ScriptRefused.{ScriptRefused}
 use Rattle.shell_run.specs.Scripts.{bytes_in, script_in}
 use Rattle.shell_run.specs.declared.words.CommandLine.{CommandLine}
-use Rattle.shell_run.specs.declared.words.CommandLine.TheVariants.{Labels, Nfit, Init, Change, Info, Read, Write, Replay, Export, Import, Serve, Load}
+use Rattle.shell_run.specs.declared.words.CommandLine.TheVariants.{Labels, Nfit, Init, Change, Info, Check, Read, Write, Replay, Export, Import, Serve, Load}
 use Rattle.shell_run.specs.declared.words.CommandLine.TheVariants as command
 use Rattle.shell_run.specs.Words.{command_of}
 
@@ -66,6 +66,7 @@ refuses_images command.List (Ok loaded) = is_err (listed_of loaded)
 refuses_images (Init m power) (Ok loaded) = keeps_area (area_of loaded m)
 refuses_images (Change c power) (Ok loaded) = is_err (sets_in loaded)
 refuses_images (Info uuid) (Ok loaded) = is_broken loaded uuid
+refuses_images (Check uuid) (Ok loaded) = is_some (fault_in loaded)
 refuses_images (Read uuid sector) (Ok loaded) = is_broken loaded uuid
 refuses_images (Write uuid sector value) (Ok loaded) = is_broken loaded uuid
 refuses_images (Replay uuid seed) (Ok loaded) = is_broken loaded uuid
@@ -91,6 +92,7 @@ is_cut command found = false
 abbrev pub is_barred : CommandLine → Result ImageSet LoadFault → Bool
 is_barred (Change c power) (Ok loaded) = refuses loaded c
 is_barred (Info uuid) (Ok loaded) = refuses_info loaded uuid
+is_barred (Check uuid) (Ok loaded) = refuses_info loaded uuid
 is_barred (Read uuid sector) (Ok loaded) = refuses_read loaded uuid sector
 is_barred (Write uuid sector value) (Ok loaded) = refuses_write loaded uuid sector value
 is_barred (Replay uuid seed) (Ok loaded) = refuses_replay loaded uuid

@@ -7,7 +7,7 @@ use Rattle.shell_run.specs.declared.commands.CommandKind.{CommandKind}
 use Rattle.shell_run.specs.declared.commands.CommandKind.TheVariants as kind
 use Rattle.shell_run.specs.declared.words.CommandLine.{CommandLine}
 use Rattle.shell_run.specs.declared.words.LoadSize.{LoadSize}
-use Rattle.shell_run.specs.declared.words.CommandLine.TheVariants.{Labels, Nfit, Init, Change, Info, Read, Write, Replay, Export, Import, Serve, Load}
+use Rattle.shell_run.specs.declared.words.CommandLine.TheVariants.{Labels, Nfit, Init, Change, Info, Check, Read, Write, Replay, Export, Import, Serve, Load}
 use Rattle.shell_run.specs.declared.words.CommandLine.TheVariants as command
 use Rattle.shell_reports.specs.declared.power.Power.{Power}
 use Rattle.namespace_ops.specs.Carried.{HasGoodName}
@@ -76,6 +76,7 @@ command_in kind.Create values = option_and_then (λ spec. option_map (λ power. 
 command_in kind.Delete values = option_and_then (λ c. option_map (λ power. Change c power) (power_in values)) (delete_in values)
 command_in kind.Rename values = option_and_then (λ c. option_map (λ power. Change c power) (power_in values)) (rename_in values)
 command_in kind.Info values = option_map (λ uuid. Info uuid) (uuid_in (codes "uuid") values)
+command_in kind.Check values = option_map (λ uuid. Check uuid) (uuid_in (codes "uuid") values)
 command_in kind.Read values = option_and_then (λ uuid. option_map (λ sector. Read uuid sector) (number_in 0 most (codes "sector") values)) (uuid_in (codes "uuid") values)
 command_in kind.Write values = write_in values
 command_in kind.Replay values = replay_in values
@@ -102,6 +103,7 @@ HasGoodValues command.List = ⊤
 HasGoodValues (Init m power) = ⊤
 HasGoodValues (Change c power) = HasGoodName c
 HasGoodValues (Info uuid) = ⊤
+HasGoodValues (Check uuid) = ⊤
 HasGoodValues (Read uuid sector) = ⊤
 HasGoodValues (Write uuid sector value) = ⊤
 HasGoodValues (Replay uuid seed) = ⊤

@@ -20,6 +20,8 @@ pub enum CommandKind {
     Rename,
     /// Prints the arenas of a namespace.
     Info,
+    /// Checks the arenas of a namespace.
+    Check,
     /// Prints a sector of a namespace.
     Read,
     /// Writes a sector of a namespace.
@@ -190,6 +192,9 @@ impl CommandKind {
         if name == "info" {
             return Some(CommandKind::Info);
         }
+        if name == "check" {
+            return Some(CommandKind::Check);
+        }
         if name == "read" {
             return Some(CommandKind::Read);
         }
@@ -237,6 +242,7 @@ impl CommandKind {
             CommandKind::Delete => &[UUID, CUT, EVICT],
             CommandKind::Rename => &[UUID, NAME, CUT, EVICT],
             CommandKind::Info => &[UUID],
+            CommandKind::Check => &[UUID],
             CommandKind::Read => &[UUID, SECTOR],
             CommandKind::Write => &[UUID, SECTOR, VALUE],
             CommandKind::Replay => &[UUID, EVICT],

@@ -30,6 +30,7 @@ use image_set::{CopyFault, LoadFault, Outline, load_outline};
 use lane_calls::Waiting;
 use nvd_media::{Chooser, Gate, ImageSink, ImageSource, TextSink, TextSource};
 use shell_changes::{Answer, SavedSet, change_answer, in_memory, init_answer, without_set};
+use shell_check::check_answer;
 use shell_export::export_answer;
 use shell_import::import_answer;
 use shell_replay::{Schedule, replay_answer};
@@ -140,6 +141,7 @@ fn reads_script(command: &CommandLine) -> bool
         CommandLine::Init(_, _) => false,
         CommandLine::Change(_, _) => false,
         CommandLine::Info(_) => false,
+        CommandLine::Check(_) => false,
         CommandLine::Read(_, _) => false,
         CommandLine::Write(_, _, _) => false,
         CommandLine::Replay(_, _) => true,
@@ -161,6 +163,7 @@ pub fn has_sessions(command: &CommandLine) -> bool
         CommandLine::Init(_, _) => false,
         CommandLine::Change(_, _) => false,
         CommandLine::Info(_) => false,
+        CommandLine::Check(_) => false,
         CommandLine::Read(_, _) => false,
         CommandLine::Write(_, _, _) => false,
         CommandLine::Replay(_, _) => false,
@@ -204,6 +207,7 @@ fn outlined_answer<S: ImageSource, C: Chooser>(
             in_memory(change_answer(alloc, &change, power, outline, choose))
         }
         CommandLine::Info(uuid) => arenas_found(alloc, &uuid, outline, images),
+        CommandLine::Check(uuid) => check_answer(alloc, &uuid, outline, images),
         CommandLine::Read(uuid, sector) => sector_found(alloc, &uuid, sector, outline, images),
         CommandLine::Write(uuid, sector, value) => {
             write_answer(alloc, &uuid, sector, value, outline, images)

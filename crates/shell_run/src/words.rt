@@ -27,6 +27,8 @@ pub enum CommandLine {
     Change(namespace_map::Command, Power),
     /// Print the arenas of a namespace.
     Info(Uuid),
+    /// Check the arenas of a namespace.
+    Check(Uuid),
     /// Print a sector of a namespace.
     Read(Uuid, u64),
     /// Write a sector of a namespace.
@@ -191,6 +193,7 @@ fn command_in(kind: CommandKind, values: &Parsed<'_>) -> Option<CommandLine>
             Some(CommandLine::Change(change, power_in(values)?))
         }
         CommandKind::Info => Some(CommandLine::Info(values.uuid("uuid")?)),
+        CommandKind::Check => Some(CommandLine::Check(values.uuid("uuid")?)),
         CommandKind::Read => {
             let uuid = values.uuid("uuid")?;
             Some(CommandLine::Read(uuid, values.number("sector", 0, u64::MAX)?))

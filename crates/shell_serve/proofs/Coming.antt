@@ -128,10 +128,6 @@ unclaimed_same registry none = ap (with_claims (namespaces_of registry.sets (are
 pub apart_in : (registry : Registered) → registry.claims ≡ [] → EntriesApart (namespaces_of registry.sets (areas_seen registry.areas)) → EntriesApart (namespaces_in (state_of registry))
 apart_in registry none apart = subst EntriesApart (sym (unclaimed_same registry none)) apart
 
-pub found_there : (registry : Registered) → registry.claims ≡ [] → (uuids : List (List ℕ)) (places : List FoundNamespace) → places ≡ found_each registry.sets (namespaces_in (state_of registry)) uuids
-    → places ≡ found_each registry.sets (namespaces_of registry.sets (areas_seen registry.areas)) uuids
-found_there registry none uuids places is = is ∙ ap (λ ns. found_each registry.sets ns uuids) (unclaimed_same registry none)
-
 -- ---- `serve`
 
 module _ (leaves : List (Option Words) → List (Option (List ℕ)) → Type 0) (script : Script) (loaded : ImageSet) (outcome : Outcome) where
@@ -172,15 +168,6 @@ one_done sets rows place opened is = by (opened_view (words_at sets place.found 
         → (states : List ArenaState) × (opened_view (words_at sets place.found rows) place.uuid ≡ Ok states) × (opened ≡ record { place = place; states = states } ∷ [])
     by (Ok states) read e = (states, read, (let same : record { place = place; states = states } ∷ [] ≡ opened = cc in sym same))
     by (Err fault) read e = absurd (let never = e in cc)
-
-pub one_broken : (sets : List (List Mapping)) (rows : List Words) (place : FoundNamespace) (broken : Broken) → opened_each sets rows (place ∷ []) ≡ Err broken
-    → (fault : ChainRefused) × (opened_view (words_at sets place.found rows) place.uuid ≡ Err fault) × (broken ≡ record { uuid = place.uuid; fault = fault })
-one_broken sets rows place broken is = by (opened_view (words_at sets place.found rows) place.uuid) refl is
-  where
-    by : (r : Result (List ArenaState) ChainRefused) → opened_view (words_at sets place.found rows) place.uuid ≡ r → on_states place r (Ok []) ≡ Err broken
-        → (fault : ChainRefused) × (opened_view (words_at sets place.found rows) place.uuid ≡ Err fault) × (broken ≡ record { uuid = place.uuid; fault = fault })
-    by (Ok states) read e = absurd (let never = e in cc)
-    by (Err fault) read e = (fault, read, (let same : record { uuid = place.uuid; fault = fault } ≡ broken = cc in sym same))
 
 module _ (leaves : List (Option Words) → List (Option (List ℕ)) → Type 0) (l : Load) (loaded : ImageSet) (outcome : Outcome) where
   pub load_faulty : (fault : OpenFault) → sets_in loaded ≡ Err fault → outcome ≡ open_outcome fault → LoadComes leaves l loaded outcome

@@ -122,12 +122,6 @@ pub made_not : {E F : Type 0} (P : Report → Type 0) (Q : OpenOutcome → Type 
 made_not P Q made (Err e) more is holds = tt
 made_not P Q made (Ok o) more (r, both) holds = subst Q (sym both.1) (more r (subst (λ x. IfOk x P) both.0 holds))
 
--- whatever the contents are
-pub named_safe : (sets : List (List Mapping)) (places : List FoundNamespace) (refused : NotOpened) (o : OpenOutcome) → NamesBroken refused o → OpensAs sets places o
-named_safe sets places (Broken uuid fault) (opened.Done namespaces) named = absurd named
-named_safe sets places (Broken uuid fault) (opened.Not report) named = tt
-named_safe sets places OutOfMemory o named = absurd named
-
 -- an arena that breaks the format
 pub named_broken : (sets : List (List Mapping)) (contents : List (List ℕ)) (places : List FoundNamespace) (refused : NotOpened) (o : OpenOutcome) → NamesBroken refused o
     → ((uuid : List ℕ) (fault : ChainRefused) → refused ≡ Broken uuid fault → opened_each sets (rows_of contents) places ≡ Err (record { uuid = uuid; fault = fault })) → OpensIn sets contents places o

@@ -1,5 +1,4 @@
 use Rattle.std.proofs.Common.{◌⊎◌, false, Option, Err, inl, inr, sym, ap, ◌∙◌, subst, arith}
-use Rattle.std.specs.Prelude.{IsTrue}
 use Rattle.nvd_media.specs.Images.{Images}
 use Rattle.nvd_media.specs.Causes.{Rose}
 use Rattle.shell_reports.specs.declared.status.RunStop.{RunStop}

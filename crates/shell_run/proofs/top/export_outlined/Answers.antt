@@ -1,4 +1,4 @@
-use Rattle.std.proofs.Common.{◌≡◌, ℕ, true, false, List, Option, Ok, Err, inl, inr, ap, ◌∙◌, subst}
+use Rattle.std.proofs.Common.{ℕ, true, false, List, Option, Ok, Err, inl, inr, ap, ◌∙◌, subst}
 use Rattle.nvd_media.specs.Causes.{Rose}
 use Rattle.shell_reports.specs.declared.status.RunStop.{RunStop}
 use Rattle.shell_reports.specs.declared.status.Status.{Status}

@@ -1,4 +1,4 @@
-use Rattle.std.proofs.Common.{◌≡◌, Option, Result, Ok, sym, subst, arith}
+use Rattle.std.proofs.Common.{Option, Result, sym, subst, arith}
 use Rattle.std.specs.Prelude.{IfOk}
 use Rattle.std.specs.Option.{ForSome}
 use Rattle.nvd_media.specs.Images.{Images}

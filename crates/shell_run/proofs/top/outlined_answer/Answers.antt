@@ -7,7 +7,7 @@ use Rattle.shell_changes.specs.Answers.{HasSizes}
 use Rattle.shell_changes.specs.Remains.{LeavesBy}
 use Rattle.shell_changes.specs.Saved.{copies_contents}
 use Rattle.shell_changes.proofs.Remains.{copies_none, no_sizes}
-use Rattle.shell_run.specs.declared.words.CommandLine.TheVariants.{Labels, Nfit, Init, Change, Info, Read, Write}
+use Rattle.shell_run.specs.declared.words.CommandLine.TheVariants.{Labels, Nfit, Init, Change, Info, Check, Read, Write}
 use Rattle.shell_run.specs.declared.words.CommandLine.TheVariants as command
 use Rattle.shell_run.specs.Run.{LoadedComes, OnSource, copies, has_sessions, reads_script, streams}
 use Rattle.shell_run.specs.Words.{HasGoodValues}
@@ -92,6 +92,20 @@ returns-in-Info-clause-sizes g c = if_more _ (HasSizes c.args.outline.sizes) c.a
 pub returns-in-Info-clause-copying : goal.returns-in-Info-clause-copying
 returns-in-Info-clause-copying g c =
     if_more _ (λ (answer : Answer). IsTrue (copies_contents answer.saved) → IsTrue (copies c.args.command)) c.arenas_found.result (λ answer none. none_copied answer.saved (IsTrue (copies c.args.command)) (copies_none answer none)) c.arenas_found.ensures.saved
+
+pub returns-in-Check-clause-comes : goal.returns-in-Check-clause-comes
+returns-in-Check-clause-comes g c =
+    let leaves = LeavesBy g.C.Chooser.begins g.C.Chooser.picks c.args.choose.now in
+    let held = g.S.ImageSource.held c.args.images.now in
+    source_of leaves c.args.command (Check c.in-Check.uuid) c.in-Check.is held c.args.outline c.check_answer.result
+    (if_more _ (OnSource (LoadedComes leaves (Check c.in-Check.uuid)) held c.args.outline) c.check_answer.result (λ answer from. from.comes) c.check_answer.ensures.told)
+
+pub returns-in-Check-clause-sizes : goal.returns-in-Check-clause-sizes
+returns-in-Check-clause-sizes g c = if_more _ (HasSizes c.args.outline.sizes) c.check_answer.result (λ answer from. from.sizes) c.check_answer.ensures.told
+
+pub returns-in-Check-clause-copying : goal.returns-in-Check-clause-copying
+returns-in-Check-clause-copying g c =
+    copies_by_it (LeavesBy g.C.Chooser.begins g.C.Chooser.picks c.args.choose.now) c.args.command (Check c.in-Check.uuid) c.in-Check.is c.check_answer.result refl
 
 pub returns-in-Read-clause-comes : goal.returns-in-Read-clause-comes
 returns-in-Read-clause-comes g c =

@@ -6,7 +6,7 @@ use Rattle.served_namespaces.specs.Reading.{AreHeld, IsUnbroken, opened_all}
 use Rattle.shell_reports.proofs.More.{if_more}
 use Rattle.shell_serve.specs.declared.opening.OpenOutcome.{OpenOutcome}
 use Rattle.shell_serve.specs.Answering.{LoadsRead, NamesBroken}
-use Rattle.shell_serve.proofs.Opens.{named_safe, never_named}
+use Rattle.shell_serve.proofs.Opens.{never_named}
 use Rattle.shell_serve.proofs.opening.load_read.Goals as goal
 
 pub unopened-requires : goal.unopened-requires

@@ -11,7 +11,7 @@ use Rattle.served_namespaces.specs.Reading.{AreReadable, HaveEnds, IsReadIn, Rev
 use Rattle.shell_reports.proofs.More.{if_more}
 use Rattle.shell_serve.specs.declared.opening.OpenOutcome.{OpenOutcome}
 use Rattle.shell_serve.specs.Answering.{NamesBroken, OpensAs, OpensIn, OpensRead}
-use Rattle.shell_serve.proofs.Opens.{ends_all, named_broken, named_safe, opens_in, readable, sets_on}
+use Rattle.shell_serve.proofs.Opens.{ends_all, named_broken, opens_in, readable, sets_on}
 use Rattle.shell_serve.proofs.opening.open_namespaces.Goals as goal
 
 pub read_each-requires-clause-readable : goal.read_each-requires-clause-readable

@@ -4,7 +4,7 @@ use Rattle.served_namespaces.specs.Places.{AreDifferent, AreDisjoint}
 use Rattle.std.specs.Prelude.{Vec}
 use Rattle.std.specs.Global.{Global}
 use Rattle.shell_reports.proofs.More.{if_more}
-use Rattle.shell_serve.proofs.Coming.{apart_in, found_there}
+use Rattle.shell_serve.proofs.Coming.{apart_in}
 use Rattle.shell_serve.proofs.serve.find_opened.Goals as goal
 
 pub returns-clause-disjoint : goal.returns-clause-disjoint

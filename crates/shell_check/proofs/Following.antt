@@ -1,0 +1,97 @@
+-- Reports on the arenas of a namespace, one after another.
+use Rattle.std.proofs.Common.{◌≡◌, ◌≢◌, ℕ, zero, suc, ◌+◌, ◌/◌, ◌≤◌, Bool, List, [], ◌∷◌, ◌++◌, length, drop, refl, sym, ap, ◌∙◌, arith}
+use Rattle.std.proofs.lemmas.Bool.{ne_eqb}
+use Rattle.std.proofs.lemmas.List.{append_assoc, append-nil, length-append}
+use Rattle.std.proofs.lemmas.List.Sums.{sum_by-cons, sum_by-append}
+use Rattle.arena_check.specs.declared.finding.Finding.{Finding}
+use Rattle.arena_check.specs.declared.finding.Report.{Report}
+use Rattle.arena_check.specs.Check.{next_of, report_of, source_of}
+use Rattle.shell_check.specs.Chain.{behind, reports_of, reports_within}
+use Rattle.shell_check.specs.Text.{check_text, finding_line, findings_in, last_line, lines_of, report_lines}
+
+-- ---- lines
+
+-- each finding has a line, which isn't empty
+pub lines_long : (k : ℕ) (xs : List Finding) → length xs ≤ length (lines_of k xs)
+lines_long k [] = omega arith
+lines_long k (x ∷ xs) = omega (arith, lines_long k xs, length-append (finding_line k x) (lines_of k xs))
+
+reports_append : (k : ℕ) (xs ys : List Report) → report_lines k (xs ++ ys) ≡ report_lines k xs ++ report_lines (k + length xs) ys
+reports_append k [] ys = ap (λ (n : ℕ). report_lines n ys) (let e : k ≡ k + length {A = Report} [] = omega arith in e)
+reports_append k (x ∷ xs) ys =
+    ap (λ (text : List ℕ). lines_of k x.findings ++ text) (reports_append (k + 1) xs ys)
+    ∙ sym (append_assoc (lines_of k x.findings) (report_lines (k + 1) xs) (report_lines (k + 1 + length xs) ys))
+    ∙ ap (λ (n : ℕ). (lines_of k x.findings ++ report_lines (k + 1) xs) ++ report_lines n ys) (let e : k + 1 + length xs ≡ k + length (x ∷ xs) = omega arith in e)
+
+-- ---- the arenas so far
+
+-- The reports on the first k arenas make this text and so many findings, and the next arena begins at this word.
+pub record IsSoFar (bad : ℕ → Bool) (words parent : List ℕ) (k count at : ℕ) (text : List ℕ) : Type 0 where
+  pub done : List Report
+  pub many : length done ≡ k
+  pub text_is : text ≡ report_lines 0 done
+  pub count_is : count ≡ findings_in done
+  pub left : ℕ
+  pub enough : k + left ≡ length words + 1
+  pub rest : reports_of bad words parent ≡ done ++ reports_within left bad words parent at
+
+pub starts : (bad : ℕ → Bool) (words parent text : List ℕ) → text ≡ [] → IsSoFar bad words parent 0 0 0 text
+starts bad words parent text none = record {
+  done = [];
+  many = refl;
+  text_is = none;
+  count_is = refl;
+  left = length words + 1;
+  enough = omega arith;
+  rest = refl;
+}
+
+module _ (bad : ℕ → Bool) (words parent : List ℕ) (k count at : ℕ) (text : List ℕ) (so_far : IsSoFar bad words parent k count at text) (short : k ≤ length words) where
+  abbrev report : Report
+  report = report_of at bad (drop at words) parent
+
+  abbrev next : ℕ
+  next = next_of (source_of (drop at words) parent)
+
+  -- the next report
+  within_one : (n : ℕ) → so_far.left ≡ n → (m : ℕ) × ((k + 1 + m ≡ length words + 1) × (reports_within so_far.left bad words parent at ≡ report ∷ behind next at (reports_within m bad words parent)))
+  unfolding reports_within report_of
+  within_one zero is = absurd (omega (arith, is, so_far.enough, short))
+  within_one (suc m) is = (m, (omega (arith, is, so_far.enough), ap (λ (n : ℕ). reports_within n bad words parent at) is))
+
+  module _ (findings : List Finding) (found : findings ≡ report.findings) where
+    lines_are : text ++ lines_of k findings ≡ report_lines 0 (so_far.done ++ report ∷ [])
+    lines_are =
+        let place : k ≡ 0 + length so_far.done = omega (arith, so_far.many) in
+        (λ i. so_far.text_is i ++ lines_of (place i) (found i))
+        ∙ ap (λ (more : List ℕ). report_lines 0 so_far.done ++ more) (sym (append-nil (lines_of (0 + length so_far.done) report.findings)))
+        ∙ sym (reports_append 0 so_far.done (report ∷ []))
+
+    count_are : count + length findings ≡ findings_in (so_far.done ++ report ∷ [])
+    count_are =
+        omega (arith, so_far.count_is, ap (λ (fs : List Finding). length fs) found, sum_by-append (λ (r : Report). length r.findings) so_far.done (report ∷ []), sum_by-cons (λ (r : Report). length r.findings) report [])
+
+    -- another arena follows
+    pub goes_on : (n : ℕ) → n ≡ next → n ≢ 0 → IsSoFar bad words parent (k + 1) (count + length findings) (at + n / 8) (text ++ lines_of k findings)
+    goes_on n is some =
+        let one = within_one so_far.left refl in
+        let more : behind next at (reports_within one.0 bad words parent) ≡ reports_within one.0 bad words parent (at + n / 8) =
+        ap (λ (x : ℕ). behind x at (reports_within one.0 bad words parent)) (sym is) ∙ rw (ne_eqb n 0 some) refl in
+        record {
+          done = so_far.done ++ report ∷ [];
+          many = omega (arith, so_far.many, length-append so_far.done (report ∷ []));
+          text_is = lines_are;
+          count_is = count_are;
+          left = one.0;
+          enough = one.1.0;
+          rest = so_far.rest ∙ ap (λ (rs : List Report). so_far.done ++ rs) (one.1.1 ∙ ap (λ (rs : List Report). report ∷ rs) more)
+              ∙ sym (append_assoc so_far.done (report ∷ []) (reports_within one.0 bad words parent (at + n / 8)));
+        }
+
+    -- it was the last one
+    pub ends : next ≡ 0 → (text ++ lines_of k findings) ++ last_line (count + length findings) ≡ check_text (reports_of bad words parent)
+    ends none =
+        let one = within_one so_far.left refl in
+        let all : reports_of bad words parent ≡ so_far.done ++ report ∷ [] =
+        so_far.rest ∙ ap (λ (rs : List Report). so_far.done ++ rs) (one.1.1 ∙ ap (λ (x : ℕ). report ∷ behind x at (reports_within one.0 bad words parent)) none) in
+        (λ i. lines_are i ++ last_line (count_are i)) ∙ ap check_text (sym all)

@@ -1,0 +1,5 @@
+pub mod Chain
+pub mod Text
+pub mod Comes
+pub mod Reading
+pub mod Saving

@@ -1,0 +1,37 @@
+//! The command `check` of `nvdimm_shell`: everything that is wrong with the arenas of a sector namespace.
+//!
+//! ```text
+//! outline ── open_outline ──► labels ──► namespace ──┐
+//!                                                    ▼
+//! image source ────────────► info blocks, logs, maps, arena by arena ──► findings ──► a line for each
+//! bad ranges of the modules ───────────────────────────▲                                  │
+//!                                                                                         ▼
+//! saved set ◄── the set as it was loaded                                        sound, or broken N
+//! ```
+//!
+//! Other commands refuse an arena with the first rule that it breaks. `check` lists all of them (crate `arena_check`), and goes on with the
+//! next arena if the info block, or else its backup, says where that is. So an arena that breaks the format is no fault of the image here.
+//! Of the contents only the arenas' info blocks, logs and maps are read. Pending moves are made in the map in memory.
+//!
+//! A set is saved as it was loaded: the command has a place in it for repairs.
+//!
+//! | what | definition |
+//! |---|---|
+//! | the findings of an arena | `report_of` of `arena_check` |
+//! | which words are bad | `bad_words` of `bad_ranges` |
+//! | all arenas, in order | `reports_of` of `specs/Chain.antt` |
+//! | the lines | `check_text` of `specs/Text.antt` |
+//! | what the command comes to | `CheckComes` of `specs/Comes.antt` |
+//!
+//! The order of refusals and the texts are this project's rules over UEFI 2.10, chapter 6.
+#![tactic(auto)]
+
+mod arena;
+mod chain;
+mod command;
+mod log;
+mod pages;
+mod saving;
+mod text;
+
+pub use command::check_answer;

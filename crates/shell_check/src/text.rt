@@ -1,0 +1,74 @@
+//! The lines of findings.
+ghost use Rattle.std.specs.Prelude.{◌≡◌, ◌++◌, ◌∷◌, [], IfOk, OnOk, codes, string_bytes};
+ghost use Rattle.std.specs.Fmt.{decimal};
+ghost use Rattle.shell_reports.specs.Outcome.{joined, lf};
+ghost use Rattle.shell_check.specs.Text.{finding_line, finding_text, last_line, lines_of};
+
+use arena_check::Finding;
+use shell_reports::{flog_text, info_fault_text};
+use std::alloc::{AllocError, Global};
+
+/// Returns the name of a finding and its numbers.
+fn finding_text(alloc: Global, finding: Finding) -> Result<String, AllocError>
+    ensures { IfOk result (λ text. string_bytes text ≡ finding_text finding) }
+{
+    match finding {
+        Finding::Info { fault } => format!(in alloc; "Info {}", info_fault_text(alloc, fault)?),
+        Finding::Backup { fault } => {
+            format!(in alloc; "Backup {}", info_fault_text(alloc, fault)?)
+        }
+        Finding::Unequal => String::from_str(alloc, "Unequal"),
+        Finding::Flog { lane, fault } => flog_text(alloc, lane, fault),
+        Finding::Range { block } => format!(in alloc; "Range {}", block),
+        Finding::Twice { block } => format!(in alloc; "Twice {}", block),
+        Finding::Missing { block } => format!(in alloc; "Missing {}", block),
+        Finding::BadData { sector } => format!(in alloc; "BadData {}", sector),
+        Finding::BadMeta { word } => format!(in alloc; "BadMeta {}", word),
+    }
+}
+
+/// Returns the line of a finding of arena k.
+fn finding_line(alloc: Global, k: u64, finding: Finding) -> Result<String, AllocError>
+    ensures { IfOk result (λ text. string_bytes text ≡ finding_line k finding) }
+{
+    let text = finding_text(alloc, finding)?;
+    format!(in alloc; "arena {} {}\n", k, text)
+}
+
+/// Appends the lines of the findings of arena k.
+pub(crate) fn push_lines(
+    alloc: Global,
+    k: u64,
+    findings: &[Finding],
+    text: &mut Vec<u8>,
+) -> Result<(), AllocError>
+    ensures { OnOk result (text.new.items ≡ text.old.items ++ lines_of k findings.now) }
+{
+    for finding in findings {
+        let line = finding_line(alloc, k, *finding)?;
+        text.extend_from_slice(line.as_bytes())?;
+    }
+    Ok(())
+}
+
+/// Returns the last line, after so many findings.
+fn last_line(alloc: Global, count: u64) -> Result<String, AllocError>
+    ensures { IfOk result (λ text. string_bytes text ≡ last_line count) }
+{
+    if count == 0 {
+        return String::from_str(alloc, "sound\n");
+    }
+    format!(in alloc; "broken {}\n", count)
+}
+
+/// Appends the last line, after so many findings.
+pub(crate) fn push_last_line(
+    alloc: Global,
+    count: u64,
+    text: &mut Vec<u8>,
+) -> Result<(), AllocError>
+    ensures { OnOk result (text.new.items ≡ text.old.items ++ last_line count) }
+{
+    let line = last_line(alloc, count)?;
+    text.extend_from_slice(line.as_bytes())
+}
