@@ -129,7 +129,7 @@ def after_findings(lines):
     """Says what the findings of `check` mean."""
     for line in lines:
         say_rows(line)
-    say("'nvd help check' says what to do and what check can't see, and 'nvd help FAULTS' has every finding")
+    say("'nvd help check' says what to do, what --repair mends and what check can't see, and 'nvd help FAULTS' has every finding")
 
 
 def after_images(run):

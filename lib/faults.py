@@ -3,7 +3,7 @@ import re
 
 # A table with one of these heads has the ends of the texts that begin so; the others have whole texts.
 FAMILIES = {"FAULT of a region": r"image region (?P<REGION>\S+) ", "FINDING": r"arena (?P<ARENA>\S+) ",
-            "FAULT": r"(?:image arena (?P<ARENA>\S+) (?P<K>\S+)|arena \S+(?= Info | Flog )) "}
+            "repaired FINDING": r"arena (?P<ARENA>\S+) repaired ", "FAULT": r"(?:image arena (?P<ARENA>\S+) (?P<K>\S+)|arena \S+(?= Info | Flog )) "}
 
 
 def rows_of(page):

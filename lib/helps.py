@@ -15,7 +15,7 @@ WORDS = {
     "rename": "IN OUT rename UUID|NAME NEW-NAME [--cut N] [--evict S] [--json]",
     "info": "IN - info UUID|NAME [--json]",
     "read": "IN - read UUID|NAME SECTOR [--json]",
-    "check": "IN OUT check UUID|NAME [--json]",
+    "check": "IN OUT check UUID|NAME [--repair] [--json]",
     "write": "IN OUT write UUID|NAME SECTOR VALUE [--json]",
     "export": "IN - export UUID|NAME [--bad-as-zeros] [--json] >FILE",
     "import": "IN OUT import UUID|NAME <FILE",

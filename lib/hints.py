@@ -116,7 +116,7 @@ def labels_size(run, module, size):
 
 def broken_arena(_):
     """An arena's first fault may not be the only one."""
-    yield "'nvd IN OUT check UUID' lists everything that is wrong with the arenas of a namespace"
+    yield "'nvd IN OUT check UUID' lists everything that is wrong with the arenas of a namespace, and with --repair it mends what needs no guess"
 
 
 FORMS = [(r"refused NoSpace (\d+)", no_space), (r"refused BadSize (\d+)", bad_size), (r"image contents (\d+) Size (\d+)", contents_size),

@@ -7,6 +7,8 @@ MODE = r"(raw|sector1?|other:\S+)"
 VALUE = r"(?:fill:[0-9a-f]{2}|hex:(?:[0-9a-f]{2})*)"
 INFO_FAULT = r"(Signature|Checksum|Version \d+ \d+|Parent|ErrorState|Layout (?:Sector|Inner|Free|Blocks|Areas|Size|Next))"
 FLOG_FAULT = r"(Padding|Sequences \d+ \d+|Range \d+)"
+# findings of some kinds are repaired
+REPAIRED = "( repaired)?"
 
 # Each kind of line: its keys, and its form with a group for each key.
 LINES = {
@@ -27,11 +29,11 @@ LINES = {
     "arena": (
         ["arena", "sector", "sectors", "blocks", "lanes", "moves"],
         f"arena {NUMBER} sector {NUMBER} sectors {NUMBER} blocks {NUMBER} lanes {NUMBER} moves {NUMBER}"),
-    "finding of an info block": (["arena", "kind", "fault"], f"arena {NUMBER} (Info|Backup) {INFO_FAULT}"),
-    "finding of both info blocks": (["arena", "kind"], f"arena {NUMBER} (Unequal)"),
+    "finding of an info block": (["arena", "repaired", "kind", "fault"], f"arena {NUMBER}{REPAIRED} (Info|Backup) {INFO_FAULT}"),
+    "finding of both info blocks": (["arena", "repaired", "kind"], f"arena {NUMBER}{REPAIRED} (Unequal)"),
     "finding of a lane": (["arena", "kind", "lane", "fault"], f"arena {NUMBER} (Flog) {NUMBER} {FLOG_FAULT}"),
     "finding of a block": (["arena", "kind", "block"], f"arena {NUMBER} (Range|Twice|Missing) {NUMBER}"),
-    "finding of a sector": (["arena", "kind", "sector"], f"arena {NUMBER} (BadData) {NUMBER}"),
+    "finding of a sector": (["arena", "repaired", "kind", "sector"], f"arena {NUMBER}{REPAIRED} (BadData) {NUMBER}"),
     "finding of a word": (["arena", "kind", "word"], f"arena {NUMBER} (BadMeta) {NUMBER}"),
     "sound": ([], "sound"),
     "broken": (["broken"], f"broken {NUMBER}"),
@@ -57,6 +59,8 @@ def name_of(text):
 def value_of(key, text):
     if key in TEXTS:
         return text
+    if key == "repaired":
+        return text is not None
     if key == "modules":
         return [int(it) for it in text.split()]
     return None if text == "-" else int(text)
@@ -104,14 +108,17 @@ def document_of(command, text):
 
 
 def checked_of(text):
-    """What the lines of a check say: whether all is sound, how many findings there are, and those of each arena that has some."""
+    """What the lines of a check say: whether nothing is open, how many findings are and how many were repaired, and those of each arena that has some."""
     *found, (last, fields) = records_of(text) or [(None, {})]
     if last not in ("sound", "broken") or any(kind != "finding" for kind, _ in found):
         raise NoLine(text.rstrip("\n").rsplit("\n", 1)[-1])
     arenas = {}
     for _, it in found:
-        arenas.setdefault(it.pop("arena"), []).append(it)
-    return {"sound": last == "sound", "broken": fields.get("broken", 0), "arenas": [{"arena": number, "findings": its} for number, its in arenas.items()]}
+        is_repaired = it.pop("repaired", False)
+        arenas.setdefault(it.pop("arena"), []).append({**it, "repaired": is_repaired})
+    repaired = sum(it["repaired"] for its in arenas.values() for it in its)
+    return {"sound": last == "sound", "broken": fields.get("broken", 0), "repaired": repaired,
+            "arenas": [{"arena": number, "findings": its} for number, its in arenas.items()]}
 
 
 def value_of_sector(text):

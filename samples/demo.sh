@@ -131,6 +131,10 @@ printf '\012\0\0\300' | dd of=damaged/contents-0.bin bs=1 seek=$((16637952 + 4 *
 step 3 damaged - info $first
 step 0 damaged looked1 check $first
 
+tell 'With --repair what needs no guess is mended in OUT: the info block has a backup. Which sector has the block that two of them name, nobody knows:'
+step 0 damaged repaired check $first --repair
+step 0 repaired looked2 check $first
+
 tell 'Two sessions write one sector at once, as the script samples/scripts/two_writers says. Each reads its own value, or that of the other:'
 cat "$top/samples/scripts/two_writers"
 step 0 arena written serve <"$top/samples/scripts/two_writers"

@@ -8,6 +8,7 @@ from sets import ARENA, HELD, chain, group, past_the_limit, sectors, spa, table,
 CREATE = ["OUT", "create", "--uuid", str(THIRD), "--name", "c", "--region", "0", "--size", "8192", "--mode", "raw"]
 LIST, NFIT, LABELS, INFO, READ = ["-", "list"], ["-", "nfit"], ["-", "labels", "0"], ["-", "info", str(FIRST)], ["-", "read", str(FIRST), "0"]
 CHECK = ["OUT", "check", str(FIRST)]
+REPAIR = [*CHECK, "--repair"]
 WRITE = ["OUT", "write", str(FIRST), "0", "fill:5a"]
 REPLAY = ["OUT", "replay", str(FIRST)]
 EXPORT = ["-", "export", str(FIRST)]
@@ -285,9 +286,13 @@ FINDING_MEANS = {"Info": "the arena's first info block is refused", "Backup": "t
                  "Flog": "the log group of lane 0 is refused", "Range": f"the map names block {INNER},", "Twice": "map and lanes name block 1 more than once", "Missing": "neither map nor lanes name block 0;",
                  "BadData": "sector 5, numbered in its arena, has bytes in a bad range", "BadMeta": f"word {ARENA // 8 - 1} of the namespace"}
 
+# and that of one that was repaired
+REPAIRED_MEANS = {"Info": "the arena's first info block was damaged;", "Backup": "the info block's backup was refused;", "Unequal": "the info block and its backup differed in a byte;",
+                  "BadData": "sector 5, numbered in its arena, had bytes in a bad range;"}
+
 
 def findings():
-    """What `check` finds; nvd says what it means."""
+    """What `check` finds and repairs; nvd says what it means."""
     yield sectors(), CHECK, 0, "sound", None
     yield sectors(entries={0: 1 << 31 | 1}), CHECK, 0, "broken 2", "'nvd help check' says what to do"
     for text, files in (
@@ -297,6 +302,14 @@ def findings():
             (f"Range {INNER}", sectors(entries={0: 1 << 31 | INNER})), ("Twice 1", sectors(entries={0: 1 << 31 | 1})), ("Missing 0", sectors(entries={0: 1 << 31 | 1})),
             ("BadData 5", sectors(entries={5: 3 << 30 | 5}, ranges=[(4096 * 6, 1)])), (f"BadMeta {ARENA // 8 - 1}", sectors(ranges=[(ARENA - 1, 1)]))):
         yield files, CHECK, 0, f"arena 0 {text}", f"nvd: arena 0 {text}: {FINDING_MEANS[text.split()[0]]}"
+    for text, files in (
+            ("Info Checksum", sectors(info(seal=False))), ("Info Signature", sectors(bytes(4096))), ("Backup Version 1 1", sectors(last=info(major=1, minor=1))), ("Unequal", sectors(last=info(unused=b"x"))),
+            ("BadData 5", sectors(entries={5: 3 << 30 | 5}, ranges=[(4096 * 6, 1)]))):
+        yield files, REPAIR, 0, f"arena 0 repaired {text}", f"nvd: arena 0 repaired {text}: {REPAIRED_MEANS[text.split()[0]]}"
+    # what stays open is told as without --repair
+    yield sectors(info(major=1, minor=1)), REPAIR, 0, "arena 0 Info Version 1 1", "nvd: arena 0 Info Version 1 1: the arena's first info block is refused"
+    yield sectors(bytes(4096), entries={0: 1 << 31 | 1}), REPAIR, 0, "broken 2", "nvd: arena 0 Twice 1: map and lanes name block 1 more than once"
+    yield sectors(), REPAIR, 0, "sound", None
     # the reason of a refused block or group is told as for other commands
     yield sectors(info(seal=False)), CHECK, 0, "arena 0 Info Checksum", "nvd: arena 0 Info Checksum: a byte of the info block was changed"
     yield sectors(halves={7: bytes(64)}), CHECK, 0, "arena 0 Flog 7 Sequences 0 0", "nvd: arena 0 Flog 7 Sequences 0 0: the two log halves of lane 7 have the sequence numbers 0 and 0"

@@ -3,7 +3,7 @@
 
 usage: writes.py NAME TRUTH SET PROGRAM OUT   (the set is unpacked in the folder SET)
 
-For each block device of truth/sectors.txt.xz the namespace is sound. A sector that Linux wrote gets other bytes, then a sector of zeros does, then
+For each block device of truth/sectors.txt.xz the namespace is sound, and a repair changes nothing. A sector that Linux wrote gets other bytes, then a sector of zeros does, then
 the last. After each write all sectors that Linux wrote are read. Only contents may differ in the set, and the backup of the info block stays. After the
 last write the namespace is sound again.
 """
@@ -59,6 +59,9 @@ def main():
         zero = next(n for n in range(count) if n not in own)
         report(f"check of {who}", run(folder, out, "check", who), (0, "sound\n"))
         report(f"what changed by a check of {who}", files_of(out) == was, True)
+        shutil.rmtree(out)
+        report(f"repair of {who}", run(folder, out, "check", who, "--repair"), (0, "sound\n"))
+        report(f"what changed by a repair of {who}", files_of(out) == was, True)
         shutil.rmtree(out)
         for number in dict.fromkeys([*list(own)[:1], zero, count - 1]):
             what = f"write of sector {number} of {who}"

@@ -140,7 +140,7 @@ def command_lines():
             ["help"], ["--", "nfit"], ["list", "0"], ["list", ""], ["list", "list"], ["list", "--help"], ["list", "--cut", "1"], ["List"],
             ["init"], ["init", "64"], ["init", "00"], ["init", "0", "1"], ["init", "0", "--cut"], ["init", "0", "--cut", "-1"],
             ["init", "0", "--cut", "01"], ["init", "0", "--cut", "1", "--cut", "1"], ["init", "0", "--evict", "18446744073709551616"],
-            ["init", "0", "--help"], ["info"], ["info", "0"], ["info", NONE, "0"], ["check"], ["check", "a"], ["check", NONE, "0"], ["check", NONE, "--repair"], ["check", NONE, "--cut", "1"], ["read", NONE], ["read", NONE, "01"],
+            ["init", "0", "--help"], ["info"], ["info", "0"], ["info", NONE, "0"], ["check"], ["check", "a"], ["check", NONE, "0"], ["check", NONE, "--repair", "--repair"], ["check", NONE, "--repair=true"], ["check", NONE, "--repair", "true"], ["check", NONE, "--cut", "1"], ["read", NONE], ["read", NONE, "01"],
             ["read", NONE, "18446744073709551616"], ["write", NONE, "0"], ["write", NONE, "0", "5a"], ["write", NONE, "0", "fill:5"],
             ["write", NONE, "0", "fill:5a5a"], ["write", NONE, "0", "fill:xx"], ["write", NONE, "0", "hex:5"], ["write", NONE, "01", "fill:00"],
             ["write", NONE, "0", "fill:00", "--cut", "1"], ["replay"], ["replay", "9"], ["replay", NONE, "0"], ["replay", NONE, "--cut", "1"],
@@ -164,6 +164,8 @@ def command_lines():
     for value in ("fill:aF", "hex:", "hex:0aF1"):
         yield pair(), ["OUT", "write", NONE, "18446744073709551615", value], REFUSED, "refused NoSuch\n"
     yield pair(), ["-", "info", "{11111111-1111-4111-8111-111111111112}"], REFUSED, "refused NoSuch\n"
+    for words in ([NONE, "--repair"], ["--repair", NONE], ["--repair", "--", NONE]):
+        yield pair(), ["OUT", "check", *words], REFUSED, "refused NoSuch\n"
     for words in ([NONE, "--bad-as-zeros"], ["--bad-as-zeros", NONE], ["--bad-as-zeros", "--", NONE]):
         yield pair(), ["-", "export", *words], REFUSED, "refused NoSuch\n"
     # the ranges of --sector and --lanes count in either mode
@@ -213,7 +215,8 @@ def sectors():
         for words in (["-", "export", uuid], ["-", "export", uuid, "--bad-as-zeros"]):
             yield files, words, *((OK, "\0" * 2 * 4096) if text == "refused NotSector\n" else (status, text))
         # to check, an arena that breaks the format is no fault; the last 4,096 bytes are no info block either
-        yield files, ["OUT", "check", uuid], *((OK, "arena 0 Info Signature\nbroken 1\n") if text.startswith("image arena") else (status, text))
+        for words in (["OUT", "check", uuid], ["OUT", "check", uuid, "--repair"]):
+            yield files, words, *((OK, "arena 0 Info Signature\nbroken 1\n") if text.startswith("image arena") else (status, text))
     # and one of another use isn't
     yield with_areas(*LISTS[-1][:2]), ["-", "export", FIRST], REFUSED, "refused NotSector\n"
 

@@ -1,6 +1,7 @@
 """The rows of `check`: image sets with a sector namespace of 16 MiB, made without the program, and what is said of them.
 
-A row is what is wrong, the files of the set, and the text. Sectors have 4,096 bytes, and so have blocks; all entries are Zero, and lane l owns block
+A row is what is wrong, the files of the set, and the text. One of a repair has in place of the text that of `check --repair`, and the bytes that
+it writes into the contents, by their first one. Sectors have 4,096 bytes, and so have blocks; all entries are Zero, and lane l owns block
 OUTER + l, unless a row says otherwise. The namespace begins at byte 0 of the module, so a byte of a record is one of the namespace.
 """
 import os
@@ -9,7 +10,7 @@ import sys
 
 sys.dont_write_bytecode = True
 sys.path.insert(1, os.path.join(os.path.dirname(os.path.dirname(os.path.abspath(__file__))), "faults"))
-from sets import ARENA, INFO_AT, INNER, LOG_AT, MAP_AT, OUTER, bad, chain, group, info, sectors, wide  # noqa: E402
+from sets import ARENA, INFO_AT, INNER, LANES, LOG_AT, MAP_AT, OUTER, bad, chain, group, info, sectors, wide  # noqa: E402
 
 BLOCK, WORD = 4096, 8
 MOST = (1 << 64) - 1
@@ -173,4 +174,118 @@ def behind():
 
 def rows():
     for group_of in (infos, lanes, blocks, data, meta, chains, places):
+        yield from group_of()
+
+
+def mended(*repaired, left=(), arena=0):
+    """The text with these findings of one arena: repaired ones, and those that stay open."""
+    return "".join(f"arena {arena} repaired {it}\n" for it in repaired) + found(*left, arena=arena)
+
+
+def entry(sector, word, arena=0):
+    """What a repair writes of a map: the entry of a sector, in an arena that begins at this byte."""
+    return {arena + MAP_AT + 4 * sector: struct.pack("<I", word)}
+
+
+def repaired_infos():
+    """The info block and its backup. Only damaged ones are written over, and the map is repaired by the one that is used."""
+    worn = {"entries": {7: NORMAL | 7}, "ranges": [(block(7), 1)]}
+    yield "nothing", sectors(), mended(), {}
+    yield "a byte of the first info block", sectors(changed(info(), 200)), mended("Info Checksum"), {0: info()}
+    yield "no first info block", sectors(bytes(4096)), mended("Info Signature"), {0: info()}
+    yield "a backup with a byte that isn't read", sectors(bytes(4096), last=info(unused=b"x")), mended("Info Signature"), {0: info(unused=b"x")}
+    for fault, fields in (("Version 1 1", {"major": 1, "minor": 1}), ("Parent", {"parent": bytes(16)}), ("ErrorState", {"flags": 1}), ("Layout Sector", {"sector": 100}), ("Layout Next", {"next": 4096})):
+        yield f"the first info block has {fault}", sectors(info(**fields)), mended(left=[f"Info {fault}"]), {}
+        yield f"the first info block has {fault}, and a sector is bad", sectors(info(**fields), **worn), mended("BadData 7", left=[f"Info {fault}"]), entry(7, ERROR | 7)
+        yield f"the backup has {fault}", sectors(last=info(**fields)), mended(f"Backup {fault}"), {INFO_AT: info()}
+    yield "a byte of the backup", sectors(last=changed(info(), 84)), mended("Backup Checksum"), {INFO_AT: info()}
+    yield "no backup", sectors(last=bytes(4096)), mended("Backup Signature"), {INFO_AT: info()}
+    yield "a byte of the backup that isn't read", sectors(last=info(unused=b"x")), mended("Unequal"), {INFO_AT: info()}
+    yield "a byte of the first one that isn't read", sectors(info(unused=b"x")), mended("Unequal"), {INFO_AT: info(unused=b"x")}
+    yield "a backup of another arena of that size", sectors(last=info(outer=OUTER - 1, inner=INNER - 1)), mended("Unequal"), {INFO_AT: info()}
+    yield "both, and a sector is bad", sectors(bytes(4096), last=changed(info(), 84), **worn), mended(left=["Info Signature"]), {}
+    yield "the first info block, and a sector is bad", sectors(bytes(4096), **worn), mended("Info Signature", "BadData 7"), {0: info(), **entry(7, ERROR | 7)}
+    yield "the backup, and a sector is bad", sectors(last=bytes(4096), **worn), mended("Backup Signature", "BadData 7"), {INFO_AT: info(), **entry(7, ERROR | 7)}
+    yield "the first info block, and a block named twice", sectors(bytes(4096), entries={9: NORMAL | 100}), mended("Info Signature", left=["Twice 100", "Missing 9"]), {0: info()}
+    yield "the backup, and a log group", sectors(last=bytes(4096), halves=halves(5, 1, 1)), mended("Backup Signature", left=["Flog 5 Sequences 1 1"]), {INFO_AT: info()}
+
+
+def repaired_maps():
+    """Pending moves and bad sectors. If a group is refused, or a block isn't named once, nothing of the map is written."""
+    # lane 0 moves sector 0 from block 0 to its free block, and lane 3 does so with sector 9
+    move, other = {0: group(0, OUTER, 1)}, {3: struct.pack("<IIII16x", 9, 9, OUTER + 3, 1) + bytes(32)}
+    moved, worn = entry(0, NORMAL | OUTER), {"entries": {7: NORMAL | 7}, "ranges": [(block(7), 1)]}
+    yield "a pending move", sectors(halves=move), mended(), moved
+    yield "a move that the map has", sectors(halves=move, entries={0: NORMAL | OUTER}), mended(), {}
+    yield "two pending moves", sectors(halves={**move, **other}), mended(), {**moved, **entry(9, NORMAL | OUTER + 3)}
+    yield "a pending move, and the first info block", sectors(bytes(4096), halves=move), mended("Info Signature"), {0: info(), **moved}
+    yield "a pending move, and a sector is bad", sectors(halves=move, **worn), mended("BadData 7"), {**moved, **entry(7, ERROR | 7)}
+    yield "the new block of a pending move is bad", sectors(halves=move, ranges=[(block(OUTER), 1)]), mended("BadData 0"), entry(0, ERROR | OUTER)
+    yield "the old block of a pending move is bad", sectors(halves=move, entries={0: NORMAL}, ranges=[(block(0), 1)]), mended(), moved
+    yield "a pending move, and the log of another lane", sectors(halves={**move, **halves(5, 0, 0)}), mended(left=["Flog 5 Sequences 0 0"]), {}
+    yield "a pending move, and padding of another lane", sectors(halves={**move, 4: group(OUTER + 4, OUTER + 4, 1, changed(bytes(32), 3))}), mended(left=["Flog 4 Padding"]), {}
+    yield "a pending move, and a block named twice", sectors(halves=move, entries={9: NORMAL | 100}), mended(left=["Twice 100", "Missing 9"]), {}
+    yield "a pending move, and a block that doesn't exist", sectors(halves=move, entries={9: NORMAL | INNER}), mended(left=[f"Range {INNER}", "Missing 9"]), {}
+    yield "a pending move of a sector that has another block", sectors(halves=move, entries={0: NORMAL | 5}), mended(left=["Twice 5", f"Missing {OUTER}"]), {}
+    yield "a bad sector", sectors(**worn), mended("BadData 7"), entry(7, ERROR | 7)
+    yield "the last sector", sectors(entries={OUTER - 1: NORMAL | 3, 3: ZERO | OUTER - 1}, ranges=[(block(3), 1)]), mended(f"BadData {OUTER - 1}"), entry(OUTER - 1, ERROR | 3)
+    yield "bad sectors, side by side", sectors(entries={7: NORMAL | 9, 8: NORMAL | 8, 9: NORMAL | 7}, ranges=[(block(7), 3 * BLOCK)]), mended("BadData 7", "BadData 8", "BadData 9"), \
+        {**entry(7, ERROR | 9), **entry(8, ERROR | 8), **entry(9, ERROR | 7)}
+    # an initial entry has no flags, and names no block
+    yield "a bad sector of an initial entry", sectors(entries={7: 5}, ranges=[(block(7), 1)]), mended("BadData 7"), entry(7, ERROR | 7)
+    yield "sectors that read as zeros and as bad", sectors(entries={10: ERROR | 10}, ranges=[(block(8), 3 * BLOCK)]), mended(), {}
+    yield "free blocks", sectors(ranges=[(block(OUTER), LANES * BLOCK)]), mended(), {}
+    yield "a bad sector, with a block named twice", sectors(entries={7: NORMAL | 7, 9: NORMAL | 100}, ranges=[(block(7), 1)]), mended(left=["Twice 100", "Missing 9"]), {}
+    yield "a bad sector, with a block that doesn't exist", sectors(entries={7: NORMAL | 7, 9: ZERO | INNER}, ranges=[(block(7), 1)]), mended(left=[f"Range {INNER}", "Missing 9"]), {}
+    yield "a bad sector, with a refused group", sectors(entries={7: NORMAL | 7}, halves=halves(2, 4, 1), ranges=[(block(7), 1)]), mended(left=["Flog 2 Sequences 4 1"]), {}
+    # bad words of the format stay, whatever is written there
+    yield "a bad sector, and a bad word of the map", sectors(entries={7: NORMAL | 7}, ranges=[(block(7), 1), (MAP_AT + 28, 1)]), mended("BadData 7", left=[f"BadMeta {(MAP_AT + 28) // WORD}"]), entry(7, ERROR | 7)
+    yield "bad words of the log and of the backup", sectors(ranges=[(LOG_AT, 1), (INFO_AT, 1)]), mended(left=[f"BadMeta {LOG_AT // WORD}", f"BadMeta {INFO_AT // WORD}"]), {}
+    yield "the first info block, in a bad range", sectors(bytes(4096), ranges=[(0, 8)]), mended("Info Signature", left=["BadMeta 0"]), {0: info()}
+
+
+def repaired_chains():
+    """Two arenas, one behind the other, and two namespaces."""
+    move, worn = {0: group(0, OUTER, 1)}, {7: NORMAL | 7}
+    first, second = [(block(7), 1)], [(ARENA + block(7), 1)]
+    yield "two arenas", chain(), mended(), {}
+    yield "the second arena's first info block", chain(first=bytes(4096), entries={9: NORMAL | 100}), mended("Info Signature", left=["Twice 100", "Missing 9"], arena=1), {ARENA: info()}
+    yield "the second arena's backup", chain(last=bytes(4096)), mended("Backup Signature", arena=1), {ARENA + INFO_AT: info()}
+    yield "both of the second arena", chain(first=bytes(4096), last=bytes(4096)), mended(left=["Info Signature"], arena=1), {}
+    yield "a pending move and a bad sector of the second arena", {**chain(entries=worn, halves=move), "badranges-0.bin": bad(*second)}, mended("BadData 7", arena=1), \
+        {**entry(0, NORMAL | OUTER, ARENA), **entry(7, ERROR | 7, ARENA)}
+    both = chain(entries=worn)
+    size, pieces = both["contents-0.bin"]
+    log, table = pieces[LOG_AT], pieces[MAP_AT]
+
+    def with_first(**other):
+        """The chain with other bytes of the first arena, and bad sectors in both."""
+        of = {"info": 0, "table": MAP_AT, "log": LOG_AT, "backup": INFO_AT}
+        return {**both, "contents-0.bin": (size, {**pieces, **{of[name]: data for name, data in other.items()}}), "badranges-0.bin": bad(*first, *second)}
+
+    bad_first = table[:28] + struct.pack("<I", NORMAL | 7) + table[32:]
+    yield "bad sectors of both", with_first(table=bad_first), "arena 0 repaired BadData 7\narena 1 repaired BadData 7\nsound\n", {**entry(7, ERROR | 7), **entry(7, ERROR | 7, ARENA)}
+    yield "a pending move of the first one", with_first(log=move[0] + log[64:]), mended("BadData 7", arena=1), {**entry(0, NORMAL | OUTER), **entry(7, ERROR | 7, ARENA)}
+    yield "the first one's backup", with_first(backup=bytes(4096), table=bad_first), "arena 0 repaired Backup Signature\narena 0 repaired BadData 7\narena 1 repaired BadData 7\nsound\n", \
+        {INFO_AT: pieces[0], **entry(7, ERROR | 7), **entry(7, ERROR | 7, ARENA)}
+    # findings of one arena don't keep another one from being repaired
+    yield "the first one's log", with_first(log=bytes(64) + log[64:]), "arena 0 Flog 0 Sequences 0 0\narena 1 repaired BadData 7\nbroken 1\n", entry(7, ERROR | 7, ARENA)
+    twice = table[:36] + struct.pack("<I", NORMAL | 100) + table[40:]
+    yield "the first one's map", with_first(table=twice), "arena 0 Twice 100\narena 0 Missing 9\narena 1 repaired BadData 7\nbroken 2\n", entry(7, ERROR | 7, ARENA)
+    # the last page is no backup of the first arena, and where the second one begins isn't known then
+    yield "the first one's info block", with_first(info=changed(pieces[0], 84)), mended(left=["Info Checksum"]), {}
+    files = wide(ARENA, ARENA)
+    yield "the first namespace of two", {**files, "badranges-0.bin": bad((block(1), 1), (ARENA + block(1), 1))}, mended("BadData 1"), entry(1, ERROR | 1)
+    yield "another namespace without an info block", wide(ARENA, ARENA, broken=1), mended(), {}
+
+
+def repaired_behind():
+    """The same of the second namespace."""
+    files = wide(ARENA, ARENA)
+    yield "the second namespace of two", {**files, "badranges-0.bin": bad((block(1), 1), (ARENA + block(1), 1))}, mended("BadData 1"), entry(1, ERROR | 1, ARENA)
+    yield "another namespace without an info block, in front", wide(ARENA, ARENA, broken=0), mended(), {}
+
+
+def repairs():
+    for group_of in (repaired_infos, repaired_maps, repaired_chains):
         yield from group_of()

@@ -88,9 +88,13 @@ fn list_missing(counts: &Counts, findings: &mut Items<Finding>) -> Result<(), Al
     Ok(())
 }
 
-/// Returns the Range, Twice and Missing findings of a map, with its pending moves made, and the
-/// lanes' free blocks. It takes two bits for each block, and one pass over each list.
-pub(crate) fn block_findings(
+/// Returns the findings of the blocks that a map and the lanes name: Range for each naming of a
+/// block that doesn't exist, by place, Twice for each block that is named more than once, and
+/// Missing for each that isn't named, rising.
+///
+/// The pending moves are made in `entries`; `groups` are the lanes' current halves. It takes two
+/// bits for each block, and one pass over each list. It fails only if memory runs out.
+pub fn block_findings(
     alloc: Global,
     internal: u32,
     entries: &[u32],

@@ -34,8 +34,11 @@ fn has_bad_word<B: BadWords>(layout: &Layout, bad: &B, at: u64, block: u32) -> b
     bad.any_bad(at + first, u64::from(layout.sector) / 8)
 }
 
-/// Returns whether a sector's bytes are bad, by its entry.
-fn is_bad_data<B: BadWords>(layout: &Layout, bad: &B, at: u64, entry: MapEntry) -> bool
+/// Returns whether a word of a sector's bytes is bad, by the sector's entry. One that reads as zeros
+/// or as bad has no bytes.
+///
+/// `at` is the arena's first word in the namespace, of whose words `bad` speaks.
+pub fn is_bad_data<B: BadWords>(layout: &Layout, bad: &B, at: u64, entry: MapEntry) -> bool
     requires layout { IsLayout layout.now }
     requires inside { at + layout.now.size / 8 ≤ 2 ^ 61 }
     requires block { entry.block < layout.now.internal }
@@ -68,9 +71,12 @@ fn list_sectors<B: BadWords>(
     Ok(findings)
 }
 
-/// Returns the BadData findings of a map whose blocks all exist. If no word of the data area is
-/// bad, it makes no pass over the sectors.
-pub(crate) fn data_findings<B: BadWords>(
+/// Returns BadData for each sector whose bytes have a bad word, rising.
+///
+/// The pending moves are made in `entries`, and all blocks that they name exist. `at` is the arena's
+/// first word in the namespace, of whose words `bad` speaks. If no word of the data area is bad, it
+/// makes no pass over the sectors. It fails only if memory runs out.
+pub fn data_findings<B: BadWords>(
     alloc: Global,
     layout: &Layout,
     bad: &B,

@@ -7,8 +7,8 @@
 //!   first info block        Info                                           used_info
 //!   backup                  Backup, Unequal                                backup_finding
 //!   log                     Flog for each lane                             read_group of flog
-//!   map and free blocks     Range, Twice, Missing                          map_findings
-//!   blocks of sectors       BadData for each sector                        map_findings
+//!   map and free blocks     Range, Twice, Missing                          block_findings
+//!   blocks of sectors       BadData for each sector                        data_findings
 //!   info, map, log, backup  BadMeta for each word                          meta_findings
 //! ```
 //!
@@ -41,15 +41,15 @@ mod data;
 mod finding;
 mod info;
 mod law;
-mod map;
 mod meta;
 
 pub use bad::BadWords;
+pub use blocks::block_findings;
+pub use data::{data_findings, is_bad_data};
 pub use finding::{Finding, Report};
 pub use info::{InfoSource, backup_finding, used_info};
 pub use law::{
     clean_arenas_open, missing_is_never_alone, no_findings_name_each_once,
     one_entry_keeps_its_block, open_arenas_are_clean,
 };
-pub use map::map_findings;
 pub use meta::meta_findings;

@@ -108,19 +108,17 @@ even_or_odd own = elim (cases_eq (own % 2) 0) [
   | inr other ↦ inr (omega (arith, other))
 ]
 
-module _ (at : ℕ) (l : Layout) (own block : ℕ) (row : List ℕ) (ok : IsLayout l) (lt : own < l.external) (block_small : block < 2 ^ 30) (inside : at + l.size / 8 ≤ length (words_in row))
+-- the bytes of an entry, for sector `own` of the arena whose first word is `at`
+abbrev pub value_run : ℕ → Layout → ℕ → ℕ → Run
+value_run at l own entry = record { first = 8 * at + l.map_off + 4 * own; bytes = to_le_bytes w32 entry }
+
+module _ (at : ℕ) (l : Layout) (own entry : ℕ) (row : List ℕ) (ok : IsLayout l) (lt : own < l.external) (entry_small : entry < 2 ^ 32) (inside : at + l.size / 8 ≤ length (words_in row))
     (small : (j : ℕ) → j < 8 → get_or row (8 * (at + l.map_off / 8 + own / 2) + j) 0 < 256) where
   abbrev w : ℕ
   w = map_place at l own
 
   abbrev run : Run
-  run = entry_run at l own block
-
-  abbrev entry : ℕ
-  entry = normal_of block
-
-  entry_small : entry < 2 ^ 32
-  entry_small = omega (arith, block_small)
+  run = value_run at l own entry
 
   w_in : w + 1 ≤ length (words_in row)
   w_in = omega (arith, inside, ordered l ok, lt)
@@ -162,7 +160,7 @@ module _ (at : ℕ) (l : Layout) (own block : ℕ) (row : List ℕ) (ok : IsLayo
       ∙ sym (with_odd (get_or (words_in row) w 0) own entry (half_by old) (half_by (λ j. old (4 + j))) odd old_word low_small)
 
   abbrev put : List ℕ
-  put = put_entry at l own block (words_in row)
+  put = put_at (words_in row) w (with_entry (get_or (words_in row) w 0) own entry ∷ [])
 
   each_word : (k : ℕ) → 8 * k + 8 ≤ length row → word_by (λ j. run_byte run (8 * k + j) (get_or row (8 * k + j) 0)) ≡ get_or put k 0
   each_word k in_row = elim (cases_eq k w) [
@@ -182,10 +180,14 @@ module _ (at : ℕ) (l : Layout) (own block : ℕ) (row : List ℕ) (ok : IsLayo
         ∙ word_is row k in_row)
   ]
 
-  pub entry_put : words_in (changed (run_byte (entry_run at l own block)) row) ≡ put_entry at l own block (words_in row)
-  entry_put =
+  pub value_put : words_in (changed (run_byte (value_run at l own entry)) row) ≡ put_at (words_in row) (at + l.map_off / 8 + own / 2) (with_entry (get_or (words_in row) (at + l.map_off / 8 + own / 2) 0) own entry ∷ [])
+  value_put =
       changed_words (run_byte run) row put
       (length_put (words_in row) w (with_entry (get_or (words_in row) w 0) own entry ∷ []) w_in ∙ length_words row) each_word
+
+pub entry_put : (at : ℕ) (l : Layout) (own block : ℕ) (row : List ℕ) → IsLayout l → own < l.external → block < 2 ^ 30 → at + l.size / 8 ≤ length (words_in row)
+    → ((j : ℕ) → j < 8 → get_or row (8 * (at + l.map_off / 8 + own / 2) + j) 0 < 256) → words_in (changed (run_byte (entry_run at l own block)) row) ≡ put_entry at l own block (words_in row)
+entry_put at l own block row ok lt block_small inside small = value_put at l own (normal_of block) row ok lt (omega (arith, block_small)) inside small
 
 pub entry_bytes_small : (at : ℕ) (l : Layout) (own block : ℕ) → AreBytes (entry_run at l own block).bytes
 entry_bytes_small at l own block = four_bytes (normal_of block)

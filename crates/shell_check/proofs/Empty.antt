@@ -1,14 +1,21 @@
 -- A namespace without bytes, and bad words of one over other modules.
-use Rattle.std.proofs.Common.{◌≡◌, ℕ, Bool, List, [], ◌∷◌, length, Option, None, refl, arith}
+use Rattle.std.proofs.Common.{◌≡◌, ℕ, Bool, true, false, List, [], ◌∷◌, ◌++◌, length, Option, None, refl, sym, subst, arith}
+use Rattle.std.specs.Prelude.{MatchBool}
 use Rattle.cut_words.specs.Words.{Words}
 use Rattle.nfit_reader.specs.declared.table.Mapping.{Mapping}
 use Rattle.nvd_words.specs.Checks.{first_fault}
 use Rattle.arena_layout.specs.declared.info.InfoFault.TheVariants.{Signature}
 use Rattle.arena_layout.specs.Info.{has_signature}
+use Rattle.std.proofs.lemmas.List.{append-nil}
+use Rattle.std.proofs.lemmas.List.Sums.{sum_by-cons}
 use Rattle.arena_check.specs.declared.finding.Finding.TheVariants as found
+use Rattle.arena_check.specs.declared.finding.Report.{Report}
+use Rattle.shell_check.specs.Text.{arena_lines, check_text, findings_in, last_line, left_of}
 use Rattle.bad_ranges.specs.Bad.{bad_words}
+use Rattle.namespace_bytes.specs.declared.runs.Run.{Run}
 use Rattle.power_cut.specs.Namespace.{over}
-use Rattle.shell_check.specs.Chain.{reports_of, reports_within}
+use Rattle.shell_check.specs.Reading.{RepairsAll}
+use Rattle.arena_repair.specs.Chain.{repaired_within, reports_of, reports_within}
 
 -- it has no info block
 pub empty_reports : (bad : ℕ → Bool) (parent : List ℕ) → reports_of bad [] parent ≡ record { findings = found.Info Signature ∷ []; size = None } ∷ []
@@ -22,3 +29,19 @@ bad_over set offset raw rows others objects = refl
 pub no_words : (words : List ℕ) → length words ≡ 0 → words ≡ []
 no_words [] none = refl
 no_words (w ∷ words) none = absurd (omega (arith, none))
+
+-- the text of one report
+pub one_report : (repair : Bool) (report : Report) → arena_lines repair 0 report ++ last_line (length (left_of repair report).findings) ≡ check_text repair (report ∷ [])
+one_report repair report =
+    (λ i. sym (append-nil (arena_lines repair 0 report)) i
+    ++ last_line ((let e : length (left_of repair report).findings ≡ findings_in repair (report ∷ []) = omega (arith, sum_by-cons (λ (r : Report). length (left_of repair r).findings) report []) in e) i))
+
+-- nothing of it is repaired
+none_repaired : (bad : ℕ → Bool) (parent : List ℕ) → RepairsAll bad parent [] []
+unfolding repaired_within first_fault has_signature
+none_repaired bad parent = refl
+
+pub empty_runs : (repair : Bool) (bad : ℕ → Bool) (parent row : List ℕ) (runs : List Run) → length row ≡ 0 → runs ≡ [] → MatchBool repair (RepairsAll bad parent row runs) (runs ≡ [])
+empty_runs true bad parent row runs long none =
+    subst (λ (rs : List Run). RepairsAll bad parent row rs) (sym none) (subst (λ (r : List ℕ). RepairsAll bad parent r []) (sym (no_words row long)) (none_repaired bad parent))
+empty_runs false bad parent row runs long none = none

@@ -6,37 +6,41 @@ use Rattle.std.proofs.lemmas.List.Sums.{sum_by-cons, sum_by-append}
 use Rattle.arena_check.specs.declared.finding.Finding.{Finding}
 use Rattle.arena_check.specs.declared.finding.Report.{Report}
 use Rattle.arena_check.specs.Check.{next_of, report_of, source_of}
-use Rattle.shell_check.specs.Chain.{behind, reports_of, reports_within}
-use Rattle.shell_check.specs.Text.{check_text, finding_line, findings_in, last_line, lines_of, report_lines}
+use Rattle.arena_repair.specs.Chain.{behind, reports_of, reports_within}
+use Rattle.shell_check.specs.Text.{answered, arena_lines, check_text, finding_line, findings_in, last_line, left_of, lines_of, repaired_lines, report_lines}
 
 -- ---- lines
 
 -- each finding has a line, which isn't empty
-pub lines_long : (k : ℕ) (xs : List Finding) → length xs ≤ length (lines_of k xs)
+lines_long : (k : ℕ) (xs : List Finding) → length xs ≤ length (lines_of k xs)
 lines_long k [] = omega arith
 lines_long k (x ∷ xs) = omega (arith, lines_long k xs, length-append (finding_line k x) (lines_of k xs))
 
-reports_append : (k : ℕ) (xs ys : List Report) → report_lines k (xs ++ ys) ≡ report_lines k xs ++ report_lines (k + length xs) ys
-reports_append k [] ys = ap (λ (n : ℕ). report_lines n ys) (let e : k ≡ k + length {A = Report} [] = omega arith in e)
-reports_append k (x ∷ xs) ys =
-    ap (λ (text : List ℕ). lines_of k x.findings ++ text) (reports_append (k + 1) xs ys)
-    ∙ sym (append_assoc (lines_of k x.findings) (report_lines (k + 1) xs) (report_lines (k + 1 + length xs) ys))
-    ∙ ap (λ (n : ℕ). (lines_of k x.findings ++ report_lines (k + 1) xs) ++ report_lines n ys) (let e : k + 1 + length xs ≡ k + length (x ∷ xs) = omega arith in e)
+pub open_long : (repair : Bool) (k : ℕ) (report : Report) → length (left_of repair report).findings ≤ length (arena_lines repair k report)
+open_long repair k report =
+    omega (arith, lines_long k (left_of repair report).findings, length-append (repaired_lines k (answered repair report)) (lines_of k (left_of repair report).findings))
+
+reports_append : (repair : Bool) (k : ℕ) (xs ys : List Report) → report_lines repair k (xs ++ ys) ≡ report_lines repair k xs ++ report_lines repair (k + length xs) ys
+reports_append repair k [] ys = ap (λ (n : ℕ). report_lines repair n ys) (let e : k ≡ k + length {A = Report} [] = omega arith in e)
+reports_append repair k (x ∷ xs) ys =
+    ap (λ (text : List ℕ). arena_lines repair k x ++ text) (reports_append repair (k + 1) xs ys)
+    ∙ sym (append_assoc (arena_lines repair k x) (report_lines repair (k + 1) xs) (report_lines repair (k + 1 + length xs) ys))
+    ∙ ap (λ (n : ℕ). (arena_lines repair k x ++ report_lines repair (k + 1) xs) ++ report_lines repair n ys) (let e : k + 1 + length xs ≡ k + length (x ∷ xs) = omega arith in e)
 
 -- ---- the arenas so far
 
--- The reports on the first k arenas make this text and so many findings, and the next arena begins at this word.
-pub record IsSoFar (bad : ℕ → Bool) (words parent : List ℕ) (k count at : ℕ) (text : List ℕ) : Type 0 where
+-- The reports on the first k arenas make this text and so many open findings, and the next arena begins at this word.
+pub record IsSoFar (repair : Bool) (bad : ℕ → Bool) (words parent : List ℕ) (k count at : ℕ) (text : List ℕ) : Type 0 where
   pub done : List Report
   pub many : length done ≡ k
-  pub text_is : text ≡ report_lines 0 done
-  pub count_is : count ≡ findings_in done
+  pub text_is : text ≡ report_lines repair 0 done
+  pub count_is : count ≡ findings_in repair done
   pub left : ℕ
   pub enough : k + left ≡ length words + 1
   pub rest : reports_of bad words parent ≡ done ++ reports_within left bad words parent at
 
-pub starts : (bad : ℕ → Bool) (words parent text : List ℕ) → text ≡ [] → IsSoFar bad words parent 0 0 0 text
-starts bad words parent text none = record {
+pub starts : (repair : Bool) (bad : ℕ → Bool) (words parent text : List ℕ) → text ≡ [] → IsSoFar repair bad words parent 0 0 0 text
+starts repair bad words parent text none = record {
   done = [];
   many = refl;
   text_is = none;
@@ -46,7 +50,7 @@ starts bad words parent text none = record {
   rest = refl;
 }
 
-module _ (bad : ℕ → Bool) (words parent : List ℕ) (k count at : ℕ) (text : List ℕ) (so_far : IsSoFar bad words parent k count at text) (short : k ≤ length words) where
+module _ (repair : Bool) (bad : ℕ → Bool) (words parent : List ℕ) (k count at : ℕ) (text : List ℕ) (so_far : IsSoFar repair bad words parent k count at text) (short : k ≤ length words) where
   abbrev report : Report
   report = report_of at bad (drop at words) parent
 
@@ -59,20 +63,26 @@ module _ (bad : ℕ → Bool) (words parent : List ℕ) (k count at : ℕ) (text
   within_one zero is = absurd (omega (arith, is, so_far.enough, short))
   within_one (suc m) is = (m, (omega (arith, is, so_far.enough), ap (λ (n : ℕ). reports_within n bad words parent at) is))
 
-  module _ (findings : List Finding) (found : findings ≡ report.findings) where
-    lines_are : text ++ lines_of k findings ≡ report_lines 0 (so_far.done ++ report ∷ [])
+  module _ (own : Report) (found : own ≡ report) where
+    lines_are : text ++ arena_lines repair k own ≡ report_lines repair 0 (so_far.done ++ report ∷ [])
     lines_are =
         let place : k ≡ 0 + length so_far.done = omega (arith, so_far.many) in
-        (λ i. so_far.text_is i ++ lines_of (place i) (found i))
-        ∙ ap (λ (more : List ℕ). report_lines 0 so_far.done ++ more) (sym (append-nil (lines_of (0 + length so_far.done) report.findings)))
-        ∙ sym (reports_append 0 so_far.done (report ∷ []))
+        (λ i. so_far.text_is i ++ arena_lines repair (place i) (found i))
+        ∙ ap (λ (more : List ℕ). report_lines repair 0 so_far.done ++ more) (sym (append-nil (arena_lines repair (0 + length so_far.done) report)))
+        ∙ sym (reports_append repair 0 so_far.done (report ∷ []))
 
-    count_are : count + length findings ≡ findings_in (so_far.done ++ report ∷ [])
+    count_are : count + length (left_of repair own).findings ≡ findings_in repair (so_far.done ++ report ∷ [])
     count_are =
-        omega (arith, so_far.count_is, ap (λ (fs : List Finding). length fs) found, sum_by-append (λ (r : Report). length r.findings) so_far.done (report ∷ []), sum_by-cons (λ (r : Report). length r.findings) report [])
+        omega (
+          arith,
+          so_far.count_is,
+          ap (λ (r : Report). length (left_of repair r).findings) found,
+          sum_by-append (λ (r : Report). length (left_of repair r).findings) so_far.done (report ∷ []),
+          sum_by-cons (λ (r : Report). length (left_of repair r).findings) report [],
+        )
 
     -- another arena follows
-    pub goes_on : (n : ℕ) → n ≡ next → n ≢ 0 → IsSoFar bad words parent (k + 1) (count + length findings) (at + n / 8) (text ++ lines_of k findings)
+    pub goes_on : (n : ℕ) → n ≡ next → n ≢ 0 → IsSoFar repair bad words parent (k + 1) (count + length (left_of repair own).findings) (at + n / 8) (text ++ arena_lines repair k own)
     goes_on n is some =
         let one = within_one so_far.left refl in
         let more : behind next at (reports_within one.0 bad words parent) ≡ reports_within one.0 bad words parent (at + n / 8) =
@@ -89,9 +99,9 @@ module _ (bad : ℕ → Bool) (words parent : List ℕ) (k count at : ℕ) (text
         }
 
     -- it was the last one
-    pub ends : next ≡ 0 → (text ++ lines_of k findings) ++ last_line (count + length findings) ≡ check_text (reports_of bad words parent)
+    pub ends : next ≡ 0 → (text ++ arena_lines repair k own) ++ last_line (count + length (left_of repair own).findings) ≡ check_text repair (reports_of bad words parent)
     ends none =
         let one = within_one so_far.left refl in
         let all : reports_of bad words parent ≡ so_far.done ++ report ∷ [] =
         so_far.rest ∙ ap (λ (rs : List Report). so_far.done ++ rs) (one.1.1 ∙ ap (λ (x : ℕ). report ∷ behind x at (reports_within one.0 bad words parent)) none) in
-        (λ i. lines_are i ++ last_line (count_are i)) ∙ ap check_text (sym all)
+        (λ i. lines_are i ++ last_line (count_are i)) ∙ ap (check_text repair) (sym all)

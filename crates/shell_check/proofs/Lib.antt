@@ -1,6 +1,11 @@
 pub mod PagesBehind
 pub mod Lanes
 pub mod Parts
+pub mod Fits
+pub mod RunPuts
+pub mod ArenaRuns
+pub mod Mending
+pub mod MendingOne
 pub mod Following
 pub mod Empty
 pub mod Saved

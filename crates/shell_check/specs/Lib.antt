@@ -1,4 +1,3 @@
-pub mod Chain
 pub mod Text
 pub mod Comes
 pub mod Reading

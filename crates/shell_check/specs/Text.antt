@@ -1,9 +1,11 @@
--- The text of `check`: a line for each finding, and a last line. This project's rules.
-use Rattle.std.specs.Prelude.{ℕ, ◌+◌, ◌==◌, if◌then◌else◌, List, [], ◌∷◌, ◌++◌, length, sum_by, codes}
+-- The text of `check`: a line for each finding, and a last line. With `--repair` each arena's findings that were repaired come first, and then
+-- those that a second check finds. This project's rules.
+use Rattle.std.specs.Prelude.{ℕ, ◌+◌, ◌==◌, Bool, if◌then◌else◌, List, [], ◌∷◌, ◌++◌, length, sum_by, codes}
 use Rattle.std.specs.Fmt.{decimal}
 use Rattle.arena_check.specs.declared.finding.Finding.{Finding}
 use Rattle.arena_check.specs.declared.finding.Finding.TheVariants as found
 use Rattle.arena_check.specs.declared.finding.Report.{Report}
+use Rattle.arena_repair.specs.Repair.{mended, repaired_of}
 use Rattle.shell_reports.specs.Faults.{flog_text, info_fault_text}
 use Rattle.shell_reports.specs.Outcome.{joined, lf}
 
@@ -23,23 +25,43 @@ finding_text (found.BadMeta word) = codes "BadMeta " ++ decimal word
 abbrev pub finding_line : ℕ → Finding → List ℕ
 finding_line k finding = joined (codes "arena " ∷ decimal k ∷ codes " " ∷ finding_text finding ∷ lf ∷ [])
 
--- the lines of an arena
+-- arena K repaired FINDING
+abbrev pub repaired_line : ℕ → Finding → List ℕ
+repaired_line k finding = joined (codes "arena " ∷ decimal k ∷ codes " repaired " ∷ finding_text finding ∷ lf ∷ [])
+
+-- the lines of an arena's findings
 abbrev pub lines_of : ℕ → List Finding → List ℕ
 lines_of k [] = []
 lines_of k (finding ∷ findings) = finding_line k finding ++ lines_of k findings
 
--- those of all arenas, from arena k on
-abbrev pub report_lines : ℕ → List Report → List ℕ
-report_lines k [] = []
-report_lines k (report ∷ reports) = lines_of k report.findings ++ report_lines (k + 1) reports
+abbrev pub repaired_lines : ℕ → List Finding → List ℕ
+repaired_lines k [] = []
+repaired_lines k (finding ∷ findings) = repaired_line k finding ++ repaired_lines k findings
 
--- how many findings there are
-abbrev pub findings_in : List Report → ℕ
-findings_in reports = sum_by (λ report. length report.findings) reports
+-- the findings that are repaired, if there is a repair
+abbrev pub answered : Bool → Report → List Finding
+answered repair report = if repair then repaired_of report else []
+
+-- the report after it
+abbrev pub left_of : Bool → Report → Report
+left_of repair report = if repair then mended report else report
+
+abbrev pub arena_lines : Bool → ℕ → Report → List ℕ
+arena_lines repair k report = repaired_lines k (answered repair report) ++ lines_of k (left_of repair report).findings
+
+-- those of all arenas, from arena k on
+abbrev pub report_lines : Bool → ℕ → List Report → List ℕ
+report_lines repair k [] = []
+report_lines repair k (report ∷ reports) = arena_lines repair k report ++ report_lines repair (k + 1) reports
+
+-- how many findings are open
+abbrev pub findings_in : Bool → List Report → ℕ
+findings_in repair reports = sum_by (λ report. length (left_of repair report).findings) reports
 
 -- sound, or broken N
 abbrev pub last_line : ℕ → List ℕ
 last_line count = if count == 0 then codes "sound" ++ lf else joined (codes "broken " ∷ decimal count ∷ lf ∷ [])
 
-abbrev pub check_text : List Report → List ℕ
-check_text reports = report_lines 0 reports ++ last_line (findings_in reports)
+-- by the reports of a check before any repair
+abbrev pub check_text : Bool → List Report → List ℕ
+check_text repair reports = report_lines repair 0 reports ++ last_line (findings_in repair reports)

@@ -1,20 +1,72 @@
 //! The arenas of a namespace are checked, one after another.
-ghost use Rattle.std.specs.Prelude.{◌≡◌, ℕ, ◌+◌, ◌*◌, ◌%◌, ◌^◌, ◌<◌, ◌≤◌, IfOk, List};
+ghost use Rattle.std.specs.Prelude.{◌≡◌, ℕ, ◌+◌, ◌-◌, ◌*◌, ◌%◌, ◌^◌, ◌<◌, ◌≤◌, [], ◌++◌, IfOk, List, OnOk, MatchBool, drop, length};
 ghost use Rattle.nvd_media.specs.Causes.{HasCause};
-ghost use Rattle.power_cut.specs.Namespace.{raw_bytes};
-ghost use Rattle.namespace_words.specs.Source.{HasEnds, Reveals, words_by};
-ghost use Rattle.shell_check.specs.Chain.{reports_of};
-ghost use Rattle.shell_check.specs.Text.{check_text};
+ghost use Rattle.namespace_bytes.specs.declared.runs.Run.{Run as RunOf};
+ghost use Rattle.power_cut.specs.Namespace.{IsLaid, raw_bytes};
+ghost use Rattle.namespace_words.specs.Source.{HasEnds, Reveals, bytes_by, words_by};
+ghost use Rattle.arena_repair.specs.Chain.{reports_of};
+ghost use Rattle.shell_check.specs.Reading.{AreRepairsIf, FitsIn, RepairsAll};
+ghost use Rattle.shell_check.specs.Text.{arena_lines, check_text, left_of};
 
-use crate::arena::check_arena;
-use crate::text::{push_last_line, push_lines};
+use crate::arena::{ArenaChecked, check_arena};
+use crate::repair::push_repairs;
+use crate::text::{push_last_line, push_report};
 use arena_check::BadWords;
+use namespace_bytes::Run;
 use nvd_media::{Failed, ImageSource};
+use nvd_words::Items;
 use power_cut::SetExtent;
 use std::alloc::{AllocError, Global};
 use uuid::Uuid;
 
+/// The lines of a check, and the runs of bytes that repair the namespace.
+#[derive(Drop)]
+pub(crate) struct Checked {
+    pub text: Vec<u8>,
+    pub runs: Items<Run>,
+}
+
+/// Appends the runs that repair the arena whose first word is `at`, if there is a repair.
+fn push_repairs_if<S: ImageSource>(
+    alloc: Global,
+    images: &mut S,
+    extent: &SetExtent<'_>,
+    repair: bool,
+    at: u64,
+    arena: &ArenaChecked,
+    runs: &mut Vec<Run>,
+) -> Result<Result<(), AllocError>, Failed>
+    requires few { raw_bytes extent.now ≤ 2 ^ 55 }
+    requires inside { 8 * at + 4096 ≤ raw_bytes extent.now }
+    requires fits { FitsIn (raw_bytes extent.now - 8 * at) arena.now }
+    requires there { HasEnds (S.held images.old) extent.now.set }
+    ensures told { (contents : List (List ℕ)) → Reveals (S.held images.old) extent.now.set contents
+        → IfOk result (λ done. OnOk done ((made : List RunOf) × AreRepairsIf repair at (drop at (words_by extent.now contents)) arena.now.page arena.now.map made × (runs.new.items ≡ runs.old.items ++ made))) }
+    ensures same { S.held images.new ≡ S.held images.old }
+    ensures cause { HasCause (S.faults images.old) (S.faults images.new) result }
+{
+    if !repair {
+        return Ok(Ok(()));
+    }
+    push_repairs(alloc, images, extent, at, arena, runs)
+}
+
+/// Appends the lines of arena k, and returns how many of its findings are open.
+fn push_arena(
+    alloc: Global,
+    repair: bool,
+    k: u64,
+    arena: ArenaChecked,
+    text: &mut Vec<u8>,
+) -> Result<u64, AllocError>
+    ensures lines { OnOk result (text.new.items ≡ text.old.items ++ arena_lines repair k arena.report) }
+    ensures count { IfOk result (λ count. count ≡ length (left_of repair arena.report).findings) }
+{
+    push_report(alloc, repair, k, &arena.report, text)
+}
+
 /// Checks all arenas of a namespace, in order, and returns the lines of what was found. The first one begins with the namespace.
+/// With `repair` it returns the runs of bytes that repair them, too; else none.
 ///
 /// The namespace must be whole pages, and not empty. Of its contents the arenas' info blocks, logs and maps are read. The call
 /// fails inside only if memory runs out; `Failed` means that the source's count of failures rose.
@@ -24,17 +76,22 @@ pub(crate) fn check_chain<S: ImageSource, B: BadWords>(
     extent: &SetExtent<'_>,
     bad: &B,
     uuid: &Uuid,
-) -> Result<Result<Vec<u8>, AllocError>, Failed>
+    repair: bool,
+) -> Result<Result<Checked, AllocError>, Failed>
+    requires laid { IsLaid extent.now }
     requires pages { raw_bytes extent.now % 4096 ≡ 0 }
     requires some { 0 < raw_bytes extent.now }
     requires few { raw_bytes extent.now ≤ 2 ^ 55 }
     requires there { HasEnds (S.held images.old) extent.now.set }
     ensures told { (contents : List (List ℕ)) → Reveals (S.held images.old) extent.now.set contents
-        → IfOk result (λ found. IfOk found (λ text. text.items ≡ check_text (reports_of (B.bad bad.now) (words_by extent.now contents) uuid.now))) }
+        → IfOk result (λ found. IfOk found (λ checked. checked.text.items ≡ check_text repair (reports_of (B.bad bad.now) (words_by extent.now contents) uuid.now))) }
+    ensures repairs { (contents : List (List ℕ)) → Reveals (S.held images.old) extent.now.set contents
+        → IfOk result (λ found. IfOk found (λ checked. MatchBool repair (RepairsAll (B.bad bad.now) uuid.now (bytes_by extent.now contents) checked.runs) (checked.runs ≡ []))) }
     ensures same { S.held images.new ≡ S.held images.old }
     ensures cause { HasCause (S.faults images.old) (S.faults images.new) result }
 {
     let mut text = Vec::new(alloc);
+    let mut runs = Vec::new(alloc);
     let mut k = 0;
     let mut count = 0;
     let mut at = 0;
@@ -42,18 +99,25 @@ pub(crate) fn check_chain<S: ImageSource, B: BadWords>(
         let Ok(arena) = check_arena(alloc, images, extent, bad, at, uuid)? else {
             return Ok(Err(AllocError));
         };
-        if push_lines(alloc, k, &arena.findings, &mut text).is_err() {
+        let next = arena.next;
+        if push_repairs_if(alloc, images, extent, repair, at, &arena, &mut runs)?.is_err() {
             return Ok(Err(AllocError));
         }
-        count += arena.findings.len() as u64;
-        if arena.next == 0 {
+        let Ok(open) = push_arena(alloc, repair, k, arena, &mut text) else {
+            return Ok(Err(AllocError));
+        };
+        count += open;
+        if next == 0 {
             break 'arenas;
         }
         k += 1;
-        at += arena.next / 8;
+        at += next / 8;
     }
     match push_last_line(alloc, count, &mut text) {
-        Ok(()) => Ok(Ok(text)),
+        Ok(()) => Ok(Ok(Checked {
+            text,
+            runs: Items::from_vec(runs),
+        })),
         Err(_) => Ok(Err(AllocError)),
     }
 }

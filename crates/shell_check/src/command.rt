@@ -1,28 +1,33 @@
 //! The command `check`.
-ghost use Rattle.std.specs.Prelude.{◌≡◌, ℕ, ◌≤◌, Bool, [], IfOk, Err, List};
+ghost use Rattle.std.specs.Prelude.{◌≡◌, ℕ, ◌≤◌, Bool, [], IfOk, Err, List, MatchBool, map};
 ghost use Rattle.std.specs.Option.{ForSome};
 ghost use Rattle.nvd_media.specs.Causes.{HasCause, Rose};
 ghost use Rattle.image_set.specs.declared.outline.Outline.{Outline as OutlineRead};
 ghost use Rattle.image_set.specs.Outline.{HasContents, IsLoadable, IsOutlined};
 ghost use Rattle.bad_ranges.specs.Bad.{bad_words};
 ghost use Rattle.power_cut.specs.Namespace.{Namespace, over, words_of};
+ghost use Rattle.namespace_bytes.specs.Patching.{bytes_by_place};
 ghost use Rattle.namespace_words.specs.Source.{Reveals};
 ghost use Rattle.sector_namespaces.specs.View.{rows_of};
 ghost use Rattle.shell_sectors.specs.Opening.{IsOpenOutline};
-ghost use Rattle.shell_sectors.specs.Writing.{IsSectorPlace};
-ghost use Rattle.shell_check.specs.Chain.{reports_of};
+ghost use Rattle.shell_sectors.specs.Writing.{IsSectorPlace, SavesRuns};
+ghost use Rattle.shell_check.specs.Saving.{PrintsCopied};
+ghost use Rattle.namespace_areas.specs.Seen.{words_of as area_words};
+ghost use Rattle.arena_repair.specs.Chain.{reports_of};
 ghost use Rattle.shell_check.specs.Comes.{ChecksFrom};
+ghost use Rattle.shell_check.specs.Reading.{RepairsAll};
 ghost use Rattle.shell_check.specs.Text.{check_text};
 
-use crate::chain::check_chain;
+use crate::chain::{Checked, check_chain};
 use crate::saving::copied_answer;
-use crate::text::{push_last_line, push_lines};
-use arena_check::Finding;
+use crate::text::{push_last_line, push_report};
+use arena_check::{Finding, Report};
 use arena_layout::InfoFault;
 use bad_ranges::BadExtent;
 use image_set::{Outline, OutlineRest};
 use namespace_ops::Registry;
 use nvd_media::{Failed, ImageSource};
+use nvd_words::Items;
 use power_cut::SetExtent;
 use shell_changes::{Answer, in_memory, without_set};
 use shell_reports::{RunStop, printed_answer};
@@ -31,61 +36,97 @@ use std::alloc::{AllocError, Global};
 use uuid::Uuid;
 
 /// The text for a namespace without bytes, which has no info block.
-fn empty_text(alloc: Global) -> Result<Vec<u8>, AllocError>
-    ensures { IfOk result (λ text. (bad : ℕ → Bool) (parent : List ℕ) → text.items ≡ check_text (reports_of bad [] parent)) }
+fn empty_text(alloc: Global, repair: bool) -> Result<Vec<u8>, AllocError>
+    ensures { IfOk result (λ text. (bad : ℕ → Bool) (parent : List ℕ) → text.items ≡ check_text repair (reports_of bad [] parent)) }
 {
     let fault = InfoFault::Signature;
+    let mut findings = Items::new(alloc);
+    findings.push(Finding::Info { fault })?;
     let mut text = Vec::new(alloc);
-    push_lines(alloc, 0, &[Finding::Info { fault }], &mut text)?;
-    push_last_line(alloc, 1, &mut text)?;
+    let report = Report {
+        findings,
+        size: None,
+    };
+    let open = push_report(alloc, repair, 0, &report, &mut text)?;
+    push_last_line(alloc, open, &mut text)?;
     Ok(text)
 }
 
-/// Checks the arenas of a namespace that was found, and returns the lines of what was found.
-fn place_text<S: ImageSource>(
+/// The answer for a namespace without bytes: nothing is repaired.
+fn check_empty(alloc: Global, repair: bool) -> Result<Checked, AllocError>
+    ensures text { IfOk result (λ checked. (bad : ℕ → Bool) (parent : List ℕ) → checked.text.items ≡ check_text repair (reports_of bad [] parent)) }
+    ensures runs { IfOk result (λ checked. checked.runs ≡ []) }
+{
+    let text = empty_text(alloc, repair)?;
+    Ok(Checked {
+        text,
+        runs: Items::new(alloc),
+    })
+}
+
+/// Checks the arenas of a namespace that was found. It returns the lines of what was found, and with `repair` the runs of bytes
+/// that repair them.
+fn check_place<S: ImageSource>(
     alloc: Global,
     uuid: &Uuid,
+    repair: bool,
     place: &SectorPlace,
     images: &mut S,
-) -> Result<Result<Vec<u8>, AllocError>, Failed>
+) -> Result<Result<Checked, AllocError>, Failed>
     requires found { (outline : OutlineRead) × IsSectorPlace uuid.now outline place.now }
     requires there { ForSome (S.held images.old) (HasContents place.now.rest.sizes) }
     ensures told { (contents : List (List ℕ)) → Reveals (S.held images.old) place.now.set contents → (e : Namespace) → e ≡ over place.now.set place.now.found.offset place.now.found.raw (rows_of contents)
-        → IfOk result (λ found. IfOk found (λ text. text.items ≡ check_text (reports_of (bad_words e place.now.rest.bad) (words_of e).kept uuid.now))) }
+        → IfOk result (λ found. IfOk found (λ checked. checked.text.items ≡ check_text repair (reports_of (bad_words e place.now.rest.bad) (words_of e).kept uuid.now))) }
+    ensures repairs { (contents : List (List ℕ)) → Reveals (S.held images.old) place.now.set contents → (e : Namespace) → e ≡ over place.now.set place.now.found.offset place.now.found.raw (rows_of contents)
+        → IfOk result (λ found. IfOk found (λ checked. MatchBool repair (RepairsAll (bad_words e place.now.rest.bad) uuid.now (bytes_by_place place.now.set place.now.found.offset place.now.found.raw contents) checked.runs) (checked.runs ≡ []))) }
     ensures same { S.held images.new ≡ S.held images.old }
     ensures cause { HasCause (S.faults images.old) (S.faults images.new) result }
 {
     let extent = SetExtent::of(&place.set, place.found.offset, place.found.raw);
     if extent.bytes() == 0 {
-        return Ok(empty_text(alloc));
+        return Ok(check_empty(alloc, repair));
     }
     match BadExtent::of(alloc, &extent, place.rest.bad.as_slice()) {
-        Ok(bad) => check_chain(alloc, images, &extent, &bad, uuid),
+        Ok(bad) => check_chain(alloc, images, &extent, &bad, uuid, repair),
         Err(_) => Ok(Err(AllocError)),
     }
 }
 
-/// Checks the arenas of a namespace that was found, and answers with the lines and the set as it was loaded.
+/// Answers with the lines of what was found, and with the set: repaired, or as it was loaded.
+fn saved_answer(
+    alloc: Global,
+    repair: bool,
+    place: SectorPlace,
+    checked: Checked,
+) -> Result<Answer, AllocError>
+    requires found { (outline : OutlineRead) × ((uuid : List ℕ) × IsSectorPlace uuid outline place) }
+    ensures { IfOk result (λ answer. (outline : OutlineRead) (uuid : List ℕ) (it : IsSectorPlace uuid outline place)
+        → MatchBool repair (SavesRuns checked.text.items it.registry place checked.runs answer) (PrintsCopied checked.text.items place.rest (map area_words it.registry.areas) answer)) }
+{
+    let report = printed_answer(checked.text);
+    if repair {
+        return place.save(alloc, report, checked.runs);
+    }
+    copied_answer(alloc, report, place.rest, place.areas)
+}
+
+/// Checks the arenas of a namespace that was found, and answers with the lines and the set.
 fn place_answer<S: ImageSource>(
     alloc: Global,
     uuid: &Uuid,
+    repair: bool,
     place: SectorPlace,
     images: &mut S,
 ) -> Result<Answer, RunStop>
     requires found { (outline : OutlineRead) × IsSectorPlace uuid.now outline place }
     requires there { ForSome (S.held images.old) (HasContents place.rest.sizes) }
-    ensures told { IfOk result (λ answer. (outline : OutlineRead) → IsSectorPlace uuid.now outline place → ChecksFrom (S.held images.old) uuid.now outline answer) }
+    ensures told { IfOk result (λ answer. (outline : OutlineRead) → IsSectorPlace uuid.now outline place → ChecksFrom (S.held images.old) uuid.now repair outline answer) }
     ensures same { S.held images.new ≡ S.held images.old }
     ensures failed { result ≡ Err RunStop.ReadFault → Rose (S.faults images.old) (S.faults images.new) }
     ensures later { S.faults images.old ≤ S.faults images.new }
 {
-    match place_text(alloc, uuid, &place, images) {
-        Ok(Ok(text)) => in_memory(copied_answer(
-            alloc,
-            printed_answer(text),
-            place.rest,
-            place.areas,
-        )),
+    match check_place(alloc, uuid, repair, &place, images) {
+        Ok(Ok(checked)) => in_memory(saved_answer(alloc, repair, place, checked)),
         Ok(Err(_)) => Err(RunStop::OutOfMemory),
         Err(Failed) => Err(RunStop::ReadFault),
     }
@@ -95,25 +136,30 @@ fn place_answer<S: ImageSource>(
 fn named_answer<S: ImageSource>(
     alloc: Global,
     uuid: &Uuid,
+    repair: bool,
     registry: Registry,
     rest: OutlineRest,
     images: &mut S,
 ) -> Result<Answer, RunStop>
     requires open { (outline : OutlineRead) × IsOpenOutline outline registry rest }
     requires there { ForSome (S.held images.old) (HasContents rest.sizes) }
-    ensures told { IfOk result (λ answer. (outline : OutlineRead) → IsOpenOutline outline registry rest → ChecksFrom (S.held images.old) uuid.now outline answer) }
+    ensures told { IfOk result (λ answer. (outline : OutlineRead) → IsOpenOutline outline registry rest → ChecksFrom (S.held images.old) uuid.now repair outline answer) }
     ensures same { S.held images.new ≡ S.held images.old }
     ensures failed { result ≡ Err RunStop.ReadFault → Rose (S.faults images.old) (S.faults images.new) }
     ensures later { S.faults images.old ≤ S.faults images.new }
 {
     match registry.find(uuid) {
-        Ok(found) => place_answer(alloc, uuid, place_in(found, registry, rest), images),
+        Ok(found) => {
+            let place = place_in(found, registry, rest);
+            place_answer(alloc, uuid, repair, place, images)
+        }
         Err(refused) => in_memory(unfound_answer(alloc, refused)),
     }
 }
 
 /// Answers `check` on an image set that was loaded without its contents: a line for each finding in the arenas of a sector
-/// namespace, and a last line; and the set as it was loaded. Or the first region that isn't an interleave set, or the first two
+/// namespace, and a last line; and the set as it was loaded. With `repair` the arenas are repaired in the set that is saved, as far
+/// as nothing has to be guessed; the lines say what was repaired, and then what stays open. Or the first region that isn't an interleave set, or the first two
 /// UUIDs with overlapping extents; or why the namespace isn't found. After these nothing is saved.
 ///
 /// Of the contents only the arenas' info blocks, logs and maps are read, until the set is saved. `told` speaks of the contents that
@@ -121,20 +167,21 @@ fn named_answer<S: ImageSource>(
 pub fn check_answer<S: ImageSource>(
     alloc: Global,
     uuid: &Uuid,
+    repair: bool,
     outline: Outline,
     images: &mut S,
 ) -> Result<Answer, RunStop>
     requires sound { IsOutlined outline }
     requires loadable { IsLoadable outline }
     requires there { ForSome (S.held images.old) (HasContents outline.sizes) }
-    ensures told { IfOk result (ChecksFrom (S.held images.old) uuid.now outline) }
+    ensures told { IfOk result (ChecksFrom (S.held images.old) uuid.now repair outline) }
     ensures same { S.held images.new ≡ S.held images.old }
     ensures failed { result ≡ Err RunStop.ReadFault → Rose (S.faults images.old) (S.faults images.new) }
     ensures later { S.faults images.old ≤ S.faults images.new }
 {
     match open_outline(alloc, outline) {
         Ok(OutlineOpened::Done(registry, rest)) => {
-            named_answer(alloc, uuid, registry, rest, images)
+            named_answer(alloc, uuid, repair, registry, rest, images)
         }
         Ok(OutlineOpened::Not(report)) => Ok(without_set(report)),
         Err(_) => Err(RunStop::OutOfMemory),

@@ -6,20 +6,23 @@
 //! image source ────────────► info blocks, logs, maps, arena by arena ──► findings ──► a line for each
 //! bad ranges of the modules ───────────────────────────▲                                  │
 //!                                                                                         ▼
-//! saved set ◄── the set as it was loaded                                        sound, or broken N
+//! saved set ◄── the set as it was loaded, or repaired                           sound, or broken N
 //! ```
 //!
 //! Other commands refuse an arena with the first rule that it breaks. `check` lists all of them (crate `arena_check`), and goes on with the
 //! next arena if the info block, or else its backup, says where that is. So an arena that breaks the format is no fault of the image here.
 //! Of the contents only the arenas' info blocks, logs and maps are read. Pending moves are made in the map in memory.
 //!
-//! A set is saved as it was loaded: the command has a place in it for repairs.
+//! A set is saved as it was loaded. With `--repair` its arenas are repaired in it, as far as nothing has to be guessed (crate
+//! `arena_repair`): while the contents are copied, runs of bytes are put into them, for each arena at most a page and a map.
 //!
 //! | what | definition |
 //! |---|---|
 //! | the findings of an arena | `report_of` of `arena_check` |
 //! | which words are bad | `bad_words` of `bad_ranges` |
-//! | all arenas, in order | `reports_of` of `specs/Chain.antt` |
+//! | all arenas, in order | `reports_of` of `arena_repair` |
+//! | the words of an arena after a repair | `repaired_words` of `arena_repair` |
+//! | those of the namespace | `AreRepaired` of `arena_repair` |
 //! | the lines | `check_text` of `specs/Text.antt` |
 //! | what the command comes to | `CheckComes` of `specs/Comes.antt` |
 //!
@@ -31,6 +34,7 @@ mod chain;
 mod command;
 mod log;
 mod pages;
+mod repair;
 mod saving;
 mod text;
 

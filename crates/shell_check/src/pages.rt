@@ -6,7 +6,8 @@ ghost use Rattle.arena_layout.specs.Info.{IsArenaOf};
 ghost use Rattle.arena_open.specs.Reading.{info_bytes};
 ghost use Rattle.arena_check.specs.Check.{backup_finding, info_used, page_at, page_reading, source_of};
 ghost use Rattle.power_cut.specs.Namespace.{raw_bytes};
-ghost use Rattle.namespace_words.specs.Source.{HasEnds, Reveals, words_by};
+ghost use Rattle.namespace_words.specs.Source.{AreBytesOf, HasEnds, Reveals, words_by};
+ghost use Rattle.nvd_words.specs.Bytes.{AreBytes};
 
 use arena_check::{Finding, InfoSource, backup_finding, used_info};
 use arena_layout::Info;
@@ -19,7 +20,7 @@ use uuid::Uuid;
 const PAGE_WORDS: u64 = 512;
 
 /// Reads the page of a namespace that begins with a word.
-fn read_page<S: ImageSource>(
+pub(crate) fn read_page<S: ImageSource>(
     images: &mut S,
     extent: &SetExtent<'_>,
     word: u64,
@@ -28,6 +29,8 @@ fn read_page<S: ImageSource>(
     requires few { raw_bytes extent.now ≤ 2 ^ 55 }
     requires there { HasEnds (S.held images.old) extent.now.set }
     ensures told { (contents : List (List ℕ)) → Reveals (S.held images.old) extent.now.set contents → IfOk result (λ page. page ≡ page_at word (words_by extent.now contents)) }
+    ensures words { (contents : List (List ℕ)) → Reveals (S.held images.old) extent.now.set contents → IfOk result (AreBytesOf (words_by extent.now contents) word) }
+    ensures fit { IfOk result AreBytes }
     ensures same { S.held images.new ≡ S.held images.old }
     ensures cause { HasCause (S.faults images.old) (S.faults images.new) result }
 {

@@ -1,10 +1,11 @@
 //! The lines of findings.
-ghost use Rattle.std.specs.Prelude.{◌≡◌, ◌++◌, ◌∷◌, [], IfOk, OnOk, codes, string_bytes};
+ghost use Rattle.std.specs.Prelude.{◌≡◌, ◌++◌, ◌∷◌, [], IfOk, OnOk, codes, length, string_bytes};
 ghost use Rattle.std.specs.Fmt.{decimal};
 ghost use Rattle.shell_reports.specs.Outcome.{joined, lf};
-ghost use Rattle.shell_check.specs.Text.{finding_line, finding_text, last_line, lines_of};
+ghost use Rattle.shell_check.specs.Text.{arena_lines, finding_line, finding_text, last_line, left_of, lines_of, repaired_line, repaired_lines};
 
-use arena_check::Finding;
+use arena_check::{Finding, Report};
+use arena_repair::split_report;
 use shell_reports::{flog_text, info_fault_text};
 use std::alloc::{AllocError, Global};
 
@@ -35,8 +36,16 @@ fn finding_line(alloc: Global, k: u64, finding: Finding) -> Result<String, Alloc
     format!(in alloc; "arena {} {}\n", k, text)
 }
 
+/// Returns the line of a finding of arena k that was repaired.
+fn repaired_line(alloc: Global, k: u64, finding: Finding) -> Result<String, AllocError>
+    ensures { IfOk result (λ text. string_bytes text ≡ repaired_line k finding) }
+{
+    let text = finding_text(alloc, finding)?;
+    format!(in alloc; "arena {} repaired {}\n", k, text)
+}
+
 /// Appends the lines of the findings of arena k.
-pub(crate) fn push_lines(
+fn push_lines(
     alloc: Global,
     k: u64,
     findings: &[Finding],
@@ -49,6 +58,44 @@ pub(crate) fn push_lines(
         text.extend_from_slice(line.as_bytes())?;
     }
     Ok(())
+}
+
+/// Appends the lines of the findings of arena k that were repaired.
+fn push_repaired(
+    alloc: Global,
+    k: u64,
+    findings: &[Finding],
+    text: &mut Vec<u8>,
+) -> Result<(), AllocError>
+    ensures { OnOk result (text.new.items ≡ text.old.items ++ repaired_lines k findings.now) }
+{
+    for finding in findings {
+        let line = repaired_line(alloc, k, *finding)?;
+        text.extend_from_slice(line.as_bytes())?;
+    }
+    Ok(())
+}
+
+/// Appends the lines of arena k: with a repair, those of the findings that it answers, and then those of the findings that stay
+/// open. It returns how many these are.
+pub(crate) fn push_report(
+    alloc: Global,
+    repair: bool,
+    k: u64,
+    report: &Report,
+    text: &mut Vec<u8>,
+) -> Result<u64, AllocError>
+    ensures lines { OnOk result (text.new.items ≡ text.old.items ++ arena_lines repair k report.now) }
+    ensures count { IfOk result (λ count. count ≡ length (left_of repair report.now).findings) }
+{
+    if !repair {
+        push_lines(alloc, k, report.findings.as_slice(), text)?;
+        return Ok(report.findings.len() as u64);
+    }
+    let split = split_report(alloc, report)?;
+    push_repaired(alloc, k, split.repaired.as_slice(), text)?;
+    push_lines(alloc, k, split.left.as_slice(), text)?;
+    Ok(split.left.len() as u64)
 }
 
 /// Returns the last line, after so many findings.

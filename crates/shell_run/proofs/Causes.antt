@@ -46,7 +46,7 @@ use Rattle.shell_reports.specs.Causes.{breaks, fault_in, found_in, is_broken, is
 use Rattle.shell_reports.proofs.Causes.{SectorsCase, faulty, unfound, broken, opened, sectors_case}
 use Rattle.shell_reports.proofs.More.{ending_of}
 use Rattle.session_script.specs.declared.payload.Payload.{Payload}
-use Rattle.shell_check.specs.Comes.{OnNamed}
+use Rattle.shell_check.specs.Comes.{OnFound, OnNamed}
 use Rattle.shell_sectors.specs.Causes.{bars, bars_found}
 use Rattle.shell_sectors.specs.Write.{Writes, WritesArenas, write_refusal}
 use Rattle.shell_sectors.proofs.Causes.{SetCase, set_broken, set_case, set_faulty, set_opened, set_unfound}
@@ -192,13 +192,17 @@ module _ (uuid : List ℕ) (loaded : ImageSet) where
   opened_reads found states none is read = broken_is None (Ok found) none is ∙ ap (λ (r : Result (List ArenaState) ChainRefused). is_err r) read
 
 -- what a check finds in the arenas is no fault of the images
-check_case : (uuid : List ℕ) (loaded : ImageSet) (outcome : Outcome) (o : Option OpenFault) (r : Result Found OpRefused) → fault_in loaded ≡ o → found_in loaded uuid ≡ r
-    → MatchOption o (OnNamed uuid loaded outcome r) (λ fault. outcome ≡ open_outcome fault) → CommandCase (Check uuid) (Ok loaded) outcome.ending
-check_case uuid loaded outcome (Some fault) r fault_is is comes = is_refused (ap (λ (f : Option OpenFault). is_some f) fault_is) (ending_of outcome (open_outcome fault) comes)
-check_case uuid loaded outcome None (Err refusal) fault_is is comes =
+check_done : (uuid : List ℕ) (repair : Bool) (loaded : ImageSet) (outcome : Outcome) (found : Found) → OnFound uuid repair loaded outcome found → outcome.ending ≡ ending.Done
+check_done uuid true loaded outcome found on = on.saves.ends
+check_done uuid false loaded outcome found on = on.ends
+
+check_case : (uuid : List ℕ) (repair : Bool) (loaded : ImageSet) (outcome : Outcome) (o : Option OpenFault) (r : Result Found OpRefused) → fault_in loaded ≡ o → found_in loaded uuid ≡ r
+    → MatchOption o (OnNamed uuid repair loaded outcome r) (λ fault. outcome ≡ open_outcome fault) → CommandCase (Check uuid repair) (Ok loaded) outcome.ending
+check_case uuid repair loaded outcome (Some fault) r fault_is is comes = is_refused (ap (λ (f : Option OpenFault). is_some f) fault_is) (ending_of outcome (open_outcome fault) comes)
+check_case uuid repair loaded outcome None (Err refusal) fault_is is comes =
     is_turned_down (ap (λ (f : Option OpenFault). is_some f) fault_is) refl (ap is_unfound is) (ending_of outcome (refused_outcome (refusal_text refusal)) comes)
-check_case uuid loaded outcome None (Ok found) fault_is is comes =
-    is_done (ap (λ (f : Option OpenFault). is_some f) fault_is) refl (ap is_unfound is) comes.ends
+check_case uuid repair loaded outcome None (Ok found) fault_is is comes =
+    is_done (ap (λ (f : Option OpenFault). is_some f) fault_is) refl (ap is_unfound is) (check_done uuid repair loaded outcome found comes)
 
 info_case : (uuid : List ℕ) (loaded : ImageSet) (outcome : Outcome) → SectorsCase (λ states. printed (arena_lines 0 states)) loaded uuid outcome → CommandCase (Info uuid) (Ok loaded) outcome.ending
 info_case uuid loaded outcome (faulty fault is e) = is_refused (table_broken uuid loaded fault is) (ending_of outcome (open_outcome fault) e)
@@ -337,7 +341,7 @@ module _ (leaves : ℕ → List (Option Words) → List (Option (List ℕ)) → 
   command_case (Init m power) (Ok loaded) outcome comes = init_command m power loaded outcome.ending (init_case leaves m power loaded outcome (area_of loaded m) comes)
   command_case (Change c power) (Ok loaded) outcome comes = change_case leaves c power loaded outcome (sets_in loaded) refl comes
   command_case (Info uuid) (Ok loaded) outcome comes = info_case uuid loaded outcome (sectors_case (λ states. printed (arena_lines 0 states)) loaded uuid outcome comes)
-  command_case (Check uuid) (Ok loaded) outcome comes = check_case uuid loaded outcome (fault_in loaded) (found_in loaded uuid) refl refl comes
+  command_case (Check uuid repair) (Ok loaded) outcome comes = check_case uuid repair loaded outcome (fault_in loaded) (found_in loaded uuid) refl refl comes
   command_case (Read uuid sector) (Ok loaded) outcome comes = read_case uuid sector loaded outcome (sectors_case (sector_outcome sector) loaded uuid outcome comes)
   command_case (Write uuid sector value) (Ok loaded) outcome comes =
       write_case uuid sector value loaded outcome (set_case (WritesArenas uuid sector value loaded outcome) loaded uuid outcome comes)
@@ -398,7 +402,7 @@ module _ (leaves : ℕ → List (Option Words) → List (Option (List ℕ)) → 
   script_ending (Init m power) script set outcome comes = plain_ending (Init m power) set outcome comes
   script_ending (Change c power) script set outcome comes = plain_ending (Change c power) set outcome comes
   script_ending (Info uuid) script set outcome comes = plain_ending (Info uuid) set outcome comes
-  script_ending (Check uuid) script set outcome comes = plain_ending (Check uuid) set outcome comes
+  script_ending (Check uuid repair) script set outcome comes = plain_ending (Check uuid repair) set outcome comes
   script_ending (Read uuid sector) script set outcome comes = plain_ending (Read uuid sector) set outcome comes
   script_ending (Write uuid sector value) script set outcome comes = plain_ending (Write uuid sector value) set outcome comes
   script_ending (Export uuid zeros) script set outcome comes = plain_ending (Export uuid zeros) set outcome comes

@@ -233,7 +233,7 @@ session_copies command.List some = let e = some in cc
 session_copies (command.Init m power) some = let e = some in cc
 session_copies (command.Change c power) some = let e = some in cc
 session_copies (command.Info uuid) some = let e = some in cc
-session_copies (command.Check uuid) some = let e = some in cc
+session_copies (command.Check uuid repair) some = let e = some in cc
 session_copies (command.Read uuid sector) some = let e = some in cc
 session_copies (command.Write uuid sector value) some = let e = some in cc
 session_copies (command.Replay uuid seed) some = let e = some in cc
@@ -261,7 +261,7 @@ module _ (leaves : ℕ → List (Option Words) → List (Option (List ℕ)) → 
   plain_comes (Init m power) plain on = on
   plain_comes (Change c power) plain on = on
   plain_comes (Info uuid) plain on = on
-  plain_comes (Check uuid) plain on = on
+  plain_comes (Check uuid repair) plain on = on
   plain_comes (Read uuid sector) plain on = on
   plain_comes (Write uuid sector value) plain on = on
   plain_comes (AskReplay uuid seed) plain on = absurd (let e = plain in cc)

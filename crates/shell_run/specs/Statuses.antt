@@ -66,7 +66,7 @@ refuses_images command.List (Ok loaded) = is_err (listed_of loaded)
 refuses_images (Init m power) (Ok loaded) = keeps_area (area_of loaded m)
 refuses_images (Change c power) (Ok loaded) = is_err (sets_in loaded)
 refuses_images (Info uuid) (Ok loaded) = is_broken loaded uuid
-refuses_images (Check uuid) (Ok loaded) = is_some (fault_in loaded)
+refuses_images (Check uuid repair) (Ok loaded) = is_some (fault_in loaded)
 refuses_images (Read uuid sector) (Ok loaded) = is_broken loaded uuid
 refuses_images (Write uuid sector value) (Ok loaded) = is_broken loaded uuid
 refuses_images (Replay uuid seed) (Ok loaded) = is_broken loaded uuid
@@ -92,7 +92,7 @@ is_cut command found = false
 abbrev pub is_barred : CommandLine → Result ImageSet LoadFault → Bool
 is_barred (Change c power) (Ok loaded) = refuses loaded c
 is_barred (Info uuid) (Ok loaded) = refuses_info loaded uuid
-is_barred (Check uuid) (Ok loaded) = refuses_info loaded uuid
+is_barred (Check uuid repair) (Ok loaded) = refuses_info loaded uuid
 is_barred (Read uuid sector) (Ok loaded) = refuses_read loaded uuid sector
 is_barred (Write uuid sector value) (Ok loaded) = refuses_write loaded uuid sector value
 is_barred (Replay uuid seed) (Ok loaded) = refuses_replay loaded uuid

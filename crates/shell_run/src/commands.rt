@@ -152,6 +152,12 @@ const WORKERS: Argument = Argument {
     form: Form::Optional,
 };
 
+/// Whether what can be repaired is.
+const REPAIR: Argument = Argument {
+    name: "repair",
+    form: Form::Flag,
+};
+
 /// Whether bad sectors count as zeros.
 const BAD_AS_ZEROS: Argument = Argument {
     name: "bad-as-zeros",
@@ -242,7 +248,7 @@ impl CommandKind {
             CommandKind::Delete => &[UUID, CUT, EVICT],
             CommandKind::Rename => &[UUID, NAME, CUT, EVICT],
             CommandKind::Info => &[UUID],
-            CommandKind::Check => &[UUID],
+            CommandKind::Check => &[UUID, REPAIR],
             CommandKind::Read => &[UUID, SECTOR],
             CommandKind::Write => &[UUID, SECTOR, VALUE],
             CommandKind::Replay => &[UUID, EVICT],

@@ -7,7 +7,7 @@
 //!      │   labels, nfit, list, info, read; export, which prints piece by piece
 //!      │
 //!      ├──► a changed set, or its state after a crash ──► image set
-//!      │       init, create, delete, rename, write, replay, import, serve, load; check, which saves it as it was loaded
+//!      │       init, create, delete, rename, write, check, replay, import, serve, load
 //!      └──► the first object that is missing or outside its limits
 //! ```
 //!

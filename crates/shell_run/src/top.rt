@@ -141,7 +141,7 @@ fn reads_script(command: &CommandLine) -> bool
         CommandLine::Init(_, _) => false,
         CommandLine::Change(_, _) => false,
         CommandLine::Info(_) => false,
-        CommandLine::Check(_) => false,
+        CommandLine::Check(_, _) => false,
         CommandLine::Read(_, _) => false,
         CommandLine::Write(_, _, _) => false,
         CommandLine::Replay(_, _) => true,
@@ -163,7 +163,7 @@ pub fn has_sessions(command: &CommandLine) -> bool
         CommandLine::Init(_, _) => false,
         CommandLine::Change(_, _) => false,
         CommandLine::Info(_) => false,
-        CommandLine::Check(_) => false,
+        CommandLine::Check(_, _) => false,
         CommandLine::Read(_, _) => false,
         CommandLine::Write(_, _, _) => false,
         CommandLine::Replay(_, _) => false,
@@ -207,7 +207,7 @@ fn outlined_answer<S: ImageSource, C: Chooser>(
             in_memory(change_answer(alloc, &change, power, outline, choose))
         }
         CommandLine::Info(uuid) => arenas_found(alloc, &uuid, outline, images),
-        CommandLine::Check(uuid) => check_answer(alloc, &uuid, outline, images),
+        CommandLine::Check(uuid, repair) => { check_answer(alloc, &uuid, repair, outline, images) }
         CommandLine::Read(uuid, sector) => sector_found(alloc, &uuid, sector, outline, images),
         CommandLine::Write(uuid, sector, value) => {
             write_answer(alloc, &uuid, sector, value, outline, images)

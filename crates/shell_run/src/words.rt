@@ -27,8 +27,8 @@ pub enum CommandLine {
     Change(namespace_map::Command, Power),
     /// Print the arenas of a namespace.
     Info(Uuid),
-    /// Check the arenas of a namespace.
-    Check(Uuid),
+    /// Check the arenas of a namespace; whether what can be repaired is.
+    Check(Uuid, bool),
     /// Print a sector of a namespace.
     Read(Uuid, u64),
     /// Write a sector of a namespace.
@@ -193,7 +193,10 @@ fn command_in(kind: CommandKind, values: &Parsed<'_>) -> Option<CommandLine>
             Some(CommandLine::Change(change, power_in(values)?))
         }
         CommandKind::Info => Some(CommandLine::Info(values.uuid("uuid")?)),
-        CommandKind::Check => Some(CommandLine::Check(values.uuid("uuid")?)),
+        CommandKind::Check => {
+            let uuid = values.uuid("uuid")?;
+            Some(CommandLine::Check(uuid, values.flag("repair")))
+        }
         CommandKind::Read => {
             let uuid = values.uuid("uuid")?;
             Some(CommandLine::Read(uuid, values.number("sector", 0, u64::MAX)?))

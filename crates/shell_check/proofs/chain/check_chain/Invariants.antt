@@ -1,7 +1,9 @@
-use Rattle.std.proofs.Common.{◌≡◌, ◌+◌, ◌-◌, ◌*◌, ◌%◌, ◌≤◌, ℕ, List, length}
+use Rattle.std.proofs.Common.{◌≡◌, ◌+◌, ◌-◌, ◌*◌, ◌%◌, ◌≤◌, ℕ, List, [], length}
+use Rattle.std.specs.Prelude.{MatchBool}
 use Rattle.power_cut.specs.Namespace.{raw_bytes}
-use Rattle.namespace_words.specs.Source.{Reveals, words_by}
+use Rattle.namespace_words.specs.Source.{Reveals, bytes_by, words_by}
 use Rattle.shell_check.proofs.Following.{IsSoFar}
+use Rattle.shell_check.proofs.Mending.{MendsSoFar}
 use Rattle.shell_check.proofs.chain.check_chain.Given as goal
 
 abbrev pub invariant-arenas : goal.invariant-arenas
@@ -14,7 +16,10 @@ invariant-arenas g l = record {
   later : g.S.ImageSource.faults l.fn.images ≤ g.S.ImageSource.faults l.images;
   -- if the source reveals its contents, this is what was found so far
   so_far : (contents : List (List ℕ)) → Reveals (g.S.ImageSource.held l.fn.images) l.extent.set contents
-      → IsSoFar (g.B.BadWords.bad l.bad) (words_by l.extent contents) l.uuid l.k l.count l.at l.text.items;
+      → IsSoFar l.repair (g.B.BadWords.bad l.bad) (words_by l.extent contents) l.uuid l.k l.count l.at l.text.items;
+  -- and these runs repair it
+  mends : (contents : List (List ℕ)) → Reveals (g.S.ImageSource.held l.fn.images) l.extent.set contents
+      → MatchBool l.repair (MendsSoFar (g.B.BadWords.bad l.bad) (bytes_by l.extent contents) l.uuid l.k l.at l.runs.items) (l.runs.items ≡ []);
 }
 
 abbrev pub decreases-arenas : goal.decreases-arenas

@@ -11,19 +11,19 @@ use Rattle.shell_check.proofs.Coming.{unfound}
 use Rattle.shell_check.proofs.command.named_answer.Goals as goal
 
 pub place_answer-requires-clause-there : goal.place_answer-requires-clause-there
-place_answer-requires-clause-there g c = λ source told. subst (λ (r : OutlineRest). HasContents r.sizes source) (sym c.place_in.ensures.rest) (c.requires.there source told)
+place_answer-requires-clause-there g c = λ source told. subst (λ (r : OutlineRest). HasContents r.sizes source) (sym c.place_in-place.ensures.rest) (c.requires.there source told)
 
 pub returns-in-Ok-clause-told : goal.returns-in-Ok-clause-told
 returns-in-Ok-clause-told g c =
-    let made = c.place_in.ensures in
+    let made = c.place_in-place.ensures in
     if_more _ _ c.place_answer.result
-    (λ answer checks outline o. checks outline (placed c.args.uuid.now outline c.args.registry c.args.rest c.in-Ok.found c.place_in.result o c.in-Ok.ensures.found c.in-Ok.ensures.lies made.set made.found made.areas made.rest))
+    (λ answer checks outline o. checks outline (placed c.args.uuid.now outline c.args.registry c.args.rest c.in-Ok.found c.place_in-place.result o c.in-Ok.ensures.found c.in-Ok.ensures.lies made.set made.found made.areas made.rest))
     c.place_answer.ensures.told
 
 pub returns-in-Err-clause-told : goal.returns-in-Err-clause-told
 returns-in-Err-clause-told g c =
     let held = g.S.ImageSource.held c.args.images.now in
-    kept (λ answer. (outline : Outline) → IsOpenOutline outline c.args.registry c.args.rest → ChecksFrom held c.args.uuid.now outline answer) c.unfound_answer.result c.in_memory.result c.in_memory.ensures.same
+    kept (λ answer. (outline : Outline) → IsOpenOutline outline c.args.registry c.args.rest → ChecksFrom held c.args.uuid.now c.args.repair outline answer) c.unfound_answer.result c.in_memory.result c.in_memory.ensures.same
     (if_both _ _ _ c.unfound_answer.result
-    (λ answer says nothing outline o. unfound outline c.args.registry c.args.rest o c.args.uuid.now held c.in-Err.refused answer c.in-Err.ensures.found nothing says)
+    (λ answer says nothing outline o. unfound outline c.args.registry c.args.rest o c.args.uuid.now held c.args.repair c.in-Err.refused answer c.in-Err.ensures.found nothing says)
     c.unfound_answer.ensures.text c.unfound_answer.ensures.saved)

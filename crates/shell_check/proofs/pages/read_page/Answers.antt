@@ -11,3 +11,9 @@ returns-clause-told g c = λ contents reveals.
     info_is (drop c.args.word (words_by c.args.extent.now contents)) c.read_extent.new.into (c.read_extent.auto.into ∙ length-replicate {A = ℕ} 4096 0) c.in_ok-read_extent.ensures.fit
     (area_words (words_by c.args.extent.now contents) c.args.word 0 c.read_extent.new.into (omega arith)
     (subst (λ (n : ℕ). AreBytesOf (words_by c.args.extent.now contents) n c.read_extent.new.into) place (c.in_ok-read_extent.ensures.words contents reveals from)))
+
+pub returns-clause-words : goal.returns-clause-words
+returns-clause-words g c = λ contents reveals.
+    let from : 8 * c.args.word % 8 ≡ 0 = omega arith in
+    let place : 8 * c.args.word / 8 ≡ c.args.word = omega arith in
+    subst (λ (n : ℕ). AreBytesOf (words_by c.args.extent.now contents) n c.read_extent.new.into) place (c.in_ok-read_extent.ensures.words contents reveals from)

@@ -97,15 +97,15 @@ pub returns-in-Check-clause-comes : goal.returns-in-Check-clause-comes
 returns-in-Check-clause-comes g c =
     let leaves = LeavesBy g.C.Chooser.begins g.C.Chooser.picks c.args.choose.now in
     let held = g.S.ImageSource.held c.args.images.now in
-    source_of leaves c.args.command (Check c.in-Check.uuid) c.in-Check.is held c.args.outline c.check_answer.result
-    (if_more _ (OnSource (LoadedComes leaves (Check c.in-Check.uuid)) held c.args.outline) c.check_answer.result (λ answer from. from.comes) c.check_answer.ensures.told)
+    source_of leaves c.args.command (Check c.in-Check.uuid c.in-Check.repair) c.in-Check.is held c.args.outline c.check_answer.result
+    (if_more _ (OnSource (LoadedComes leaves (Check c.in-Check.uuid c.in-Check.repair)) held c.args.outline) c.check_answer.result (λ answer from. from.comes) c.check_answer.ensures.told)
 
 pub returns-in-Check-clause-sizes : goal.returns-in-Check-clause-sizes
 returns-in-Check-clause-sizes g c = if_more _ (HasSizes c.args.outline.sizes) c.check_answer.result (λ answer from. from.sizes) c.check_answer.ensures.told
 
 pub returns-in-Check-clause-copying : goal.returns-in-Check-clause-copying
 returns-in-Check-clause-copying g c =
-    copies_by_it (LeavesBy g.C.Chooser.begins g.C.Chooser.picks c.args.choose.now) c.args.command (Check c.in-Check.uuid) c.in-Check.is c.check_answer.result refl
+    copies_by_it (LeavesBy g.C.Chooser.begins g.C.Chooser.picks c.args.choose.now) c.args.command (Check c.in-Check.uuid c.in-Check.repair) c.in-Check.is c.check_answer.result refl
 
 pub returns-in-Read-clause-comes : goal.returns-in-Read-clause-comes
 returns-in-Read-clause-comes g c =

@@ -1,0 +1,14 @@
+pub mod Changing
+pub mod Marks
+pub mod MapChanges
+pub mod PageChanges
+pub mod Marking
+pub mod Settled
+pub mod Repaired
+pub mod Inside
+pub mod Cells
+pub mod Open
+pub mod Mends
+pub mod Splitting
+pub mod Front
+pub mod Chains
