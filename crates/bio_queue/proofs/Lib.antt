@@ -7,3 +7,4 @@ pub mod Resting
 pub mod Rows
 pub mod Serving
 pub mod Standing
+pub mod Working

@@ -1,8 +1,9 @@
 -- A worker's session on the first of its arenas.
-use Rattle.std.specs.Prelude.{◌≡◌, ℕ, ◌+◌, ◌^◌, ◌<◌, ◌≤◌, true, List, [], length, None}
+use Rattle.std.specs.Prelude.{◌≡◌, ℕ, ◌+◌, ◌^◌, ◌<◌, ◌≤◌, true, List, [], length, Option, None, ◌≢◌}
 use Rattle.std.specs.List.{AllByRecursion}
 use Rattle.session_parts.specs.declared.parts.Stand.{Stand}
 use Rattle.session_parts.specs.Parts.{part, stand_at}
+use Rattle.lane_pool.specs.Parts.{HasPart, IsTold, switched_by}
 use Rattle.lane_calls.specs.declared.session.Sectors.{Sectors}
 use Rattle.lane_calls.specs.declared.session.Session.{Session}
 use Rattle.lane_calls.specs.Calls.{IsGoing}
@@ -29,6 +30,18 @@ pub record MayMake (s : Sectors) (sectors width n : ℕ) (done : List Stand) (se
   pub no_fuse : session.caller.left ≡ None
   pub sectors_are : (shape_of (made.parts 0)).sectors ≡ sectors
   pub width_is : (shape_of (made.parts 0)).width ≡ width
+
+-- it never switched power off
+abbrev pub NeverSwitched : Session → Type 0
+NeverSwitched session = HasPart (λ m. switched_by m.stop ≡ None) session.caller.pool
+
+-- A worker between two turns. It made these calls, and may make more until it made `limit` in all, if no operation of it is cut. One is cut only
+-- if the worker was told that power is off.
+pub record IsAtWork {T : Type 0} (s : Sectors) (sectors width limit : ℕ) (cut : Option T) (done : List Stand) (session : Session) : Type 0 where
+  pub made : HasMade s done session
+  pub may : cut ≡ None → (n : ℕ) → length done + n ≤ limit → MayMake s sectors width n done session
+  pub told : cut ≢ None → IsTold session.caller.pool
+  pub on : NeverSwitched session
 
 -- it may make this operation, with so much room for the words that it reads
 pub record MayPerform (s : Sectors) (op : Op) (room : ℕ) (session : Session) : Type 0 where

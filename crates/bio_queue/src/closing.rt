@@ -11,7 +11,7 @@ ghost use Rattle.bio_queue.specs.Served.{IsAccountOf, IsCompletedOf, IsDone, IsF
 
 use crate::bio::{Bio, Completed};
 use crate::op::OpReply;
-use crate::queue::BioQueue;
+use crate::queue::{BioCloser, BioQueue};
 use crate::submitter::Submitter;
 use crate::worker::Worker;
 use lane_calls::Session;
@@ -36,6 +36,7 @@ pub struct BioClosed {
 #[derive(Drop)]
 pub struct BioOpen {
     pub queue: BioQueue,
+    pub closer: BioCloser,
     pub submitters: Vec<Submitter>,
     pub workers: Vec<Worker>,
 }
@@ -114,6 +115,7 @@ impl BioQueue {
     fn close_into<R: Wait>(
         self,
         rt: &R,
+        closer: BioCloser,
         submitters: Vec<Submitter>,
         workers: Vec<Worker>,
         rows: Rows,
@@ -125,13 +127,14 @@ impl BioQueue {
         requires queue { All (λ s. IsPassOf self.queue s.pass) submitters.items × All (λ w. IsPassOf self.queue w.ticket) workers.items }
         requires submitters { (k : ℕ) (s : _) → get_elem? submitters.items k ≡ some s → (s.party ≡ k) × (s.sectors ≡ self.sectors) × (s.width ≡ self.width) }
         requires workers { (k : ℕ) (w : _) → get_elem? workers.items k ≡ some w → (w.party ≡ length submitters.items + k) × (w.sectors ≡ self.sectors) × (w.width ≡ self.width) }
-        requires all { view self.maker ≡ all_from (length submitters.items + length workers.items) }
+        requires closer { IsPassOf self.queue closer.maker × (view closer.maker ≡ all_from (length submitters.items + length workers.items)) }
         ensures completed { result.completed.items ≡ map (λ w. w.completed) workers.items }
         ensures cut { result.cut.items ≡ map (λ w. w.cut) workers.items }
         ensures sessions { result.sessions.items ≡ map (λ w. w.session) workers.items }
         ensures order { IsOrder (map (λ s. view s.pass) submitters.items ++ map (λ w. view w.ticket) workers.items) result.left.items }
     {
-        let BioQueue { queue, maker, .. } = self;
+        let BioQueue { queue, .. } = self;
+        let BioCloser { maker } = closer;
         let Rows {
             passes,
             completed,
@@ -174,16 +177,17 @@ impl BioQueue {
         self,
         rt: &R,
         alloc: Global,
+        closer: BioCloser,
         submitters: Vec<Submitter>,
         workers: Vec<Worker>,
     ) -> Result<BioClosed, BioOpen>
         requires queue { All (λ s. IsPassOf self.queue s.pass) submitters.items × All (λ w. IsPassOf self.queue w.ticket) workers.items }
         requires submitters { (k : ℕ) (s : _) → get_elem? submitters.items k ≡ some s → (s.party ≡ k) × (s.sectors ≡ self.sectors) × (s.width ≡ self.width) }
         requires workers { (k : ℕ) (w : _) → get_elem? workers.items k ≡ some w → (w.party ≡ length submitters.items + k) × (w.sectors ≡ self.sectors) × (w.width ≡ self.width) }
-        requires all { view self.maker ≡ all_from (length submitters.items + length workers.items) }
+        requires closer { IsPassOf self.queue closer.maker × (view closer.maker ≡ all_from (length submitters.items + length workers.items)) }
         requires done { (k : ℕ) (w : _) → get_elem? workers.items k ≡ some w → IsFit (taken_in (view w.ticket)) (λ b. fits_in w.sectors w.width b.op ≡ true)
             → IsDone (taken_in (view w.ticket)) w.completed.items w.cut (λ b c. IsCompletedOf b.submitter b.number b.op w.session.number c × ((r : AnyReply) × (r ≡ c.reply) × ⟦<Box<dyn FnOnce(OpReply) -> u64 + Send> as FnOnce(OpReply) -> u64>⟧.post b.done.call r c.note)) }
-        ensures back { IfErr result (λ o. (o.queue ≡ self) × (o.submitters ≡ submitters) × (o.workers ≡ workers)) }
+        ensures back { IfErr result (λ o. (o.queue ≡ self) × (o.closer ≡ closer) × (o.submitters ≡ submitters) × (o.workers ≡ workers)) }
         ensures completed { IfOk result (λ r. r.completed.items ≡ map (λ w. w.completed) workers.items) }
         ensures cut { IfOk result (λ r. r.cut.items ≡ map (λ w. w.cut) workers.items) }
         ensures sessions { IfOk result (λ r. r.sessions.items ≡ map (λ w. w.session) workers.items) }
@@ -195,6 +199,7 @@ impl BioQueue {
         let Ok(rows) = rows_for(alloc, submitters.len(), workers.len()) else {
             return Err(BioOpen {
                 queue: self,
+                closer,
                 submitters,
                 workers,
             });
@@ -202,10 +207,11 @@ impl BioQueue {
         let Ok(left) = Vec::with_capacity(alloc, self.depth as usize + 1) else {
             return Err(BioOpen {
                 queue: self,
+                closer,
                 submitters,
                 workers,
             });
         };
-        Ok(self.close_into(rt, submitters, workers, rows, left))
+        Ok(self.close_into(rt, closer, submitters, workers, rows, left))
     }
 }

@@ -46,13 +46,17 @@
 //! | [`Worker::serve_one`] | the operation at the front is completed: one call more of the session stands in the arena's history, and the note is an answer of its callback to the reply | `done`, `may`, `served` |
 //! | the same | nothing was taken, and the queue was empty at one moment of the call; the worker keeps no lanes | `empty`, `rests` |
 //! | the same | power is off, as the worker was told; the operation is kept, nothing of it stands, and its callback isn't called | `off`, `told` |
-//! | [`Worker::reserve`] | there is room for so many calls more | `more`, `spare` |
+//! | [`Worker::serve_one`], [`Worker::pause`] | the calls of the worker's session are still what it completed, it may make more up to the same limit, and it didn't switch power off | `works`, `IsAtWork` of specs/Serving.antt |
+//! | [`Worker::reserve`], [`Worker::reserve_one`] | there is room for so many calls more, or for one | `more`, `spare` |
 //! | [`BioQueue::close`] | of each submitter each accepted number stands exactly once in what was taken and what is left, as the very operation that was submitted; each worker's numbers of it rise, and each number that is left is above them | `account`, `IsAccount` of ticket_queue's specs/Account.antt |
 //! | the same | each operation that a worker took is completed, with a reply that fits and a note that its callback promises, but for the last one, if power cut it | `done`, `IsDone` of specs/Served.antt |
 //!
 //! The calls of a worker's session are exactly its completed operations, in order (`MayMake`,
 //! `HasMade` of specs/Serving.antt): with `close_sectors` of `lane_sessions` they are the entries of
 //! that session in the arena's one legal history.
+//!
+//! The maker of the passes can't be shared by threads, since it isn't `Sync`. So [`BioCloser`] has it,
+//! apart from the queue, and one thread keeps it until the queue is closed.
 //!
 //! A worker keeps its set of lanes for up to 64 calls, also while a callback runs. So a callback
 //! must not wait for another worker.
@@ -77,6 +81,6 @@ pub use completion::{Callback, Completion};
 pub use laws::new_session_may_make;
 pub use op::{Op, OpKind, OpReply};
 pub use opening::{BioOpened, BioRefused};
-pub use queue::BioQueue;
+pub use queue::{BioCloser, BioQueue};
 pub use submitter::Submitter;
 pub use worker::Worker;

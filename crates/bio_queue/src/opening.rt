@@ -1,13 +1,18 @@
 //! How a queue is made, with its submitters and workers.
-ghost use Rattle.std.specs.Prelude.{◌≡◌, ◌+◌, ◌<◌, ◌≤◌, ◌^◌, ℕ, [], ◌++◌, length, map, None, IfErr, IfOk, vec_capacity};
+ghost use Rattle.std.specs.Prelude.{◌≡◌, ◌+◌, ◌<◌, ◌≤◌, ◌^◌, ℕ, [], ◌++◌, length, map, true, None, IfErr, IfOk, vec_capacity};
 ghost use mathlib.Core.Option.{some};
 ghost use lib.ListN.{get_elem?};
 ghost use Rattle.crossbeam_queue.specs.Passes.{view, IsPassOf};
 ghost use Rattle.ticket_queue.specs.Law.{all_from, none_yet};
+ghost use Rattle.ticket_queue.specs.Parties.{taken_in};
+ghost use Rattle.bio_queue.specs.declared.op.OpReply.{OpReply as AnyReply};
+ghost use Rattle.bio_queue.specs.Ops.{fits_in};
 ghost use Rattle.bio_queue.specs.Seats.{AreDealt, AreNewFrom};
+ghost use Rattle.bio_queue.specs.Served.{IsCompletedOf, IsDone, IsFit};
 
 use crate::bio::Bio;
-use crate::queue::BioQueue;
+use crate::op::OpReply;
+use crate::queue::{BioCloser, BioQueue};
 use crate::submitter::Submitter;
 use crate::worker::Worker;
 use lane_calls::Session;
@@ -18,6 +23,7 @@ use ticket_queue::{TicketPass, deal, new_queue};
 #[derive(Drop)]
 pub struct BioOpened {
     pub queue: BioQueue,
+    pub closer: BioCloser,
     pub submitters: Vec<Submitter>,
     pub workers: Vec<Worker>,
 }
@@ -32,6 +38,7 @@ pub struct BioRefused {
 #[derive(Drop)]
 struct Parts {
     queue: BioQueue,
+    closer: BioCloser,
     /// The passes of the submitters.
     first: Vec<TicketPass<Bio>>,
     /// The passes of the workers.
@@ -52,7 +59,7 @@ fn make_parts(
     requires depth { 0 < depth }
     requires few { submitters + workers < 2 ^ 32 }
     ensures queue { IfOk result (λ r. (r.queue.depth ≡ depth) × (r.queue.sectors ≡ sectors) × (r.queue.width ≡ width)) }
-    ensures maker { IfOk result (λ r. view r.queue.maker ≡ all_from (submitters + workers)) }
+    ensures closer { IfOk result (λ r. IsPassOf r.queue.queue r.closer.maker × (view r.closer.maker ≡ all_from (submitters + workers))) }
     ensures counts { IfOk result (λ r. (length r.first.items ≡ submitters) × (length r.others.items ≡ workers)) }
     ensures first { IfOk result (λ r. AreDealt r.queue.queue 0 r.first.items) }
     ensures others { IfOk result (λ r. AreDealt r.queue.queue submitters r.others.items) }
@@ -65,13 +72,13 @@ fn make_parts(
     let workers = Vec::with_capacity(alloc, workers as usize)?;
     let queue = BioQueue {
         queue,
-        maker,
         depth,
         sectors,
         width,
     };
     Ok(Parts {
         queue,
+        closer: BioCloser { maker },
         first,
         others,
         submitters,
@@ -184,13 +191,15 @@ impl BioQueue {
         requires few { submitters + length sessions.items < 2 ^ 32 }
         ensures refused { IfErr result (λ r. r.sessions ≡ sessions) }
         ensures queue { IfOk result (λ o. (o.queue.depth ≡ depth) × (o.queue.sectors ≡ sectors) × (o.queue.width ≡ width)) }
-        ensures maker { IfOk result (λ o. view o.queue.maker ≡ all_from (submitters + length sessions.items)) }
+        ensures closer { IfOk result (λ o. IsPassOf o.queue.queue o.closer.maker × (view o.closer.maker ≡ all_from (submitters + length sessions.items))) }
         ensures count { IfOk result (λ o. length o.submitters.items ≡ submitters) }
         ensures passes { IfOk result (λ o. AreDealt o.queue.queue 0 (map (λ s. s.pass) o.submitters.items)) }
         ensures tickets { IfOk result (λ o. AreDealt o.queue.queue submitters (map (λ w. w.ticket) o.workers.items)) }
         ensures sessions { IfOk result (λ o. map (λ w. w.session) o.workers.items ≡ sessions.items) }
         ensures submitters { IfOk result (λ o. (k : ℕ) (s : _) → get_elem? o.submitters.items k ≡ some s → (s.party ≡ k) × (s.sectors ≡ sectors) × (s.width ≡ width)) }
         ensures workers { IfOk result (λ o. (k : ℕ) (w : _) → get_elem? o.workers.items k ≡ some w → (w.party ≡ submitters + k) × (w.sectors ≡ sectors) × (w.width ≡ width) × (w.completed.items ≡ []) × (w.cut ≡ None)) }
+        ensures done { IfOk result (λ o. (k : ℕ) (w : _) → get_elem? o.workers.items k ≡ some w → IsFit (taken_in (view w.ticket)) (λ b. fits_in w.sectors w.width b.op ≡ true)
+            → IsDone (taken_in (view w.ticket)) w.completed.items w.cut (λ b c. IsCompletedOf b.submitter b.number b.op w.session.number c × ((r : AnyReply) × (r ≡ c.reply) × ⟦<Box<dyn FnOnce(OpReply) -> u64 + Send> as FnOnce(OpReply) -> u64>⟧.post b.done.call r c.note))) }
     {
         let workers = sessions.len() as u32;
         let Ok(parts) = make_parts(alloc, depth, submitters, sectors, width, workers) else {
@@ -198,6 +207,7 @@ impl BioQueue {
         };
         let Parts {
             queue,
+            closer,
             first,
             others,
             submitters: seats,
@@ -205,6 +215,7 @@ impl BioQueue {
         } = parts;
         Ok(BioOpened {
             queue,
+            closer,
             submitters: seat_submitters(first, seats, sectors, width),
             workers: seat_workers(alloc, others, workers, submitters, sectors, width, sessions),
         })

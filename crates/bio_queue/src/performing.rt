@@ -1,6 +1,7 @@
 //! How a worker's session makes an operation.
 ghost use Rattle.std.specs.Prelude.{◌≡◌, ◌+◌, ℕ, List, [], ◌∷◌, ◌++◌, length, true};
 ghost use Rattle.lane_pool.specs.Parts.{IsTold};
+ghost use Rattle.lane_calls.specs.Calls.{SwitchesNot};
 ghost use Rattle.lane_table.specs.Reads.{cell_of_kind};
 ghost use Rattle.session_parts.specs.declared.parts.Stand.{Stand};
 ghost use Rattle.bio_queue.specs.declared.op.Op.TheVariants as op_is;
@@ -70,6 +71,7 @@ fn perform_read<R: Wait>(
     ensures done { (r t : AnyReply) → result ≡ performed.Done r t → (m w n : ℕ) (done : List Stand) → MayMake sectors.now m w (n + 1) done session.old → MayMake sectors.now m w n (done ++ stand_of session.old.caller.call (op_is.Read sector) r ∷ []) session.new }
     ensures off { result ≡ performed.Off → (m w n : ℕ) (done : List Stand) → MayMake sectors.now m w n done session.old → HasMade sectors.now done session.new }
     ensures told { result ≡ performed.Off → IsTold session.new.caller.pool }
+    ensures power { SwitchesNot session.old session.new }
 {
     let Room {
         mut words,
@@ -97,6 +99,7 @@ fn perform_write<R: Wait, G: Gate>(
     ensures done { (r t : AnyReply) → result ≡ performed.Done r t → (m w n : ℕ) (done : List Stand) → MayMake sectors.now m w (n + 1) done session.old → MayMake sectors.now m w n (done ++ stand_of session.old.caller.call (op_is.Write sector words.now) r ∷ []) session.new }
     ensures off { result ≡ performed.Off → (m w n : ℕ) (done : List Stand) → MayMake sectors.now m w n done session.old → HasMade sectors.now done session.new }
     ensures told { result ≡ performed.Off → IsTold session.new.caller.pool }
+    ensures power { SwitchesNot session.old session.new }
 {
     match write(waiting, sectors, session, 0, sector, words.as_slice()) {
         Wrote::Done => Performed::Done {
@@ -121,6 +124,7 @@ pub(crate) fn perform<R: Wait, G: Gate>(
     ensures done { (r t : AnyReply) → result ≡ performed.Done r t → (m w n : ℕ) (done : List Stand) → MayMake sectors.now m w (n + 1) done session.old → MayMake sectors.now m w n (done ++ stand_of session.old.caller.call op.now r ∷ []) session.new }
     ensures off { result ≡ performed.Off → (m w n : ℕ) (done : List Stand) → MayMake sectors.now m w n done session.old → HasMade sectors.now done session.new }
     ensures told { result ≡ performed.Off → IsTold session.new.caller.pool }
+    ensures power { SwitchesNot session.old session.new }
 {
     match op {
         Op::Read { sector } => perform_read(waiting.rt, sectors, session, *sector, room),

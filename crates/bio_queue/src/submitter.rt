@@ -75,4 +75,11 @@ impl Submitter {
             }
         }
     }
+
+    /// How many of its operations were accepted.
+    pub fn accepted(&self) -> u32
+        ensures { result ≡ length (put_in (view self.now.pass)) }
+    {
+        self.next
+    }
 }

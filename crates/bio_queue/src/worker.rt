@@ -1,16 +1,17 @@
 //! Who serves.
-ghost use Rattle.std.specs.Prelude.{◌≡◌, ◌≢◌, ◌+◌, ◌<◌, ◌≤◌, ℕ, [], ◌∷◌, ◌++◌, length, true, All, Some, None, IfOk, OnOk, vec_capacity, vec_len};
+ghost use Rattle.std.specs.Prelude.{◌≡◌, ◌≢◌, ◌+◌, ◌<◌, ◌≤◌, ℕ, [], ◌∷◌, ◌++◌, length, true, false, All, Some, None, IfOk, OnOk, vec_capacity, vec_len};
 ghost use Rattle.crossbeam_queue.specs.Fifo.{Held};
 ghost use Rattle.crossbeam_queue.specs.Passes.{view, IsPassOf, IsSamePass};
 ghost use Rattle.ticket_queue.specs.Law.{is_hand_of, Learned};
 ghost use Rattle.ticket_queue.specs.Parties.{put_in, taken_in};
 ghost use Rattle.lane_pool.specs.Parts.{IsTold};
+ghost use Rattle.lane_calls.specs.Calls.{SwitchesNot};
 ghost use Rattle.bio_queue.specs.declared.bio.Completed.{Completed as AnyCompleted};
 ghost use Rattle.bio_queue.specs.declared.bio.OneTurn.TheVariants as turn;
 ghost use Rattle.bio_queue.specs.declared.op.OpReply.{OpReply as AnyReply};
 ghost use Rattle.bio_queue.specs.Ops.{fits, fits_in, kind_of};
 ghost use Rattle.bio_queue.specs.Served.{IsCompletedOf, IsDone, IsFit};
-ghost use Rattle.bio_queue.specs.Serving.{HasMade, MayMake};
+ghost use Rattle.bio_queue.specs.Serving.{HasMade, IsAtWork, MayMake};
 ghost use Rattle.bio_queue.specs.Standing.{stands_of};
 
 use crate::bio::{Bio, Completed, OneTurn};
@@ -101,6 +102,7 @@ impl Worker {
         ensures may { result ≡ turn.Served → (n : ℕ) → MayMake sectors.now self.old.sectors self.old.width (n + 1) (stands_of self.old.completed.items) self.old.session → MayMake sectors.now self.old.sectors self.old.width n (stands_of self.new.completed.items) self.new.session }
         ensures off { result ≡ turn.Off → (self.new.completed.items ≡ self.old.completed.items) × (self.new.cut ≡ Some bio) × HasMade sectors.now (stands_of self.new.completed.items) self.new.session }
         ensures told { result ≡ turn.Off → IsTold self.new.session.caller.pool }
+        ensures power { SwitchesNot self.old.session self.new.session }
     {
         let Some(room) = self.rooms.pop() else {
             unreachable!()
@@ -138,8 +140,8 @@ impl Worker {
         requires going { self.old.cut ≡ None }
         requires done { IsFit (taken_in (view self.old.ticket)) (λ b. fits_in self.old.sectors self.old.width b.op ≡ true)
             → IsDone (taken_in (view self.old.ticket)) self.old.completed.items self.old.cut (λ b c. IsCompletedOf b.submitter b.number b.op self.old.session.number c × ((r : AnyReply) × (r ≡ c.reply) × ⟦<Box<dyn FnOnce(OpReply) -> u64 + Send> as FnOnce(OpReply) -> u64>⟧.post b.done.call r c.note)) }
-        ensures done { IsFit (taken_in (view self.new.ticket)) (λ b. fits_in self.old.sectors self.old.width b.op ≡ true)
-            → IsDone (taken_in (view self.new.ticket)) self.new.completed.items self.new.cut (λ b c. IsCompletedOf b.submitter b.number b.op self.old.session.number c × ((r : AnyReply) × (r ≡ c.reply) × ⟦<Box<dyn FnOnce(OpReply) -> u64 + Send> as FnOnce(OpReply) -> u64>⟧.post b.done.call r c.note)) }
+        ensures done { IsFit (taken_in (view self.new.ticket)) (λ b. fits_in self.new.sectors self.new.width b.op ≡ true)
+            → IsDone (taken_in (view self.new.ticket)) self.new.completed.items self.new.cut (λ b c. IsCompletedOf b.submitter b.number b.op self.new.session.number c × ((r : AnyReply) × (r ≡ c.reply) × ⟦<Box<dyn FnOnce(OpReply) -> u64 + Send> as FnOnce(OpReply) -> u64>⟧.post b.done.call r c.note)) }
         ensures queue { IsSamePass self.old.ticket self.new.ticket }
         ensures same { (self.new.party ≡ self.old.party) × (self.new.sectors ≡ self.old.sectors) × (self.new.width ≡ self.old.width) × (self.new.session.number ≡ self.old.session.number) }
         ensures spare { (length self.old.rooms.items ≤ length self.new.rooms.items + 1) × (vec_capacity self.new.completed ≡ vec_capacity self.old.completed) × (vec_len self.new.completed ≤ vec_len self.old.completed + 1) }
@@ -150,6 +152,8 @@ impl Worker {
         ensures rests { result ≡ turn.Empty → (self.new.session.kept ≡ None) × ((n : ℕ) → MayMake sectors.now self.old.sectors self.old.width n (stands_of self.old.completed.items) self.old.session → MayMake sectors.now self.old.sectors self.old.width n (stands_of self.new.completed.items) self.new.session) }
         ensures off { result ≡ turn.Off → (self.new.completed.items ≡ self.old.completed.items) × HasMade sectors.now (stands_of self.new.completed.items) self.new.session }
         ensures told { result ≡ turn.Off → (self.new.cut ≢ None) × IsTold self.new.session.caller.pool }
+        ensures works { (limit : ℕ) → IsAtWork sectors.now self.old.sectors self.old.width limit self.old.cut (stands_of self.old.completed.items) self.old.session
+            → IsAtWork sectors.now self.new.sectors self.new.width limit self.new.cut (stands_of self.new.completed.items) self.new.session }
     {
         let Some(ticket) = take(waiting.rt, &queue.queue, &mut self.ticket) else {
             rest(waiting.rt, sectors, &mut self.session);
@@ -179,5 +183,49 @@ impl Worker {
             self.rooms.push(room)?;
         }
         Ok(())
+    }
+
+    /// Gets room for one call more, if there is none.
+    ///
+    /// The one refusal is out of memory.
+    pub fn reserve_one(&mut self, alloc: Global) -> Result<(), AllocError>
+        ensures same { (self.new.ticket ≡ self.old.ticket) × (self.new.party ≡ self.old.party) × (self.new.sectors ≡ self.old.sectors) × (self.new.width ≡ self.old.width) × (self.new.session ≡ self.old.session) × (self.new.cut ≡ self.old.cut) }
+        ensures completed { self.new.completed.items ≡ self.old.completed.items }
+        ensures spare { OnOk result ((0 < length self.new.rooms.items) × (vec_len self.new.completed < vec_capacity self.new.completed)) }
+    {
+        self.completed.reserve(1)?;
+        if self.rooms.is_empty() {
+            let room = room_of(alloc, self.width)?;
+            self.rooms.push(room)?;
+        }
+        Ok(())
+    }
+
+    /// Gives its set of lanes back, if it keeps one, so that others may take it.
+    pub fn pause<R: Wait>(&mut self, rt: &R, sectors: &Sectors)
+        requires may { MayMake sectors.now self.old.sectors self.old.width 0 (stands_of self.old.completed.items) self.old.session }
+        requires going { self.old.cut ≡ None }
+        ensures same { (self.new.ticket ≡ self.old.ticket) × (self.new.party ≡ self.old.party) × (self.new.sectors ≡ self.old.sectors) × (self.new.width ≡ self.old.width) × (self.new.completed ≡ self.old.completed) × (self.new.cut ≡ self.old.cut) }
+        ensures number { self.new.session.number ≡ self.old.session.number }
+        ensures rests { self.new.session.kept ≡ None }
+        ensures works { (limit : ℕ) → IsAtWork sectors.now self.old.sectors self.old.width limit self.old.cut (stands_of self.old.completed.items) self.old.session
+            → IsAtWork sectors.now self.new.sectors self.new.width limit self.new.cut (stands_of self.new.completed.items) self.new.session }
+    {
+        rest(rt, sectors, &mut self.session);
+    }
+
+    /// How many operations it completed.
+    pub fn completed(&self) -> usize
+        ensures { result ≡ length self.now.completed.items }
+    {
+        self.completed.len()
+    }
+
+    /// Whether it keeps an operation that it had taken when it was told that power is off.
+    pub fn is_cut(&self) -> bool
+        ensures yes { result ≡ true → self.now.cut ≢ None }
+        ensures no { result ≡ false → self.now.cut ≡ None }
+    {
+        self.cut.is_some()
     }
 }

@@ -16,7 +16,8 @@ ghost use Rattle.bio_queue.specs.Standing.{stands_of};
 use crate::arena::two_of;
 use arena_open::Cell;
 use bio_queue::{
-    BioClosed, BioOpened, BioQueue, Completion, Full, OneTurn, Op, OpReply, Submitter, Worker,
+    BioClosed, BioCloser, BioOpened, BioQueue, Completion, Full, OneTurn, Op, OpReply, Submitter,
+    Worker,
 };
 use lane_calls::{Sectors, Waiting};
 use nvd_media::NoGate;
@@ -209,18 +210,21 @@ pub(crate) fn run_back<R: Wait>(
 #[derive(Drop)]
 pub(crate) struct Opened {
     pub(crate) queue: BioQueue,
+    pub(crate) closer: BioCloser,
     pub(crate) first: Party,
     pub(crate) second: Party,
 }
 
 /// The two parties of a queue that was made.
 pub(crate) fn seat(alloc: Global, opened: BioOpened) -> Result<Opened, AllocError>
-    requires queue { (opened.queue.sectors ≡ 32478) × (opened.queue.width ≡ 64) × (view opened.queue.maker ≡ all_from 4) }
+    requires queue { (opened.queue.sectors ≡ 32478) × (opened.queue.width ≡ 64) }
+    requires closer { IsPassOf opened.queue.queue opened.closer.maker × (view opened.closer.maker ≡ all_from 4) }
     requires passes { AreDealt opened.queue.queue 0 (map (λ s. s.pass) opened.submitters.items) }
     requires tickets { AreDealt opened.queue.queue 2 (map (λ w. w.ticket) opened.workers.items) }
     requires submitters { (k : ℕ) (s : _) → get_elem? opened.submitters.items k ≡ some s → (s.party ≡ k) × (s.sectors ≡ 32478) × (s.width ≡ 64) }
     requires workers { (k : ℕ) (w : _) → get_elem? opened.workers.items k ≡ some w → (w.party ≡ 2 + k) × (w.sectors ≡ 32478) × (w.width ≡ 64) × (w.completed.items ≡ []) × (w.cut ≡ None) }
-    ensures queue { IfOk result (λ o. (o.queue.sectors ≡ 32478) × (o.queue.width ≡ 64) × (view o.queue.maker ≡ all_from 4)) }
+    ensures queue { IfOk result (λ o. (o.queue.sectors ≡ 32478) × (o.queue.width ≡ 64)) }
+    ensures closer { IfOk result (λ o. IsPassOf o.queue.queue o.closer.maker × (view o.closer.maker ≡ all_from 4)) }
     ensures sessions { IfOk result (λ o. map (λ w. w.session) opened.workers.items ≡ o.first.worker.session ∷ o.second.worker.session ∷ []) }
     ensures submitters { IfOk result (λ o. IsPassOf o.queue.queue o.first.submitter.pass × IsPassOf o.queue.queue o.second.submitter.pass
         × (view o.first.submitter.pass ≡ none_yet 0) × (view o.second.submitter.pass ≡ none_yet 1)
@@ -233,6 +237,7 @@ pub(crate) fn seat(alloc: Global, opened: BioOpened) -> Result<Opened, AllocErro
 {
     let BioOpened {
         queue,
+        closer,
         submitters,
         workers,
     } = opened;
@@ -250,6 +255,7 @@ pub(crate) fn seat(alloc: Global, opened: BioOpened) -> Result<Opened, AllocErro
     };
     Ok(Opened {
         queue,
+        closer,
         first,
         second,
     })
@@ -260,10 +266,12 @@ pub(crate) fn close<R: Wait>(
     rt: &R,
     alloc: Global,
     queue: BioQueue,
+    closer: BioCloser,
     first: Party,
     second: Party,
 ) -> Result<BioClosed, AllocError>
-    requires queue { (queue.sectors ≡ 32478) × (queue.width ≡ 64) × (view queue.maker ≡ all_from 4) }
+    requires queue { (queue.sectors ≡ 32478) × (queue.width ≡ 64) }
+    requires closer { IsPassOf queue.queue closer.maker × (view closer.maker ≡ all_from 4) }
     requires submitters { IsPassOf queue.queue first.submitter.pass × IsPassOf queue.queue second.submitter.pass
         × (first.submitter.party ≡ 0) × (first.submitter.sectors ≡ 32478) × (first.submitter.width ≡ 64)
         × (second.submitter.party ≡ 1) × (second.submitter.sectors ≡ 32478) × (second.submitter.width ≡ 64) }
@@ -282,7 +290,7 @@ pub(crate) fn close<R: Wait>(
     let mut workers = Vec::new(alloc);
     workers.push(first.worker)?;
     workers.push(second.worker)?;
-    match queue.close(rt, alloc, submitters, workers) {
+    match queue.close(rt, alloc, closer, submitters, workers) {
         Ok(closed) => Ok(closed),
         Err(_) => Err(AllocError),
     }

@@ -77,6 +77,7 @@ fn one_thread_fills_and_empties_a_queue(rt: HostRuntime) -> Result<(), Fail> {
     };
     let Opened {
         queue,
+        closer,
         first,
         second,
     } = seat(alloc, opened)?;
@@ -96,7 +97,7 @@ fn one_thread_fills_and_empties_a_queue(rt: HostRuntime) -> Result<(), Fail> {
     let steps = last_first(steps)?;
     let first = run_back(&rt, alloc, &queue, &sectors, first, steps)?;
     assert!(rt; are_as_wanted(&first.answers));
-    let closed = close(&rt, alloc, queue, first, second)?;
+    let closed = close(&rt, alloc, queue, closer, first, second)?;
     assert!(rt; closed.left.is_empty());
     let (own, none) = two_of(closed.completed)?;
     assert!(rt; none.is_empty());

@@ -7,7 +7,8 @@ use Rattle.lane_calls.specs.Calls.{one_at_least}
 use Rattle.bio_queue.specs.declared.op.Op.TheVariants as op
 use Rattle.bio_queue.specs.declared.op.OpReply.TheVariants as reply
 use Rattle.bio_queue.specs.Serving.{MayMake, stand_of}
-use Rattle.bio_queue.proofs.Making.{cut_made, goes_on, in_done, may_read}
+use Rattle.bio_queue.proofs.Making.{cut_made, goes_on, in_done, may_read, switches_not}
+use Rattle.bio_queue.proofs.Working.{spends_only}
 use Rattle.bio_queue.proofs.performing.perform_read.Goals as goal
 
 pub read-requires : goal.read-requires
@@ -23,3 +24,9 @@ returns-in-Got-clause-done g c = λ r t e m w n done may.
 
 pub returns-in-Cut-clause-off : goal.returns-in-Cut-clause-off
 returns-in-Cut-clause-off g c = λ _ m w n done may. cut_made c.args.sectors.now c.args.session.now c.read.new.session c.read.ensures.next (c.in-Cut.ensures.cut refl) done may.made
+
+pub returns-in-Got-clause-power : goal.returns-in-Got-clause-power
+returns-in-Got-clause-power g c = spends_only _ _ _ c.args.session.now c.read.new.session (c.in-Got.ensures.spent c.in-Got.kind refl)
+
+pub returns-in-Cut-clause-power : goal.returns-in-Cut-clause-power
+returns-in-Cut-clause-power g c = switches_not c.args.session.now c.read.new.session c.requires.may.no_fuse (c.in-Cut.ensures.told refl).1

@@ -4,6 +4,7 @@ use Rattle.session_parts.specs.Parts.{stand_at}
 use Rattle.lane_calls.specs.Calls.{write_at_least}
 use Rattle.bio_queue.specs.Serving.{MayMake}
 use Rattle.bio_queue.proofs.Making.{cut_made, goes_on, may_write, switches_not}
+use Rattle.bio_queue.proofs.Working.{spends_only}
 use Rattle.bio_queue.proofs.performing.perform_write.Goals as goal
 
 pub write-requires : goal.write-requires
@@ -19,3 +20,9 @@ pub returns-in-Cut-clause-off : goal.returns-in-Cut-clause-off
 returns-in-Cut-clause-off g c = λ _ m w n done may.
     cut_made c.args.sectors.now c.args.session.now c.write.new.session c.write.ensures.next
     (c.in-Cut.ensures.off refl (switches_not c.args.session.now c.write.new.session may.no_fuse (c.in-Cut.ensures.told refl).1)) done may.made
+
+pub returns-in-Done-clause-power : goal.returns-in-Done-clause-power
+returns-in-Done-clause-power g c = spends_only _ _ _ c.args.session.now c.write.new.session (c.in-Done.ensures.spent refl)
+
+pub returns-in-Cut-clause-power : goal.returns-in-Cut-clause-power
+returns-in-Cut-clause-power g c = switches_not c.args.session.now c.write.new.session c.requires.1.may.no_fuse (c.in-Cut.ensures.told refl).1

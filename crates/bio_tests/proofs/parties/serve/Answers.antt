@@ -24,6 +24,3 @@ returns-clause-made g c =
     let r = c.reserve.new.self in
     let before : MayMake c.args.sectors.now r.sectors r.width 1 (stands_of r.completed.items) r.session = rw (s.2, s.3, s.4, c.reserve.ensures.completed) c.requires.may in
     by_turn c.serve_one.result (λ e. (c.serve_one.ensures.may e 0 before).made) (λ e. ((c.serve_one.ensures.rests e).1 1 before).made) (λ e. (c.serve_one.ensures.off e).1)
-
-pub returns-clause-done : goal.returns-clause-done
-returns-clause-done g c = let s = c.serve_one.ensures.same in rw (s.1, s.2, s.3) c.serve_one.ensures.done
