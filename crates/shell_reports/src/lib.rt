@@ -60,8 +60,8 @@ mod status;
 mod texts;
 
 pub use labels::{fault_answer, labels_answer, missing_answer};
-pub use list::{list_answer, open_fault_answer};
-pub use load_faults::load_answer;
+pub use list::{list_answer, open_fault_answer, open_fault_text, why_text};
+pub use load_faults::{load_answer, load_fault_text};
 pub use nfit::{nfit_answer, set_fault_text};
 pub use outcome::{Report, done_answer, image_answer, printed_answer, usage_answer};
 pub use power::{Power, cut_line, fuse_of, steps_of};

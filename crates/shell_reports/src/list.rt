@@ -32,8 +32,8 @@ fn field_text(field: Field) -> &'static str
     }
 }
 
-/// Returns the text of why labels make up no namespace.
-fn why_text(alloc: Global, why: Why) -> Result<String, AllocError>
+/// Returns the text of why labels make up no namespace: the rule that they break.
+pub fn why_text(alloc: Global, why: Why) -> Result<String, AllocError>
     ensures { IfOk result (λ text. string_bytes text ≡ why_text why) }
 {
     match why {
@@ -170,8 +170,8 @@ fn set_text(alloc: Global, region: u32, fault: SetFault) -> Result<String, Alloc
     format!(in alloc; "region {} {}", region, fault)
 }
 
-/// Returns the text of why a registry isn't opened.
-fn open_fault_text(alloc: Global, fault: OpenFault) -> Result<String, AllocError>
+/// Returns the text of why a registry isn't opened. Out of memory isn't a finding.
+pub fn open_fault_text(alloc: Global, fault: OpenFault) -> Result<String, AllocError>
     ensures text { IfOk result (λ text. string_bytes text ≡ open_fault_text fault) }
     ensures finding { IfOk result (λ _. fault ≢ OpenFault.OutOfMemory) }
 {

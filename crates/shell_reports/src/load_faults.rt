@@ -66,8 +66,8 @@ fn table_text(alloc: Global, fault: NfitFault) -> Result<String, AllocError>
     format!(in alloc; "nfit {}", fault)
 }
 
-/// Returns the text of why an image set isn't loaded. Out of memory isn't a finding.
-fn load_fault_text(alloc: Global, fault: LoadFault) -> Result<String, AllocError>
+/// Returns the text of why an image set isn't loaded. The source didn't fail. Out of memory isn't a finding.
+pub fn load_fault_text(alloc: Global, fault: LoadFault) -> Result<String, AllocError>
     requires { fault ≢ LoadFault.ReadFault }
     ensures text { IfOk result (λ text. string_bytes text ≡ load_fault_text fault) }
     ensures finding { IfOk result (λ _. fault ≢ LoadFault.OutOfMemory) }

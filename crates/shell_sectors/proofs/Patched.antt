@@ -36,7 +36,7 @@ use Rattle.shell_sectors.specs.Opening.{HaveSizes, IsOpenOutline}
 use Rattle.shell_sectors.specs.Patched.{Patches, PrintsPatched, patch_of}
 use Rattle.shell_sectors.proofs.Outlined.{whole_rows}
 
-labels_back : (labels : List (Option Words)) → map (option_map bytes_of) (map (option_map (λ w. w.kept)) labels) ≡ map (option_map bytes_kept) labels
+pub labels_back : (labels : List (Option Words)) → map (option_map bytes_of) (map (option_map (λ w. w.kept)) labels) ≡ map (option_map bytes_kept) labels
 labels_back [] = refl
 labels_back (None ∷ labels) = ap (λ (ls : List (Option (List ℕ))). None ∷ ls) (labels_back labels)
 labels_back (Some w ∷ labels) = ap (λ (ls : List (Option (List ℕ))). Some (bytes_of w.kept) ∷ ls) (labels_back labels)
