@@ -1,7 +1,7 @@
 -- The status of the labels of one UUID: this project's list of rules over UEFI 2.10, section 13.19.
 use Rattle.std.specs.Prelude.{ℕ, true, false, if◌then◌else◌, List, [], ◌∷◌, filter, Option, Some, None, unwrap_or}
-use Rattle.std.specs.Option.{option_map}
-use Rattle.std.specs.List.{list_any, list_all}
+use Rattle.std.specs.Option.{option_map, option_to_list}
+use Rattle.std.specs.List.{list_any, list_all, flat_map}
 use Rattle.nvd_words.specs.Checks.{first_fault, fault_if}
 use Rattle.nfit_reader.specs.declared.table.Mapping.{Mapping}
 use Rattle.label_set.specs.declared.placed.Placed.{Placed}
@@ -51,6 +51,10 @@ findings set labels =
     ∷ broken_finding rule.Aligned set labels
     ∷ missing_finding set labels
     ∷ []
+
+-- those findings that there are
+abbrev pub present : List (Option SetStatus) → List SetStatus
+present found = flat_map option_to_list found
 
 -- ---- labels without a finding
 

@@ -1,6 +1,7 @@
-ghost use Rattle.std.specs.Prelude.{◌≡◌, ◌<◌, length};
+ghost use Rattle.std.specs.Prelude.{◌≡◌, ◌<◌, ◌++◌, IfOk, OnOk, length};
+ghost use Rattle.std.specs.Option.{option_to_list};
 ghost use Rattle.nvd_words.specs.Checks.{first_fault};
-ghost use Rattle.label_set.specs.Status.{local_finding, twice_finding, broken_finding, differing_finding, missing_finding, findings, naming_of, status_of};
+ghost use Rattle.label_set.specs.Status.{local_finding, twice_finding, broken_finding, differing_finding, missing_finding, findings, naming_of, present, status_of};
 
 use crate::agreeing::{
     agreed_name, agreed_name_where, all_updating, differ_in, some_local, some_updating,
@@ -9,6 +10,7 @@ use crate::least::{least_breaking, least_missing, least_twice};
 use crate::placed::{Field, Placed, SetStatus, Why};
 use crate::rules::Rule;
 use interleave::InterleaveSet;
+use std::alloc::{AllocError, Global};
 
 /// Finds a label with the flag LOCAL.
 fn local(labels: &[Placed]) -> Option<SetStatus>
@@ -136,4 +138,53 @@ pub fn status(set: &InterleaveSet, labels: &[Placed]) -> SetStatus
         Some(status) => status,
         None => naming(labels),
     }
+}
+
+/// Adds a finding to others, if there is one.
+fn add_finding(finding: &Option<SetStatus>, found: &mut Vec<SetStatus>) -> Result<(), AllocError>
+    ensures { OnOk result (found.new.items ≡ found.old.items ++ option_to_list finding.now) }
+{
+    if let Some(status) = finding {
+        found.push(*status)?;
+    }
+    Ok(())
+}
+
+/// Returns those of some findings that there are.
+fn present(alloc: Global, findings: &[Option<SetStatus>]) -> Result<Vec<SetStatus>, AllocError>
+    ensures { IfOk result (λ found. found.items ≡ present findings.now) }
+{
+    let mut found = Vec::new(alloc);
+    for finding in findings {
+        add_finding(finding, &mut found)?;
+    }
+    Ok(found)
+}
+
+/// Returns what each rule finds that the labels of one UUID break, in the order of [`status`]. The
+/// list is empty exactly if they make up a namespace, or if only their names differ.
+///
+/// All labels should have one UUID; the call doesn't check it. The one error is out of memory.
+pub fn broken_rules(
+    alloc: Global,
+    set: &InterleaveSet,
+    labels: &[Placed],
+) -> Result<Vec<SetStatus>, AllocError>
+    ensures { IfOk result (λ found. found.items ≡ present (findings set.now labels.now)) }
+{
+    let findings = [
+        local(labels),
+        twice(labels),
+        broken(Rule::Inside, set, labels),
+        broken(Rule::Cookie, set, labels),
+        differing(Field::Count, set, labels),
+        broken(Rule::Position, set, labels),
+        differing(Field::Dpa, set, labels),
+        differing(Field::RawSize, set, labels),
+        differing(Field::LbaSize, set, labels),
+        differing(Field::Guids, set, labels),
+        broken(Rule::Aligned, set, labels),
+        missing(set, labels),
+    ];
+    present(alloc, &findings)
 }

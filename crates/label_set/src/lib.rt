@@ -11,7 +11,7 @@
 //! After a crash only some of the modules may have a label; a module may come from another machine;
 //! a label may be damaged. [`status`] decides which of these it is. The first rule that applies
 //! decides; `specs/Status.antt` lists them (`status_of`). The labels are complete only if no
-//! earlier rule applies.
+//! earlier rule applies. [`broken_rules`] lists what every rule finds.
 #![tactic(auto)]
 
 mod agreeing;
@@ -21,6 +21,6 @@ mod placed;
 mod rules;
 
 pub use agreeing::some_local;
-pub use deciding::status;
+pub use deciding::{broken_rules, status};
 pub use placed::{Field, Placed, SetStatus, Why};
 pub use rules::{is_outside, relative_address};

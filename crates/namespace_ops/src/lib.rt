@@ -82,4 +82,4 @@ pub use law::{cuts_pass_the_fuse, journals_spend_their_steps};
 pub use names::named;
 pub use namespace_areas::Area;
 pub use nvd_words::Tag;
-pub use registry::{OpenFault, Registry};
+pub use registry::{OpenFault, Registry, check_overlap, sets_of};

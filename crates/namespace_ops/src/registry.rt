@@ -106,8 +106,11 @@ fn set_of(alloc: Global, nfit: &Nfit, region: u32) -> Result<InterleaveSet, Open
     }
 }
 
-/// The interleave sets of all regions.
-fn sets_of(alloc: Global, nfit: &Nfit) -> Result<Items<InterleaveSet>, OpenFault>
+/// Returns the interleave sets of all regions of a table, by region number, or the first region
+/// that is no set.
+///
+/// `OutOfMemory` comes in place of any other answer.
+pub fn sets_of(alloc: Global, nfit: &Nfit) -> Result<Items<InterleaveSet>, OpenFault>
     requires counted { AreCounted nfit.now }
     requires few { length nfit.now.regions < 2 ^ 32 }
     ensures sets { Answers OpenFault.OutOfMemory result (value_unless (sets_of nfit.now) (set_fault_from 0 nfit.now.regions)) }
@@ -123,8 +126,11 @@ fn sets_of(alloc: Global, nfit: &Nfit) -> Result<Items<InterleaveSet>, OpenFault
     Ok(sets)
 }
 
-/// Looks for extents of two UUIDs that meet.
-fn check_overlap(alloc: Global, areas: &[Area]) -> Result<(), OpenFault>
+/// Looks for extents of two UUIDs that meet on a module, whatever the status of their labels.
+/// Power wasn't cut in a change of an area.
+///
+/// `OutOfMemory` comes in place of any other answer.
+pub fn check_overlap(alloc: Global, areas: &[Area]) -> Result<(), OpenFault>
     requires running { AreRunning areas.now }
     requires few { length areas.now < 2 ^ 32 }
     ensures { Answers OpenFault.OutOfMemory result (value_unless tt (overlap_fault (labels_of areas.now))) }
