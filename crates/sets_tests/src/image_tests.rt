@@ -11,7 +11,7 @@ use std::alloc::{AllocError, Global};
 /// Mappings of 8,192 bytes of module 0 from 0 on, and of 4,096 of module 1 from 4,096 on. The
 /// second handle is less than the first, so a module's number isn't its rank among the sorted
 /// handles.
-fn firmware(alloc: Global) -> Result<Vec<u8>, AllocError> {
+pub fn firmware(alloc: Global) -> Result<Vec<u8>, AllocError> {
     let map = |handle, range, start, size| Map {
         handle,
         range,
