@@ -1,7 +1,6 @@
 -- The cells of sectors after a repair.
-use Rattle.std.proofs.Common.{◌≡◌, ℕ, zero, suc, ◌+◌, ◌/◌, ◌<◌, Bool, true, false, cond, leb, List, [], ◌∷◌, get_or, Result, Ok, Err, refl, sym, ap, ◌∙◌, arith}
-use Rattle.std.specs.Prelude.{All, filter}
-use Rattle.std.specs.List.{range_with_len}
+use Rattle.std.proofs.Common.{◌≡◌, ℕ, ◌/◌, ◌<◌, Bool, true, false, cond, leb, List, [], ◌∷◌, get_or, Result, Ok, Err, refl, sym, ap, ◌∙◌, arith}
+use Rattle.std.specs.Prelude.{All}
 use Rattle.std.proofs.lemmas.Bool.{leb-false, lt-leb}
 use Rattle.arena_layout.specs.declared.layout.Layout.{Layout}
 use Rattle.arena_layout.specs.Layout.{IsLayout}
@@ -23,20 +22,9 @@ use Rattle.arena_repair.specs.Repair.{bad_of, marked_entry, marked_map, if_chang
 use Rattle.arena_repair.specs.Laws.{cell_of, KeepsSector, UnlessBroken, SectorAfter, RepairKeepsCells}
 use Rattle.arena_repair.proofs.Changing.{Shows}
 use Rattle.arena_repair.proofs.MapChanges.{index_is}
-use Rattle.arena_repair.proofs.Marking.{bad_back, marked_at}
+use Rattle.arena_repair.proofs.Marking.{bad_back, marked_at, numbers_fail}
 use Rattle.arena_repair.proofs.Repaired.{entries_now, length_recovered}
 use Rattle.arena_repair.proofs.Inside.{Kept, kept}
-
--- ---- a number of a range of which none passes a test
-
-head_fails : (p : ℕ → Bool) (x : ℕ) (xs : List ℕ) (b : Bool) → p x ≡ b → cond b (x ∷ filter p xs) (filter p xs) ≡ [] → (p x ≡ false) × (filter p xs ≡ [])
-head_fails p x xs true is e = absurd (let f = e in cc)
-head_fails p x xs false is e = (is, e)
-
-pub none_passes : (p : ℕ → Bool) (a n k j : ℕ) → filter p (range_with_len a n) ≡ [] → k < n → a + k ≡ j → p j ≡ false
-none_passes p a zero k j e lt is = absurd (omega (arith, lt))
-none_passes p a (suc n) zero j e lt is = ap p (let same : j ≡ a = omega (arith, is) in same) ∙ (head_fails p a (range_with_len (a + 1) n) (p a) refl e).0
-none_passes p a (suc n) (suc k) j e lt is = none_passes p (a + 1) n k j (head_fails p a (range_with_len (a + 1) n) (p a) refl e).1 (omega (arith, lt)) (omega (arith, is))
 
 -- ---- a cell by its entry
 
@@ -101,7 +89,7 @@ entry_after l bad words groups sector lt none =
     (λ no_moves no_sectors.
     ap (λ (ms : List Half). get_or (moved (map_in l words) ms) sector 0) (sym no_moves)
     ∙ sym (ap (λ (b : Bool). cond b (bad_of (entry_of (get_or (recovered_map (map_in l words) groups) sector 0) sector).block) (get_or (recovered_map (map_in l words) groups) sector 0))
-    (none_passes (λ s. is_bad_data l bad (entry_of (get_or (recovered_map (map_in l words) groups) s 0) s)) 0 l.external sector sector no_sectors lt (omega arith))))
+    (numbers_fail (λ s. is_bad_data l bad (entry_of (get_or (recovered_map (map_in l words) groups) s 0) s)) 0 l.external no_sectors sector (omega arith) (omega (arith, lt)))))
     (marked_at l bad (recovered_map (map_in l words) groups) sector (omega (arith, lt, length_recovered l words groups)))
 
 -- ---- the law

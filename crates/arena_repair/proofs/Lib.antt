@@ -1,3 +1,4 @@
+pub mod Rows
 pub mod Changing
 pub mod Marks
 pub mod MapChanges

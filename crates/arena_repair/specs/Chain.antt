@@ -40,7 +40,8 @@ repaired_within (suc n) bad words parent at =
 abbrev pub repaired_all : (ℕ → Bool) → List ℕ → List ℕ → List ℕ
 repaired_all bad words parent = repaired_within (length words + 1) bad words parent 0
 
--- The sectors of the arena at this word have the cells of before, but those with bad words, which are Bad.
+-- The sectors of the arena at this word have the cells of before, but those with bad words, which are Bad. If a sector's block doesn't exist, it has
+-- no cell, and its entry stays.
 abbrev pub KeepsCells : (ℕ → Bool) → List ℕ → List ℕ → List ℕ → ℕ → Type 0
 KeepsCells bad was now parent at =
     (info : Info) → info_used (source_of (drop at was) parent) ≡ Some info → (sector : ℕ) → sector < info.layout.external
@@ -57,7 +58,7 @@ pub record AreRepaired (bad : ℕ → Bool) (parent was now : List ℕ) : Type 0
   pub words : now ≡ repaired_all bad was parent
   -- a second check finds what stayed open, and nothing else
   pub again : reports_of bad now parent ≡ map mended (reports_of bad was parent)
-  -- all cells are as before, but those of sectors with bad words
+  -- all cells are as before, but those of sectors with bad words; a sector whose block doesn't exist keeps its entry
   pub cells : KeepCells (length was + 1) bad was now parent 0
 
 -- A law: so are those that `repaired_all` defines.

@@ -21,13 +21,15 @@ pub fn repair_stays_inside()
     ensures { RepairStaysInside }
 {}
 
-/// A law: no sector has another cell after a repair, but those with BadData, which become Bad.
+/// A law: no sector has another cell after a repair, but those with BadData, which become Bad. A
+/// sector whose entry names a block that doesn't exist has no cell; its entry stays.
 pub fn repair_keeps_cells()
     ensures { RepairKeepsCells }
 {}
 
 /// A law: after a repair of all arenas of a namespace, a check finds in each what stayed open there,
-/// and nothing else; and no sector has another cell, but those with BadData.
+/// and nothing else; and no sector has another cell, but those with BadData. A sector whose entry
+/// names a block that doesn't exist has no cell; its entry stays.
 pub fn repair_mends_all()
     ensures { RepairMendsAll }
 {}

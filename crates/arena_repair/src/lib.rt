@@ -16,11 +16,13 @@
 //!
 //! A check and a repair read the same: [`check_map`] returns the findings of a map, and its entries
 //! after a repair. [`page_repair`] says which page is written over which. The caller puts them into
-//! the namespace's bytes. [`split_report`] says which findings are answered. `specs/Repair.antt` defines the words after a repair (`repaired_words`).
+//! the namespace's bytes. [`split_report`] says which findings are answered. `specs/Repair.antt`
+//! defines the words after a repair (`repaired_words`).
 //!
 //! `specs/Laws.antt` says what a repair is worth. A second check has the findings of the first one
 //! without those that are repaired, and no new one ([`repair_mends`]). No sector but those with
-//! BadData has another cell ([`repair_keeps_cells`]). No word behind the arena changes
+//! BadData has another cell ([`repair_keeps_cells`]). A sector whose entry names a block that
+//! doesn't exist has no cell; its entry stays. No word behind the arena changes
 //! ([`repair_stays_inside`]), so all arenas of a namespace can be repaired, one after another
 //! (`specs/Chain.antt`, [`repair_mends_all`]).
 //!
@@ -36,5 +38,5 @@ pub use law::{
     repair_keeps_cells, repair_mends, repair_mends_all, repair_stays_inside, repaired_arenas_open,
 };
 pub use map::{MapCheck, check_map};
-pub use page::{PageCopy, is_repaired, page_repair};
+pub use page::{PageCopy, page_repair};
 pub use split::{Split, split_report};

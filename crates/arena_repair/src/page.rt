@@ -29,7 +29,7 @@ fn is_damage(fault: &InfoFault) -> bool
 }
 
 /// Returns whether a repair answers a finding of an arena of which an info block can be used.
-pub fn is_repaired(finding: &Finding) -> bool
+pub(crate) fn is_repaired(finding: &Finding) -> bool
     ensures { result ≡ is_repaired finding.now }
 {
     match finding {
