@@ -12,15 +12,15 @@ _nvd_table() {
     "${COMP_WORDS[0]/#\~/$HOME}" --commands 2>/dev/null | awk '!/^#/ && '"$1"
 }
 
-# the options of a command that the line doesn't have yet
+# the options of a command that the line doesn't have yet; of a whole set's check, which has `-`, it is --json alone
 _nvd_options() {
     local options option
-    case $1 in
-    free) options='--json' ;;
+    case $1,${COMP_WORDS[2]} in
+    free,* | check,-) options='' ;;
     *) options=$(_nvd_table "\$1 == \"$1\" { print \$3 \",\" \$4 \",\" \$5 }" | tr , '\n' | sed '/^-$/d; s/^/--/') ;;
     esac
     case $1 in
-    labels | nfit | list | info | check | read | init | create | delete | rename | write | export) options="$options --json" ;;
+    labels | nfit | list | free | info | check | read | init | create | delete | rename | write | export) options="$options --json" ;;
     esac
     for option in $options; do
         case " ${COMP_WORDS[*]:0:COMP_CWORD} " in
@@ -114,9 +114,9 @@ _nvd() {
             compopt -o filenames 2>/dev/null || true
             return
         fi
-        # a command that writes has an OUT, one that prints has `-`
+        # a command that writes has an OUT, one that prints has `-`; so has one that takes the whole set if its place is left out
         case ${COMP_WORDS[2]} in
-        -) _nvd_words "$(_nvd_table '$6 == "no" { print $1 }') free" "$current" ;;
+        -) _nvd_words "$(_nvd_table '($6 == "no" || $2 ~ /[?]/) { print $1 }') free" "$current" ;;
         *) _nvd_words "$(_nvd_table '$6 == "yes" { print $1 }')" "$current" ;;
         esac
         return
@@ -133,8 +133,9 @@ _nvd() {
     --name | --size | --lanes | --cut | --evict | --workers | --sessions | --calls) ;;
     *)
         places=$(_nvd_table "\$1 == \"$command\" { print \$2 }")
+        case ${COMP_WORDS[2]},$places in -,*\?*) places=- ;; esac
         flags=$(_nvd_table "\$1 == \"$command\" { print \$5 }")
-        case ${places%%,*},$(_nvd_place "$flags,json"),$current in
+        case ${places%%[,?]*},$(_nvd_place "$flags,json"),$current in
         *,*,-*) _nvd_words "$(_nvd_options "$command")" "$current" ;;
         module,0,*) _nvd_words "$(_nvd_modules "$set")" "$current" ;;
         uuid,0,*) _nvd_words "$(_nvd_uuids "$set")" "$current" ;;

@@ -5,11 +5,11 @@ import sys
 import uuid
 
 import explain
-from commands import commands
-from faults import explained
+from commands import takes_whole, writes
+from faults import Rows, explained
 from places import FAULTS, Ended, say, text_of
 from space import free_of
-from texts import NoLine, checked_of, document_of, done_of, value_of_sector
+from texts import NoLine, checked_of, document_of, done_of, value_of_sector, whole_of
 from words import completed, taken
 
 # what only prints lines; what says that it is done; and what prints bytes, so that its document goes to standard error
@@ -60,12 +60,12 @@ def as_json(program, words):
         rest = completed(command, words[3:], lambda it: program.records(words[0], it), lambda: str(uuid.uuid4()), say)
         if command == EXPORT:
             return export(program, [*words[:3], *rest])
-        plain = [words[0], words[1] if commands()[command].writes else "-", command, *rest]
+        plain = [words[0], words[1] if writes(words) else "-", command, *rest]
         was_there = os.path.lexists(plain[1])
         status, text = program.run(plain)
     except Ended as it:
         return faulty(it, sys.stderr if command == EXPORT else None)
-    if status not in (0, 8):
+    if status not in (0, 8) and not (status == 3 and takes_whole(plain) and text.startswith(("fault ", "notice "))):
         fault_as_json(status, text)
         if status not in WITH_MEANING:
             explain.after(explain.Run(program.path, plain, status, was_there))
@@ -84,7 +84,7 @@ def document(program, words, text):
     if command == "read":
         return {"sector": int(of_word(command, rest, "SECTOR")), **value_of_sector(text)}
     if command == "check":
-        return checked_of(text)
+        return with_meanings(whole_of(text), text) if takes_whole(words) else checked_of(text)
     if command not in DOING:
         return document_of(command, text)
     done = done_of(text)
@@ -92,6 +92,15 @@ def document(program, words, text):
         found = namespace(program, sink, of_word(command, rest, "--uuid"))
         return {**done, "namespace": found}
     return done
+
+
+def with_meanings(whole, text):
+    """A whole set's check with what FAULTS says of each finding."""
+    rows = Rows(text_of(FAULTS) or "")
+    for it, line in zip(whole["findings"], text.splitlines()):
+        said = rows.explained(line)
+        it["means"], it["to_do"] = "; ".join(means for means, _ in said), "; ".join(dict.fromkeys(remedy for _, remedy in said if remedy))
+    return whole
 
 
 def of_word(command, words, name):

@@ -10,7 +10,8 @@ import sys
 LIB = os.path.dirname(os.path.abspath(__file__))
 TABLE = os.path.join(LIB, "commands.txt")
 HEAD = """\
-# The program's commands, made from crates/shell_run by lib/commands.py --write. `-` stands for none; places are in their order.
+# The program's commands, made from crates/shell_run by lib/commands.py --write. `-` stands for none; places are in their order. With `?` behind
+# its places a command may stand alone: it takes the whole set then, and writes none.
 # command, places, options that must be given, options that may be, those without a value, whether it writes an image set, for which it copies
 # the contents of modules, and whether it reads a script
 """
@@ -22,6 +23,8 @@ class Command:
     def __init__(self, fields):
         self.name, places, needed, others, flags, writes, script = fields
         self.places, self.needed, self.others, self.flags = ([] if it == "-" else it.split(",") for it in (places, needed, others, flags))
+        self.may_stand_alone = places.endswith("?")
+        self.places = [it.rstrip("?") for it in self.places]
         self.writes, self.script = writes == "yes", script == "yes"
 
 
@@ -34,6 +37,18 @@ def commands():
         with open(TABLE, encoding="utf-8") as file:
             ROWS.update((it.name, it) for it in (Command(line.split()) for line in file if not line.startswith("#")))
     return ROWS
+
+
+def takes_whole(words):
+    """Whether a command line's command stands alone, though it has places."""
+    row = commands().get(words[2]) if len(words) == 3 else None
+    return bool(row and row.may_stand_alone)
+
+
+def writes(words):
+    """Whether a command line is one of a command that writes an image set."""
+    row = commands().get(words[2]) if len(words) > 2 else None
+    return bool(row and row.writes) and not takes_whole(words)
 
 
 def source(*path):
@@ -70,11 +85,13 @@ def made():
     variants = re.findall(r"(?m)^    (\w+)(?:\(.*\))?,$", re.search(r"pub enum CommandLine \{(.*?)\n\}", source("shell_run", "src", "words.rt"), re.S)[1])
     words = cases(source("shell_run", "specs", "Words.antt").replace(" kind.", " "), "command_in")
     script, copies = (cases(run, it) for it in ("reads_script", "copies"))
+    alone = re.findall(r'if words\.is_empty\(\) && name == "(\w+)" \{', table)
     yield HEAD
     for name, kind in re.findall(r'if name == "(\w+)" \{\s*return Some\(CommandKind::(\w+)\);', table):
         # the variant of the command: it has the kind's name, or the values of its arguments make it
         variant = kind if kind in variants else next(it for it in variants if re.search(rf"(?<![\w.]){it}\b", words(kind)))
-        yield " ".join([name, *arguments[kind], *("yes" if it(variant) == "true" else "no" for it in (copies, script))]) + "\n"
+        places, *options = arguments[kind]
+        yield " ".join([name, places.replace(",", "?,") + "?" if name in alone else places, *options, *("yes" if it(variant) == "true" else "no" for it in (copies, script))]) + "\n"
 
 
 def main():

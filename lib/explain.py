@@ -1,9 +1,9 @@
 """Says what to do after a run that ended with a fault."""
 import os
 
-from commands import commands
+from commands import commands, takes_whole, writes
 from faults import explained
-from helps import WORDS, names, near, no_command
+from helps import WORDS, forms, names, near, no_command
 from places import FAULTS, say, text_of
 from runs import asked, fault_of_input
 
@@ -26,7 +26,7 @@ class Run:
         self.source, self.sink = (*words, "", "")[:2]
         self.command = words[2] if len(words) > 2 else ""
         self.row = commands().get(self.command)
-        self.writes, self.reads_script = (self.row.writes, self.row.script) if self.row else (False, False)
+        self.writes, self.reads_script = writes(words), bool(self.row and self.row.script)
 
     def text(self):
         """What the program said: it is run once more, with an OUT that can't be made, and with the script if that can be read again."""
@@ -63,8 +63,8 @@ def after(run):
 def ignored(words):
     """Says that OUT is ignored, if a command that only reads has one."""
     row = commands().get(words[2]) if len(words) > 2 else None
-    if words[1:2] != ["-"] and (row and not row.writes or words[2:3] == ["free"]):
-        say(f"OUT, '{words[1]}', is ignored, since '{words[2]}' writes no set: give - there")
+    if words[1:2] != ["-"] and (row and not writes(words) or words[2:3] == ["free"]):
+        say(f"OUT, '{words[1]}', is ignored, since '{words[2]}'{' without a UUID' if takes_whole(words) else ''} writes no set: give - there")
 
 
 def misplaced(run):
@@ -72,9 +72,9 @@ def misplaced(run):
     if run.command in WORDS:
         return False
     if run.source in WORDS and not os.path.exists(run.source):
-        say(f"'{run.source}' stands behind IN and OUT: nvd {WORDS[run.source]}")
+        say(f"'{run.source}' stands behind IN and OUT: {forms(run.source)}")
     elif run.sink in WORDS and not os.path.exists(run.sink):
-        say(f"OUT is missing before '{run.sink}': nvd {WORDS[run.sink]}")
+        say(f"OUT is missing before '{run.sink}': {forms(run.sink)}")
     else:
         return False
     return True
@@ -105,7 +105,7 @@ def after_words(run):
         elif run.reads_script:
             after_script(run)
             return
-        say(f"the words of '{run.command}' are: nvd {WORDS[run.command]}; 'nvd help {run.command}' says what each may be")
+        say(f"the words of '{run.command}' are: {forms(run.command)}; 'nvd help {run.command}' says what each may be")
 
 
 def after_script(run):
@@ -125,10 +125,14 @@ def say_rows(text):
     return bool(rows)
 
 
-def after_findings(lines):
+def after_findings(run, lines):
     """Says what the findings of `check` mean."""
+    from hints import hint_of_line
+
     for line in lines:
         say_rows(line)
+        for it in hint_of_line(run, line):
+            say(it)
     say("'nvd help check' says what to do, what --repair mends and what check can't see, and 'nvd help FAULTS' has every finding")
 
 
@@ -163,7 +167,7 @@ def after_text(run):
 def after_reading(run):
     fault = fault_of_input() if run.reads_script else None
     if fault:
-        say(f"standard input {fault}, and '{run.command}' reads it: nvd {WORDS[run.command]}")
+        say(f"standard input {fault}, and '{run.command}' reads it: {forms(run.command)}")
         return
     if not os.path.isdir(run.source):
         say(f"IN, '{run.source}', is no directory: name the directory of an image set")

@@ -2,8 +2,16 @@
 import re
 
 # A table with one of these heads has the ends of the texts that begin so; the others have whole texts.
-FAMILIES = {"FAULT of a region": r"image region (?P<REGION>\S+) ", "FINDING": r"arena (?P<ARENA>\S+) ",
-            "repaired FINDING": r"arena (?P<ARENA>\S+) repaired ", "FAULT": r"(?:image arena (?P<ARENA>\S+) (?P<K>\S+)|arena \S+(?= Info | Flog )) "}
+FAMILIES = {"FAULT of a region": r"image region (?P<REGION>\S+) ", "FAULT of an index block": r"fault labels (?P<M>\S+) index (?P<S>\S+) ",
+            "FINDING": r"arena (?P<ARENA>\S+) ", "repaired FINDING": r"arena (?P<ARENA>\S+) repaired ", "FAULT": r"(?:image arena (?P<ARENA>\S+) (?P<K>\S+)|arena \S+(?= Info | Flog )) "}
+
+# What `check` says of a whole set, and the text of another command or line that says the same.
+SAME = [(r"fault labels \S+ slot (.*)", r"bad \1"), (r"fault namespace \S+ (.*)", r"incomplete \1"), (r"fault arena \S+ (.*)", r"arena \1"), (r"fault (.*)", r"image \1")]
+
+
+def kind_of(text):
+    """A text without its numbers and UUIDs: two of one kind have the same rows."""
+    return re.sub(r"\b[0-9a-f]{8}(?:-[0-9a-f]{4}){3}-[0-9a-f]{12}\b|\d+", "", text)
 
 
 def rows_of(page):
@@ -41,12 +49,28 @@ def filled(sentence, found):
     return sentence
 
 
+class Rows:
+    """The rows of a page, read once."""
+
+    def __init__(self, page):
+        self.all = [(FAMILIES.get(head, "") + pattern_of(form), meaning, remedy) for texts, meaning, remedy, head in rows_of(page) for form in texts]
+        self.kinds = {}
+
+    def of(self, text):
+        """The rows of a text, each with what it found in it."""
+        kind = kind_of(text)
+        found = [(re.fullmatch(row[0], text), *row) for row in self.kinds.get(kind, self.all)]
+        found = [it for it in found if it[0]]
+        self.kinds[kind] = [row for _, *row in found]
+        return found
+
+    def explained(self, text):
+        """What the rows say of a text: of the whole of it, or of its end if that is a fault of a region or an arena, or a finding of `check`."""
+        texts = [text, *(re.sub(form, same, text) for form, same in SAME if re.fullmatch(form, text))]
+        found = next((rows for it in texts if (rows := self.of(it))), [])
+        return [(filled(meaning, it), filled(remedy, it)) for it, _, meaning, remedy in found]
+
+
 def explained(text, page):
-    """What the rows say of a text: of the whole of it, or of its end if that is a fault of a region or an arena, or a finding of `check`."""
-    out = []
-    for texts, meaning, remedy, head in rows_of(page):
-        for form in texts:
-            found = re.fullmatch(FAMILIES.get(head, "") + pattern_of(form), text)
-            if found:
-                out.append((filled(meaning, found), filled(remedy, found)))
-    return out
+    """What the rows of a page say of a text."""
+    return Rows(page).explained(text)

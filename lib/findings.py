@@ -1,5 +1,5 @@
 """The text of `check`: it goes on to standard output while it comes, and nvd keeps what it explains afterwards."""
-import re
+from faults import kind_of
 
 
 class Findings:
@@ -12,9 +12,9 @@ class Findings:
         """Takes the next piece of the text."""
         *lines, self.rest = (self.rest + piece).split(b"\n")
         for line in lines:
-            if line.startswith(b"arena "):
-                # two lines are of one kind if they differ in numbers alone
-                self.first.setdefault(re.sub(rb"\d+", b"", line), line.decode())
+            if line.startswith((b"arena ", b"fault ", b"notice ")):
+                text = line.decode()
+                self.first.setdefault(kind_of(text), text)
 
     def lines(self):
         return list(self.first.values())

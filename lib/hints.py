@@ -15,6 +15,19 @@ LEAST_ARENA, GREATEST_ARENA = 16 << 20, 512 << 30
 
 def hint(run, text):
     """The lines for a run's text; none if nvd knows no more of it."""
+    lines = known_of(run, text)
+    # the fault of one object, one region or one pair of namespaces may not be the only one
+    if re.fullmatch(r"image (labels \d+ Size|labels Overlap|contents|badranges|region) .*", text):
+        lines.append("'nvd IN - check' lists everything that is wrong with the set")
+    return lines
+
+
+def hint_of_line(run, line):
+    """The lines for one line of a whole set's check: those for the same fault of another command."""
+    return known_of(run, re.sub("^fault ", "image ", line)) if line.startswith(("fault contents ", "fault labels ")) else []
+
+
+def known_of(run, text):
     for form, lines in FORMS:
         found = re.fullmatch(form, text)
         if found:

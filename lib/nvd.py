@@ -134,7 +134,7 @@ def perform(words):
 
 def finished(program, words, was_there):
     """The status of a run of the program with plain words, once nvd has said what a fault means."""
-    from commands import commands
+    from commands import commands, takes_whole, writes
 
     row = commands().get(words[2]) if len(words) > 2 else None
     script = None
@@ -149,7 +149,8 @@ def finished(program, words, was_there):
         status = runs.run(program.path, words, script[0] if script and script[0] else None, found and found.hear)
     else:
         status, _ = by_rt(words)
-    if status:
+    # with status 3 the text of a whole set's check has its faults
+    if status and not (status == 3 and found and found.first and takes_whole(words)):
         import explain
 
         run = explain.Run(program.path, words, status, was_there, script, lambda it: program.records_or_none(words[0], it))
@@ -157,8 +158,8 @@ def finished(program, words, was_there):
     elif found and found.first:
         import explain
 
-        explain.after_findings(found.lines())
-    if row and not row.writes and words[1] != "-" and status != 2:
+        explain.after_findings(explain.Run(program.path, words, status, was_there), found.lines())
+    if row and words[1] != "-" and status != 2 and not writes(words):
         import explain
 
         explain.ignored(words)

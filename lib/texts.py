@@ -7,6 +7,10 @@ MODE = r"(raw|sector1?|other:\S+)"
 VALUE = r"(?:fill:[0-9a-f]{2}|hex:(?:[0-9a-f]{2})*)"
 INFO_FAULT = r"(Signature|Checksum|Version \d+ \d+|Parent|ErrorState|Layout (?:Sector|Inner|Free|Blocks|Areas|Size|Next))"
 FLOG_FAULT = r"(Padding|Sequences \d+ \d+|Range \d+)"
+LABEL_FAULT = r"Checksum|Slot \d+|OddSize (?:Dpa|RawSize)"
+TABLE_FAULT = r"Signature|Length \d+ \d+|Checksum \d+|Structure \d+|(?:TwiceIndex|MissingIndex) \d+ \d+|TooLarge \d+|Alias \d+ \d+ \d+"
+SET_FAULT = r"(?:Ways|Offsets|Size) \d+ \d+|(?:Twice|Line|Share|Cover) \d+"
+WHY = r"(?:Twice|Outside|Unaligned|Missing) \d+|(?:Cookie|Position) \d+ \d+|Differs (?:Count|Dpa|RawSize|LbaSize|Guids|Names)"
 # findings of some kinds are repaired
 REPAIRED = "( repaired)?"
 
@@ -16,15 +20,15 @@ LINES = {
     "label": (
         ["slot", "uuid", "name", "pos", "of", "dpa", "size", "flags", "lba", "mode", "cookie"],
         f"label {NUMBER} {UUID} {NAME} pos {NUMBER} of {NUMBER} dpa {NUMBER} size {NUMBER} flags {NUMBER} lba {NUMBER} mode {MODE} cookie {HEX}"),
-    "bad": (["slot", "fault"], rf"bad {NUMBER} (Checksum|Slot \d+|OddSize (?:Dpa|RawSize))"),
+    "bad": (["slot", "fault"], rf"bad {NUMBER} ({LABEL_FAULT})"),
     "module": (["module", "handle"], f"module {NUMBER} handle {NUMBER}"),
     "region": (
         ["region", "index", "base", "length", "modules", "cookie", "unit"],
         rf"region {NUMBER} index {NUMBER} base {NUMBER} length {NUMBER} modules((?: \d+)*) cookie {HEX} unit {NUMBER}"),
-    "region fault": (["region", "index", "fault"], rf"region {NUMBER} index {NUMBER} fault (\w+(?: \d+)+)"),
+    "region fault": (["region", "index", "fault"], rf"region {NUMBER} index {NUMBER} fault ({SET_FAULT})"),
     "ns": (
         ["uuid", "name", "region", "mode", "lba", "size", "status"],
-        rf"ns {UUID} {NAME} region (\d+|-) mode {MODE} lba {NUMBER} size {NUMBER} (complete(?: pending)?|unfinished|local|incomplete \w+(?: \w+)*)"),
+        rf"ns {UUID} {NAME} region (\d+|-) mode {MODE} lba {NUMBER} size {NUMBER} (complete(?: pending)?|unfinished|local|incomplete (?:{WHY}))"),
     "extent": (["module", "start", "length"], f"extent {NUMBER} {NUMBER} {NUMBER}"),
     "arena": (
         ["arena", "sector", "sectors", "blocks", "lanes", "moves"],
@@ -42,7 +46,24 @@ LINES = {
     "sessions": (["sessions", "calls", "reads", "writes"], f"sessions {NUMBER} calls {NUMBER} reads {NUMBER} writes {NUMBER}"),
     "replies": (["replies"], f"replies {HEX}"),
 }
-TEXTS = {"uuid", "mode", "status", "kind", "fault", "cookie", "reply", "replies"}
+# The lines of a check of a whole set but those of arenas: the keys behind the object, and the form of the line behind its first word.
+WHOLE = [
+    (["fault"], "(mark) (Missing)"),
+    (["fault"], rf"(nfit) (Missing|Size \d+|{TABLE_FAULT})"),
+    (["module", "fault"], rf"(labels|badranges) {NUMBER} (Size \d+)"),
+    (["module", "fault"], rf"(contents) {NUMBER} (Missing|Size \d+)"),
+    (["region", "fault"], rf"(region) {NUMBER} ({SET_FAULT})"),
+    (["module", "notice"], rf"(labels) {NUMBER} (NoIndex)"),
+    (["module", "side", "notice"], rf"(labels) {NUMBER} index {NUMBER} (Sequence)"),
+    (["module", "side", "fault"], rf"(labels) {NUMBER} index {NUMBER} (Signature|Version \d+ \d+|Offsets|Slots|Checksum)"),
+    (["module", "slot", "fault"], rf"(labels) {NUMBER} slot {NUMBER} ({LABEL_FAULT})"),
+    (["fault", "uuids"], rf"(labels) (Overlap) ({UUID[1:-1]} {UUID[1:-1]})"),
+    (["notice"], "(namespaces|arenas) (Unchecked)"),
+    (["uuid", "notice"], rf"(namespace) {UUID} (pending|unfinished|local)"),
+    (["uuid", "fault"], rf"(namespace) {UUID} ({WHY})"),
+    (["module", "records"], rf"(badranges) {NUMBER} {NUMBER}"),
+]
+TEXTS = {"uuid", "mode", "status", "kind", "fault", "notice", "cookie", "reply", "replies"}
 
 
 class NoLine(Exception):
@@ -63,6 +84,8 @@ def value_of(key, text):
         return text is not None
     if key == "modules":
         return [int(it) for it in text.split()]
+    if key == "uuids":
+        return text.split()
     return None if text == "-" else int(text)
 
 
@@ -84,7 +107,7 @@ def record_of(line):
 
 def with_both_bases(fields):
     """Adds the hexadecimal form of the one cookie that a text has in decimal."""
-    found = re.fullmatch(r"incomplete Cookie \d+ (\d+)", fields.get("status", ""))
+    found = re.fullmatch(r"(?:incomplete )?Cookie \d+ (\d+)", fields.get("status", fields.get("fault", "")))
     return {**fields, "found_cookie": f"{int(found.group(1)):016x}"} if found else fields
 
 
@@ -119,6 +142,32 @@ def checked_of(text):
     repaired = sum(it["repaired"] for its in arenas.values() for it in its)
     return {"sound": last == "sound", "broken": fields.get("broken", 0), "repaired": repaired,
             "arenas": [{"arena": number, "findings": its} for number, its in arenas.items()]}
+
+
+def noted_of(line):
+    """What a line of a whole set's check says, but for the last one."""
+    severity, _, text = line.partition(" ")
+    found = re.fullmatch(rf"arena {UUID} (.*)", text)
+    if found and severity == "fault":
+        kind, fields = record_of(f"arena {found.group(2)}")
+        if kind == "finding" and not fields.pop("repaired", False):
+            return {"severity": severity, "object": "arena", "uuid": found.group(1), **fields}
+    for keys, form in WHOLE:
+        found = re.fullmatch(form, text)
+        if found and severity == ("fault" if "fault" in keys else "notice"):
+            fields = {key: value_of(key, it) for key, it in zip(keys, found.groups()[1:])}
+            return {"severity": severity, "object": found.group(1), **with_both_bases(fields)}
+    raise NoLine(line)
+
+
+def whole_of(text):
+    """What the lines of a whole set's check say: whether there is no fault, how many faults and notices there are, and each of them."""
+    *lines, last = text.splitlines() or [""]
+    if record_of(last)[0] not in ("sound", "broken"):
+        raise NoLine(last)
+    found = [noted_of(it) for it in lines]
+    faults = sum(it["severity"] == "fault" for it in found)
+    return {"sound": last == "sound", "faults": faults, "notices": len(found) - faults, "findings": found}
 
 
 def value_of_sector(text):

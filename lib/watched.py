@@ -3,7 +3,7 @@ import os
 import stat
 import time
 
-from commands import commands
+from commands import commands, writes
 from progress import Progress
 
 MIB = 1 << 20
@@ -12,7 +12,7 @@ MIB = 1 << 20
 def watcher(words):
     """What watches a run with these words; None if there is nothing to show, or no terminal."""
     row = commands().get(words[2]) if len(words) > 2 else None
-    if row and (row.writes or row.name == "export" and not os.isatty(1)):
+    if row and (writes(words) or row.name == "export" and not os.isatty(1)):
         return Watcher(row, words)
     return None
 

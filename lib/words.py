@@ -122,9 +122,9 @@ def fault_of(command, words, ask=None):
         return plain[0] if plain else fault
     names = [it[0] for it in got]
     places, _ = COMMANDS[command]
-    for name in [*(it[0] for it in places), *(f"--{it}" for it in TABLE[command].needed)]:
+    for name in [*(it[0] for it in places), *(f"--{it}" for it in TABLE[command].needed)] if words or not TABLE[command].may_stand_alone else []:
         if name not in names:
-            return f"{name} is missing"
+            return f"{name} is missing" + (f": '{names[0]}' is for one namespace" if names and TABLE[command].may_stand_alone else "")
     together = fault_of_load({name: value for name, value, _, _ in got}) if command == "load" else None
     return together or next((it for _, it in wrong if it), None)
 

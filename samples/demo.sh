@@ -131,6 +131,10 @@ printf '\012\0\0\300' | dd of=damaged/contents-0.bin bs=1 seek=$((16637952 + 4 *
 step 3 damaged - info $first
 step 0 damaged looked1 check $first
 
+tell 'Without a UUID check looks at the whole set: objects, regions, label areas and namespaces too. What a crash left is a notice, and no fault:'
+step 0 torn1 - check
+step 3 damaged - check
+
 tell 'With --repair what needs no guess is mended in OUT: the info block has a backup. Which sector has the block that two of them name, nobody knows:'
 step 0 damaged repaired check $first --repair
 step 0 repaired looked2 check $first

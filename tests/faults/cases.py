@@ -3,12 +3,13 @@
 import struct
 
 from sets import FIRST, INNER, LANES, LINE, OUTER, SECOND, SIZE, SLOTS, THIRD, area, checked, control, info, interleave, mapping, of_version, pair, part
-from sets import ARENA, HELD, chain, group, past_the_limit, sectors, spa, table, two, wide
+from sets import ARENA, BLOCK, HELD, bad, chain, fletcher64, group, past_the_limit, sectors, spa, table, two, wide
 
 CREATE = ["OUT", "create", "--uuid", str(THIRD), "--name", "c", "--region", "0", "--size", "8192", "--mode", "raw"]
 LIST, NFIT, LABELS, INFO, READ = ["-", "list"], ["-", "nfit"], ["-", "labels", "0"], ["-", "info", str(FIRST)], ["-", "read", str(FIRST), "0"]
 CHECK = ["OUT", "check", str(FIRST)]
 REPAIR = [*CHECK, "--repair"]
+SET = ["-", "check"]
 WRITE = ["OUT", "write", str(FIRST), "0", "fill:5a"]
 REPLAY = ["OUT", "replay", str(FIRST)]
 EXPORT = ["-", "export", str(FIRST)]
@@ -315,6 +316,79 @@ def findings():
     yield sectors(halves={7: bytes(64)}), CHECK, 0, "arena 0 Flog 7 Sequences 0 0", "nvd: arena 0 Flog 7 Sequences 0 0: the two log halves of lane 7 have the sequence numbers 0 and 0"
 
 
+def said(*lines):
+    """The text of a whole set's check with these lines."""
+    faults = sum(line.startswith("fault ") for line in lines)
+    return "\n".join([*lines, f"broken {faults}" if faults else "sound"])
+
+
+def on_set(files, means, *lines):
+    """A whole set's check with these lines, of which nvd explains the first one so."""
+    text = said(*lines)
+    yield files, SET, 3 if "broken" in text else 0, text if "broken" in text else lines[0], f"nvd: {lines[0]}: {means}"
+
+
+def whole_sets():
+    """What `check` says of whole sets; nvd says what each line means, as it does after other commands with the same fault."""
+    unchecked = "notice arenas Unchecked"
+    lost = f"fault namespace {FIRST} Missing 0"
+    yield whole(), SET, 0, "sound", None
+    yield whole(), [*SET, "--repair"], 2, "usage", "UUID is missing: '--repair' is for one namespace"
+    yield whole(), [*SET, "--"], 2, "usage", "UUID is missing"
+    yield whole(), [*SET, "--repiar"], 2, "usage", "did you mean '--repair'?"
+    yield from on_set(without("complete"), "IN has no file complete", "fault mark Missing")
+    yield from on_set(without("nfit.bin"), "there is no nfit.bin", "fault nfit Missing")
+    yield from on_set(pair(nfit=bytes(1048577)), "nfit.bin has 1048577 bytes", "fault nfit Size 1048577")
+    yield from on_set(pair(nfit=two()[:100]), f"the table's Length says {len(two())} bytes, and the file has 100", f"fault nfit Length {len(two())} 100")
+    yield from on_set(pair(labels0=bytes(1000)), "labels-0.bin has 1000 bytes", "fault labels 0 Size 1000", unchecked)
+    yield from on_set({**pair(), "badranges-0.bin": bytes(15)}, "badranges-0.bin has 15 bytes", "fault badranges 0 Size 15", unchecked)
+    yield from on_set({it: data for it, data in pair().items() if it != "contents-1.bin"}, "there is no contents-1.bin", "fault contents 1 Missing", unchecked)
+    # which limit a size breaks is said as after other commands
+    for hint in ("contents-0.bin has 4096 bytes", f"is cut off: by the firmware's table module 0 has at least {SIZE} (64K) bytes", "an object or a region has a fault"):
+        yield {**pair(), "contents-0.bin": 4096}, SET, 3, said("fault contents 0 Size 4096", unchecked), hint
+    for fault, nfit in (("Cover 0", two(spa(), mapping(0), mapping(1), interleave((0, 0)))), ("Ways 3 2", two(spa(), mapping(0, ways=3), mapping(1, ways=3), interleave()))):
+        lines = [f"fault region 0 {fault}", "notice namespaces Unchecked", unchecked]
+        for hint in (f"fault region 0 {fault}: region 0 is no interleave set", f"fault region 0 {fault}: {REGION_MEANS[fault.split()[0]]}", "notice namespaces Unchecked: a region is no interleave set"):
+            yield pair(nfit=nfit), SET, 3, said(*lines), f"nvd: {hint}"
+    yield from on_set(pair(labels0=bytes(4096)), "neither index block of module 0 has a signature", "notice labels 0 NoIndex")
+    good = area()
+
+    def sealed(block):
+        return changed(block, 64, struct.pack("<Q", fletcher64(block[:64] + bytes(8) + block[72:])))
+
+    for fault, block, means in (
+            ("Signature", bytes(BLOCK), "the block doesn't begin with NAMESPACE_INDEX"), ("Version 1 1", of_version(good[:BLOCK], 1, 1), "the block has label version 1.1;"),
+            ("Offsets", sealed(changed(good[:BLOCK], 24, b"x")), "MyOff, MySize,"), ("Slots", sealed(changed(good[:BLOCK], 56, bytes(4))), "the block has no slots"), ("Checksum", changed(good[:BLOCK], 17, b"x"), "a byte of the block")):
+        for hint in ("index block 0 of module 0 is refused", means):
+            yield from on_set(pair(labels0=block + good[BLOCK:]), hint, f"fault labels 0 index 0 {fault}")
+    closed = sealed(changed(good[BLOCK : 2 * BLOCK], 20, bytes(4)))
+    yield from on_set(pair(labels0=good[:BLOCK] + closed + good[2 * BLOCK :]), "index block 1 of module 0 has the sequence number 0", "notice labels 0 index 1 Sequence")
+    for text, wrong, means in (("Checksum", changed(part(0), 20, b"x"), "slot 0 is used, but"), ("Slot 3", part(0, slot=3), "the label in slot 0 says that its slot is 3"), ("OddSize Dpa", part(0, dpa=512), "the label's field is no"),
+                               ("OddSize RawSize", part(0, raw=0), "the label's field is no")):
+        yield from on_set(pair(area([wrong])), means, f"fault labels 0 slot 0 {text}")
+    yield from on_set(pair(area([part(0), part(0, SECOND, 1)]), area([part(1), part(1, SECOND, 1)])), "extents of these two namespaces overlap", f"fault labels Overlap {FIRST} {SECOND}", unchecked)
+    yield from on_set(pair(area([part(0, flags=8)]), area([part(1)])), "a change of the namespace isn't finished", f"notice namespace {FIRST} pending")
+    yield from on_set(pair(area([part(0, flags=8)])), "labels of the namespace are missing", f"notice namespace {FIRST} unfinished")
+    yield from on_set(pair(area([part(0, flags=2)])), "a label of the namespace has the flag LOCAL", f"notice namespace {FIRST} local")
+    for text, first, second, means in (
+            ("Twice 0", [part(0), part(0, slot=1)], [part(1)], "module 0 has two labels of it"), ("Outside 1", [part(0)], [part(1, dpa=SIZE)], "the label on module 1 is outside"),
+            ("Cookie 1 5", [part(0)], [part(1, cookie=5)], "the label on module 1 has the set cookie 5"), ("Differs Count", [part(0)], [part(1, count=3)], "a label's NLabel"),
+            ("Position 1 0", [part(0)], [part(1, position=0)], "the label on module 1 says position 0"), ("Differs LbaSize", [part(0)], [part(1, lba=4096)], "the labels differ in this field"),
+            ("Missing 1", [part(0)], [], "module 1 has no label of it"), ("Differs Names", [part(0)], [part(1, name=b"b")], "the names differ")):
+        # a label elsewhere has another Dpa, too
+        more = [f"fault namespace {FIRST} Differs Dpa"] if text == "Outside 1" else []
+        yield from on_set(pair(area(first), area(second)), means, f"fault namespace {FIRST} {text}", *more)
+    yield from on_set({**pair(), "badranges-0.bin": bad((0, 1), (5, 5))}, "the list of bad ranges of module 0 has 2 records", "notice badranges 0 2")
+    broken = sectors(info(seal=False), entries={0: 1 << 31 | 1})
+    lines = [f"fault arena {FIRST} 0 {it}" for it in ("Info Checksum", "Twice 1", "Missing 0")]
+    for line, means in ((lines[0], FINDING_MEANS["Info"]), (lines[0], "a byte of the info block was changed"), (lines[1], FINDING_MEANS["Twice"]), (lines[2], FINDING_MEANS["Missing"])):
+        yield broken, SET, 3, said(*lines), f"nvd: {line}: {means}"
+    # all lines of a set are explained, a fault of an area behind that of an object
+    many = {**pair(labels0=bytes(1000), labels1=area([part(1)])), "contents-1.bin": 4096}
+    for line in ("fault labels 0 Size 1000", "fault contents 1 Size 4096", lost, unchecked):
+        yield many, SET, 3, said("fault labels 0 Size 1000", "fault contents 1 Size 4096", lost, unchecked), f"nvd: {line}: "
+
+
 def scripts():
     """Scripts that aren't taken, which is told before any image is looked at."""
     yield REPLAY, "step 0 1\r\n", "Line 1 Encoding"
@@ -337,5 +411,5 @@ def scripts():
 
 
 def cases():
-    for some in (usage, asked_first, objects, areas, regions, statuses, refusals, replies, arenas, findings):
+    for some in (usage, asked_first, objects, areas, regions, statuses, refusals, replies, arenas, findings, whole_sets):
         yield from some()

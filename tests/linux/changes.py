@@ -3,8 +3,8 @@
 
 usage: changes.py NAME SET PROGRAM WORK   (the set is unpacked in the folder SET; WORK is made, and has the sets that are)
 
-Each new set must list the same as before, except for the changed namespace. No byte of the contents, the firmware's table or the lists of
-bad ranges may change. A set without complete namespaces is skipped.
+Each new set must list the same as before, except for the changed namespace, and `check` must find nothing wrong with it. No byte of the contents,
+the firmware's table or the lists of bad ranges may change. A set without complete namespaces is skipped.
 """
 import os
 import shutil
@@ -40,6 +40,7 @@ def main():
                 with open(os.path.join(source, entry), "rb") as one, open(os.path.join(out, entry), "rb") as other:
                     if one.read() != other.read():
                         report(f"{what}: {entry}", "changed", "as it was")
+        report(f"check after {what}", run(out, "-", "check"), (0, "sound\n"))
         return out
 
     def listed(source):

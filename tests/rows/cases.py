@@ -140,7 +140,7 @@ def command_lines():
             ["help"], ["--", "nfit"], ["list", "0"], ["list", ""], ["list", "list"], ["list", "--help"], ["list", "--cut", "1"], ["List"],
             ["init"], ["init", "64"], ["init", "00"], ["init", "0", "1"], ["init", "0", "--cut"], ["init", "0", "--cut", "-1"],
             ["init", "0", "--cut", "01"], ["init", "0", "--cut", "1", "--cut", "1"], ["init", "0", "--evict", "18446744073709551616"],
-            ["init", "0", "--help"], ["info"], ["info", "0"], ["info", NONE, "0"], ["check"], ["check", "a"], ["check", NONE, "0"], ["check", NONE, "--repair", "--repair"], ["check", NONE, "--repair=true"], ["check", NONE, "--repair", "true"], ["check", NONE, "--cut", "1"], ["read", NONE], ["read", NONE, "01"],
+            ["init", "0", "--help"], ["info"], ["info", "0"], ["info", NONE, "0"], ["check", "a"], ["check", NONE, "0"], ["check", NONE, "--repair", "--repair"], ["check", NONE, "--repair=true"], ["check", NONE, "--repair", "true"], ["check", NONE, "--cut", "1"], ["read", NONE], ["read", NONE, "01"],
             ["read", NONE, "18446744073709551616"], ["write", NONE, "0"], ["write", NONE, "0", "5a"], ["write", NONE, "0", "fill:5"],
             ["write", NONE, "0", "fill:5a5a"], ["write", NONE, "0", "fill:xx"], ["write", NONE, "0", "hex:5"], ["write", NONE, "01", "fill:00"],
             ["write", NONE, "0", "fill:00", "--cut", "1"], ["replay"], ["replay", "9"], ["replay", NONE, "0"], ["replay", NONE, "--cut", "1"],
@@ -158,6 +158,7 @@ def command_lines():
     yield pair(), ["-", "nfit", "--"], OK, SMALL_TEXT
     yield pair(), ["-", "labels", "--", "0"], IMAGE, "image labels 0 Missing\n"
     yield pair(), ["-", "list", "--"], OK, ""
+    yield pair(), ["-", "check"], OK, "sound\n"
     for words in (["--cut", "5", "0", "--evict", "18446744073709551615"], ["--evict=1", "--cut=5", "0"], ["0", "--cut=5"]):
         yield with_area(bytes(AREA_SIZE)), ["OUT", "init", *words], CUT, "cut 5\n"
     yield pair(), ["-", "read", NONE, "18446744073709551615"], REFUSED, "refused NoSuch\n"

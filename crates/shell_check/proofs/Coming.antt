@@ -1,5 +1,5 @@
 -- From an outline to what a check of one of its namespaces comes to.
-use Rattle.std.proofs.Common.{◌≡◌, ℕ, Bool, true, false, List, [], length, map, Option, Some, None, Result, Ok, Err, sym, ap, ◌∙◌, subst}
+use Rattle.std.proofs.Common.{◌≡◌, ℕ, Bool, true, false, List, [], length, map, Option, None, Result, Ok, Err, sym, ap, ◌∙◌, subst}
 use Rattle.std.specs.Prelude.{MatchBool, MatchOption}
 use Rattle.std.specs.Option.{ForSome}
 use Rattle.nvd_media.specs.Images.{Images}
@@ -58,27 +58,14 @@ module _ (uuid : List ℕ) (repair : Bool) (loaded : ImageSet) (outcome : Outcom
   abbrev OnFault : Option OpenFault → Type 0
   OnFault f = MatchOption f (OnNamed uuid repair loaded outcome (found_in loaded uuid)) (λ fault. outcome ≡ open_outcome fault)
 
-  fault_comes : (fault : OpenFault) → fault_in loaded ≡ Some fault → outcome ≡ open_outcome fault → CheckComes uuid repair loaded outcome
-  fault_comes fault is said = subst (λ (f : Option OpenFault). OnFault f) (sym is) said
-
   named_comes : (r : Result Found OpRefused) → fault_in loaded ≡ None → found_in loaded uuid ≡ r → OnNamed uuid repair loaded outcome r → CheckComes uuid repair loaded outcome
   named_comes r none is on =
       subst (λ (f : Option OpenFault). OnFault f) (sym none) (subst (λ (found : Result Found OpRefused). OnNamed uuid repair loaded outcome found) (sym is) on)
 
 -- ---- from an outline
 
--- the table or the labels have a fault
-pub faulty : (outline : Outline) (held : Option Images) (uuid : List ℕ) (repair : Bool) (fault : OpenFault) (answer : Answer) → ((contents : List (List ℕ)) → fault_in (image_set_with outline contents) ≡ Some fault) → answer.saved ≡ None
-    → ((contents : List (List ℕ)) → outcome_with answer contents ≡ open_outcome fault) → ChecksFrom held uuid repair outline answer
-faulty outline held uuid repair fault answer is nothing says = record {
-  comes = λ source told.
-      let cs = contents_in source (length outline.sizes) in
-      fault_comes uuid repair (image_set_with outline cs) (outcome_with answer cs) fault (is cs) (says cs);
-  sizes = no_sizes outline.sizes answer nothing;
-}
-
 module _ (outline : Outline) (registry : Registered) (rest : OutlineRest) (o : IsOpenOutline outline registry rest) (uuid : List ℕ) where
-  found_is : (contents : List (List ℕ)) → found_of registry.sets (lookup uuid (namespaces_in (state_of registry)).entries) ≡ found_in (image_set_with outline contents) uuid
+  pub found_is : (contents : List (List ℕ)) → found_of registry.sets (lookup uuid (namespaces_in (state_of registry)).entries) ≡ found_in (image_set_with outline contents) uuid
   unfolding image_set_with
   found_is contents = λ i. found_of (o.sets i) (o.entry uuid contents i)
 
@@ -92,7 +79,7 @@ module _ (outline : Outline) (registry : Registered) (rest : OutlineRest) (o : I
     sizes = no_sizes outline.sizes answer nothing;
   }
 
-  place_is : (set : List Mapping) (found : Found) (contents : List (List ℕ)) → set ≡ set_at registry.sets found.region
+  pub place_is : (set : List Mapping) (found : Found) (contents : List (List ℕ)) → set ≡ set_at registry.sets found.region
       → place_of (image_set_with outline contents) found (rows_of contents) ≡ over set found.offset found.raw (rows_of contents)
   unfolding image_set_with
   place_is set found contents is = λ i. over ((ap (λ (sets : List (List Mapping)). set_at sets found.region) (sym o.sets) ∙ sym is) i) found.offset found.raw (rows_of contents)

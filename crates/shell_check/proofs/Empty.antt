@@ -1,5 +1,5 @@
 -- A namespace without bytes, and bad words of one over other modules.
-use Rattle.std.proofs.Common.{◌≡◌, ℕ, Bool, true, false, List, [], ◌∷◌, ◌++◌, length, Option, None, refl, sym, subst, arith}
+use Rattle.std.proofs.Common.{◌≡◌, ℕ, Bool, true, false, List, [], ◌∷◌, length, Option, None, refl, sym, subst, arith}
 use Rattle.std.specs.Prelude.{MatchBool}
 use Rattle.cut_words.specs.Words.{Words}
 use Rattle.nfit_reader.specs.declared.table.Mapping.{Mapping}
@@ -10,7 +10,7 @@ use Rattle.std.proofs.lemmas.List.{append-nil}
 use Rattle.std.proofs.lemmas.List.Sums.{sum_by-cons}
 use Rattle.arena_check.specs.declared.finding.Finding.TheVariants as found
 use Rattle.arena_check.specs.declared.finding.Report.{Report}
-use Rattle.shell_check.specs.Text.{arena_lines, check_text, findings_in, last_line, left_of}
+use Rattle.shell_check.specs.Text.{arena_lines, findings_in, left_of, report_lines}
 use Rattle.bad_ranges.specs.Bad.{bad_words}
 use Rattle.namespace_bytes.specs.declared.runs.Run.{Run}
 use Rattle.power_cut.specs.Namespace.{over}
@@ -30,11 +30,12 @@ pub no_words : (words : List ℕ) → length words ≡ 0 → words ≡ []
 no_words [] none = refl
 no_words (w ∷ words) none = absurd (omega (arith, none))
 
--- the text of one report
-pub one_report : (repair : Bool) (report : Report) → arena_lines repair 0 report ++ last_line (length (left_of repair report).findings) ≡ check_text repair (report ∷ [])
-one_report repair report =
-    (λ i. sym (append-nil (arena_lines repair 0 report)) i
-    ++ last_line ((let e : length (left_of repair report).findings ≡ findings_in repair (report ∷ []) = omega (arith, sum_by-cons (λ (r : Report). length (left_of repair r).findings) report []) in e) i))
+-- the lines of one report
+pub one_text : (head : List ℕ) (repair : Bool) (report : Report) → arena_lines head repair 0 report ≡ report_lines head repair 0 (report ∷ [])
+one_text head repair report = sym (append-nil (arena_lines head repair 0 report))
+
+pub one_count : (repair : Bool) (report : Report) → length (left_of repair report).findings ≡ findings_in repair (report ∷ [])
+one_count repair report = omega (arith, sum_by-cons (λ (r : Report). length (left_of repair r).findings) report [])
 
 -- nothing of it is repaired
 none_repaired : (bad : ℕ → Bool) (parent : List ℕ) → RepairsAll bad parent [] []

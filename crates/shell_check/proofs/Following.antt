@@ -1,5 +1,7 @@
 -- Reports on the arenas of a namespace, one after another.
 use Rattle.std.proofs.Common.{◌≡◌, ◌≢◌, ℕ, zero, suc, ◌+◌, ◌/◌, ◌≤◌, Bool, List, [], ◌∷◌, ◌++◌, length, drop, refl, sym, ap, ◌∙◌, arith}
+use Rattle.std.specs.Prelude.{codes}
+use Rattle.std.specs.Fmt.{decimal}
 use Rattle.std.proofs.lemmas.Bool.{ne_eqb}
 use Rattle.std.proofs.lemmas.List.{append_assoc, append-nil, length-append}
 use Rattle.std.proofs.lemmas.List.Sums.{sum_by-cons, sum_by-append}
@@ -7,40 +9,50 @@ use Rattle.arena_check.specs.declared.finding.Finding.{Finding}
 use Rattle.arena_check.specs.declared.finding.Report.{Report}
 use Rattle.arena_check.specs.Check.{next_of, report_of, source_of}
 use Rattle.arena_repair.specs.Chain.{behind, reports_of, reports_within}
-use Rattle.shell_check.specs.Text.{answered, arena_lines, check_text, finding_line, findings_in, last_line, left_of, lines_of, repaired_lines, report_lines}
+use Rattle.shell_reports.specs.Outcome.{joined, lf}
+use Rattle.shell_check.specs.Text.{answered, arena_lines, finding_line, finding_text, findings_in, left_of, lines_of, repaired_lines, report_lines}
 
 -- ---- lines
 
--- each finding has a line, which isn't empty
-lines_long : (k : ℕ) (xs : List Finding) → length xs ≤ length (lines_of k xs)
-lines_long k [] = omega arith
-lines_long k (x ∷ xs) = omega (arith, lines_long k xs, length-append (finding_line k x) (lines_of k xs))
+-- a line isn't empty
+line_long : (head : List ℕ) (k : ℕ) (x : Finding) → 1 ≤ length (finding_line head k x)
+line_long head k x =
+    omega (
+      arith,
+      length-append head (joined (decimal k ∷ codes " " ∷ finding_text x ∷ lf ∷ [])),
+      length-append (decimal k) (joined (codes " " ∷ finding_text x ∷ lf ∷ [])),
+    )
 
-pub open_long : (repair : Bool) (k : ℕ) (report : Report) → length (left_of repair report).findings ≤ length (arena_lines repair k report)
-open_long repair k report =
-    omega (arith, lines_long k (left_of repair report).findings, length-append (repaired_lines k (answered repair report)) (lines_of k (left_of repair report).findings))
+-- each finding has one
+lines_long : (head : List ℕ) (k : ℕ) (xs : List Finding) → length xs ≤ length (lines_of head k xs)
+lines_long head k [] = omega arith
+lines_long head k (x ∷ xs) = omega (arith, line_long head k x, lines_long head k xs, length-append (finding_line head k x) (lines_of head k xs))
 
-reports_append : (repair : Bool) (k : ℕ) (xs ys : List Report) → report_lines repair k (xs ++ ys) ≡ report_lines repair k xs ++ report_lines repair (k + length xs) ys
-reports_append repair k [] ys = ap (λ (n : ℕ). report_lines repair n ys) (let e : k ≡ k + length {A = Report} [] = omega arith in e)
-reports_append repair k (x ∷ xs) ys =
-    ap (λ (text : List ℕ). arena_lines repair k x ++ text) (reports_append repair (k + 1) xs ys)
-    ∙ sym (append_assoc (arena_lines repair k x) (report_lines repair (k + 1) xs) (report_lines repair (k + 1 + length xs) ys))
-    ∙ ap (λ (n : ℕ). (arena_lines repair k x ++ report_lines repair (k + 1) xs) ++ report_lines repair n ys) (let e : k + 1 + length xs ≡ k + length (x ∷ xs) = omega arith in e)
+pub open_long : (head : List ℕ) (repair : Bool) (k : ℕ) (report : Report) → length (left_of repair report).findings ≤ length (arena_lines head repair k report)
+open_long head repair k report =
+    omega (arith, lines_long head k (left_of repair report).findings, length-append (repaired_lines head k (answered repair report)) (lines_of head k (left_of repair report).findings))
+
+reports_append : (head : List ℕ) (repair : Bool) (k : ℕ) (xs ys : List Report) → report_lines head repair k (xs ++ ys) ≡ report_lines head repair k xs ++ report_lines head repair (k + length xs) ys
+reports_append head repair k [] ys = ap (λ (n : ℕ). report_lines head repair n ys) (let e : k ≡ k + length {A = Report} [] = omega arith in e)
+reports_append head repair k (x ∷ xs) ys =
+    ap (λ (text : List ℕ). arena_lines head repair k x ++ text) (reports_append head repair (k + 1) xs ys)
+    ∙ sym (append_assoc (arena_lines head repair k x) (report_lines head repair (k + 1) xs) (report_lines head repair (k + 1 + length xs) ys))
+    ∙ ap (λ (n : ℕ). (arena_lines head repair k x ++ report_lines head repair (k + 1) xs) ++ report_lines head repair n ys) (let e : k + 1 + length xs ≡ k + length (x ∷ xs) = omega arith in e)
 
 -- ---- the arenas so far
 
 -- The reports on the first k arenas make this text and so many open findings, and the next arena begins at this word.
-pub record IsSoFar (repair : Bool) (bad : ℕ → Bool) (words parent : List ℕ) (k count at : ℕ) (text : List ℕ) : Type 0 where
+pub record IsSoFar (head : List ℕ) (repair : Bool) (bad : ℕ → Bool) (words parent : List ℕ) (k count at : ℕ) (text : List ℕ) : Type 0 where
   pub done : List Report
   pub many : length done ≡ k
-  pub text_is : text ≡ report_lines repair 0 done
+  pub text_is : text ≡ report_lines head repair 0 done
   pub count_is : count ≡ findings_in repair done
   pub left : ℕ
   pub enough : k + left ≡ length words + 1
   pub rest : reports_of bad words parent ≡ done ++ reports_within left bad words parent at
 
-pub starts : (repair : Bool) (bad : ℕ → Bool) (words parent text : List ℕ) → text ≡ [] → IsSoFar repair bad words parent 0 0 0 text
-starts repair bad words parent text none = record {
+pub starts : (head : List ℕ) (repair : Bool) (bad : ℕ → Bool) (words parent text : List ℕ) → text ≡ [] → IsSoFar head repair bad words parent 0 0 0 text
+starts head repair bad words parent text none = record {
   done = [];
   many = refl;
   text_is = none;
@@ -50,7 +62,7 @@ starts repair bad words parent text none = record {
   rest = refl;
 }
 
-module _ (repair : Bool) (bad : ℕ → Bool) (words parent : List ℕ) (k count at : ℕ) (text : List ℕ) (so_far : IsSoFar repair bad words parent k count at text) (short : k ≤ length words) where
+module _ (head : List ℕ) (repair : Bool) (bad : ℕ → Bool) (words parent : List ℕ) (k count at : ℕ) (text : List ℕ) (so_far : IsSoFar head repair bad words parent k count at text) (short : k ≤ length words) where
   abbrev report : Report
   report = report_of at bad (drop at words) parent
 
@@ -64,12 +76,12 @@ module _ (repair : Bool) (bad : ℕ → Bool) (words parent : List ℕ) (k count
   within_one (suc m) is = (m, (omega (arith, is, so_far.enough), ap (λ (n : ℕ). reports_within n bad words parent at) is))
 
   module _ (own : Report) (found : own ≡ report) where
-    lines_are : text ++ arena_lines repair k own ≡ report_lines repair 0 (so_far.done ++ report ∷ [])
+    lines_are : text ++ arena_lines head repair k own ≡ report_lines head repair 0 (so_far.done ++ report ∷ [])
     lines_are =
         let place : k ≡ 0 + length so_far.done = omega (arith, so_far.many) in
-        (λ i. so_far.text_is i ++ arena_lines repair (place i) (found i))
-        ∙ ap (λ (more : List ℕ). report_lines repair 0 so_far.done ++ more) (sym (append-nil (arena_lines repair (0 + length so_far.done) report)))
-        ∙ sym (reports_append repair 0 so_far.done (report ∷ []))
+        (λ i. so_far.text_is i ++ arena_lines head repair (place i) (found i))
+        ∙ ap (λ (more : List ℕ). report_lines head repair 0 so_far.done ++ more) (sym (append-nil (arena_lines head repair (0 + length so_far.done) report)))
+        ∙ sym (reports_append head repair 0 so_far.done (report ∷ []))
 
     count_are : count + length (left_of repair own).findings ≡ findings_in repair (so_far.done ++ report ∷ [])
     count_are =
@@ -82,7 +94,7 @@ module _ (repair : Bool) (bad : ℕ → Bool) (words parent : List ℕ) (k count
         )
 
     -- another arena follows
-    pub goes_on : (n : ℕ) → n ≡ next → n ≢ 0 → IsSoFar repair bad words parent (k + 1) (count + length (left_of repair own).findings) (at + n / 8) (text ++ arena_lines repair k own)
+    pub goes_on : (n : ℕ) → n ≡ next → n ≢ 0 → IsSoFar head repair bad words parent (k + 1) (count + length (left_of repair own).findings) (at + n / 8) (text ++ arena_lines head repair k own)
     goes_on n is some =
         let one = within_one so_far.left refl in
         let more : behind next at (reports_within one.0 bad words parent) ≡ reports_within one.0 bad words parent (at + n / 8) =
@@ -99,9 +111,13 @@ module _ (repair : Bool) (bad : ℕ → Bool) (words parent : List ℕ) (k count
         }
 
     -- it was the last one
-    pub ends : next ≡ 0 → (text ++ arena_lines repair k own) ++ last_line (count + length (left_of repair own).findings) ≡ check_text repair (reports_of bad words parent)
-    ends none =
+    all_is : next ≡ 0 → reports_of bad words parent ≡ so_far.done ++ report ∷ []
+    all_is none =
         let one = within_one so_far.left refl in
-        let all : reports_of bad words parent ≡ so_far.done ++ report ∷ [] =
-        so_far.rest ∙ ap (λ (rs : List Report). so_far.done ++ rs) (one.1.1 ∙ ap (λ (x : ℕ). report ∷ behind x at (reports_within one.0 bad words parent)) none) in
-        (λ i. lines_are i ++ last_line (count_are i)) ∙ ap (check_text repair) (sym all)
+        so_far.rest ∙ ap (λ (rs : List Report). so_far.done ++ rs) (one.1.1 ∙ ap (λ (x : ℕ). report ∷ behind x at (reports_within one.0 bad words parent)) none)
+
+    pub text_ends : next ≡ 0 → text ++ arena_lines head repair k own ≡ report_lines head repair 0 (reports_of bad words parent)
+    text_ends none = lines_are ∙ sym (ap (report_lines head repair 0) (all_is none))
+
+    pub count_ends : next ≡ 0 → count + length (left_of repair own).findings ≡ findings_in repair (reports_of bad words parent)
+    count_ends none = count_are ∙ sym (ap (findings_in repair) (all_is none))

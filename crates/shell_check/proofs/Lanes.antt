@@ -30,10 +30,6 @@ log_as l own words same r read is holds = subst (λ (ws : List ℕ). IsLogRead l
 
 -- ---- what holds of any answer
 
-pub if_any : {A E : Type 0} (r : Result A E) (P : Type 0) → P → IfOk r (λ _. P)
-if_any (Ok x) P holds = holds
-if_any (Err e) P holds = tt
-
 pub some_any : {A : Type 0} (o : Option A) (P : Type 0) → P → IfSome o (λ _. P)
 some_any (Some x) P holds = holds
 some_any None P holds = tt

@@ -1,12 +1,13 @@
 pub mod PagesBehind
 pub mod Lanes
 pub mod Parts
-pub mod Fits
 pub mod RunPuts
 pub mod ArenaRuns
 pub mod Mending
 pub mod MendingOne
 pub mod Following
 pub mod Empty
+pub mod Extents
 pub mod Saved
 pub mod Coming
+pub mod Each

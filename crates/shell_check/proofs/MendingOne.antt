@@ -4,6 +4,7 @@ use Rattle.std.specs.Prelude.{IfSome, MatchBool}
 use Rattle.std.proofs.lemmas.List.{length-drop}
 use Rattle.cut_words.specs.WordBytes.{words_in}
 use Rattle.arena_check.specs.Check.{info_used, source_of}
+use Rattle.arena_repair.specs.declared.page.PageCopy.{PageCopy}
 use Rattle.arena_repair.specs.Repair.{page_repair, repaired_by}
 use Rattle.namespace_bytes.specs.declared.runs.Run.{Run}
 use Rattle.namespace_bytes.specs.Runs.{runs_byte}
@@ -15,9 +16,12 @@ use Rattle.namespace_words.proofs.MadeMoves.{bytes_stay}
 use Rattle.shell_check.specs.declared.arena.ArenaChecked.{ArenaChecked}
 use Rattle.shell_check.specs.Reading.{AreRepairs, AreRepairsIf, FitsIn, IsChecked, RepairsAll, map_by}
 use Rattle.shell_check.proofs.ArenaRuns.{Makes, arena_made, changed_long}
-use Rattle.shell_check.proofs.Fits.{PageFits}
 use Rattle.shell_check.proofs.Lanes.{some_more}
 use Rattle.shell_check.proofs.Mending.{MendsSoFar, mends_last, mends_more, mends_none}
+
+-- both pages end in so many bytes
+abbrev PageFits : ℕ → PageCopy → Type 0
+PageFits rest copy = (8 * copy.from + 4096 ≤ rest) × (8 * copy.to + 4096 ≤ rest)
 
 -- what the runs so far do
 abbrev pub MendsIf : Bool → (ℕ → Bool) → List ℕ → List ℕ → ℕ → ℕ → List Run → Type 0

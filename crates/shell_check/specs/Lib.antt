@@ -2,3 +2,4 @@ pub mod Text
 pub mod Comes
 pub mod Reading
 pub mod Saving
+pub mod All

@@ -20,6 +20,9 @@ use Rattle.namespace_bytes.specs.declared.runs.Run.{Run}
 use Rattle.namespace_bytes.specs.Changed.{changed_from}
 use Rattle.namespace_bytes.specs.Runs.{runs_byte}
 use Rattle.arena_repair.specs.Chain.{repaired_all}
+use Rattle.arena_check.specs.declared.finding.Report.{Report}
+use Rattle.shell_check.specs.declared.chain.Checked.{Checked}
+use Rattle.shell_check.specs.Text.{findings_in, report_lines}
 use Rattle.shell_check.specs.declared.arena.ArenaChecked.{ArenaChecked}
 use Rattle.shell_check.specs.declared.arena.MapPut.{MapPut}
 use Rattle.shell_check.specs.declared.log.LogRead.{LogRead}
@@ -98,3 +101,10 @@ AreRepairsIf repair at words page map runs = MatchBool repair (AreRepairs at wor
 -- with these runs the bytes of a namespace become those after a repair
 abbrev pub RepairsAll : (ℕ → Bool) → List ℕ → List ℕ → List Run → Type 0
 RepairsAll bad parent row runs = words_in (changed_from (runs_byte runs) 0 row) ≡ repaired_all bad (words_in row) parent
+
+-- ---- lines
+
+-- The lines of these reports, each of which begins with the head, and how many of their findings are open.
+pub record IsListed (head : List ℕ) (repair : Bool) (reports : List Report) (checked : Checked) : Type 0 where
+  pub text : checked.text.items ≡ report_lines head repair 0 reports
+  pub count : checked.count ≡ findings_in repair reports

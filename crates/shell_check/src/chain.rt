@@ -1,16 +1,15 @@
 //! The arenas of a namespace are checked, one after another.
 ghost use Rattle.std.specs.Prelude.{◌≡◌, ℕ, ◌+◌, ◌-◌, ◌*◌, ◌%◌, ◌^◌, ◌<◌, ◌≤◌, [], ◌++◌, IfOk, List, OnOk, MatchBool, drop, length};
 ghost use Rattle.nvd_media.specs.Causes.{HasCause};
-ghost use Rattle.namespace_bytes.specs.declared.runs.Run.{Run as RunOf};
 ghost use Rattle.power_cut.specs.Namespace.{IsLaid, raw_bytes};
 ghost use Rattle.namespace_words.specs.Source.{HasEnds, Reveals, bytes_by, words_by};
 ghost use Rattle.arena_repair.specs.Chain.{reports_of};
-ghost use Rattle.shell_check.specs.Reading.{AreRepairsIf, FitsIn, RepairsAll};
-ghost use Rattle.shell_check.specs.Text.{arena_lines, check_text, left_of};
+ghost use Rattle.shell_check.specs.Reading.{IsListed, RepairsAll};
+ghost use Rattle.shell_check.specs.Text.{arena_lines, left_of};
 
 use crate::arena::{ArenaChecked, check_arena};
 use crate::repair::push_repairs;
-use crate::text::{push_last_line, push_report};
+use crate::text::push_report;
 use arena_check::BadWords;
 use namespace_bytes::Run;
 use nvd_media::{Failed, ImageSource};
@@ -19,63 +18,44 @@ use power_cut::SetExtent;
 use std::alloc::{AllocError, Global};
 use uuid::Uuid;
 
-/// The lines of a check, and the runs of bytes that repair the namespace.
+/// The lines of a check, how many findings are open, and the runs of bytes that repair the
+/// namespace.
 #[derive(Drop)]
 pub(crate) struct Checked {
     pub text: Vec<u8>,
+    pub count: u64,
     pub runs: Items<Run>,
-}
-
-/// Appends the runs that repair the arena whose first word is `at`, if there is a repair.
-fn push_repairs_if<S: ImageSource>(
-    alloc: Global,
-    images: &mut S,
-    extent: &SetExtent<'_>,
-    repair: bool,
-    at: u64,
-    arena: &ArenaChecked,
-    runs: &mut Vec<Run>,
-) -> Result<Result<(), AllocError>, Failed>
-    requires few { raw_bytes extent.now ≤ 2 ^ 55 }
-    requires inside { 8 * at + 4096 ≤ raw_bytes extent.now }
-    requires fits { FitsIn (raw_bytes extent.now - 8 * at) arena.now }
-    requires there { HasEnds (S.held images.old) extent.now.set }
-    ensures told { (contents : List (List ℕ)) → Reveals (S.held images.old) extent.now.set contents
-        → IfOk result (λ done. OnOk done ((made : List RunOf) × AreRepairsIf repair at (drop at (words_by extent.now contents)) arena.now.page arena.now.map made × (runs.new.items ≡ runs.old.items ++ made))) }
-    ensures same { S.held images.new ≡ S.held images.old }
-    ensures cause { HasCause (S.faults images.old) (S.faults images.new) result }
-{
-    if !repair {
-        return Ok(Ok(()));
-    }
-    push_repairs(alloc, images, extent, at, arena, runs)
 }
 
 /// Appends the lines of arena k, and returns how many of its findings are open.
 fn push_arena(
     alloc: Global,
+    head: &str,
     repair: bool,
     k: u64,
     arena: ArenaChecked,
     text: &mut Vec<u8>,
 ) -> Result<u64, AllocError>
-    ensures lines { OnOk result (text.new.items ≡ text.old.items ++ arena_lines repair k arena.report) }
+    ensures lines { OnOk result (text.new.items ≡ text.old.items ++ arena_lines head.now repair k arena.report) }
     ensures count { IfOk result (λ count. count ≡ length (left_of repair arena.report).findings) }
 {
-    push_report(alloc, repair, k, &arena.report, text)
+    push_report(alloc, head, repair, k, &arena.report, text)
 }
 
-/// Checks all arenas of a namespace, in order, and returns the lines of what was found. The first one begins with the namespace.
-/// With `repair` it returns the runs of bytes that repair them, too; else none.
+/// Checks all arenas of a namespace, in order, and returns the lines of what was found, each of
+/// which begins with `head`. The first arena begins with the namespace. With `repair` it returns the
+/// runs of bytes that repair them, too; else none.
 ///
-/// The namespace must be whole pages, and not empty. Of its contents the arenas' info blocks, logs and maps are read. The call
-/// fails inside only if memory runs out; `Failed` means that the source's count of failures rose.
+/// The namespace must be whole pages, and not empty. Of its contents the arenas' info blocks, logs
+/// and maps are read. The call fails inside only if memory runs out; `Failed` means that the
+/// source's count of failures rose.
 pub(crate) fn check_chain<S: ImageSource, B: BadWords>(
     alloc: Global,
     images: &mut S,
     extent: &SetExtent<'_>,
     bad: &B,
     uuid: &Uuid,
+    head: &str,
     repair: bool,
 ) -> Result<Result<Checked, AllocError>, Failed>
     requires laid { IsLaid extent.now }
@@ -84,7 +64,8 @@ pub(crate) fn check_chain<S: ImageSource, B: BadWords>(
     requires few { raw_bytes extent.now ≤ 2 ^ 55 }
     requires there { HasEnds (S.held images.old) extent.now.set }
     ensures told { (contents : List (List ℕ)) → Reveals (S.held images.old) extent.now.set contents
-        → IfOk result (λ found. IfOk found (λ checked. checked.text.items ≡ check_text repair (reports_of (B.bad bad.now) (words_by extent.now contents) uuid.now))) }
+        → IfOk result (λ found. IfOk found (IsListed head.now repair (reports_of (B.bad bad.now) (words_by extent.now contents) uuid.now))) }
+    ensures few { IfOk result (λ found. IfOk found (λ checked. checked.count ≤ length checked.text.items)) }
     ensures repairs { (contents : List (List ℕ)) → Reveals (S.held images.old) extent.now.set contents
         → IfOk result (λ found. IfOk found (λ checked. MatchBool repair (RepairsAll (B.bad bad.now) uuid.now (bytes_by extent.now contents) checked.runs) (checked.runs ≡ []))) }
     ensures same { S.held images.new ≡ S.held images.old }
@@ -100,10 +81,10 @@ pub(crate) fn check_chain<S: ImageSource, B: BadWords>(
             return Ok(Err(AllocError));
         };
         let next = arena.next;
-        if push_repairs_if(alloc, images, extent, repair, at, &arena, &mut runs)?.is_err() {
+        if push_repairs(alloc, images, extent, repair, at, &arena, &mut runs)?.is_err() {
             return Ok(Err(AllocError));
         }
-        let Ok(open) = push_arena(alloc, repair, k, arena, &mut text) else {
+        let Ok(open) = push_arena(alloc, head, repair, k, arena, &mut text) else {
             return Ok(Err(AllocError));
         };
         count += open;
@@ -113,11 +94,9 @@ pub(crate) fn check_chain<S: ImageSource, B: BadWords>(
         k += 1;
         at += next / 8;
     }
-    match push_last_line(alloc, count, &mut text) {
-        Ok(()) => Ok(Ok(Checked {
-            text,
-            runs: Items::from_vec(runs),
-        })),
-        Err(_) => Ok(Err(AllocError)),
-    }
+    Ok(Ok(Checked {
+        text,
+        count,
+        runs: Items::from_vec(runs),
+    }))
 }

@@ -1,5 +1,5 @@
 //! The command `check`.
-ghost use Rattle.std.specs.Prelude.{◌≡◌, ℕ, ◌≤◌, Bool, [], IfOk, Err, List, MatchBool, map};
+ghost use Rattle.std.specs.Prelude.{◌≡◌, ℕ, ◌++◌, ◌≤◌, [], IfOk, Err, List, MatchBool, map};
 ghost use Rattle.std.specs.Option.{ForSome};
 ghost use Rattle.nvd_media.specs.Causes.{HasCause, Rose};
 ghost use Rattle.image_set.specs.declared.outline.Outline.{Outline as OutlineRead};
@@ -16,18 +16,15 @@ ghost use Rattle.namespace_areas.specs.Seen.{words_of as area_words};
 ghost use Rattle.arena_repair.specs.Chain.{reports_of};
 ghost use Rattle.shell_check.specs.Comes.{ChecksFrom};
 ghost use Rattle.shell_check.specs.Reading.{RepairsAll};
-ghost use Rattle.shell_check.specs.Text.{check_text};
+ghost use Rattle.shell_check.specs.Text.{check_text, last_line};
 
-use crate::chain::{Checked, check_chain};
+use crate::chain::Checked;
+use crate::extent::check_extent;
 use crate::saving::copied_answer;
-use crate::text::{push_last_line, push_report};
-use arena_check::{Finding, Report};
-use arena_layout::InfoFault;
-use bad_ranges::BadExtent;
+use crate::text::push_last_line;
 use image_set::{Outline, OutlineRest};
 use namespace_ops::Registry;
 use nvd_media::{Failed, ImageSource};
-use nvd_words::Items;
 use power_cut::SetExtent;
 use shell_changes::{Answer, in_memory, without_set};
 use shell_reports::{RunStop, printed_answer};
@@ -35,33 +32,18 @@ use shell_sectors::{OutlineOpened, SectorPlace, open_outline, place_in, unfound_
 use std::alloc::{AllocError, Global};
 use uuid::Uuid;
 
-/// The text for a namespace without bytes, which has no info block.
-fn empty_text(alloc: Global, repair: bool) -> Result<Vec<u8>, AllocError>
-    ensures { IfOk result (λ text. (bad : ℕ → Bool) (parent : List ℕ) → text.items ≡ check_text repair (reports_of bad [] parent)) }
+/// Appends the last line.
+fn with_last_line(alloc: Global, checked: Checked) -> Result<Checked, AllocError>
+    ensures text { IfOk result (λ done. done.text.items ≡ checked.text.items ++ last_line checked.count) }
+    ensures runs { IfOk result (λ done. done.runs ≡ checked.runs) }
 {
-    let fault = InfoFault::Signature;
-    let mut findings = Items::new(alloc);
-    findings.push(Finding::Info { fault })?;
-    let mut text = Vec::new(alloc);
-    let report = Report {
-        findings,
-        size: None,
-    };
-    let open = push_report(alloc, repair, 0, &report, &mut text)?;
-    push_last_line(alloc, open, &mut text)?;
-    Ok(text)
-}
-
-/// The answer for a namespace without bytes: nothing is repaired.
-fn check_empty(alloc: Global, repair: bool) -> Result<Checked, AllocError>
-    ensures text { IfOk result (λ checked. (bad : ℕ → Bool) (parent : List ℕ) → checked.text.items ≡ check_text repair (reports_of bad [] parent)) }
-    ensures runs { IfOk result (λ checked. checked.runs ≡ []) }
-{
-    let text = empty_text(alloc, repair)?;
-    Ok(Checked {
-        text,
-        runs: Items::new(alloc),
-    })
+    let Checked {
+        mut text,
+        count,
+        runs,
+    } = checked;
+    push_last_line(alloc, count, &mut text)?;
+    Ok(Checked { text, count, runs })
 }
 
 /// Checks the arenas of a namespace that was found. It returns the lines of what was found, and with `repair` the runs of bytes
@@ -83,11 +65,9 @@ fn check_place<S: ImageSource>(
     ensures cause { HasCause (S.faults images.old) (S.faults images.new) result }
 {
     let extent = SetExtent::of(&place.set, place.found.offset, place.found.raw);
-    if extent.bytes() == 0 {
-        return Ok(check_empty(alloc, repair));
-    }
-    match BadExtent::of(alloc, &extent, place.rest.bad.as_slice()) {
-        Ok(bad) => check_chain(alloc, images, &extent, &bad, uuid, repair),
+    let bad = place.rest.bad.as_slice();
+    match check_extent(alloc, images, &extent, bad, uuid, "arena ", repair)? {
+        Ok(checked) => Ok(with_last_line(alloc, checked)),
         Err(_) => Ok(Err(AllocError)),
     }
 }

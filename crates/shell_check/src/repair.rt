@@ -5,7 +5,7 @@ ghost use Rattle.arena_layout.specs.Layout.{IsLayout};
 ghost use Rattle.power_cut.specs.Namespace.{raw_bytes};
 ghost use Rattle.namespace_words.specs.Source.{HasEnds, Reveals, words_by};
 ghost use Rattle.namespace_bytes.specs.declared.runs.Run.{Run as RunOf};
-ghost use Rattle.shell_check.specs.Reading.{ArePageRuns, AreRepairs, FitsIn, IsPageRun, map_run, map_runs};
+ghost use Rattle.shell_check.specs.Reading.{ArePageRuns, AreRepairsIf, FitsIn, IsPageRun, map_run, map_runs};
 
 use crate::arena::{ArenaChecked, MapPut};
 use crate::pages::read_page;
@@ -111,11 +111,13 @@ fn push_page<S: ImageSource>(
     }
 }
 
-/// Appends the runs that repair the arena whose first word is `at`: a page, and then its map.
+/// Appends the runs that repair the arena whose first word is `at`, if there is a repair: a page,
+/// and then its map.
 pub(crate) fn push_repairs<S: ImageSource>(
     alloc: Global,
     images: &mut S,
     extent: &SetExtent<'_>,
+    repair: bool,
     at: u64,
     arena: &ArenaChecked,
     runs: &mut Vec<Run>,
@@ -125,10 +127,13 @@ pub(crate) fn push_repairs<S: ImageSource>(
     requires fits { FitsIn (raw_bytes extent.now - 8 * at) arena.now }
     requires there { HasEnds (S.held images.old) extent.now.set }
     ensures told { (contents : List (List ℕ)) → Reveals (S.held images.old) extent.now.set contents
-        → IfOk result (λ done. OnOk done ((made : List RunOf) × AreRepairs at (drop at (words_by extent.now contents)) arena.now.page arena.now.map made × (runs.new.items ≡ runs.old.items ++ made))) }
+        → IfOk result (λ done. OnOk done ((made : List RunOf) × AreRepairsIf repair at (drop at (words_by extent.now contents)) arena.now.page arena.now.map made × (runs.new.items ≡ runs.old.items ++ made))) }
     ensures same { S.held images.new ≡ S.held images.old }
     ensures cause { HasCause (S.faults images.old) (S.faults images.new) result }
 {
+    if !repair {
+        return Ok(Ok(()));
+    }
     match push_page(alloc, images, extent, at, arena.page, runs)? {
         Ok(()) => Ok(push_map(alloc, at, &arena.map, runs)),
         Err(_) => Ok(Err(AllocError)),

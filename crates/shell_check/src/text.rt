@@ -28,33 +28,34 @@ fn finding_text(alloc: Global, finding: Finding) -> Result<String, AllocError>
     }
 }
 
-/// Returns the line of a finding of arena k.
-fn finding_line(alloc: Global, k: u64, finding: Finding) -> Result<String, AllocError>
-    ensures { IfOk result (λ text. string_bytes text ≡ finding_line k finding) }
+/// Returns the line of a finding of arena k, which begins with `head`.
+fn finding_line(alloc: Global, head: &str, k: u64, finding: Finding) -> Result<String, AllocError>
+    ensures { IfOk result (λ text. string_bytes text ≡ finding_line head.now k finding) }
 {
     let text = finding_text(alloc, finding)?;
-    format!(in alloc; "arena {} {}\n", k, text)
+    format!(in alloc; "{}{} {}\n", head, k, text)
 }
 
-/// Returns the line of a finding of arena k that was repaired.
-fn repaired_line(alloc: Global, k: u64, finding: Finding) -> Result<String, AllocError>
-    ensures { IfOk result (λ text. string_bytes text ≡ repaired_line k finding) }
+/// Returns the line of a finding of arena k that was repaired. It begins with `head`.
+fn repaired_line(alloc: Global, head: &str, k: u64, finding: Finding) -> Result<String, AllocError>
+    ensures { IfOk result (λ text. string_bytes text ≡ repaired_line head.now k finding) }
 {
     let text = finding_text(alloc, finding)?;
-    format!(in alloc; "arena {} repaired {}\n", k, text)
+    format!(in alloc; "{}{} repaired {}\n", head, k, text)
 }
 
 /// Appends the lines of the findings of arena k.
 fn push_lines(
     alloc: Global,
+    head: &str,
     k: u64,
     findings: &[Finding],
     text: &mut Vec<u8>,
 ) -> Result<(), AllocError>
-    ensures { OnOk result (text.new.items ≡ text.old.items ++ lines_of k findings.now) }
+    ensures { OnOk result (text.new.items ≡ text.old.items ++ lines_of head.now k findings.now) }
 {
     for finding in findings {
-        let line = finding_line(alloc, k, *finding)?;
+        let line = finding_line(alloc, head, k, *finding)?;
         text.extend_from_slice(line.as_bytes())?;
     }
     Ok(())
@@ -63,38 +64,41 @@ fn push_lines(
 /// Appends the lines of the findings of arena k that were repaired.
 fn push_repaired(
     alloc: Global,
+    head: &str,
     k: u64,
     findings: &[Finding],
     text: &mut Vec<u8>,
 ) -> Result<(), AllocError>
-    ensures { OnOk result (text.new.items ≡ text.old.items ++ repaired_lines k findings.now) }
+    ensures { OnOk result (text.new.items ≡ text.old.items ++ repaired_lines head.now k findings.now) }
 {
     for finding in findings {
-        let line = repaired_line(alloc, k, *finding)?;
+        let line = repaired_line(alloc, head, k, *finding)?;
         text.extend_from_slice(line.as_bytes())?;
     }
     Ok(())
 }
 
-/// Appends the lines of arena k: with a repair, those of the findings that it answers, and then those of the findings that stay
-/// open. It returns how many these are.
+/// Appends the lines of arena k, each of which begins with `head`: with a repair, those of the
+/// findings that it answers, and then those of the findings that stay open. It returns how many
+/// these are.
 pub(crate) fn push_report(
     alloc: Global,
+    head: &str,
     repair: bool,
     k: u64,
     report: &Report,
     text: &mut Vec<u8>,
 ) -> Result<u64, AllocError>
-    ensures lines { OnOk result (text.new.items ≡ text.old.items ++ arena_lines repair k report.now) }
+    ensures lines { OnOk result (text.new.items ≡ text.old.items ++ arena_lines head.now repair k report.now) }
     ensures count { IfOk result (λ count. count ≡ length (left_of repair report.now).findings) }
 {
     if !repair {
-        push_lines(alloc, k, report.findings.as_slice(), text)?;
+        push_lines(alloc, head, k, report.findings.as_slice(), text)?;
         return Ok(report.findings.len() as u64);
     }
     let split = split_report(alloc, report)?;
-    push_repaired(alloc, k, split.repaired.as_slice(), text)?;
-    push_lines(alloc, k, split.left.as_slice(), text)?;
+    push_repaired(alloc, head, k, split.repaired.as_slice(), text)?;
+    push_lines(alloc, head, k, split.left.as_slice(), text)?;
     Ok(split.left.len() as u64)
 }
 
@@ -109,11 +113,7 @@ fn last_line(alloc: Global, count: u64) -> Result<String, AllocError>
 }
 
 /// Appends the last line, after so many findings.
-pub(crate) fn push_last_line(
-    alloc: Global,
-    count: u64,
-    text: &mut Vec<u8>,
-) -> Result<(), AllocError>
+pub fn push_last_line(alloc: Global, count: u64, text: &mut Vec<u8>) -> Result<(), AllocError>
     ensures { OnOk result (text.new.items ≡ text.old.items ++ last_line count) }
 {
     let line = last_line(alloc, count)?;

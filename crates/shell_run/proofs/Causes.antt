@@ -20,7 +20,7 @@ use Rattle.shell_reports.specs.declared.status.Ending.{Ending}
 use Rattle.shell_reports.specs.declared.status.Ending.TheVariants as ending
 use Rattle.shell_reports.specs.declared.status.Status.TheVariants as status
 use Rattle.shell_run.specs.declared.words.CommandLine.{CommandLine}
-use Rattle.shell_run.specs.declared.words.CommandLine.TheVariants.{Labels, Nfit, Init, Change, Info, Check, Read, Write, Replay, Export, Import, Serve, Load}
+use Rattle.shell_run.specs.declared.words.CommandLine.TheVariants.{Labels, Nfit, Init, Change, Info, Check, CheckSet, Read, Write, Replay, Export, Import, Serve, Load}
 use Rattle.shell_run.specs.declared.words.CommandLine.TheVariants as command
 use Rattle.shell_reports.specs.declared.power.Power.{Power}
 use Rattle.nfit_reader.specs.declared.table.Mapping.{Mapping}
@@ -47,6 +47,7 @@ use Rattle.shell_reports.proofs.Causes.{SectorsCase, faulty, unfound, broken, op
 use Rattle.shell_reports.proofs.More.{ending_of}
 use Rattle.session_script.specs.declared.payload.Payload.{Payload}
 use Rattle.shell_check.specs.Comes.{OnFound, OnNamed}
+use Rattle.shell_set_check.specs.Whole.{set_check_outcome}
 use Rattle.shell_sectors.specs.Causes.{bars, bars_found}
 use Rattle.shell_sectors.specs.Write.{Writes, WritesArenas, write_refusal}
 use Rattle.shell_sectors.proofs.Causes.{SetCase, set_broken, set_case, set_faulty, set_opened, set_unfound}
@@ -72,7 +73,7 @@ use Rattle.shell_run.specs.declared.scripts.ScriptRefused.{ScriptRefused}
 use Rattle.shell_run.specs.Run.{Comes, LoadedComes, OnImages, OnLoaded, OnScript, ComesTold, reads_script}
 use Rattle.shell_run.specs.declared.scripts.ScriptRefused.TheVariants as refused
 use Rattle.shell_run.specs.Scripts.{bytes_in, most_file_bytes, script_in, script_outcome}
-use Rattle.shell_run.specs.Statuses.{bars_sessions, breaks_sessions, ending_by, ending_due, ending_on, ending_scripted, ending_with, has_block, is_barred, is_cut, is_short, keeps_area, refuses_area, refuses_images}
+use Rattle.shell_run.specs.Statuses.{bars_sessions, breaks_sessions, ending_by, ending_due, ending_on, ending_on_set, ending_scripted, has_block, is_barred, is_cut, is_short, keeps_area, refuses_area, refuses_images}
 use Rattle.shell_run.specs.Laws.{StatusIsDue}
 
 -- the ways in which a command on images is answered
@@ -342,6 +343,7 @@ module _ (leaves : ℕ → List (Option Words) → List (Option (List ℕ)) → 
   command_case (Change c power) (Ok loaded) outcome comes = change_case leaves c power loaded outcome (sets_in loaded) refl comes
   command_case (Info uuid) (Ok loaded) outcome comes = info_case uuid loaded outcome (sectors_case (λ states. printed (arena_lines 0 states)) loaded uuid outcome comes)
   command_case (Check uuid repair) (Ok loaded) outcome comes = check_case uuid repair loaded outcome (fault_in loaded) (found_in loaded uuid) refl refl comes
+  command_case CheckSet (Ok loaded) outcome comes = absurd comes
   command_case (Read uuid sector) (Ok loaded) outcome comes = read_case uuid sector loaded outcome (sectors_case (sector_outcome sector) loaded uuid outcome comes)
   command_case (Write uuid sector value) (Ok loaded) outcome comes =
       write_case uuid sector value loaded outcome (set_case (WritesArenas uuid sector value loaded outcome) loaded uuid outcome comes)
@@ -395,7 +397,7 @@ module _ (leaves : ℕ → List (Option Words) → List (Option (List ℕ)) → 
       import_found uuid bytes (loading set) outcome (on set refl) ∙ ap (λ (bs : List ℕ). ending_scripted (Import uuid) bs (loading set)) (same bytes refl)
   import_ending uuid script set outcome (Err why) same said = ending_of outcome (script_outcome why) said
 
-  script_ending : (command : CommandLine) (script : List ℕ) (set : Images) (outcome : Outcome) → Comes leaves command (Some set) script outcome → outcome.ending ≡ ending_with (Some command) script (loading set)
+  script_ending : (command : CommandLine) (script : List ℕ) (set : Images) (outcome : Outcome) → Comes leaves command (Some set) script outcome → outcome.ending ≡ ending_on_set (Some command) script set
   script_ending (Labels m) script set outcome comes = plain_ending (Labels m) set outcome comes
   script_ending Nfit script set outcome comes = plain_ending Nfit set outcome comes
   script_ending command.List script set outcome comes = plain_ending command.List set outcome comes
@@ -403,6 +405,7 @@ module _ (leaves : ℕ → List (Option Words) → List (Option (List ℕ)) → 
   script_ending (Change c power) script set outcome comes = plain_ending (Change c power) set outcome comes
   script_ending (Info uuid) script set outcome comes = plain_ending (Info uuid) set outcome comes
   script_ending (Check uuid repair) script set outcome comes = plain_ending (Check uuid repair) set outcome comes
+  script_ending CheckSet script set outcome comes = ending_of outcome (set_check_outcome set) (comes set refl)
   script_ending (Read uuid sector) script set outcome comes = plain_ending (Read uuid sector) set outcome comes
   script_ending (Write uuid sector value) script set outcome comes = plain_ending (Write uuid sector value) set outcome comes
   script_ending (Export uuid zeros) script set outcome comes = plain_ending (Export uuid zeros) set outcome comes
@@ -414,9 +417,9 @@ module _ (leaves : ℕ → List (Option Words) → List (Option (List ℕ)) → 
   due_by : (words : List (List ℕ)) (set : Images) (script : List ℕ) (left : Option (List ℕ)) (outcome : Outcome) (found : Option CommandLine) → command_of words ≡ found
       → MatchOption found ⊤ (λ command. IsTrue (reads_script command) → left ≡ Some script)
       → MatchOption found (outcome ≡ usage) (λ command. ComesTold leaves command (Some set) left outcome) → outcome.ending ≡ ending_due words script set
-  due_by words set script left outcome None is told due = ending_of outcome _ due ∙ sym (ap (λ (o : Option CommandLine). ending_with o script (loading set)) is)
+  due_by words set script left outcome None is told due = ending_of outcome _ due ∙ sym (ap (λ (o : Option CommandLine). ending_on_set o script set) is)
   due_by words set script left outcome (Some command) is told due =
-      script_ending command script set outcome (due script told) ∙ sym (ap (λ (o : Option CommandLine). ending_with o script (loading set)) is)
+      script_ending command script set outcome (due script told) ∙ sym (ap (λ (o : Option CommandLine). ending_on_set o script set) is)
 
   pub status_due : StatusIsDue leaves
   status_due words set script left made made' text text' images images' source source' status.ReadFault told ends = inr tt

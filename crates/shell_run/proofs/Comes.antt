@@ -32,10 +32,11 @@ use Rattle.shell_serve.specs.declared.serving.Running.{Running}
 use Rattle.shell_serve.specs.Serve.{ServeComes}
 use Rattle.shell_run.specs.declared.scripts.ScriptRefused.{ScriptRefused}
 use Rattle.shell_run.specs.declared.words.CommandLine.{CommandLine}
-use Rattle.shell_run.specs.declared.words.CommandLine.TheVariants.{Labels, Nfit, Init, Change, Info, Check, Read, Write, Replay as AskReplay, Export, Import, Serve, Load}
+use Rattle.shell_run.specs.declared.words.CommandLine.TheVariants.{Labels, Nfit, Init, Change, Info, Check, CheckSet, Read, Write, Replay as AskReplay, Export, Import, Serve, Load}
 use Rattle.shell_run.specs.declared.words.CommandLine.TheVariants as command
 use Rattle.shell_run.specs.Printed.{Exports, IsReported, IsUnloaded}
-use Rattle.shell_run.specs.Run.{Comes, ComesTold, IsDue, LoadedComes, OnImages, OnLoaded, OnScript, OnSource, copies, copies_by, copies_found, has_sessions, reads_script, streams, streams_by, streams_found}
+use Rattle.shell_set_check.specs.Whole.{set_check_outcome}
+use Rattle.shell_run.specs.Run.{Comes, ComesTold, IsDue, LoadedComes, OnImages, OnLoaded, OnScript, OnSource, checks_set, copies, copies_by, copies_found, has_sessions, reads_script, streams, streams_by, streams_found}
 use Rattle.shell_run.specs.Scripts.{bytes_in, script_in, script_outcome}
 use Rattle.shell_run.specs.Words.{command_of}
 
@@ -234,6 +235,7 @@ session_copies (command.Init m power) some = let e = some in cc
 session_copies (command.Change c power) some = let e = some in cc
 session_copies (command.Info uuid) some = let e = some in cc
 session_copies (command.Check uuid repair) some = let e = some in cc
+session_copies command.CheckSet some = let e = some in cc
 session_copies (command.Read uuid sector) some = let e = some in cc
 session_copies (command.Write uuid sector value) some = let e = some in cc
 session_copies (command.Replay uuid seed) some = let e = some in cc
@@ -254,29 +256,35 @@ if_told P (Err e) fault all nothing says read memory = tt
 
 module _ (leaves : ℕ → List (Option Words) → List (Option (List ℕ)) → Type 0) (held : Option Images) (script : List ℕ) (outcome : Outcome) where
   -- a command without a script comes to what is due on the images
-  pub plain_comes : (command : CommandLine) → reads_script command ≡ false → OnImages (LoadedComes leaves command) held outcome → Comes leaves command held script outcome
-  plain_comes (Labels m) plain on = on
-  plain_comes Nfit plain on = on
-  plain_comes command.List plain on = on
-  plain_comes (Init m power) plain on = on
-  plain_comes (Change c power) plain on = on
-  plain_comes (Info uuid) plain on = on
-  plain_comes (Check uuid repair) plain on = on
-  plain_comes (Read uuid sector) plain on = on
-  plain_comes (Write uuid sector value) plain on = on
-  plain_comes (AskReplay uuid seed) plain on = absurd (let e = plain in cc)
-  plain_comes (Export uuid zeros) plain on = on
-  plain_comes (Import uuid) plain on = absurd (let e = plain in cc)
-  plain_comes (Serve running) plain on = absurd (let e = plain in cc)
-  plain_comes (Load l workers) plain on = on
+  pub plain_comes : (command : CommandLine) → reads_script command ≡ false → checks_set command ≡ false → OnImages (LoadedComes leaves command) held outcome → Comes leaves command held script outcome
+  plain_comes (Labels m) plain other on = on
+  plain_comes Nfit plain other on = on
+  plain_comes command.List plain other on = on
+  plain_comes (Init m power) plain other on = on
+  plain_comes (Change c power) plain other on = on
+  plain_comes (Info uuid) plain other on = on
+  plain_comes (Check uuid repair) plain other on = on
+  plain_comes CheckSet plain other on = absurd (let e = other in cc)
+  plain_comes (Read uuid sector) plain other on = on
+  plain_comes (Write uuid sector value) plain other on = on
+  plain_comes (AskReplay uuid seed) plain other on = absurd (let e = plain in cc)
+  plain_comes (Export uuid zeros) plain other on = on
+  plain_comes (Import uuid) plain other on = absurd (let e = plain in cc)
+  plain_comes (Serve running) plain other on = absurd (let e = plain in cc)
+  plain_comes (Load l workers) plain other on = on
 
 module _ (leaves : ℕ → List (Option Words) → List (Option (List ℕ)) → Type 0) (held : Option Images) (left : Option (List ℕ)) where
   abbrev pub IsDueFor : CommandLine → Answer → Type 0
   IsDueFor command answer = (outcome : Outcome) → ComesFrom held answer outcome → ComesTold leaves command held left outcome
 
-  pub plain_due : {E : Type 0} (command : CommandLine) (r : Result Answer E) → reads_script command ≡ false → IfOk r (IsTold (LoadedComes leaves command) held) → IfOk r (IsDueFor command)
-  plain_due command (Ok answer) plain told = λ outcome from script reads. plain_comes leaves held script outcome command plain (told outcome from)
-  plain_due command (Err e) plain told = tt
+  pub plain_due : {E : Type 0} (command : CommandLine) (r : Result Answer E) → reads_script command ≡ false → checks_set command ≡ false → IfOk r (IsTold (LoadedComes leaves command) held) → IfOk r (IsDueFor command)
+  plain_due command (Ok answer) plain other told = λ outcome from script reads. plain_comes leaves held script outcome command plain other (told outcome from)
+  plain_due command (Err e) plain other told = tt
+
+  -- what is found on the whole set
+  pub set_due : {E : Type 0} (r : Result Answer E) → IfOk r (λ answer. (outcome : Outcome) → ComesFrom held answer outcome → ForSome held (λ set. outcome ≡ set_check_outcome set)) → IfOk r (IsDueFor CheckSet)
+  set_due (Ok answer) told = λ outcome from script reads. told outcome from
+  set_due (Err e) told = tt
 
   -- a schedule was read
   pub read_due : {E : Type 0} (uuid : List ℕ) (seed : ℕ) (schedule : Schedule) (replay : Replay) (r : Result Answer E) → schedule ≡ record { lines = replay.lines; seed = seed }

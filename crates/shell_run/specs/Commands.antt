@@ -27,6 +27,11 @@ kind_of name =
     else if bytes_eq name (codes "load") then Some kind.Load
     else None
 
+-- the same with the words after it: `check` alone is the check of the whole set
+abbrev pub kind_with : List ℕ → List (List ℕ) → Option CommandKind
+kind_with name [] = if bytes_eq name (codes "check") then Some kind.CheckSet else kind_of name
+kind_with name (word ∷ words) = kind_of name
+
 -- the options on power cuts
 abbrev pub power_arguments : List Described
 power_arguments = (codes "cut", Optional) ∷ (codes "evict", Optional) ∷ []
@@ -44,6 +49,7 @@ arguments_of kind.Delete = (codes "uuid", Place) ∷ power_arguments
 arguments_of kind.Rename = (codes "uuid", Place) ∷ (codes "name", Place) ∷ power_arguments
 arguments_of kind.Info = (codes "uuid", Place) ∷ []
 arguments_of kind.Check = (codes "uuid", Place) ∷ (codes "repair", Flag) ∷ []
+arguments_of kind.CheckSet = []
 arguments_of kind.Read = (codes "uuid", Place) ∷ (codes "sector", Place) ∷ []
 arguments_of kind.Write = (codes "uuid", Place) ∷ (codes "sector", Place) ∷ (codes "value", Place) ∷ []
 arguments_of kind.Replay = (codes "uuid", Place) ∷ (codes "evict", Optional) ∷ []

@@ -13,7 +13,7 @@ use Rattle.shell_reports.specs.declared.status.Ending.TheVariants as ending
 use Rattle.shell_reports.specs.declared.status.Status.{Status}
 use Rattle.shell_reports.specs.declared.status.Status.TheVariants as status
 use Rattle.shell_run.specs.declared.words.CommandLine.{CommandLine}
-use Rattle.shell_run.specs.declared.words.CommandLine.TheVariants.{Labels, Nfit, Init, Change, Info, Check, Read, Write, Replay, Export, Import, Serve, Load}
+use Rattle.shell_run.specs.declared.words.CommandLine.TheVariants.{Labels, Nfit, Init, Change, Info, Check, CheckSet, Read, Write, Replay, Export, Import, Serve, Load}
 use Rattle.shell_run.specs.declared.words.CommandLine.TheVariants as command
 use Rattle.shell_run.specs.Words.{HasGoodValues, command_of}
 use Rattle.shell_reports.specs.Outcome.{Outcome, usage, lf, status_of}
@@ -29,6 +29,7 @@ use Rattle.shell_changes.specs.Namespaces.{ChangeComes}
 use Rattle.shell_reports.specs.List.{list_outcome}
 use Rattle.shell_reports.specs.Sectors.{info_outcome, read_outcome}
 use Rattle.shell_check.specs.Comes.{CheckComes}
+use Rattle.shell_set_check.specs.Whole.{set_check_outcome}
 use Rattle.shell_sectors.specs.Write.{WriteComes}
 use Rattle.shell_export.specs.Export.{export_outcome}
 use Rattle.shell_import.specs.Import.{ImportComes}
@@ -52,6 +53,7 @@ LoadedComes leaves (Init m power) loaded outcome = InitComes leaves m power load
 LoadedComes leaves (Change c power) loaded outcome = ChangeComes leaves c power loaded outcome
 LoadedComes leaves (Info uuid) loaded outcome = outcome ≡ info_outcome uuid loaded
 LoadedComes leaves (Check uuid repair) loaded outcome = CheckComes uuid repair loaded outcome
+LoadedComes leaves CheckSet loaded outcome = ⊥
 LoadedComes leaves (Read uuid sector) loaded outcome = outcome ≡ read_outcome uuid sector loaded
 LoadedComes leaves (Write uuid sector value) loaded outcome = WriteComes uuid sector value loaded outcome
 LoadedComes leaves (Replay uuid seed) loaded outcome = ⊥
@@ -79,12 +81,14 @@ abbrev pub OnScript : {A : Type 0} → (A → Outcome → Type 0) → Result A S
 OnScript comes (Ok script) outcome = comes script outcome
 OnScript comes (Err why) outcome = outcome ≡ script_outcome why
 
--- what a command may come to, for images and a script: a command with a script reads it to its end first, and then loads the set
+-- what a command may come to, for images and a script: a command with a script reads it to its end first, and then loads the set; the
+-- check of the whole set goes on where loading stops
 abbrev pub Comes : (ℕ → List (Option Words) → List (Option (List ℕ)) → Type 0) → CommandLine → Option Images → List ℕ → Outcome → Type 0
 Comes leaves (Replay uuid seed) held script outcome =
     OnScript (λ schedule. OnImages (ReplayComes leaves uuid (record { lines = schedule.lines; seed = seed })) held) (script_in replay_reading script) outcome
 Comes leaves (Import uuid) held script outcome = OnScript (λ bytes. OnImages (ImportComes uuid bytes) held) (bytes_in script) outcome
 Comes leaves (Serve running) held script outcome = OnScript (λ lines. OnImages (ServeComes (leaves running.seed) lines) held) (script_in script_reading script) outcome
+Comes leaves CheckSet held script outcome = ForSome held (λ set. outcome ≡ set_check_outcome set)
 Comes leaves command held script outcome = OnImages (LoadedComes leaves command) held outcome
 
 -- whether a command reads the script
@@ -96,6 +100,7 @@ reads_script (Init m power) = false
 reads_script (Change c power) = false
 reads_script (Info uuid) = false
 reads_script (Check uuid repair) = false
+reads_script CheckSet = false
 reads_script (Read uuid sector) = false
 reads_script (Write uuid sector value) = false
 reads_script (Replay uuid seed) = true
@@ -113,6 +118,7 @@ streams (Init m power) = false
 streams (Change c power) = false
 streams (Info uuid) = false
 streams (Check uuid repair) = false
+streams CheckSet = false
 streams (Read uuid sector) = false
 streams (Write uuid sector value) = false
 streams (Replay uuid seed) = false
@@ -121,9 +127,14 @@ streams (Import uuid) = false
 streams (Serve running) = false
 streams (Load l workers) = false
 
+-- whether a command checks the whole set
+abbrev pub checks_set : CommandLine → Bool
+checks_set CheckSet = true
+checks_set command = false
+
 -- a command that makes an answer, of the loaded set alone
 abbrev pub IsPlain : CommandLine → Type 0
-IsPlain command = (reads_script command ≡ false) × (streams command ≡ false)
+IsPlain command = (reads_script command ≡ false) × (streams command ≡ false) × (checks_set command ≡ false)
 
 -- a command that makes an answer, and has good values
 abbrev pub IsAnswered : CommandLine → Type 0
@@ -138,6 +149,7 @@ has_sessions (Init m power) = false
 has_sessions (Change c power) = false
 has_sessions (Info uuid) = false
 has_sessions (Check uuid repair) = false
+has_sessions CheckSet = false
 has_sessions (Read uuid sector) = false
 has_sessions (Write uuid sector value) = false
 has_sessions (Replay uuid seed) = false
@@ -155,6 +167,7 @@ copies (Init m power) = true
 copies (Change c power) = true
 copies (Info uuid) = false
 copies (Check uuid repair) = true
+copies CheckSet = false
 copies (Read uuid sector) = false
 copies (Write uuid sector value) = true
 copies (Replay uuid seed) = true

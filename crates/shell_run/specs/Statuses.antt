@@ -18,6 +18,7 @@ use Rattle.shell_reports.specs.List.{listed_of}
 use Rattle.shell_reports.specs.Causes.{fault_in, is_broken, refuses_info, refuses_read}
 use Rattle.shell_changes.specs.Namespaces as changes
 use Rattle.shell_changes.specs.Namespaces.{sets_in, refuses}
+use Rattle.shell_set_check.specs.Whole.{set_check_outcome}
 use Rattle.shell_sectors.specs.Causes.{refuses_write}
 use Rattle.shell_export.specs.Causes.{breaks_export, refuses_export}
 use Rattle.shell_import.specs.Causes.{refuses_import}
@@ -29,7 +30,7 @@ use Rattle.shell_serve.specs.Causes.{breaks_load, breaks_serve, refuses_load, re
 use Rattle.shell_run.specs.declared.scripts.ScriptRefused.{ScriptRefused}
 use Rattle.shell_run.specs.Scripts.{bytes_in, script_in}
 use Rattle.shell_run.specs.declared.words.CommandLine.{CommandLine}
-use Rattle.shell_run.specs.declared.words.CommandLine.TheVariants.{Labels, Nfit, Init, Change, Info, Check, Read, Write, Replay, Export, Import, Serve, Load}
+use Rattle.shell_run.specs.declared.words.CommandLine.TheVariants.{Labels, Nfit, Init, Change, Info, Check, CheckSet, Read, Write, Replay, Export, Import, Serve, Load}
 use Rattle.shell_run.specs.declared.words.CommandLine.TheVariants as command
 use Rattle.shell_run.specs.Words.{command_of}
 
@@ -67,6 +68,7 @@ refuses_images (Init m power) (Ok loaded) = keeps_area (area_of loaded m)
 refuses_images (Change c power) (Ok loaded) = is_err (sets_in loaded)
 refuses_images (Info uuid) (Ok loaded) = is_broken loaded uuid
 refuses_images (Check uuid repair) (Ok loaded) = is_some (fault_in loaded)
+refuses_images CheckSet (Ok loaded) = false
 refuses_images (Read uuid sector) (Ok loaded) = is_broken loaded uuid
 refuses_images (Write uuid sector value) (Ok loaded) = is_broken loaded uuid
 refuses_images (Replay uuid seed) (Ok loaded) = is_broken loaded uuid
@@ -135,9 +137,14 @@ abbrev pub ending_with : Option CommandLine → List ℕ → Result ImageSet Loa
 ending_with None script found = ending.Usage
 ending_with (Some command) script found = if refuses_script command script then ending.Usage else ending_scripted command script found
 
+-- a check of the whole set ends by what it finds, whether the set is loaded or not
+abbrev pub ending_on_set : Option CommandLine → List ℕ → Images → Ending
+ending_on_set (Some CheckSet) script set = (set_check_outcome set).ending
+ending_on_set command script set = ending_with command script (loading set)
+
 -- the ending that is due: words that are no command line come first, then a script that isn't taken
 abbrev pub ending_due : List (List ℕ) → List ℕ → Images → Ending
-ending_due words script set = ending_with (command_of words) script (loading set)
+ending_due words script set = ending_on_set (command_of words) script set
 
 -- a status that says that something outside failed, or that memory ran out
 abbrev pub IsFromOutside : Status → Type 0

@@ -7,7 +7,7 @@ use Rattle.shell_run.specs.declared.commands.CommandKind.{CommandKind}
 use Rattle.shell_run.specs.declared.commands.CommandKind.TheVariants as kind
 use Rattle.shell_run.specs.declared.words.CommandLine.{CommandLine}
 use Rattle.shell_run.specs.declared.words.LoadSize.{LoadSize}
-use Rattle.shell_run.specs.declared.words.CommandLine.TheVariants.{Labels, Nfit, Init, Change, Info, Check, Read, Write, Replay, Export, Import, Serve, Load}
+use Rattle.shell_run.specs.declared.words.CommandLine.TheVariants.{Labels, Nfit, Init, Change, Info, Check, CheckSet, Read, Write, Replay, Export, Import, Serve, Load}
 use Rattle.shell_run.specs.declared.words.CommandLine.TheVariants as command
 use Rattle.shell_reports.specs.declared.power.Power.{Power}
 use Rattle.namespace_ops.specs.Carried.{HasGoodName}
@@ -15,7 +15,7 @@ use Rattle.namespace_map.specs.declared.commands.Command.TheVariants.{Create}
 use Rattle.session_script.specs.Fields.{value_of}
 use Rattle.shell_changes.specs.Words.{create_in, delete_in, rename_in}
 use Rattle.shell_serve.specs.declared.load.Load.{Load as Loading}
-use Rattle.shell_run.specs.Commands.{kind_of, arguments_of}
+use Rattle.shell_run.specs.Commands.{kind_with, arguments_of}
 
 -- the greatest number of an option
 abbrev pub most : ℕ
@@ -77,6 +77,7 @@ command_in kind.Delete values = option_and_then (λ c. option_map (λ power. Cha
 command_in kind.Rename values = option_and_then (λ c. option_map (λ power. Change c power) (power_in values)) (rename_in values)
 command_in kind.Info values = option_map (λ uuid. Info uuid) (uuid_in (codes "uuid") values)
 command_in kind.Check values = option_map (λ uuid. Check uuid (flag_in (codes "repair") values)) (uuid_in (codes "uuid") values)
+command_in kind.CheckSet values = Some CheckSet
 command_in kind.Read values = option_and_then (λ uuid. option_map (λ sector. Read uuid sector) (number_in 0 most (codes "sector") values)) (uuid_in (codes "uuid") values)
 command_in kind.Write values = write_in values
 command_in kind.Replay values = replay_in values
@@ -93,7 +94,7 @@ command_with kind words = option_and_then (command_in kind) (parsed (arguments_o
 -- the command that the words say, None if they aren't a command line
 abbrev pub command_of : List (List ℕ) → Option CommandLine
 command_of [] = None
-command_of (name ∷ words) = option_and_then (λ kind. command_with kind words) (kind_of name)
+command_of (name ∷ words) = option_and_then (λ kind. command_with kind words) (kind_with name words)
 
 -- a name that a command gives has no zero byte, and there is a thread and a session for one that runs sessions
 abbrev pub HasGoodValues : CommandLine → Type 0
@@ -104,6 +105,7 @@ HasGoodValues (Init m power) = ⊤
 HasGoodValues (Change c power) = HasGoodName c
 HasGoodValues (Info uuid) = ⊤
 HasGoodValues (Check uuid repair) = ⊤
+HasGoodValues CheckSet = ⊤
 HasGoodValues (Read uuid sector) = ⊤
 HasGoodValues (Write uuid sector value) = ⊤
 HasGoodValues (Replay uuid seed) = ⊤

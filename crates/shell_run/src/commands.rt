@@ -22,6 +22,8 @@ pub enum CommandKind {
     Info,
     /// Checks the arenas of a namespace.
     Check,
+    /// Checks the whole set. It has no name of its own: it is `check` without another word.
+    CheckSet,
     /// Prints a sector of a namespace.
     Read,
     /// Writes a sector of a namespace.
@@ -165,9 +167,9 @@ const BAD_AS_ZEROS: Argument = Argument {
 };
 
 impl CommandKind {
-    ghost use Rattle.std.specs.Prelude.{◌≡◌, map};
+    ghost use Rattle.std.specs.Prelude.{◌≡◌, map, string_bytes};
     ghost use Rattle.command_words.specs.App.{said};
-    ghost use Rattle.shell_run.specs.Commands.{kind_of, arguments_of};
+    ghost use Rattle.shell_run.specs.Commands.{kind_of, kind_with, arguments_of};
 
     /// The command that a name says.
     #[tactic(auto, using(nvd_words::proofs::Checks::choices), unfolding(crate::specs::Commands::kind_of))]
@@ -225,6 +227,17 @@ impl CommandKind {
         None
     }
 
+    /// The command that a name says with the words after it: `check` alone is the check of the whole
+    /// set.
+    pub fn of_words(name: &str, words: &[String]) -> Option<CommandKind>
+        ensures { result ≡ kind_with name.now (map string_bytes words.now) }
+    {
+        if words.is_empty() && name == "check" {
+            return Some(CommandKind::CheckSet);
+        }
+        CommandKind::of_name(name)
+    }
+
     /// The command's arguments.
     pub fn arguments(self) -> &'static [Argument]
         ensures { map said result.now ≡ arguments_of self }
@@ -249,6 +262,7 @@ impl CommandKind {
             CommandKind::Rename => &[UUID, NAME, CUT, EVICT],
             CommandKind::Info => &[UUID],
             CommandKind::Check => &[UUID, REPAIR],
+            CommandKind::CheckSet => &[],
             CommandKind::Read => &[UUID, SECTOR],
             CommandKind::Write => &[UUID, SECTOR, VALUE],
             CommandKind::Replay => &[UUID, EVICT],

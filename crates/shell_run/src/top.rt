@@ -17,8 +17,9 @@ ghost use Rattle.shell_changes.specs.Saved.{AreSaved, HasContentsOf, Stores, cop
 ghost use Rattle.shell_export.specs.Printing.{ExportsFrom};
 ghost use Rattle.shell_import.specs.Import.{ImportComes};
 ghost use Rattle.shell_replay.specs.Replay.{ReplayComes};
+ghost use Rattle.shell_set_check.specs.Whole.{set_check_outcome};
 ghost use Rattle.shell_run.specs.Scripts.{script_outcome};
-ghost use Rattle.shell_run.specs.Run.{AppendsPart, ComesTold, Ends, Holds, IsAnswered, IsDue, IsPlain, LeavesScript, LoadedComes, OnImages, OnSource, copies, copies_by, has_sessions, reads_script, streams, streams_by};
+ghost use Rattle.shell_run.specs.Run.{AppendsPart, ComesTold, Ends, Holds, IsAnswered, IsDue, IsPlain, LeavesScript, LoadedComes, OnImages, OnSource, checks_set, copies, copies_by, has_sessions, reads_script, streams, streams_by};
 ghost use Rattle.shell_run.specs.Printed.{EndsPrinting, Exports, HoldsPrinted, IsMisused, IsReported, IsUnloaded};
 ghost use Rattle.shell_run.specs.Words.{HasGoodValues};
 
@@ -39,6 +40,7 @@ use shell_reports::{
     usage_answer,
 };
 use shell_sectors::{info_answer, read_answer, write_answer};
+use shell_set_check::set_check_answer;
 use std::alloc::{AllocError, Global};
 use std::sync::Wait;
 use std::thread::Threads;
@@ -142,6 +144,7 @@ fn reads_script(command: &CommandLine) -> bool
         CommandLine::Change(_, _) => false,
         CommandLine::Info(_) => false,
         CommandLine::Check(_, _) => false,
+        CommandLine::CheckSet => false,
         CommandLine::Read(_, _) => false,
         CommandLine::Write(_, _, _) => false,
         CommandLine::Replay(_, _) => true,
@@ -164,6 +167,7 @@ pub fn has_sessions(command: &CommandLine) -> bool
         CommandLine::Change(_, _) => false,
         CommandLine::Info(_) => false,
         CommandLine::Check(_, _) => false,
+        CommandLine::CheckSet => false,
         CommandLine::Read(_, _) => false,
         CommandLine::Write(_, _, _) => false,
         CommandLine::Replay(_, _) => false,
@@ -208,6 +212,7 @@ fn outlined_answer<S: ImageSource, C: Chooser>(
         }
         CommandLine::Info(uuid) => arenas_found(alloc, &uuid, outline, images),
         CommandLine::Check(uuid, repair) => { check_answer(alloc, &uuid, repair, outline, images) }
+        CommandLine::CheckSet => unreachable!(),
         CommandLine::Read(uuid, sector) => sector_found(alloc, &uuid, sector, outline, images),
         CommandLine::Write(uuid, sector, value) => {
             write_answer(alloc, &uuid, sector, value, outline, images)
@@ -384,6 +389,27 @@ fn perform_scripted<S: ImageSource, T: TextSource, C: Chooser>(
     }
 }
 
+/// Whether a command checks the whole set.
+fn checks_set(command: &CommandLine) -> bool
+    ensures { result ≡ checks_set command.now }
+{
+    matches!(command, CommandLine::CheckSet)
+}
+
+/// What `check` comes to on the whole set, of which it reads what it can.
+fn perform_set_check<S: ImageSource>(alloc: Global, images: &mut S) -> Result<Answer, RunStop>
+    ensures told { IfOk result (λ answer. (outcome : Outcome) → ComesFrom (S.held images.old) answer outcome → ForSome (S.held images.old) (λ set. outcome ≡ set_check_outcome set)) }
+    ensures saved { IfOk result (λ answer. answer.saved ≡ None) }
+    ensures same { S.held images.new ≡ S.held images.old }
+    ensures failed { result ≡ Err RunStop.ReadFault → Rose (S.faults images.old) (S.faults images.new) }
+    ensures later { S.faults images.old ≤ S.faults images.new }
+{
+    match set_check_answer(alloc, images) {
+        Ok(report) => Ok(without_set(report)),
+        Err(stop) => Err(stop),
+    }
+}
+
 /// What a command without sessions comes to that makes an answer.
 fn perform<S: ImageSource, T: TextSource, C: Chooser>(
     alloc: Global,
@@ -404,6 +430,8 @@ fn perform<S: ImageSource, T: TextSource, C: Chooser>(
 {
     if reads_script(&command) {
         perform_scripted(alloc, command, images, script, choose)
+    } else if checks_set(&command) {
+        perform_set_check(alloc, images)
     } else {
         perform_outlined(alloc, command, images, choose)
     }

@@ -29,6 +29,8 @@ pub enum CommandLine {
     Info(Uuid),
     /// Check the arenas of a namespace; whether what can be repaired is.
     Check(Uuid, bool),
+    /// Check the whole set.
+    CheckSet,
     /// Print a sector of a namespace.
     Read(Uuid, u64),
     /// Write a sector of a namespace.
@@ -197,6 +199,7 @@ fn command_in(kind: CommandKind, values: &Parsed<'_>) -> Option<CommandLine>
             let uuid = values.uuid("uuid")?;
             Some(CommandLine::Check(uuid, values.flag("repair")))
         }
+        CommandKind::CheckSet => Some(CommandLine::CheckSet),
         CommandKind::Read => {
             let uuid = values.uuid("uuid")?;
             Some(CommandLine::Read(uuid, values.number("sector", 0, u64::MAX)?))
@@ -276,7 +279,7 @@ pub fn command_from(alloc: Global, words: &[String]) -> Result<CommandLine, Word
     let [name, others @ ..] = words else {
         return Err(WordsFault::Usage);
     };
-    match CommandKind::of_name(name.as_str()) {
+    match CommandKind::of_words(name.as_str(), others) {
         Some(kind) => command_with(alloc, kind, others),
         None => Err(WordsFault::Usage),
     }

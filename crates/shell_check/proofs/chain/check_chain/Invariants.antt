@@ -16,7 +16,7 @@ invariant-arenas g l = record {
   later : g.S.ImageSource.faults l.fn.images ≤ g.S.ImageSource.faults l.images;
   -- if the source reveals its contents, this is what was found so far
   so_far : (contents : List (List ℕ)) → Reveals (g.S.ImageSource.held l.fn.images) l.extent.set contents
-      → IsSoFar l.repair (g.B.BadWords.bad l.bad) (words_by l.extent contents) l.uuid l.k l.count l.at l.text.items;
+      → IsSoFar l.head l.repair (g.B.BadWords.bad l.bad) (words_by l.extent contents) l.uuid l.k l.count l.at l.text.items;
   -- and these runs repair it
   mends : (contents : List (List ℕ)) → Reveals (g.S.ImageSource.held l.fn.images) l.extent.set contents
       → MatchBool l.repair (MendsSoFar (g.B.BadWords.bad l.bad) (bytes_by l.extent contents) l.uuid l.k l.at l.runs.items) (l.runs.items ≡ []);

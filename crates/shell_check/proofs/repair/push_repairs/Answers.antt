@@ -1,7 +1,7 @@
-use Rattle.std.proofs.Common.{◌∙◌, ◌++◌, List, drop, refl, append_assoc, ap}
+use Rattle.std.proofs.Common.{◌∙◌, ◌++◌, Bool, List, drop, refl, append_assoc, ap, sym, subst}
 use Rattle.namespace_bytes.specs.declared.runs.Run.{Run}
 use Rattle.namespace_words.specs.Source.{words_by}
-use Rattle.shell_check.specs.Reading.{map_runs}
+use Rattle.shell_check.specs.Reading.{AreRepairsIf, map_runs}
 use Rattle.shell_check.proofs.Lanes.{on_more, on_ok_is}
 use Rattle.shell_check.proofs.repair.push_repairs.Goals as goal
 
@@ -12,6 +12,7 @@ returns-in-Ok-clause-told g c = λ contents reveals.
     on_more c.push_map.result _ _
     (λ mapped. (
       paged.0 ++ map_runs c.args.at c.args.arena.now.map,
-      record { pages = paged.0; are = paged.1; all = refl },
+      subst (λ (b : Bool). AreRepairsIf b c.args.at words c.args.arena.now.page c.args.arena.now.map (paged.0 ++ map_runs c.args.at c.args.arena.now.map)) (sym c.if-not-repair.false)
+          (record { pages = paged.0; are = paged.1; all = refl }),
       mapped ∙ ap (λ (rs : List Run). rs ++ map_runs c.args.at c.args.arena.now.map) paged.2 ∙ append_assoc c.args.runs.now.items paged.0 (map_runs c.args.at c.args.arena.now.map),
     )) c.push_map.ensures

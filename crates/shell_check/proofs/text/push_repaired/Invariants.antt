@@ -4,4 +4,4 @@ use Rattle.shell_check.proofs.text.push_repaired.Given as goal
 
 -- the lines so far and those still to come
 abbrev pub invariant-loop-finding : goal.invariant-loop-finding
-invariant-loop-finding l = l.text.items ++ repaired_lines l.k (drop l.finding-index l.findings) ≡ l.fn.text.items ++ repaired_lines l.k l.findings
+invariant-loop-finding l = l.text.items ++ repaired_lines l.head l.k (drop l.finding-index l.findings) ≡ l.fn.text.items ++ repaired_lines l.head l.k l.findings

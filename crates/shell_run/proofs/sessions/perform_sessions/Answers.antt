@@ -23,7 +23,7 @@ returns-in-Load-clause-told g c =
     let held = g.S.ImageSource.held c.args.images.now in
     let left = g.T.TextSource.left c.args.script.now in
     subst (λ (command : CommandLine). IfOk c.perform_load.result (λ (answer : Answer). (outcome : Outcome) → ComesFrom held answer outcome → ComesTold leaves command held left outcome)) (sym c.in-Load.is)
-    (plain_due leaves held left (Load c.in-Load.work c.in-Load.workers) c.perform_load.result refl c.perform_load.ensures.told)
+    (plain_due leaves held left (Load c.in-Load.work c.in-Load.workers) c.perform_load.result refl refl c.perform_load.ensures.told)
 
 pub returns-in-Load-clause-failed : goal.returns-in-Load-clause-failed
 returns-in-Load-clause-failed g c = λ e. inl (c.perform_load.ensures.failed e)

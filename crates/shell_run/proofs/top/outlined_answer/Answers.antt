@@ -9,7 +9,7 @@ use Rattle.shell_changes.specs.Saved.{copies_contents}
 use Rattle.shell_changes.proofs.Remains.{copies_none, no_sizes}
 use Rattle.shell_run.specs.declared.words.CommandLine.TheVariants.{Labels, Nfit, Init, Change, Info, Check, Read, Write}
 use Rattle.shell_run.specs.declared.words.CommandLine.TheVariants as command
-use Rattle.shell_run.specs.Run.{LoadedComes, OnSource, copies, has_sessions, reads_script, streams}
+use Rattle.shell_run.specs.Run.{LoadedComes, OnSource, checks_set, copies, has_sessions, reads_script, streams}
 use Rattle.shell_run.specs.Words.{HasGoodValues}
 use Rattle.shell_run.proofs.Comes.{copies_by_it, if_same, none_copied, source_by, source_of}
 use Rattle.shell_run.proofs.top.outlined_answer.Goals as goal
@@ -137,6 +137,11 @@ change_answer-requires-clause-name g c = subst HasGoodValues c.in-Change.is c.re
 
 pub unreachable-requires : goal.unreachable-requires
 unreachable-requires g c =
+    let both = sym c.requires.plain.2 ∙ ap checks_set c.in-CheckSet.is in
+    (let e = both in cc)
+
+pub unreachable-requires-in-Replay : goal.unreachable-requires-in-Replay
+unreachable-requires-in-Replay g c =
     let both = sym c.requires.plain.0 ∙ ap reads_script c.in-Replay.is in
     (let e = both in cc)
 
