@@ -1,10 +1,12 @@
 pub mod Beginning
 pub mod Dealing
+pub mod Desks
 pub mod Growing
 pub mod Making
 pub mod Parties
 pub mod Resting
 pub mod Rows
+pub mod Sending
 pub mod Serving
 pub mod Standing
 pub mod Working

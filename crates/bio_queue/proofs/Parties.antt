@@ -33,7 +33,7 @@ module _ {A B T : Type 0} (va : A → View T) (pa : A → ℕ) (vb : B → View 
       subst (λ (y : ℕ × View T). IsHandOf y.0 y.1) (λ i. (is i, m.2 i)) (hb m.0))
       (of_two (map va xs) (map vb ys) k v e)
 
-map_map : {A B C : Type 0} (f : B → C) (g : A → B) (xs : List A) → map f (map g xs) ≡ map (λ a. f (g a)) xs
+pub map_map : {A B C : Type 0} (f : B → C) (g : A → B) (xs : List A) → map f (map g xs) ≡ map (λ a. f (g a)) xs
 map_map f g [] = refl
 map_map f g (x ∷ xs) = ap (λ l. f (g x) ∷ l) (map_map f g xs)
 

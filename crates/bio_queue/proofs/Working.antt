@@ -1,5 +1,5 @@
 -- A worker between two turns.
-use Rattle.std.proofs.Common.{◌≡◌, ℕ, ◌+◌, List, [], ◌∷◌, ◌++◌, length, length-append, Option, Some, None, refl, sym, ap, ◌∙◌, subst, arith}
+use Rattle.std.proofs.Common.{◌≡◌, ℕ, ◌+◌, ◌≤◌, List, [], ◌∷◌, ◌++◌, length, length-append, Option, Some, None, refl, sym, ap, ◌∙◌, subst, arith}
 use mathlib.Core.Option.{some}
 use lib.ListN.{get_elem?, length-map}
 use Rattle.ticket_queue.specs.declared.ticket.Ticket.{Ticket}
@@ -21,6 +21,14 @@ pub one_more : (cs cs' : List Completed) (c : Completed) → cs' ≡ cs ++ c ∷
 one_more cs cs' c is =
     let f = λ (d : Completed). stand_of d.call d.op d.reply in
     omega (arith, length-map cs' f, length-map cs f, ap length is, length-append cs (c ∷ []))
+
+pub stands_long : (cs : List Completed) → length (stands_of cs) ≡ length cs
+stands_long cs = length-map cs (λ (c : Completed). stand_of c.call c.op c.reply)
+
+-- a worker that isn't cut may make as many calls more as there are to its limit
+pub may_make : {T : Type 0} → (s : Sectors) (sectors width limit n : ℕ) (cut : Option T) (cs : List Completed) (session : Session)
+    → IsAtWork s sectors width limit cut (stands_of cs) session → cut ≡ None → length cs + n ≤ limit → MayMake s sectors width n (stands_of cs) session
+may_make s sectors width limit n cut cs session works none le = works.may none n (let e = stands_long cs in omega (arith, e, le))
 
 -- a call that didn't touch the power, or a rest
 pub spends_only : (calls made made' : ℕ) (session session' : Session) → PartGoes (Spends calls made made') session.caller.pool session'.caller.pool → SwitchesNot session session'

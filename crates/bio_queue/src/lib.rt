@@ -48,12 +48,26 @@
 //! | the same | power is off, as the worker was told; the operation is kept, nothing of it stands, and its callback isn't called | `off`, `told` |
 //! | [`Worker::serve_one`], [`Worker::pause`] | the calls of the worker's session are still what it completed, it may make more up to the same limit, and it didn't switch power off | `works`, `IsAtWork` of specs/Serving.antt |
 //! | [`Worker::reserve`], [`Worker::reserve_one`] | there is room for so many calls more, or for one | `more`, `spare` |
+//! | [`run_desks`] | in threads: each desk submits its jobs in order, the n-th job under its n-th number; the passes, the workers' calls and what they completed stay accounted for | `desks`, `since`, `AreSubmitted` of specs/Lists.antt |
+//! | [`close_desks`] | the queue's account, by desks | `account`, `done` |
 //! | [`BioQueue::close`] | of each submitter each accepted number stands exactly once in what was taken and what is left, as the very operation that was submitted; each worker's numbers of it rise, and each number that is left is above them | `account`, `IsAccount` of ticket_queue's specs/Account.antt |
 //! | the same | each operation that a worker took is completed, with a reply that fits and a note that its callback promises, but for the last one, if power cut it | `done`, `IsDone` of specs/Served.antt |
 //!
 //! The calls of a worker's session are exactly its completed operations, in order (`MayMake`,
 //! `HasMade` of specs/Serving.antt): with `close_sectors` of `lane_sessions` they are the entries of
 //! that session in the arena's one legal history.
+//!
+//! # Threads
+//!
+//! A **desk** ([`Desk`]) is a submitter, a worker and the jobs that are to be submitted. [`run_desks`]
+//! runs many of them at one queue, each in one thread. A desk submits its next job; if the queue is
+//! full, or no job is left, its worker serves the operation at the front, of any desk. It comes to its
+//! end when it has no job left and finds the queue empty ([`DeskEnd`]). All it submitted was taken
+//! then, since the queue keeps order.
+//!
+//! What a step of a desk keeps names its callbacks. The closure that a thread runs can't name one, so
+//! the loop and the threads are generic in a trait (`Shift`, src/shift.rt), whose `may` and `since`
+//! [`Desk`] gives.
 //!
 //! The maker of the passes can't be shared by threads, since it isn't `Sync`. So [`BioCloser`] has it,
 //! apart from the queue, and one thread keeps it until the queue is closed.
@@ -67,20 +81,28 @@
 mod bio;
 mod closing;
 mod completion;
+mod desk;
+mod ending;
 mod laws;
 mod op;
 mod opening;
 mod performing;
 mod queue;
+mod running;
+mod shift;
+mod stepping;
 mod submitter;
 mod worker;
 
 pub use bio::{Bio, Completed, Full, OneTurn};
 pub use closing::{BioClosed, BioOpen};
 pub use completion::{Callback, Completion};
+pub use desk::{Desk, DeskEnd, Job};
+pub use ending::close_desks;
 pub use laws::new_session_may_make;
 pub use op::{Op, OpKind, OpReply};
 pub use opening::{BioOpened, BioRefused};
 pub use queue::{BioCloser, BioQueue};
+pub use running::run_desks;
 pub use submitter::Submitter;
 pub use worker::Worker;
