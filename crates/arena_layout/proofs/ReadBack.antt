@@ -1,5 +1,5 @@
 -- The encoding of an info block is read as that info.
-use Rattle.std.proofs.Common.{◌≡◌, ℕ, ◌+◌, ◌%◌, ◌^◌, ◌<◌, ◌≤◌, true, false, eqb, List, ◌++◌, length, take, drop, replicate, None, Ok, refl, sym, ap, ◌∙◌, inl, inr, arith, append_assoc}
+use Rattle.std.proofs.Common.{◌≡◌, ℕ, ◌+◌, ◌%◌, ◌^◌, ◌<◌, ◌≤◌, true, false, eqb, ◌&&◌, List, ◌++◌, length, take, drop, replicate, None, Ok, refl, sym, ap, ◌∙◌, inl, inr, arith, append_assoc}
 use Rattle.std.specs.Int.{Width, byte_len, w16, w32, w64, to_le_bytes, from_le_bytes}
 use Rattle.std.proofs.lemmas.Bool.{eq-eqb, ne_eqb, and_parts, or_cases, eqb-true}
 use Rattle.std.proofs.lemmas.Nat.{from_le_bytes-to_le_bytes_2, from_le_bytes-to_le_bytes_4, from_le_bytes-to_le_bytes_8}
@@ -148,9 +148,16 @@ info_at info ok lt = past w64 info 64 112 ok refl ∙ info_in info lt
 
 -- ---- the widths
 
-version_are : (major minor : ℕ) → is_version major minor ≡ true → (major ≡ 2) × (minor ≡ 0)
+version_low : (major minor : ℕ) → is_version major minor ≡ true → (major < 2 ^ 16) × (minor < 2 ^ 16)
 unfolding is_version
-version_are major minor e = let p = and_parts (eqb major 2) (eqb minor 0) e in (eqb-true major 2 p.0, eqb-true minor 0 p.1)
+version_low major minor e = elim (or_cases (eqb major 2 && eqb minor 0) (eqb major 1 && eqb minor 1) e) [
+  | inl new ↦
+      let p = and_parts (eqb major 2) (eqb minor 0) new in
+      (omega (arith, eqb-true major 2 p.0), omega (arith, eqb-true minor 0 p.1))
+  | inr old ↦
+      let p = and_parts (eqb major 1) (eqb minor 1) old in
+      (omega (arith, eqb-true major 1 p.0), omega (arith, eqb-true minor 1 p.1))
+]
 
 record Widths (info : Info) : Type 0 where
   flags : info.flags < 2 ^ 32
@@ -180,12 +187,12 @@ sector_high s e = (blocks s e).sector_high
 
 widths : (info : Info) → IsInfo info → Widths info
 widths info ok =
-    let v = version_are info.major info.minor ok.version in
+    let v = version_low info.major info.minor ok.version in
     let l = ok.layout in
     record {
       flags = omega (arith, ok.flags);
-      major = omega (arith, v.0);
-      minor = omega (arith, v.1);
+      major = v.0;
+      minor = v.1;
       sector = omega (arith, sector_high info.layout.sector l.sector);
       external = omega (arith, l.internal_is, l.internal_few);
       internal = omega (arith, l.internal_few);

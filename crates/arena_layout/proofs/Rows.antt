@@ -5,6 +5,7 @@ use Rattle.arena_layout.specs.declared.layout.Layout.{Layout}
 use Rattle.arena_layout.specs.declared.layout.LayoutFault.{LayoutFault}
 use Rattle.arena_layout.specs.declared.layout.LayoutFault.TheVariants.{Sector, Free, TooSmall}
 use Rattle.arena_layout.specs.Layout.{is_sector, has_order, has_size, has_next}
+use Rattle.arena_layout.specs.Info.{is_version}
 use Rattle.arena_layout.specs.Plan.{whole_size, log_size, available_of, inner_of, internal_of, map_size, plan_of, is_lane_count, planned}
 
 -- Linux's layout of 32 MiB with sectors of 512 bytes
@@ -99,3 +100,12 @@ next_at_end = refl
 pub next_inside : has_next thirty_two 33554432 33554433 ≡ true
 unfolding has_next
 next_inside = refl
+
+-- two versions, and no mixture of them
+pub versions : (is_version 2 0 ≡ true) × (is_version 1 1 ≡ true)
+unfolding is_version
+versions = (refl, refl)
+
+pub no_versions : (is_version 1 0 ≡ false) × (is_version 2 1 ≡ false) × (is_version 0 0 ≡ false) × (is_version 3 0 ≡ false)
+unfolding is_version
+no_versions = (refl, refl, refl, refl)

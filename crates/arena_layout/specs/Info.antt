@@ -31,9 +31,9 @@ has_signature bytes = bytes_eq (take 16 bytes) signature
 unfoldable pub has_checksum : List ℕ → Bool
 has_checksum bytes = number_at w64 bytes 4088 == fletcher64_of (without_eight bytes 4088)
 
--- the versions that are supported: 2.0. No other definition decides it.
+-- the versions that are supported: 2.0, and 1.1 of older drivers. No other definition decides it.
 unfoldable pub is_version : ℕ → ℕ → Bool
-is_version major minor = (major == 2) && (minor == 0)
+is_version major minor = ((major == 2) && (minor == 0)) || ((major == 1) && (minor == 1))
 
 unfoldable pub has_parent : List ℕ → List ℕ → Bool
 has_parent bytes parent = bytes_eq (bytes_at bytes 32 16) parent

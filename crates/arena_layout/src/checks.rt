@@ -25,12 +25,13 @@ pub(crate) fn has_checksum(bytes: &[u8; 4096]) -> bool
     word_at(bytes, 4088) == fletcher64_without(bytes, 4088)
 }
 
-/// Returns whether this version is supported, for reading and writing. No other code decides it.
+/// Returns whether this version is supported, for reading and writing: 2.0, or 1.1 of older drivers.
+/// No other code decides it.
 #[tactic(auto, unfolding(crate::specs::Info::is_version))]
 pub(crate) fn is_version(major: u16, minor: u16) -> bool
     ensures { result ≡ is_version major minor }
 {
-    major == 2 && minor == 0
+    (major == 2 && minor == 0) || (major == 1 && minor == 1)
 }
 
 #[tactic(auto, unfolding(crate::specs::Info::has_parent))]
