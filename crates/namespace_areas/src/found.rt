@@ -1,11 +1,10 @@
-ghost use Rattle.std.specs.Prelude.{◌≡◌, ◌<◌, ◌^◌, IfOk, Ok, length, slice_get};
+ghost use Rattle.std.specs.Prelude.{◌≡◌, IfOk, Ok, slice_get};
 ghost use Rattle.std.specs.Option.{option_map};
 ghost use Rattle.namespace_map.specs.Namespaces.{entry_at, entry_with};
 ghost use Rattle.namespace_map.specs.Commands.{is_complete, is_sector};
 ghost use Rattle.namespace_areas.specs.Finding.{LiesInSet, found_of};
 
-use crate::{LabelGroups, region_of};
-use interleave::InterleaveSet;
+use crate::{LabelGroups, Regions};
 use label_codec::Mode;
 use label_set::{Placed, SetStatus, relative_address, status};
 use namespace_map::OpRefused;
@@ -45,16 +44,15 @@ fn is_sector(mode: &Mode) -> bool
 }
 
 /// A sector namespace by all labels of its UUID, which stand by module and slot.
-fn found_by(sets: &[InterleaveSet], labels: &[Placed]) -> Result<Found, OpRefused>
-    requires few { length sets.now < 2 ^ 32 }
-    ensures found { result ≡ found_of sets.now (option_map (entry_with sets.now labels.now) (slice_get labels.now 0)) }
-    ensures lies { IfOk result (LiesInSet sets.now) }
+fn found_by(regions: &Regions, labels: &[Placed]) -> Result<Found, OpRefused>
+    ensures found { result ≡ found_of regions.now (option_map (entry_with regions.now labels.now) (slice_get labels.now 0)) }
+    ensures lies { IfOk result (LiesInSet regions.now) }
     ensures sector { IfOk result (λ found. found.mode ≡ Mode.Sector) }
 {
     let Some(first) = labels.first() else {
         return Err(OpRefused::NoSuch);
     };
-    let Some((region, set)) = region_of(sets, first) else {
+    let Some((region, set)) = regions.region_of(first) else {
         return Err(OpRefused::NotComplete);
     };
     if !is_complete(&status(set, labels)) {
@@ -72,17 +70,17 @@ fn found_by(sets: &[InterleaveSet], labels: &[Placed]) -> Result<Found, OpRefuse
     })
 }
 
-/// Finds the complete sector namespace of a UUID, by the labels of all modules. It takes no memory.
+/// Finds the complete sector namespace of a UUID, by the labels of all modules. It takes no memory, and looks at no other
+/// regions than those that have a mapping of the module of the UUID's first label.
 ///
 /// Refusals, of which the first that holds is answered: NoSuch, no label has the UUID; NotComplete, its labels make no
 /// complete namespace; NotSector, its mode isn't Sector. What is found lies in its region's set in whole units.
-pub fn find(sets: &[InterleaveSet], groups: &LabelGroups, uuid: &Uuid) -> Result<Found, OpRefused>
-    requires few { length sets.now < 2 ^ 32 }
-    ensures found { result ≡ found_of sets.now (entry_at sets.now groups.now.sorted uuid.now) }
-    ensures lies { IfOk result (LiesInSet sets.now) }
+pub fn find(regions: &Regions, groups: &LabelGroups, uuid: &Uuid) -> Result<Found, OpRefused>
+    ensures found { result ≡ found_of regions.now (entry_at regions.now groups.now.sorted uuid.now) }
+    ensures lies { IfOk result (LiesInSet regions.now) }
     ensures sector { IfOk result (λ found. found.mode ≡ Mode.Sector) }
 {
-    found_by(sets, groups.group(uuid))
+    found_by(regions, groups.group(uuid))
 }
 
 /// The first word of a namespace at which an arena stands: an arena of the Block Translation Table version 2.0 begins with

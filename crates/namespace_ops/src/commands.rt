@@ -170,7 +170,7 @@ impl LabelStore {
         ensures carried { (fuse : Option ℕ) → Carried self.now.sets self.now.areas self.now.areas fuse fuse (command.Claim uuid.now) result }
         ensures uncut { is_cut result ≡ false }
     {
-        match find(self.sets.as_slice(), &self.groups, uuid) {
+        match find(&self.sets, &self.groups, uuid) {
             Ok(_found) => Ok(()),
             Err(refused) => Err(refused),
         }

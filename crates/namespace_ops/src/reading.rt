@@ -63,7 +63,7 @@ impl Registry {
         let store = &self.namespaces.store;
         // The clause of `areas` says that no area is stopped, so they show the labels that are kept by UUID.
         let _areas = store.areas();
-        find(store.sets(), store.groups(), uuid)
+        find(store.regions(), store.groups(), uuid)
     }
 
     /// The namespaces, rising by the bytes of their UUIDs, each with how often it is claimed: one for each UUID that a label

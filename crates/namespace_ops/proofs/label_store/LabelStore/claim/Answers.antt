@@ -19,7 +19,7 @@ returns-in-Ok-clause-answer c =
     let cur = c.self.invariant.current running in
     let is = claimed h.sets h.areas.items h.groups.sorted uuid cur.held cur.same in
     let found : found_of h.sets (entry_at h.sets h.groups.sorted uuid) ≡ Ok c.in-Ok._found =
-    sym (ap (λ (sets : List (List Mapping)). found_of sets (entry_at sets h.groups.sorted uuid)) c.as_slice.ensures) ∙ sym c.in-Ok.ensures.found in
+    sym c.in-Ok.ensures.found in
     subst (λ (s : Held). Ok tt ≡ value_unless tt (claim_refusal (shown s.sets s.areas) uuid)) c.self.view_is (sym (ap unit_of found) ∙ is)
 
 pub returns-in-Err-clause-answer : goal.returns-in-Err-clause-answer
@@ -30,7 +30,7 @@ returns-in-Err-clause-answer c =
     let cur = c.self.invariant.current running in
     let is = claimed h.sets h.areas.items h.groups.sorted uuid cur.held cur.same in
     let found : found_of h.sets (entry_at h.sets h.groups.sorted uuid) ≡ Err c.in-Err.refused =
-    sym (ap (λ (sets : List (List Mapping)). found_of sets (entry_at sets h.groups.sorted uuid)) c.as_slice.ensures) ∙ sym c.in-Err.ensures.found in
+    sym c.in-Err.ensures.found in
     subst (λ (s : Held). Err c.in-Err.refused ≡ value_unless tt (claim_refusal (shown s.sets s.areas) uuid)) c.self.view_is (sym (ap unit_of found) ∙ is)
 
 pub returns-in-Ok-clause-carried : goal.returns-in-Ok-clause-carried

@@ -14,6 +14,6 @@ returns-clause-found c =
     let running : h.stopped ≡ false = ap (λ (r : Registered). r.stopped) c.self.view_is ∙ c.requires.running in
     let sorted = c.groups.result.now.sorted in
     c.find.ensures.found
-    ∙ ap (λ (s : List (List Mapping)). found_of s (entry_at s sorted uuid)) c.sets.ensures.sets
+    ∙ ap (λ (s : List (List Mapping)). found_of s (entry_at s sorted uuid)) c.regions.ensures
     ∙ ap (found_of h.sets) (shown_at h.sets h.areas sorted uuid (c.areas-areas.ensures.held running) (c.groups.ensures running))
     ∙ ap (λ (r : Registered). found_of r.sets (lookup uuid (namespaces_in (state_of r)).entries)) c.self.view_is
