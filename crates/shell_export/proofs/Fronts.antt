@@ -19,7 +19,7 @@ keeps_more a b c xs ys before after = λ now is.
     (earlier.0, earlier.1, later.2 ∙ ap (λ (text : List ℕ). text ++ ys) earlier.2 ∙ append_assoc earlier.0 xs ys)
 
 -- one piece behind others
-both_all : (a b c a' b' c' : Option (List ℕ)) (xs ys : List ℕ) → AppendsAll a b a' b' xs → AppendsAll b c b' c' ys → AppendsAll a c a' c' (xs ++ ys)
+pub both_all : (a b c a' b' c' : Option (List ℕ)) (xs ys : List ℕ) → AppendsAll a b a' b' xs → AppendsAll b c b' c' ys → AppendsAll a c a' c' (xs ++ ys)
 both_all a b c a' b' c' xs ys before after = (Appends-trans a b c xs ys before.0 after.0, keeps_more a' b' c' xs ys before.1 after.1)
 
 -- ---- bytes by contents

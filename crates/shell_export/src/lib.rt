@@ -27,5 +27,8 @@ mod place;
 mod raw;
 mod sectors;
 
+pub use blocks::ArenaPlace;
 pub use export::export_answer;
+pub use pieces::{PIECE, PrintStop, print_bytes, print_made, print_report, status_after};
 pub use place::{find_place, is_sector};
+pub use sectors::add_entry;

@@ -9,19 +9,19 @@ use shell_reports::{Report, RunStop, Status};
 use std::alloc::AllocError;
 
 /// How many bytes are printed at a time: 256 KiB.
-pub(crate) const PIECE: usize = 262144;
+pub const PIECE: usize = 262144;
 
 /// Why printing stopped before the end of a text.
 #[derive(Clone, Copy, Debug)]
-pub(crate) enum PrintStop {
+pub enum PrintStop {
     /// The bytes couldn't be read.
     Read,
     /// They couldn't be written.
     Write,
 }
 
-/// Prints bytes.
-pub(crate) fn print_bytes<O: TextSink>(bytes: &[u8], text: &mut O) -> Result<(), PrintStop>
+/// Prints bytes. `Write` means that the sink failed, and its count of failures rose; a front of the bytes was printed then.
+pub fn print_bytes<O: TextSink>(bytes: &[u8], text: &mut O) -> Result<(), PrintStop>
     ensures all { OnOk result (AppendsAll (O.written text.old) (O.written text.new) (O.kept text.old) (O.kept text.new) bytes.now) }
     ensures part { OnErr result (AppendsFront (O.written text.old) (O.written text.new) bytes.now) }
     ensures later { O.faults text.old ≤ O.faults text.new }
@@ -34,8 +34,8 @@ pub(crate) fn print_bytes<O: TextSink>(bytes: &[u8], text: &mut O) -> Result<(),
     }
 }
 
-/// Prints a report.
-pub(crate) fn print_report<O: TextSink>(report: &Report, text: &mut O) -> Status
+/// Prints a report, and returns its status, or `WriteFault` if the sink failed; a front of the text was printed then.
+pub fn print_report<O: TextSink>(report: &Report, text: &mut O) -> Status
     ensures printed { PrintsReport (outcome_of report.now) (O.written text.old) (O.written text.new) (O.kept text.old) (O.kept text.new) result }
     ensures read { result ≢ Status.ReadFault }
     ensures failed { result ≡ Status.WriteFault → Rose (O.faults text.old) (O.faults text.new) }
@@ -46,8 +46,8 @@ pub(crate) fn print_report<O: TextSink>(report: &Report, text: &mut O) -> Status
     }
 }
 
-/// Prints a report, or returns the stop if memory ran out as it was made.
-pub(crate) fn print_made<O: TextSink>(
+/// Prints a report, or returns `OutOfMemory` if memory ran out as it was made; nothing is printed then.
+pub fn print_made<O: TextSink>(
     made: Result<Report, AllocError>,
     text: &mut O,
 ) -> Result<Status, RunStop>
@@ -64,8 +64,8 @@ pub(crate) fn print_made<O: TextSink>(
     }
 }
 
-/// The status of a run that printed a text without a refusal, or stopped before its end.
-pub(crate) fn status_after(printed: Result<(), PrintStop>) -> Status
+/// Returns the status of a run that printed a text without a refusal, or stopped before its end.
+pub fn status_after(printed: Result<(), PrintStop>) -> Status
     ensures all { OnOk printed (result ≡ Status.Ok) }
     ensures read { printed ≡ Err PrintStop.Read → result ≡ Status.ReadFault }
     ensures write { printed ≡ Err PrintStop.Write → result ≡ Status.WriteFault }

@@ -1,7 +1,8 @@
 //! The bytes of all sectors of a namespace.
-ghost use Rattle.std.specs.Prelude.{◌≡◌, ◌≢◌, ℕ, ◌+◌, ◌++◌, ◌/◌, ◌<◌, ◌≤◌, IfOk, List, Ok, Err, OnOk, OnErr, codes, drop, length, map, slice_index, sum_by, take};
+ghost use Rattle.std.specs.Prelude.{◌≡◌, ◌≢◌, ℕ, ◌+◌, ◌*◌, ◌++◌, ◌/◌, ◌^◌, ◌<◌, ◌≤◌, IfOk, List, Ok, Err, OnOk, OnErr, codes, drop, length, map, slice_index, sum_by, take};
 ghost use Rattle.std.specs.Fmt.{decimal};
 ghost use Rattle.nvd_media.specs.Causes.{Rose};
+ghost use Rattle.arena_layout.specs.Layout.{IsLayout};
 ghost use Rattle.arena_open.specs.Chain.{state_at};
 ghost use Rattle.arena_open.specs.InPlace.{external_in};
 ghost use Rattle.arena_open.specs.Reading.{cell_with};
@@ -18,8 +19,9 @@ ghost use Rattle.shell_export.specs.Export.{cell_words, refused_at, sector_bytes
 ghost use Rattle.shell_export.specs.Printing.{AppendsBut, AppendsFront, KnowsAll, PrintsAll, PrintsBut, PrintsDue, PrintsFront};
 
 use crate::bad::first_bad;
-use crate::blocks::read_sector;
+use crate::blocks::{ArenaPlace, read_entry};
 use crate::pieces::{PIECE, PrintStop, print_bytes, print_made, status_after};
+use map_table::{MapEntry, entry};
 use namespace_words::{ArenaRead, arena_at, locate, sectors_of_all};
 use nvd_media::{ImageSource, TextSink};
 use power_cut::SetExtent;
@@ -49,6 +51,49 @@ fn make_room<O: TextSink>(
     Ok(0)
 }
 
+/// Reads a sector of an arena, by its map entry, behind the filled bytes of a buffer of `PIECE` bytes. If there is no room, these
+/// are printed first. It returns how many are filled then.
+///
+/// A zero or bad entry has zeros, and nothing is read for it. The block of each entry must exist, that of a zero or bad one too.
+///
+/// `all`: what was printed, and then what is filled, is what was filled before, and then the bytes of the sector. `Write` means that
+/// the sink failed, and a front of the filled bytes was printed. `Read` means that the source failed; all of them were printed then,
+/// or none, and the buffer may hold any bytes.
+pub fn add_entry<S: ImageSource, O: TextSink>(
+    images: &mut S,
+    extent: &SetExtent<'_>,
+    place: &ArenaPlace,
+    entry: MapEntry,
+    filled: usize,
+    buffer: &mut [u8],
+    text: &mut O,
+) -> Result<usize, PrintStop>
+    requires layout { IsLayout place.now.layout }
+    requires few { 8 * place.now.at ≤ 2 ^ 55 }
+    requires within { 8 * place.now.at + place.now.layout.size ≤ raw_bytes extent.now }
+    requires block { entry.block < place.now.layout.internal }
+    requires filled { filled ≤ length buffer.old }
+    requires buffer { length buffer.old ≡ 262144 }
+    requires there { HasEnds (S.held images.old) extent.now.set }
+    ensures all { IfOk result (λ end. PrintsBut (Reveals (S.held images.old) extent.now.set) (λ contents. take filled buffer.old ++ bytes_of (cell_words (place.now.layout.sector / 8) (cell_with place.now.layout (drop place.now.at (words_by extent.now contents)) entry))) (O.written text.old) (O.written text.new) (O.kept text.old) (O.kept text.new) (take end buffer.new)) }
+    ensures filled { IfOk result (λ end. end ≤ length buffer.new) }
+    ensures part { OnErr result (AppendsFront (O.written text.old) (O.written text.new) (take filled buffer.old)) }
+    ensures buffer { length buffer.new ≡ length buffer.old }
+    ensures same { S.held images.new ≡ S.held images.old }
+    ensures later { S.faults images.old ≤ S.faults images.new }
+    ensures later_text { O.faults text.old ≤ O.faults text.new }
+    ensures read { result ≡ Err PrintStop.Read → Rose (S.faults images.old) (S.faults images.new) }
+    ensures write { result ≡ Err PrintStop.Write → Rose (O.faults text.old) (O.faults text.new) }
+{
+    let size = place.layout.sector as usize;
+    let left = make_room(filled, size, buffer, text)?;
+    let end = left + size;
+    match read_entry(images, extent, place, entry, &mut buffer[left..end]) {
+        Ok(()) => Ok(end),
+        Err(_) => Err(PrintStop::Read),
+    }
+}
+
 /// Reads a sector of an arena behind the filled bytes of a buffer. If there is no room, they are printed first. It returns how
 /// many are filled then.
 fn add_own<S: ImageSource, O: TextSink>(
@@ -76,13 +121,13 @@ fn add_own<S: ImageSource, O: TextSink>(
     ensures read { result ≡ Err PrintStop.Read → Rose (S.faults images.old) (S.faults images.new) }
     ensures write { result ≡ Err PrintStop.Write → Rose (O.faults text.old) (O.faults text.new) }
 {
-    let size = arena.parts().info.layout.sector as usize;
-    let left = make_room(filled, size, buffer, text)?;
-    let end = left + size;
-    match read_sector(images, extent, arena, own, &mut buffer[left..end]) {
-        Ok(()) => Ok(end),
-        Err(_) => Err(PrintStop::Read),
-    }
+    let opened = arena.parts();
+    let place = ArenaPlace {
+        at: arena.first(),
+        layout: opened.info.layout,
+    };
+    let found = entry(opened.entries.as_slice()[own as usize], own);
+    add_entry(images, extent, &place, found, filled, buffer, text)
 }
 
 /// Reads a sector of a namespace behind the filled bytes of a buffer. If there is no room, they are printed first. It returns how
