@@ -1,0 +1,7 @@
+pub mod Rows
+pub mod Ranges
+pub mod Counts
+pub mod Losses
+pub mod Taking
+pub mod Areas
+pub mod Laws

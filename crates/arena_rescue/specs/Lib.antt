@@ -1,0 +1,3 @@
+pub mod Rescue
+pub mod Counting
+pub mod Laws
