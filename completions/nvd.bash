@@ -20,7 +20,7 @@ _nvd_options() {
     *) options=$(_nvd_table "\$1 == \"$1\" { print \$3 \",\" \$4 \",\" \$5 }" | tr , '\n' | sed '/^-$/d; s/^/--/') ;;
     esac
     case $1 in
-    labels | nfit | list | free | info | check | read | init | create | delete | rename | write | export) options="$options --json" ;;
+    labels | nfit | list | free | info | check | read | init | create | delete | rename | write | export | rescue) options="$options --json" ;;
     esac
     for option in $options; do
         case " ${COMP_WORDS[*]:0:COMP_CWORD} " in

@@ -9,12 +9,13 @@ from commands import takes_whole, writes
 from faults import Rows, explained
 from places import FAULTS, Ended, say, text_of
 from space import free_of
-from texts import NoLine, checked_of, document_of, done_of, value_of_sector, whole_of
+from texts import NoLine, checked_of, document_of, done_of, rescued_of, value_of_sector, whole_of
 from words import completed, taken
 
-# what only prints lines; what says that it is done; and what prints bytes, so that its document goes to standard error
-PRINTING, DOING, EXPORT = ("labels", "nfit", "list", "info", "read", "check"), ("init", "create", "delete", "rename", "write"), "export"
-WITH_JSON = (*PRINTING, *DOING, EXPORT)
+# what only prints lines; what says that it is done; and what prints bytes, so that its document goes to standard error; `rescue` does either
+PRINTING, DOING, EXPORT, RESCUE = ("labels", "nfit", "list", "info", "read", "check"), ("init", "create", "delete", "rename", "write"), "export", "rescue"
+LOST = "--lost"
+WITH_JSON = (*PRINTING, *DOING, EXPORT, RESCUE)
 # what a document of a fault explains; of the others nvd says on standard error what to do
 WITH_MEANING = (3, 4)
 
@@ -53,19 +54,22 @@ def faulty(ended, file=None):
 
 def as_json(program, words):
     command = words[2] if len(words) > 2 else ""
+    with_bytes = command == EXPORT or command == RESCUE and LOST not in words
     if command not in WITH_JSON:
         say(f"--json is for {', '.join(WITH_JSON[:-1])}, {WITH_JSON[-1]} and free, and not for '{command}'")
         return 2
     try:
         rest = completed(command, words[3:], lambda it: program.records(words[0], it), lambda: str(uuid.uuid4()), say)
-        if command == EXPORT:
-            return export(program, [*words[:3], *rest])
+        if with_bytes:
+            return streamed(program, [*words[:3], *rest])
         plain = [words[0], words[1] if writes(words) else "-", command, *rest]
         was_there = os.path.lexists(plain[1])
         status, text = program.run(plain)
     except Ended as it:
-        return faulty(it, sys.stderr if command == EXPORT else None)
-    if status not in (0, 8) and not (status == 3 and takes_whole(plain) and text.startswith(("fault ", "notice "))):
+        return faulty(it, sys.stderr if with_bytes else None)
+    except NoLine as line:
+        return no_line(line)
+    if not is_answer(plain, status, text):
         fault_as_json(status, text)
         if status not in WITH_MEANING:
             explain.after(explain.Run(program.path, plain, status, was_there))
@@ -73,9 +77,21 @@ def as_json(program, words):
     try:
         shown(document(program, plain, text))
     except NoLine as line:
-        say(f"a line isn't in the grammar of 'nvd help OUTPUT': {line}")
-        return 1
+        return no_line(line)
     return status
+
+
+def no_line(line):
+    """Says that the program printed a line that can't be read."""
+    say(f"a line isn't in the grammar of 'nvd help OUTPUT': {line}")
+    return 1
+
+
+def is_answer(words, status, text):
+    """Whether a text is no fault of the command: with status 3 that of a whole set's check, or of a rescue, may be what was asked for."""
+    of_whole = takes_whole(words) and text.startswith(("fault ", "notice "))
+    of_rescue = words[2] == RESCUE and text.startswith("arena ")
+    return status in (0, 8) or status == 3 and (of_whole or of_rescue)
 
 
 def document(program, words, text):
@@ -85,6 +101,8 @@ def document(program, words, text):
         return {"sector": int(of_word(command, rest, "SECTOR")), **value_of_sector(text)}
     if command == "check":
         return with_meanings(whole_of(text), text) if takes_whole(words) else checked_of(text)
+    if command == RESCUE:
+        return rescued_of(text)
     if command not in DOING:
         return document_of(command, text)
     done = done_of(text)
@@ -119,7 +137,7 @@ def namespace(program, folder, text):
     return {**found, **document_of("info", said if not status else "")}
 
 
-def export(program, words):
+def streamed(program, words):
     """Prints the bytes as ever, and the document on standard error."""
     status = program.ran(words)
     if status:
@@ -128,6 +146,24 @@ def export(program, words):
         if status not in WITH_MEANING:
             explain.after(run)
         return status
+    return (rescued if words[2] == RESCUE else exported)(program, words)
+
+
+def rescued(program, words):
+    """Says what isn't among the bytes that were printed."""
+    words = [*words[:3], LOST, *words[3:]]
+    status, text = program.run(words)
+    if not is_answer(words, status, text):
+        fault_as_json(status, text, sys.stderr)
+        if status not in WITH_MEANING:
+            explain.after(explain.Run(program.path, words, status, True))
+        return status
+    shown(rescued_of(text), sys.stderr)
+    return 0
+
+
+def exported(program, words):
+    """Says what was exported."""
     found = namespace(program, words[0], of_word(EXPORT, words[3:], "UUID"))
     arenas = found["arenas"]
     sectors = sum(it["sectors"] for it in arenas)

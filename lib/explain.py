@@ -2,7 +2,7 @@
 import os
 
 from commands import commands, takes_whole, writes
-from faults import explained
+from faults import RESCUE, explained
 from helps import WORDS, forms, names, near, no_command
 from places import FAULTS, say, text_of
 from runs import asked, fault_of_input
@@ -117,18 +117,24 @@ def after_script(run):
     say("'nvd help FAULTS' has every such text, and 'nvd help " + run.command + "' the grammar")
 
 
-def say_rows(text):
-    """Says what the rows of FAULTS say of a text; whether there are any."""
-    rows = explained(text, text_of(FAULTS) or "")
-    for meaning, remedy in rows:
-        say(f"{text}: {meaning}" + (f". To do: {remedy}" if remedy else ""))
+def say_rows(text, front=""):
+    """Says what the rows of FAULTS say of a text, of which a rescue's lines have a front; whether there are any."""
+    rows = explained(front + text, text_of(FAULTS) or "")
+    for at, (meaning, remedy) in enumerate(rows):
+        # to a rescue the reason of a refused block or group is no fault of its own
+        say(f"{text}: {meaning}" + (f". To do: {remedy}" if remedy and not (front and at) else ""))
     return bool(rows)
 
 
 def after_findings(run, lines):
-    """Says what the findings of `check` mean."""
+    """Says what the findings of `check` mean, or the lines of `rescue`."""
     from hints import hint_of_line
 
+    if run.command == "rescue":
+        for line in lines:
+            say_rows(line, RESCUE)
+        say("'nvd help rescue' says what is printed of lost sectors, and what can't be seen, and 'nvd help FAULTS' has every line")
+        return
     for line in lines:
         say_rows(line)
         for it in hint_of_line(run, line):

@@ -3,7 +3,10 @@ import re
 
 # A table with one of these heads has the ends of the texts that begin so; the others have whole texts.
 FAMILIES = {"FAULT of a region": r"image region (?P<REGION>\S+) ", "FAULT of an index block": r"fault labels (?P<M>\S+) index (?P<S>\S+) ",
-            "FINDING": r"arena (?P<ARENA>\S+) ", "repaired FINDING": r"arena (?P<ARENA>\S+) repaired ", "FAULT": r"(?:image arena (?P<ARENA>\S+) (?P<K>\S+)|arena \S+(?= Info | Flog )) "}
+            "FINDING": r"arena (?P<ARENA>\S+) ", "repaired FINDING": r"arena (?P<ARENA>\S+) repaired ", "line of a rescue": r"rescue arena (?P<ARENA>\S+) ",
+            "FAULT": r"(?:image arena (?P<ARENA>\S+) (?P<K>\S+)|(?:rescue )?arena \S+(?= Info | Flog )) "}
+# what stands before a line of `rescue`, since it means something else there than as a line of `check`
+RESCUE = "rescue "
 
 # What `check` says of a whole set, and the text of another command or line that says the same.
 SAME = [(r"fault labels \S+ slot (.*)", r"bad \1"), (r"fault namespace \S+ (.*)", r"incomplete \1"), (r"fault arena \S+ (.*)", r"arena \1"), (r"fault (.*)", r"image \1")]

@@ -1,4 +1,4 @@
-"""The text of `check`: it goes on to standard output while it comes, and nvd keeps what it explains afterwards."""
+"""The text of `check` and of `rescue --lost`: it goes on to standard output while it comes, and nvd keeps what it explains afterwards."""
 from faults import kind_of
 
 

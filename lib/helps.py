@@ -18,6 +18,7 @@ WORDS = {
     "check": "IN OUT check UUID|NAME [--repair] [--json]",
     "write": "IN OUT write UUID|NAME SECTOR VALUE [--json]",
     "export": "IN - export UUID|NAME [--bad-as-zeros] [--json] >FILE",
+    "rescue": "IN - rescue UUID|NAME --lost [--json]",
     "import": "IN OUT import UUID|NAME <FILE",
     "replay": "IN OUT replay UUID|NAME [--evict S] <SCHEDULE",
     "serve": "IN OUT serve [--workers N] [--evict S] <SCRIPT",
@@ -28,7 +29,7 @@ WORDS = {
     "sweep": "sweep [--every K] [--keep DIR] [--run CMD] IN COMMAND ..",
 }
 # a command's other form, if it has one
-OTHER_WORDS = {"check": "IN - check [--json]"}
+OTHER_WORDS = {"check": "IN - check [--json]", "rescue": "IN - rescue UUID|NAME [--json] >FILE"}
 OTHER_PAGES = "FAULTS, OUTPUT, JSON, FROM_NDCTL, INTEROP and nvd"
 
 

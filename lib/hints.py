@@ -127,10 +127,18 @@ def labels_size(run, module, size):
         yield f"'{path}' has fewer than the least size of a label area, 1024 bytes"
 
 
-def broken_arena(_):
-    """An arena's first fault may not be the only one."""
+def broken_arena(run):
+    """An arena's first fault may not be the only one, and most of it may be readable."""
     yield "'nvd IN OUT check UUID' lists everything that is wrong with the arenas of a namespace, and with --repair it mends what needs no guess"
+    if run.command != "rescue":
+        yield "'nvd IN - rescue UUID >FILE' prints all sectors that can still be read"
 
 
-FORMS = [(r"refused NoSpace (\d+)", no_space), (r"refused BadSize (\d+)", bad_size), (r"image contents (\d+) Size (\d+)", contents_size),
+def not_sector(run):
+    """A namespace without a map loses nothing of it."""
+    if run.command == "rescue":
+        yield "'nvd IN - export UUID >FILE' prints all bytes of a raw namespace"
+
+
+FORMS = [(r"refused NotSector", not_sector), (r"refused NoSpace (\d+)", no_space), (r"refused BadSize (\d+)", bad_size), (r"image contents (\d+) Size (\d+)", contents_size),
          (r"image labels (\d+) Size (\d+)", labels_size), (r"image arena .*", broken_arena)]

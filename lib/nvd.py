@@ -3,7 +3,7 @@
 nvd chooses the program (build.py), completes the words (words.py), runs it with nvd's own streams (runs.py), and after a fault says what to do
 (explain.py, from the tables of docs/commands/FAULTS.md). Standard input, standard output and the exit status are the program's own. What nvd
 does itself has a module each: pages (helps.py), JSON (answers.py), free space (space.py), the
-picture (picture.py), differences (differences.py), new sets (making.py), the sweep (sweep.py) and what the findings of `check` mean (findings.py).
+picture (picture.py), differences (differences.py), new sets (making.py), the sweep (sweep.py) and what the lines of `check` and `rescue` mean (findings.py).
 """
 import os
 import sys
@@ -141,7 +141,8 @@ def finished(program, words, was_there):
     if row and row.script and (words[2] != "import" or program.path is None):
         script = runs.kept_script()
     found = None
-    if row and row.name == "check" and program.path:
+    lists_lost = bool(row) and row.name == "rescue" and "--lost" in words
+    if row and (row.name == "check" or lists_lost) and program.path:
         from findings import Findings
 
         found = Findings()
@@ -149,8 +150,8 @@ def finished(program, words, was_there):
         status = runs.run(program.path, words, script[0] if script and script[0] else None, found and found.hear)
     else:
         status, _ = by_rt(words)
-    # with status 3 the text of a whole set's check has its faults
-    if status and not (status == 3 and found and found.first and takes_whole(words)):
+    # with status 3 the text of a whole set's check has its faults, and that of a rescue what is lost
+    if status and not (status == 3 and found and found.first and (takes_whole(words) or lists_lost)):
         import explain
 
         run = explain.Run(program.path, words, status, was_there, script, lambda it: program.records_or_none(words[0], it))
@@ -159,6 +160,8 @@ def finished(program, words, was_there):
         import explain
 
         explain.after_findings(explain.Run(program.path, words, status, was_there), found.lines())
+    elif not status and row and row.name == "rescue" and not lists_lost:
+        tell("a lost sector is zeros there: 'nvd IN - rescue UUID --lost' says which are lost, and what the others stand on")
     if row and words[1] != "-" and status != 2 and not writes(words):
         import explain
 

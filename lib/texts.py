@@ -39,6 +39,11 @@ LINES = {
     "finding of a block": (["arena", "kind", "block"], f"arena {NUMBER} (Range|Twice|Missing) {NUMBER}"),
     "finding of a sector": (["arena", "repaired", "kind", "sector"], f"arena {NUMBER}{REPAIRED} (BadData) {NUMBER}"),
     "finding of a word": (["arena", "kind", "word"], f"arena {NUMBER} (BadMeta) {NUMBER}"),
+    "move": (["arena", "sector", "old", "new"], f"arena {NUMBER} moved {NUMBER} {NUMBER} {NUMBER}"),
+    "loss of a sector": (["arena", "sector", "why"], f"arena {NUMBER} lost {NUMBER} (BadMap|Marked|BadData)"),
+    "loss by its block": (["arena", "sector", "why", "block"], f"arena {NUMBER} lost {NUMBER} (Range|Twice) {NUMBER}"),
+    "whole": ([], "whole"),
+    "lost": (["lost"], f"lost {NUMBER}"),
     "sound": ([], "sound"),
     "broken": (["broken"], f"broken {NUMBER}"),
     "session": (["session"], f"session {NUMBER}"),
@@ -63,7 +68,7 @@ WHOLE = [
     (["uuid", "fault"], rf"(namespace) {UUID} ({WHY})"),
     (["module", "records"], rf"(badranges) {NUMBER} {NUMBER}"),
 ]
-TEXTS = {"uuid", "mode", "status", "kind", "fault", "notice", "cookie", "reply", "replies"}
+TEXTS = {"uuid", "mode", "status", "kind", "fault", "notice", "cookie", "reply", "replies", "why"}
 
 
 class NoLine(Exception):
@@ -142,6 +147,21 @@ def checked_of(text):
     repaired = sum(it["repaired"] for its in arenas.values() for it in its)
     return {"sound": last == "sound", "broken": fields.get("broken", 0), "repaired": repaired,
             "arenas": [{"arena": number, "findings": its} for number, its in arenas.items()]}
+
+
+def rescued_of(text):
+    """What the lines of a rescue say: whether no sector is lost, how many are, and of each arena that has lines what it stands on, its moves and its losses."""
+    *found, (last, fields) = records_of(text) or [(None, {})]
+    arenas = {}
+    for kind, it in found:
+        if kind not in ("finding", "move", "loss") or kind == "finding" and (it["kind"] not in ("Info", "Flog", "BadMeta") or it.get("repaired")):
+            last = None
+            break
+        arena = arenas.setdefault(it.pop("arena"), {"findings": [], "moves": [], "losses": []})
+        arena["losses" if kind == "loss" else f"{kind}s"].append({**it, "repaired": False} if kind == "finding" else it)
+    if last not in ("whole", "lost"):
+        raise NoLine(text.rstrip("\n").rsplit("\n", 1)[-1])
+    return {"whole": last == "whole", "lost": fields.get("lost", 0), "arenas": [{"arena": number, **it} for number, it in arenas.items()]}
 
 
 def noted_of(line):

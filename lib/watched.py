@@ -7,12 +7,14 @@ from commands import commands, writes
 from progress import Progress
 
 MIB = 1 << 20
+# what prints the bytes of a namespace
+STREAMING = ("export", "rescue")
 
 
 def watcher(words):
     """What watches a run with these words; None if there is nothing to show, or no terminal."""
     row = commands().get(words[2]) if len(words) > 2 else None
-    if row and (writes(words) or row.name == "export" and not os.isatty(1)):
+    if row and (writes(words) or row.name in STREAMING and not os.isatty(1)):
         return Watcher(row, words)
     return None
 
@@ -50,7 +52,7 @@ class Watcher:
 
     def far(self):
         """How far it has come."""
-        if self.row.name == "export":
+        if self.row.name in STREAMING:
             place = place_in(1)
             return f" {place[0] // MIB} MiB" if place else ""
         written = size_of(self.sink)

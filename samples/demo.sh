@@ -139,6 +139,9 @@ tell 'With --repair what needs no guess is mended in OUT: the info block has a b
 step 0 damaged repaired check $first --repair
 step 0 repaired looked2 check $first
 
+tell 'rescue prints all sectors that can still be read, and zeros for those that are lost. With --lost it says which are:'
+step 3 damaged - rescue $first --lost
+
 tell 'Two sessions write one sector at once, as the script samples/scripts/two_writers says. Each reads its own value, or that of the other:'
 cat "$top/samples/scripts/two_writers"
 step 0 arena written serve <"$top/samples/scripts/two_writers"

@@ -382,25 +382,35 @@ class Namespace:
 
 
 class Arena:
-    """What `check` finds in an arena that begins at a byte of a namespace."""
+    """An arena that begins at a byte of a namespace. `info` is the info block that is used: its first page, or the namespace's last one, or None."""
 
     def __init__(self, space, at):
         self.space, self.at, self.rest = space, at, space.size - at
-        first, last = space.read(at, PAGE), space.read(space.size - PAGE, PAGE)
-        self.findings, self.next, info = [], 0, first
-        fault = self.info_fault(first)
-        if fault:
-            self.findings.append(f"Info {fault}")
-            info = last
-            if self.info_fault(last) or number(last, 112) + PAGE != self.rest:
-                return
-        self.sector, self.external, self.inner, self.internal, self.lanes = struct.unpack_from("<IIIII", info, 56)
-        self.next, self.data, self.map, self.log, self.backup = struct.unpack_from("<QQQQQ", info, 80)
-        if not fault:
-            copy = space.read(at + self.backup, PAGE)
+        self.first, self.next = space.read(at, PAGE), 0
+        self.fault = self.info_fault(self.first)
+        self.info = self.used()
+        if self.info:
+            self.sector, self.external, self.inner, self.internal, self.lanes = struct.unpack_from("<IIIII", self.info, 56)
+            self.next, self.data, self.map, self.log, self.backup = struct.unpack_from("<QQQQQ", self.info, 80)
+
+    def used(self):
+        if not self.fault:
+            return self.first
+        last = self.space.read(self.space.size - PAGE, PAGE)
+        return None if self.info_fault(last) or number(last, 112) + PAGE != self.rest else last
+
+    def findings(self):
+        """What `check` finds in it."""
+        if self.fault:
+            yield f"Info {self.fault}"
+        if not self.info:
+            return
+        if not self.fault:
+            copy = self.space.read(self.at + self.backup, PAGE)
             other = self.info_fault(copy)
-            self.findings += [f"Backup {other}"] if other else ["Unequal"] if copy != first else []
-        self.findings += [*self.of_lanes_and_map(), *self.bad_meta()]
+            yield from [f"Backup {other}"] if other else ["Unequal"] if copy != self.first else []
+        yield from self.of_lanes_and_map()
+        yield from self.bad_meta()
 
     def info_fault(self, block):
         """Why 4,096 bytes are no info block of an arena that begins here; None if they are one."""
@@ -410,7 +420,7 @@ class Arena:
             return "Signature"
         if not sealed(block, 4088):
             return "Checksum"
-        if struct.unpack_from("<HH", block, 52) != (2, 0):
+        if struct.unpack_from("<HH", block, 52) not in ((2, 0), (1, 1)):
             return "Version {} {}".format(*struct.unpack_from("<HH", block, 52))
         if block[32:48] != self.space.namespace.labels[0].uuid:
             return "Parent"
@@ -425,9 +435,8 @@ class Arena:
                 return f"Layout {field}"
         return None
 
-    def halves(self):
-        """Each lane's current half: sector, old and new block. What is wrong with the groups is in the second list."""
-        current, faults = [], []
+    def groups(self):
+        """Of each lane its current half, sector, old and new block, and what is wrong with its group, or None."""
         log = self.space.read(self.at + self.log, 64 * self.lanes)
         for lane in range(self.lanes):
             group = log[64 * lane : 64 * (lane + 1)]
@@ -436,25 +445,34 @@ class Arena:
             sector, old, new = both[is_newer(*seqs)][:3]
             old, new = old % (1 << 30), new % (1 << 30)
             wrong = next((it for it, most in ((old, self.internal), (new, self.internal), (sector, self.external if old != new else 1 << 32)) if it >= most), None)
+            fault = None
             if any(group[32:]):
-                faults.append(f"Flog {lane} Padding")
+                fault = f"Flog {lane} Padding"
             elif max(seqs) > 3 or not (is_newer(*seqs) or is_newer(*reversed(seqs))):
-                faults.append(f"Flog {lane} Sequences {seqs[0]} {seqs[1]}")
+                fault = f"Flog {lane} Sequences {seqs[0]} {seqs[1]}"
             elif wrong is not None:
-                faults.append(f"Flog {lane} Range {wrong}")
-            current.append((sector, old, new))
-        return current, faults
+                fault = f"Flog {lane} Range {wrong}"
+            yield (sector, old, new), fault
+
+    def entries(self):
+        """The map as it was read."""
+        return list(struct.unpack(f"<{self.external}I", self.space.read(self.at + self.map, 4 * self.external)))
+
+    def pending(self, entries, halves):
+        """The halves whose moves a map doesn't show yet."""
+        return [it for it in halves if it[1] != it[2] and self.block(entries[it[0]], it[0]) == it[1]]
 
     def of_lanes_and_map(self):
         """What is wrong with groups, or else with blocks, or else with sectors."""
-        current, faults = self.halves()
+        groups = list(self.groups())
+        faults = [fault for _, fault in groups if fault]
         if faults:
             return faults
-        entries = list(struct.unpack(f"<{self.external}I", self.space.read(self.at + self.map, 4 * self.external)))
-        blocks = [self.block(entry, sector) for sector, entry in enumerate(entries)]
+        current, entries = [half for half, _ in groups], self.entries()
         # all pending moves are found by the map as it was read
-        for sector, new in [(sector, new) for sector, old, new in current if old != new and blocks[sector] == old]:
-            entries[sector], blocks[sector] = 3 << 30 | new, new
+        for sector, _, new in self.pending(entries, current):
+            entries[sector] = 3 << 30 | new
+        blocks = [self.block(entry, sector) for sector, entry in enumerate(entries)]
         named = blocks + [old for _, old, _ in current]
         counts = [0] * self.internal
         for block in named:
@@ -465,8 +483,11 @@ class Arena:
         found += [f"Missing {it}" for it, count in enumerate(counts) if count == 0]
         if found or not self.space.bad:
             return found
-        return [f"BadData {sector}" for sector, entry in enumerate(entries)
-                if entry >> 30 in (0, 3) and self.space.is_bad(self.at + self.data + blocks[sector] * self.inner, self.sector // WORD * WORD)]
+        return [f"BadData {sector}" for sector, entry in enumerate(entries) if self.is_bad_data(entry, sector)]
+
+    def is_bad_data(self, entry, sector):
+        """Whether a sector has bytes, and one of them is in a bad word."""
+        return entry >> 30 in (0, 3) and self.space.is_bad(self.at + self.data + self.block(entry, sector) * self.inner, self.sector // WORD * WORD)
 
     @staticmethod
     def block(entry, sector):
@@ -514,15 +535,19 @@ class Space:
         place = bisect.bisect_left(self.starts, at + count) - 1
         return place >= 0 and self.bad[place][1] > at
 
-    def findings(self):
-        """The findings of all arenas, each with its arena's place in the chain."""
-        at, arena, found = 0, 0, []
+    def arenas(self):
+        """The arenas along the chain, each with its place in it."""
+        at, place = 0, 0
         while True:
             it = Arena(self, at)
-            found += [(arena, finding) for finding in it.findings]
+            yield place, it
             if it.next == 0:
-                return found
-            at, arena = at + it.next, arena + 1
+                return
+            at, place = at + it.next, place + 1
+
+    def findings(self):
+        """The findings of all arenas, each with its arena's place in the chain."""
+        return [(place, finding) for place, it in self.arenas() for finding in it.findings()]
 
 
 # ---- the set

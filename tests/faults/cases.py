@@ -3,7 +3,7 @@
 import struct
 
 from sets import FIRST, INNER, LANES, LINE, OUTER, SECOND, SIZE, SLOTS, THIRD, area, checked, control, info, interleave, mapping, of_version, pair, part
-from sets import ARENA, BLOCK, HELD, bad, chain, fletcher64, group, past_the_limit, sectors, spa, table, two, wide
+from sets import ARENA, BLOCK, HELD, LOG_AT, MAP_AT, bad, chain, fletcher64, group, past_the_limit, sectors, spa, table, two, wide
 
 CREATE = ["OUT", "create", "--uuid", str(THIRD), "--name", "c", "--region", "0", "--size", "8192", "--mode", "raw"]
 LIST, NFIT, LABELS, INFO, READ = ["-", "list"], ["-", "nfit"], ["-", "labels", "0"], ["-", "info", str(FIRST)], ["-", "read", str(FIRST), "0"]
@@ -13,6 +13,8 @@ SET = ["-", "check"]
 WRITE = ["OUT", "write", str(FIRST), "0", "fill:5a"]
 REPLAY = ["OUT", "replay", str(FIRST)]
 EXPORT = ["-", "export", str(FIRST)]
+RESCUE = ["-", "rescue", str(FIRST)]
+LOST = [*RESCUE, "--lost"]
 IMPORT = ["OUT", "import", str(FIRST)]
 SERVE = ["OUT", "serve"]
 LOAD = ["OUT", "load", "0", "--uuid", str(FIRST)]
@@ -82,7 +84,7 @@ def tables():
 def asked_first():
     """A name in place of a UUID, or a region that isn't given: what the question ends with is the end of the command."""
     named = ["OUT", "create", "--name", "c", "--size", "8192"]
-    for words in (["-", "info", "a"], ["-", "read", "a", "0"], ["-", "export", "a"], ["OUT", "delete", "a"], ["OUT", "rename", "a", "b"], ["OUT", "load", "7", "--uuid", "a"], named):
+    for words in (["-", "info", "a"], ["-", "read", "a", "0"], ["-", "export", "a"], ["-", "rescue", "a"], ["-", "rescue", "a", "--lost"], ["OUT", "delete", "a"], ["OUT", "rename", "a", "b"], ["OUT", "load", "7", "--uuid", "a"], named):
         yield image("mark Missing", None, words, "isn't there: name the directory")
         yield image("mark Missing", without("complete"), words, "no file 'complete'")
         yield image("contents 0 Size 100", {**whole(), "contents-0.bin": 100}, words)
@@ -148,9 +150,9 @@ def regions():
             ("Cover 0", two(spa(), mapping(0), mapping(1), interleave((0, 0))))):
         files = {**pair(nfit=nfit), "contents-0.bin": 2 * SIZE}
         yield files, NFIT, 0, f"fault {text}", None
-        for words in (LIST, CREATE, CHECK, SERVE, LOAD):
+        for words in (LIST, CREATE, CHECK, RESCUE, LOST, SERVE, LOAD):
             yield image(f"region 0 {text}", files, words, f"nvd: image region 0 {text}: {REGION_MEANS[text.split()[0]]}")
-    for words in (LIST, CHECK, SERVE, LOAD):
+    for words in (LIST, CHECK, RESCUE, LOST, SERVE, LOAD):
         yield image(f"labels Overlap {FIRST} {SECOND}", pair(area([part(0), part(0, SECOND, 1)]), area([part(1)])), words)
 
 
@@ -187,10 +189,10 @@ def refusals():
             ("NoRegion 7", whole(), create("--region", "7")), ("ModuleLabels 0", blank(), CREATE),
             ("Exists", whole(), create("--uuid", str(FIRST))), (f"NoSpace {SIZE}", whole(), create("--size", str(2 * SIZE))),
             ("NoSlot 0", full, CREATE), ("NoSlot 0", full, RENAME), ("NoSlot 0", full, DELETE),
-            ("NoSuch", pair(), DELETE), ("NoSuch", pair(), RENAME), ("NoSuch", pair(), INFO), ("NoSuch", pair(), CHECK), ("NoSuch", pair(), READ), ("NoSuch", pair(), WRITE), ("NoSuch", pair(), REPLAY), ("NoSuch", pair(), EXPORT), ("NoSuch", pair(), IMPORT), ("NoSuch", pair(), LOAD),
-            ("NotComplete", half, DELETE), ("NotComplete", half, RENAME), ("NotComplete", half, INFO), ("NotComplete", half, CHECK), ("NotComplete", half, READ), ("NotComplete", half, WRITE), ("NotComplete", half, REPLAY), ("NotComplete", half, EXPORT), ("NotComplete", half, IMPORT), ("NotComplete", half, LOAD),
+            ("NoSuch", pair(), DELETE), ("NoSuch", pair(), RENAME), ("NoSuch", pair(), INFO), ("NoSuch", pair(), CHECK), ("NoSuch", pair(), READ), ("NoSuch", pair(), WRITE), ("NoSuch", pair(), REPLAY), ("NoSuch", pair(), EXPORT), ("NoSuch", pair(), RESCUE), ("NoSuch", pair(), LOST), ("NoSuch", pair(), IMPORT), ("NoSuch", pair(), LOAD),
+            ("NotComplete", half, DELETE), ("NotComplete", half, RENAME), ("NotComplete", half, INFO), ("NotComplete", half, CHECK), ("NotComplete", half, READ), ("NotComplete", half, WRITE), ("NotComplete", half, REPLAY), ("NotComplete", half, EXPORT), ("NotComplete", half, RESCUE), ("NotComplete", half, LOST), ("NotComplete", half, IMPORT), ("NotComplete", half, LOAD),
             ("ReadOnlyLabel 1", locked, DELETE), ("ReadOnlyLabel 1", locked, RENAME),
-            ("NotSector", whole(), INFO), ("NotSector", whole(), CHECK), ("NotSector", whole(), READ), ("NotSector", whole(), WRITE), ("NotSector", whole(), REPLAY), ("NotSector", whole(), LOAD), ("Range 3", small(3), LOAD),
+            ("NotSector", whole(), INFO), ("NotSector", whole(), CHECK), ("NotSector", whole(), READ), ("NotSector", whole(), WRITE), ("NotSector", whole(), REPLAY), ("NotSector", whole(), RESCUE), ("NotSector", whole(), LOST), ("NotSector", whole(), LOAD), ("Range 3", small(3), LOAD),
             ("BadSector 1", sectors(entries={1: 1 << 30 | 1, 2: 1 << 30 | 2}), EXPORT),
             (f"Range {OUTER}", sectors(), [*READ[:-1], str(OUTER)]), (f"Range {OUTER}", sectors(), [*WRITE[:-2], str(OUTER), "hex:"]),
             ("Length 0 4096", sectors(), [*WRITE[:-1], "hex:"]), ("Length 513 4096", sectors(), [*WRITE[:-1], "hex:" + 513 * "5a"]),
@@ -230,7 +232,7 @@ def too_large():
     yield refused("Range 3", wide(HELD), [*LOAD, "--sessions", "4"])
     yield *image(f"arena {SECOND} 0 Info Signature", wide(more, 16 << 20, broken=1), SERVE), session(f"open {FIRST}", f"open {SECOND}")
     # other commands take arenas of any size
-    for words, text in (([*READ[:-1], "2"], "ok fill:00"), (INFO, "sectors 3 blocks 259 lanes 256 moves 0"), (WRITE, "ok")):
+    for words, text in (([*READ[:-1], "2"], "ok fill:00"), (LOST, "whole"), (INFO, "sectors 3 blocks 259 lanes 256 moves 0"), (WRITE, "ok")):
         yield wide(more), words, 0, text, None
 
 
@@ -297,23 +299,51 @@ def findings():
     yield sectors(), CHECK, 0, "sound", None
     yield sectors(entries={0: 1 << 31 | 1}), CHECK, 0, "broken 2", "'nvd help check' says what to do"
     for text, files in (
-            ("Info Checksum", sectors(info(seal=False))), ("Info Signature", sectors(bytes(4096), last=bytes(4096))), ("Backup Version 1 1", sectors(last=info(major=1, minor=1))),
+            ("Info Checksum", sectors(info(seal=False))), ("Info Signature", sectors(bytes(4096), last=bytes(4096))), ("Backup Version 1 0", sectors(last=info(major=1))),
             ("Unequal", sectors(last=info(unused=b"x"))), ("Flog 0 Padding", sectors(halves={0: group(OUTER, OUTER, 1, b"x" + bytes(31))})),
             ("Flog 0 Sequences 0 0", sectors(halves={0: group(OUTER, OUTER, 0)})), (f"Flog 0 Range {INNER}", sectors(halves={0: group(INNER, INNER, 1)})),
             (f"Range {INNER}", sectors(entries={0: 1 << 31 | INNER})), ("Twice 1", sectors(entries={0: 1 << 31 | 1})), ("Missing 0", sectors(entries={0: 1 << 31 | 1})),
             ("BadData 5", sectors(entries={5: 3 << 30 | 5}, ranges=[(4096 * 6, 1)])), (f"BadMeta {ARENA // 8 - 1}", sectors(ranges=[(ARENA - 1, 1)]))):
         yield files, CHECK, 0, f"arena 0 {text}", f"nvd: arena 0 {text}: {FINDING_MEANS[text.split()[0]]}"
     for text, files in (
-            ("Info Checksum", sectors(info(seal=False))), ("Info Signature", sectors(bytes(4096))), ("Backup Version 1 1", sectors(last=info(major=1, minor=1))), ("Unequal", sectors(last=info(unused=b"x"))),
+            ("Info Checksum", sectors(info(seal=False))), ("Info Signature", sectors(bytes(4096))), ("Backup Version 1 0", sectors(last=info(major=1))), ("Unequal", sectors(last=info(unused=b"x"))),
             ("BadData 5", sectors(entries={5: 3 << 30 | 5}, ranges=[(4096 * 6, 1)]))):
         yield files, REPAIR, 0, f"arena 0 repaired {text}", f"nvd: arena 0 repaired {text}: {REPAIRED_MEANS[text.split()[0]]}"
     # what stays open is told as without --repair
-    yield sectors(info(major=1, minor=1)), REPAIR, 0, "arena 0 Info Version 1 1", "nvd: arena 0 Info Version 1 1: the arena's first info block is refused"
+    yield sectors(info(major=1)), REPAIR, 0, "arena 0 Info Version 1 0", "nvd: arena 0 Info Version 1 0: the arena's first info block is refused"
     yield sectors(bytes(4096), entries={0: 1 << 31 | 1}), REPAIR, 0, "broken 2", "nvd: arena 0 Twice 1: map and lanes name block 1 more than once"
     yield sectors(), REPAIR, 0, "sound", None
     # the reason of a refused block or group is told as for other commands
     yield sectors(info(seal=False)), CHECK, 0, "arena 0 Info Checksum", "nvd: arena 0 Info Checksum: a byte of the info block was changed"
     yield sectors(halves={7: bytes(64)}), CHECK, 0, "arena 0 Flog 7 Sequences 0 0", "nvd: arena 0 Flog 7 Sequences 0 0: the two log halves of lane 7 have the sequence numbers 0 and 0"
+
+
+def rescues():
+    """What `rescue --lost` says of damaged arenas; nvd says what each line means there, which is something else than for `check`."""
+    yield sectors(), LOST, 0, "whole", None
+    word = MAP_AT // 8
+    for lines, files, means in (
+            (["lost 7 Marked"], sectors(entries={7: 1 << 30 | 7}), "the map entry of sector 7 has only the error flag"),
+            ([f"lost 7 Range {INNER}"], sectors(entries={7: 1 << 31 | INNER}), f"the map entry of sector 7 names block {INNER}, which doesn't exist"),
+            (["lost 0 Twice 1", "lost 1 Twice 1"], sectors(entries={0: 1 << 31 | 1}), "the map entry of sector 0 names block 1, and another sector or a lane names it too"),
+            (["lost 5 BadData"], sectors(entries={5: 3 << 30 | 5}, ranges=[(4096 * 6, 1)]), "the bytes of sector 5 are in a bad range"),
+            ([f"BadMeta {word}", "lost 0 BadMap", "lost 1 BadMap"], sectors(ranges=[(MAP_AT, 1)]), f"word {word} of the namespace, of eight bytes, is in a bad range. If it is of a log group"),
+            ([f"BadMeta {word}", "lost 0 BadMap", "lost 1 BadMap"], sectors(ranges=[(MAP_AT, 1)]), "the map word of sector 0 is in a bad range"),
+            (["Info Signature"], sectors(bytes(4096), last=bytes(4096)), "the arena's first info block is refused. Its sectors are read by its backup")):
+        text = "\n".join([*(f"arena 0 {it}" for it in lines), f"lost {sum('lost' in it or 'Info' in it for it in lines)}"])
+        line = next((it for it in lines if "map word" in means and "lost" in it), lines[0])
+        yield files, LOST, 3, text, f"nvd: arena 0 {line}: {means}"
+    for line, files, means in (
+            (f"moved 0 0 {OUTER}", sectors(halves={0: group(0, OUTER, 1)}), f"the log moves sector 0 from block 0 to block {OUTER}, and the map doesn't show it yet"),
+            ("Flog 0 Sequences 0 0", sectors(halves={0: group(OUTER, OUTER, 0)}), "the log group of lane 0 is refused, so the lane doesn't count"),
+            ("Flog 0 Sequences 0 0", sectors(halves={0: group(OUTER, OUTER, 0)}), "the two log halves of lane 0 have the sequence numbers 0 and 0"),
+            (f"BadMeta {LOG_AT // 8}", sectors(ranges=[(LOG_AT, 1)]), f"word {LOG_AT // 8} of the namespace"),
+            ("Info Checksum", sectors(info(seal=False)), "the arena's first info block is refused. Its sectors are read by its backup"),
+            ("Info Checksum", sectors(info(seal=False)), "a byte of the info block was changed")):
+        yield files, LOST, 0, f"arena 0 {line}", f"nvd: arena 0 {line}: {means}"
+    # without an info block of the first arena nothing can be read
+    yield image(f"arena {FIRST} 0 Info Signature", sectors(bytes(4096), last=bytes(4096)), RESCUE, f"nvd: image arena {FIRST} 0 Info Signature: {ARENA_MEANS['Info Signature']}")
+    yield sectors(), [*RESCUE, "--lsot"], 2, "usage", "did you mean '--lost'?"
 
 
 def said(*lines):
@@ -411,5 +441,5 @@ def scripts():
 
 
 def cases():
-    for some in (usage, asked_first, objects, areas, regions, statuses, refusals, replies, arenas, findings, whole_sets):
+    for some in (usage, asked_first, objects, areas, regions, statuses, refusals, replies, arenas, findings, rescues, whole_sets):
         yield from some()

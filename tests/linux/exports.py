@@ -4,7 +4,8 @@
 usage: exports.py NAME TRUTH SET PROGRAM OUT   (the set is unpacked in the folder SET; OUT doesn't exist yet)
 
 truth/sectors.txt.xz has a line for each block device, with its namespace, its mode, its bytes and their MD5. The bytes of raw and of sector
-namespaces must be these, and those of another mode are refused. `sectors.py` says what else stands there. The same bytes moved by 512 are
+namespaces must be these, and those of another mode are refused. `rescue` must print the same of sector namespaces, and lose nothing. `sectors.py` says
+what else stands there. The same bytes moved by 512 are
 imported into OUT, and an export prints them again; label areas, the table and bad ranges are as they were.
 """
 import hashlib
@@ -52,6 +53,10 @@ def main():
                 # no sector of these is bad
                 again = run("export", who, "--bad-as-zeros")
                 report(f"export --bad-as-zeros of {who}", again == (status, text), True)
+                if mode == "sector":
+                    report(f"rescue of {who}", run("rescue", who) == (status, text), True)
+                    found, lines = run("rescue", who, "--lost")
+                    report(f"what rescue loses of {who}", (found, lines.splitlines()[-1:]), (0, [b"whole"]))
                 moved = text[512:] + text[:512]
                 report(f"import into {who}", ran(folder, out, "import", who, script=moved), (0, b"ok\n"))
                 report(f"export of {who} after the import", ran(out, "-", "export", who) == (0, moved), True)
@@ -59,6 +64,8 @@ def main():
                 shutil.rmtree(out, ignore_errors=True)
             else:
                 report(f"export of {who}, {mode}", (status, text), (4, b"refused NotSector\n"))
+            if mode != "sector":
+                report(f"rescue of {who}, {mode}", run("rescue", who), (4, b"refused NotSector\n"))
 
 
 if __name__ == "__main__":

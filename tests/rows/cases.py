@@ -146,7 +146,8 @@ def command_lines():
             ["write", NONE, "0", "fill:00", "--cut", "1"], ["replay"], ["replay", "9"], ["replay", NONE, "0"], ["replay", NONE, "--cut", "1"],
             ["replay", NONE, "--evict", "01"], ["replay", NONE, "--evict"], ["export"], ["export", "a"], ["export", NONE, "0"],
             ["export", NONE, "--bad-as-zeros", "--bad-as-zeros"], ["export", NONE, "--bad-as-zeros=true"], ["export", NONE, "--bad-as-zeros", "true"],
-            ["export", NONE, "--evict", "1"], ["serve", NONE], ["serve", "--workers", "0"], ["serve", "--workers", "65"], ["serve", "--cut", "1"],
+            ["export", NONE, "--evict", "1"], ["rescue"], ["rescue", "a"], ["rescue", NONE, "0"], ["rescue", NONE, "--lost", "--lost"], ["rescue", NONE, "--lost=true"],
+            ["rescue", NONE, "--lost", "true"], ["rescue", NONE, "--Lost"], ["rescue", NONE, "--bad-as-zeros"], ["rescue", NONE, "--evict", "1"], ["serve", NONE], ["serve", "--workers", "0"], ["serve", "--workers", "65"], ["serve", "--cut", "1"],
             ["serve", "--evict", "01"], ["load"], ["load", "1"], ["load", "--uuid", NONE], ["load", "01", "--uuid", NONE], ["load", "1", NONE],
             ["load", "1", "--uuid", NONE, "--sessions", "0"], ["load", "1", "--uuid", NONE, "--sessions", "1025"], ["load", "1", "--uuid", NONE, "--calls", "65535"],
             ["load", "1", "--uuid", NONE, "--sessions", "1024", "--calls", "63"], ["load", "1", "--uuid", NONE, "--workers", "65"],
@@ -169,6 +170,8 @@ def command_lines():
         yield pair(), ["OUT", "check", *words], REFUSED, "refused NoSuch\n"
     for words in ([NONE, "--bad-as-zeros"], ["--bad-as-zeros", NONE], ["--bad-as-zeros", "--", NONE]):
         yield pair(), ["-", "export", *words], REFUSED, "refused NoSuch\n"
+    for words in ([NONE], [NONE, "--lost"], ["--lost", NONE], ["--lost", "--", NONE]):
+        yield pair(), ["-", "rescue", *words], REFUSED, "refused NoSuch\n"
     # the ranges of --sector and --lanes count in either mode
     for mode in ("raw", "sector"):
         for more in (["--lanes", "0"], ["--lanes", "257"], ["--lanes", "01"], ["--sector", "4294967296"], ["--sector", "0512"], ["--sector", "x"]):
@@ -215,11 +218,15 @@ def sectors():
         # a raw namespace is exported
         for words in (["-", "export", uuid], ["-", "export", uuid, "--bad-as-zeros"]):
             yield files, words, *((OK, "\0" * 2 * 4096) if text == "refused NotSector\n" else (status, text))
+        # a raw namespace isn't rescued, and without an info block nothing can be read; that is what is lost
+        yield files, ["-", "rescue", uuid], status, text
+        yield files, ["-", "rescue", uuid, "--lost"], status, "arena 0 Info Signature\nlost 1\n" if text.startswith("image arena") else text
         # to check, an arena that breaks the format is no fault; the last 4,096 bytes are no info block either
         for words in (["OUT", "check", uuid], ["OUT", "check", uuid, "--repair"]):
             yield files, words, *((OK, "arena 0 Info Signature\nbroken 1\n") if text.startswith("image arena") else (status, text))
     # and one of another use isn't
-    yield with_areas(*LISTS[-1][:2]), ["-", "export", FIRST], REFUSED, "refused NotSector\n"
+    for words in (["export", FIRST], ["rescue", FIRST], ["rescue", FIRST, "--lost"]):
+        yield with_areas(*LISTS[-1][:2]), ["-", *words], REFUSED, "refused NotSector\n"
 
 
 def cases():

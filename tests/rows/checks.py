@@ -50,10 +50,15 @@ def infos():
     yield "nothing", sectors(), found()
     yield "a byte of the first info block", sectors(changed(info(), 84)), found("Info Checksum")
     yield "no first info block", sectors(bytes(4096)), found("Info Signature")
-    for fault, fields in (("Version 1 1", {"major": 1, "minor": 1}), ("Parent", {"parent": bytes(16)}), ("ErrorState", {"flags": 1}), ("Layout Sector", {"sector": 100}),
+    for fault, fields in (("Version 1 0", {"major": 1}), ("Parent", {"parent": bytes(16)}), ("ErrorState", {"flags": 1}), ("Layout Sector", {"sector": 100}),
                           ("Layout Size", {"backup": INFO_AT + 4096}), ("Layout Next", {"next": 4096})):
         yield f"the first info block has {fault}", sectors(info(**fields)), found(f"Info {fault}")
         yield f"the backup has {fault}", sectors(last=info(**fields)), found(f"Backup {fault}")
+    older = info(major=1, minor=1)
+    yield "both info blocks of version 1.1", sectors(older, last=older), found()
+    yield "a backup of version 1.1", sectors(last=older), found("Unequal")
+    yield "no first info block, and a backup of version 1.1", sectors(bytes(4096), last=older), found("Info Signature")
+    yield "the first info block has Version 2 1", sectors(info(minor=1)), found("Info Version 2 1")
     yield "a byte of the backup", sectors(last=changed(info(), 84)), found("Backup Checksum")
     yield "no backup", sectors(last=bytes(4096)), found("Backup Signature")
     yield "a byte of both", sectors(changed(info(), 84), last=changed(info(), 84)), found("Info Checksum")
@@ -194,7 +199,7 @@ def repaired_infos():
     yield "a byte of the first info block", sectors(changed(info(), 200)), mended("Info Checksum"), {0: info()}
     yield "no first info block", sectors(bytes(4096)), mended("Info Signature"), {0: info()}
     yield "a backup with a byte that isn't read", sectors(bytes(4096), last=info(unused=b"x")), mended("Info Signature"), {0: info(unused=b"x")}
-    for fault, fields in (("Version 1 1", {"major": 1, "minor": 1}), ("Parent", {"parent": bytes(16)}), ("ErrorState", {"flags": 1}), ("Layout Sector", {"sector": 100}), ("Layout Next", {"next": 4096})):
+    for fault, fields in (("Version 1 0", {"major": 1}), ("Parent", {"parent": bytes(16)}), ("ErrorState", {"flags": 1}), ("Layout Sector", {"sector": 100}), ("Layout Next", {"next": 4096})):
         yield f"the first info block has {fault}", sectors(info(**fields)), mended(left=[f"Info {fault}"]), {}
         yield f"the first info block has {fault}, and a sector is bad", sectors(info(**fields), **worn), mended("BadData 7", left=[f"Info {fault}"]), entry(7, ERROR | 7)
         yield f"the backup has {fault}", sectors(last=info(**fields)), mended(f"Backup {fault}"), {INFO_AT: info()}

@@ -235,7 +235,7 @@ def arenas():
     yield "an arena", sectors(), []
     yield "an arena without its first info block", sectors(bytes(4096)), arena(FIRST, "Info Signature")
     yield "an arena without info blocks", sectors(bytes(4096), last=bytes(4096)), arena(FIRST, "Info Signature")
-    yield "an arena's backup", sectors(last=info(major=1, minor=1)), arena(FIRST, "Backup Version 1 1")
+    yield "an arena's backup", sectors(last=info(major=1)), arena(FIRST, "Backup Version 1 0")
     yield "blocks that differ", sectors(last=info(unused=b"x")), arena(FIRST, "Unequal")
     yield "a lane", sectors(halves={3: bytes(64)}), arena(FIRST, "Flog 3 Sequences 0 0")
     yield "a block", sectors(entries={9: 3 << 30 | 100}), arena(FIRST, "Twice 100", "Missing 9")

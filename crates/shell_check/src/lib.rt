@@ -46,4 +46,6 @@ mod text;
 
 pub use all::{ArenaLines, check_arenas};
 pub use command::check_answer;
-pub use text::push_last_line;
+pub use log::flog_findings;
+pub use pages::read_source;
+pub use text::{push_last_line, push_lines};

@@ -43,7 +43,11 @@ fn push_refused(
 }
 
 /// Returns a finding for each lane whose group is refused, from the bytes of the log.
-fn flog_findings(alloc: Global, log: &[u8], layout: &Layout) -> Result<Items<Finding>, AllocError>
+pub fn flog_findings(
+    alloc: Global,
+    log: &[u8],
+    layout: &Layout,
+) -> Result<Items<Finding>, AllocError>
     requires { length log.now ≡ 64 * layout.now.lanes }
     ensures { IfOk result (λ findings. (words : List ℕ) → AreBytesOf words (layout.now.flog_off / 8) log.now → findings ≡ flog_findings layout.now words) }
 {

@@ -41,7 +41,7 @@ pub(crate) fn read_page<S: ImageSource>(
 
 /// Reads the first info block of the arena whose first word is `at`, and the namespace's last page. It returns which of
 /// them is used, and the bytes of the first one.
-pub(crate) fn read_source<S: ImageSource>(
+pub fn read_source<S: ImageSource>(
     images: &mut S,
     extent: &SetExtent<'_>,
     at: u64,

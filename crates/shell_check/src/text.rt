@@ -45,7 +45,7 @@ fn repaired_line(alloc: Global, head: &str, k: u64, finding: Finding) -> Result<
 }
 
 /// Appends the lines of the findings of arena k.
-fn push_lines(
+pub fn push_lines(
     alloc: Global,
     head: &str,
     k: u64,

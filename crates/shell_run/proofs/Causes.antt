@@ -20,7 +20,7 @@ use Rattle.shell_reports.specs.declared.status.Ending.{Ending}
 use Rattle.shell_reports.specs.declared.status.Ending.TheVariants as ending
 use Rattle.shell_reports.specs.declared.status.Status.TheVariants as status
 use Rattle.shell_run.specs.declared.words.CommandLine.{CommandLine}
-use Rattle.shell_run.specs.declared.words.CommandLine.TheVariants.{Labels, Nfit, Init, Change, Info, Check, CheckSet, Read, Write, Replay, Export, Import, Serve, Load}
+use Rattle.shell_run.specs.declared.words.CommandLine.TheVariants.{Labels, Nfit, Init, Change, Info, Check, CheckSet, Read, Write, Replay, Export, Rescue, Import, Serve, Load}
 use Rattle.shell_run.specs.declared.words.CommandLine.TheVariants as command
 use Rattle.shell_reports.specs.declared.power.Power.{Power}
 use Rattle.nfit_reader.specs.declared.table.Mapping.{Mapping}
@@ -42,7 +42,7 @@ use Rattle.arena_open.specs.ChainCells.{sectors_of}
 use Rattle.namespace_areas.specs.declared.found.Found.{Found}
 use Rattle.shell_reports.specs.Faults.{arena_outcome, held_text, most_held, refusal_text, refused_outcome}
 use Rattle.shell_reports.specs.Sectors.{arena_lines, sector_outcome}
-use Rattle.shell_reports.specs.Causes.{breaks, fault_in, found_in, is_broken, is_unfound, lacks, lacks_found, opened_in}
+use Rattle.shell_reports.specs.Causes.{breaks, fault_in, found_in, is_broken, is_unfound, lacks, lacks_found, opened_in, refuses_info}
 use Rattle.shell_reports.proofs.Causes.{SectorsCase, faulty, unfound, broken, opened, sectors_case}
 use Rattle.shell_reports.proofs.More.{ending_of}
 use Rattle.session_script.specs.declared.payload.Payload.{Payload}
@@ -54,6 +54,9 @@ use Rattle.shell_sectors.proofs.Causes.{SetCase, set_broken, set_case, set_fault
 use Rattle.shell_export.specs.Causes.{breaks_export, refuses_export}
 use Rattle.shell_export.specs.Export.{export_outcome}
 use Rattle.shell_export.proofs.Causes.{export_ends, ending_for as ending_by_cause}
+use Rattle.shell_rescue.specs.Causes.{breaks_rescue}
+use Rattle.shell_rescue.specs.Comes.{rescue_outcome}
+use Rattle.shell_rescue.proofs.Causes.{rescue_ends}
 use Rattle.session_script.specs.declared.schedule.Replay.{Replay as Schedules}
 use Rattle.session_script.specs.declared.script.Script.{Script}
 use Rattle.session_script.specs.Schedule.{replay_reading}
@@ -290,6 +293,17 @@ export_case : (uuid : List ℕ) (zeros : Bool) (loaded : ImageSet) (outcome : Ou
 export_case uuid zeros loaded outcome comes =
     export_by uuid zeros loaded outcome.ending (breaks_export loaded uuid) (refuses_export loaded uuid zeros) refl refl (ending_of outcome (export_outcome uuid zeros loaded) comes ∙ (export_ends loaded uuid zeros).0)
 
+-- ---- `rescue`
+
+rescue_by : (uuid : List ℕ) (listing : Bool) (loaded : ImageSet) (e : Ending) (b c : Bool) → breaks_rescue loaded uuid listing ≡ b → refuses_info loaded uuid ≡ c → e ≡ ending_by_cause b c → CommandCase (Rescue uuid listing) (Ok loaded) e
+rescue_by uuid listing loaded e true c p q is = is_refused p is
+rescue_by uuid listing loaded e false true p q is = is_turned_down p refl q is
+rescue_by uuid listing loaded e false false p q is = is_done p refl q is
+
+rescue_case : (uuid : List ℕ) (listing : Bool) (loaded : ImageSet) (outcome : Outcome) → outcome ≡ rescue_outcome uuid listing loaded → CommandCase (Rescue uuid listing) (Ok loaded) outcome.ending
+rescue_case uuid listing loaded outcome comes =
+    rescue_by uuid listing loaded outcome.ending (breaks_rescue loaded uuid listing) (refuses_info loaded uuid) refl refl (ending_of outcome (rescue_outcome uuid listing loaded) comes ∙ (rescue_ends loaded uuid listing).0)
+
 -- ---- `import`
 
 same_by : (long : Bool) (script bytes : List ℕ) (why : ScriptRefused) → (if long then Err why else Ok script) ≡ Ok bytes → bytes ≡ script
@@ -349,6 +363,7 @@ module _ (leaves : ℕ → List (Option Words) → List (Option (List ℕ)) → 
       write_case uuid sector value loaded outcome (set_case (WritesArenas uuid sector value loaded outcome) loaded uuid outcome comes)
   command_case (Replay uuid seed) (Ok loaded) outcome comes = absurd comes
   command_case (Export uuid zeros) (Ok loaded) outcome comes = export_case uuid zeros loaded outcome comes
+  command_case (Rescue uuid listing) (Ok loaded) outcome comes = rescue_case uuid listing loaded outcome comes
   command_case (Import uuid) (Ok loaded) outcome comes = absurd comes
   command_case (Serve running) (Ok loaded) outcome comes = absurd comes
   command_case (Load l workers) (Ok loaded) outcome comes = load_case (leaves 0) l workers loaded outcome comes
@@ -409,6 +424,7 @@ module _ (leaves : ℕ → List (Option Words) → List (Option (List ℕ)) → 
   script_ending (Read uuid sector) script set outcome comes = plain_ending (Read uuid sector) set outcome comes
   script_ending (Write uuid sector value) script set outcome comes = plain_ending (Write uuid sector value) set outcome comes
   script_ending (Export uuid zeros) script set outcome comes = plain_ending (Export uuid zeros) set outcome comes
+  script_ending (Rescue uuid listing) script set outcome comes = plain_ending (Rescue uuid listing) set outcome comes
   script_ending (Import uuid) script set outcome comes = import_ending uuid script set outcome (bytes_in script) (bytes_same script) comes
   script_ending (Serve running) script set outcome comes = serve_ending (leaves running.seed) set outcome (script_in script_reading script) comes
   script_ending (Load l workers) script set outcome comes = plain_ending (Load l workers) set outcome comes

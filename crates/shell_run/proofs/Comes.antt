@@ -32,9 +32,11 @@ use Rattle.shell_serve.specs.declared.serving.Running.{Running}
 use Rattle.shell_serve.specs.Serve.{ServeComes}
 use Rattle.shell_run.specs.declared.scripts.ScriptRefused.{ScriptRefused}
 use Rattle.shell_run.specs.declared.words.CommandLine.{CommandLine}
-use Rattle.shell_run.specs.declared.words.CommandLine.TheVariants.{Labels, Nfit, Init, Change, Info, Check, CheckSet, Read, Write, Replay as AskReplay, Export, Import, Serve, Load}
+use Rattle.shell_run.specs.declared.words.CommandLine.TheVariants.{Labels, Nfit, Init, Change, Info, Check, CheckSet, Read, Write, Replay as AskReplay, Export, Rescue, Import, Serve, Load}
 use Rattle.shell_run.specs.declared.words.CommandLine.TheVariants as command
-use Rattle.shell_run.specs.Printed.{Exports, IsReported, IsUnloaded}
+use Rattle.shell_run.specs.declared.top.Streamed.{Streamed}
+use Rattle.shell_run.specs.declared.top.Streamed.TheVariants as streamed
+use Rattle.shell_run.specs.Printed.{IsReported, IsUnloaded, Streams, line_of}
 use Rattle.shell_set_check.specs.Whole.{set_check_outcome}
 use Rattle.shell_run.specs.Run.{Comes, ComesTold, IsDue, LoadedComes, OnImages, OnLoaded, OnScript, OnSource, checks_set, copies, copies_by, copies_found, has_sessions, reads_script, streams, streams_by, streams_found}
 use Rattle.shell_run.specs.Scripts.{bytes_in, script_in, script_outcome}
@@ -240,6 +242,7 @@ session_copies (command.Read uuid sector) some = let e = some in cc
 session_copies (command.Write uuid sector value) some = let e = some in cc
 session_copies (command.Replay uuid seed) some = let e = some in cc
 session_copies (command.Export uuid zeros) some = let e = some in cc
+session_copies (command.Rescue uuid listing) some = let e = some in cc
 session_copies (command.Import uuid) some = let e = some in cc
 session_copies (command.Serve running) some = refl
 session_copies (command.Load l workers) some = refl
@@ -269,6 +272,7 @@ module _ (leaves : ℕ → List (Option Words) → List (Option (List ℕ)) → 
   plain_comes (Write uuid sector value) plain other on = on
   plain_comes (AskReplay uuid seed) plain other on = absurd (let e = plain in cc)
   plain_comes (Export uuid zeros) plain other on = on
+  plain_comes (Rescue uuid listing) plain other on = on
   plain_comes (Import uuid) plain other on = absurd (let e = plain in cc)
   plain_comes (Serve running) plain other on = absurd (let e = plain in cc)
   plain_comes (Load l workers) plain other on = on
@@ -365,9 +369,11 @@ reported_unloaded {E} r fault outcome says read memory (report, is, same) = (
   reported_is r (load_outcome fault) outcome says (report, is, same),
 )
 
-pub export_due : (leaves : ℕ → List (Option Words) → List (Option (List ℕ)) → Type 0) (command : CommandLine) (uuid : List ℕ) (zeros : Bool) (held : Option Images) (left : Option (List ℕ)) (outcome : Outcome)
-    → command ≡ Export uuid zeros → OnImages (Exports uuid zeros) held outcome → ComesTold leaves command held left outcome
-export_due leaves command uuid zeros held left outcome is due = λ script reads. subst (λ (c : CommandLine). Comes leaves c held script outcome) (sym is) due
+-- a text that is printed piece by piece is what the command line comes to
+pub streamed_due : (leaves : ℕ → List (Option Words) → List (Option (List ℕ)) → Type 0) (command : CommandLine) (what : Streamed) (held : Option Images) (left : Option (List ℕ)) (outcome : Outcome)
+    → command ≡ line_of what → OnImages (Streams what) held outcome → ComesTold leaves command held left outcome
+streamed_due leaves command (streamed.Export uuid zeros) held left outcome is due = λ script reads. subst (λ (c : CommandLine). Comes leaves c held script outcome) (sym is) due
+streamed_due leaves command (streamed.Rescue uuid listing) held left outcome is due = λ script reads. subst (λ (c : CommandLine). Comes leaves c held script outcome) (sym is) due
 
 -- ---- a set that isn't finished
 

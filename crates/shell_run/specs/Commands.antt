@@ -22,6 +22,7 @@ kind_of name =
     else if bytes_eq name (codes "write") then Some kind.Write
     else if bytes_eq name (codes "replay") then Some kind.Replay
     else if bytes_eq name (codes "export") then Some kind.Export
+    else if bytes_eq name (codes "rescue") then Some kind.Rescue
     else if bytes_eq name (codes "import") then Some kind.Import
     else if bytes_eq name (codes "serve") then Some kind.Serve
     else if bytes_eq name (codes "load") then Some kind.Load
@@ -54,6 +55,7 @@ arguments_of kind.Read = (codes "uuid", Place) ∷ (codes "sector", Place) ∷ [
 arguments_of kind.Write = (codes "uuid", Place) ∷ (codes "sector", Place) ∷ (codes "value", Place) ∷ []
 arguments_of kind.Replay = (codes "uuid", Place) ∷ (codes "evict", Optional) ∷ []
 arguments_of kind.Export = (codes "uuid", Place) ∷ (codes "bad-as-zeros", Flag) ∷ []
+arguments_of kind.Rescue = (codes "uuid", Place) ∷ (codes "lost", Flag) ∷ []
 arguments_of kind.Import = (codes "uuid", Place) ∷ []
 arguments_of kind.Serve = (codes "workers", Optional) ∷ (codes "evict", Optional) ∷ []
 arguments_of kind.Load = (codes "number", Place) ∷ (codes "uuid", Required) ∷ (codes "sessions", Optional) ∷ (codes "calls", Optional) ∷ (codes "workers", Optional) ∷ []

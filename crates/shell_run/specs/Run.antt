@@ -13,7 +13,7 @@ use Rattle.shell_reports.specs.declared.status.Ending.TheVariants as ending
 use Rattle.shell_reports.specs.declared.status.Status.{Status}
 use Rattle.shell_reports.specs.declared.status.Status.TheVariants as status
 use Rattle.shell_run.specs.declared.words.CommandLine.{CommandLine}
-use Rattle.shell_run.specs.declared.words.CommandLine.TheVariants.{Labels, Nfit, Init, Change, Info, Check, CheckSet, Read, Write, Replay, Export, Import, Serve, Load}
+use Rattle.shell_run.specs.declared.words.CommandLine.TheVariants.{Labels, Nfit, Init, Change, Info, Check, CheckSet, Read, Write, Replay, Export, Rescue, Import, Serve, Load}
 use Rattle.shell_run.specs.declared.words.CommandLine.TheVariants as command
 use Rattle.shell_run.specs.Words.{HasGoodValues, command_of}
 use Rattle.shell_reports.specs.Outcome.{Outcome, usage, lf, status_of}
@@ -32,6 +32,7 @@ use Rattle.shell_check.specs.Comes.{CheckComes}
 use Rattle.shell_set_check.specs.Whole.{set_check_outcome}
 use Rattle.shell_sectors.specs.Write.{WriteComes}
 use Rattle.shell_export.specs.Export.{export_outcome}
+use Rattle.shell_rescue.specs.Comes.{rescue_outcome}
 use Rattle.shell_import.specs.Import.{ImportComes}
 use Rattle.shell_replay.specs.Replay.{ReplayComes}
 use Rattle.session_script.specs.Schedule.{replay_reading}
@@ -58,6 +59,7 @@ LoadedComes leaves (Read uuid sector) loaded outcome = outcome ≡ read_outcome 
 LoadedComes leaves (Write uuid sector value) loaded outcome = WriteComes uuid sector value loaded outcome
 LoadedComes leaves (Replay uuid seed) loaded outcome = ⊥
 LoadedComes leaves (Export uuid zeros) loaded outcome = outcome ≡ export_outcome uuid zeros loaded
+LoadedComes leaves (Rescue uuid listing) loaded outcome = outcome ≡ rescue_outcome uuid listing loaded
 LoadedComes leaves (Import uuid) loaded outcome = ⊥
 LoadedComes leaves (Serve running) loaded outcome = ⊥
 LoadedComes leaves (Load l workers) loaded outcome = LoadComes (leaves 0) l loaded outcome
@@ -105,6 +107,7 @@ reads_script (Read uuid sector) = false
 reads_script (Write uuid sector value) = false
 reads_script (Replay uuid seed) = true
 reads_script (Export uuid zeros) = false
+reads_script (Rescue uuid listing) = false
 reads_script (Import uuid) = true
 reads_script (Serve running) = true
 reads_script (Load l workers) = false
@@ -123,6 +126,7 @@ streams (Read uuid sector) = false
 streams (Write uuid sector value) = false
 streams (Replay uuid seed) = false
 streams (Export uuid zeros) = true
+streams (Rescue uuid listing) = true
 streams (Import uuid) = false
 streams (Serve running) = false
 streams (Load l workers) = false
@@ -154,6 +158,7 @@ has_sessions (Read uuid sector) = false
 has_sessions (Write uuid sector value) = false
 has_sessions (Replay uuid seed) = false
 has_sessions (Export uuid zeros) = false
+has_sessions (Rescue uuid listing) = false
 has_sessions (Import uuid) = false
 has_sessions (Serve running) = true
 has_sessions (Load l workers) = true
@@ -172,6 +177,7 @@ copies (Read uuid sector) = false
 copies (Write uuid sector value) = true
 copies (Replay uuid seed) = true
 copies (Export uuid zeros) = false
+copies (Rescue uuid listing) = false
 copies (Import uuid) = true
 copies (Serve running) = true
 copies (Load l workers) = true

@@ -7,7 +7,7 @@ use Rattle.shell_run.specs.declared.commands.CommandKind.{CommandKind}
 use Rattle.shell_run.specs.declared.commands.CommandKind.TheVariants as kind
 use Rattle.shell_run.specs.declared.words.CommandLine.{CommandLine}
 use Rattle.shell_run.specs.declared.words.LoadSize.{LoadSize}
-use Rattle.shell_run.specs.declared.words.CommandLine.TheVariants.{Labels, Nfit, Init, Change, Info, Check, CheckSet, Read, Write, Replay, Export, Import, Serve, Load}
+use Rattle.shell_run.specs.declared.words.CommandLine.TheVariants.{Labels, Nfit, Init, Change, Info, Check, CheckSet, Read, Write, Replay, Export, Rescue, Import, Serve, Load}
 use Rattle.shell_run.specs.declared.words.CommandLine.TheVariants as command
 use Rattle.shell_reports.specs.declared.power.Power.{Power}
 use Rattle.namespace_ops.specs.Carried.{HasGoodName}
@@ -83,6 +83,7 @@ command_in kind.Write values = write_in values
 command_in kind.Replay values = replay_in values
 command_in kind.Import values = option_map (λ uuid. Import uuid) (uuid_in (codes "uuid") values)
 command_in kind.Export values = option_map (λ uuid. Export uuid (flag_in (codes "bad-as-zeros") values)) (uuid_in (codes "uuid") values)
+command_in kind.Rescue values = option_map (λ uuid. Rescue uuid (flag_in (codes "lost") values)) (uuid_in (codes "uuid") values)
 command_in kind.Serve values = serve_in values
 command_in kind.Load values = load_in values
 command_in kind.Init values = option_and_then (λ m. option_map (λ power. Init m power) (power_in values)) (number_in 0 63 (codes "module") values)
@@ -110,6 +111,7 @@ HasGoodValues (Read uuid sector) = ⊤
 HasGoodValues (Write uuid sector value) = ⊤
 HasGoodValues (Replay uuid seed) = ⊤
 HasGoodValues (Export uuid zeros) = ⊤
+HasGoodValues (Rescue uuid listing) = ⊤
 HasGoodValues (Import uuid) = ⊤
 HasGoodValues (Serve running) = 0 < running.workers
 HasGoodValues (Load l workers) = (0 < l.sessions) × (0 < workers)

@@ -32,6 +32,8 @@ pub enum CommandKind {
     Replay,
     /// Prints all bytes of a namespace.
     Export,
+    /// Prints all bytes of a namespace that can still be read.
+    Rescue,
     /// Fills a namespace with the bytes of the script.
     Import,
     /// Runs the sessions of the script.
@@ -166,6 +168,12 @@ const BAD_AS_ZEROS: Argument = Argument {
     form: Form::Flag,
 };
 
+/// Whether what is lost is listed.
+const LOST: Argument = Argument {
+    name: "lost",
+    form: Form::Flag,
+};
+
 impl CommandKind {
     ghost use Rattle.std.specs.Prelude.{◌≡◌, map, string_bytes};
     ghost use Rattle.command_words.specs.App.{said};
@@ -214,6 +222,9 @@ impl CommandKind {
         }
         if name == "export" {
             return Some(CommandKind::Export);
+        }
+        if name == "rescue" {
+            return Some(CommandKind::Rescue);
         }
         if name == "import" {
             return Some(CommandKind::Import);
@@ -267,6 +278,7 @@ impl CommandKind {
             CommandKind::Write => &[UUID, SECTOR, VALUE],
             CommandKind::Replay => &[UUID, EVICT],
             CommandKind::Export => &[UUID, BAD_AS_ZEROS],
+            CommandKind::Rescue => &[UUID, LOST],
             CommandKind::Import => &[UUID],
             CommandKind::Serve => &[WORKERS, EVICT],
             CommandKind::Load => &[NUMBER, LOADED_UUID, SESSIONS, CALLS, WORKERS],

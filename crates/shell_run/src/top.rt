@@ -1,4 +1,4 @@
-ghost use Rattle.std.specs.Prelude.{◌≡◌, ◌≢◌, ◌⊎◌, ◌++◌, ◌≤◌, ◌<◌, ◌^◌, ℕ, List, codes, length, map, string_bytes, true, false, IfOk, IsSome, IsTrue, OnOk, None, Ok, Err, Option};
+ghost use Rattle.std.specs.Prelude.{◌≡◌, ◌≢◌, ◌⊎◌, ◌++◌, ◌≤◌, ◌<◌, ◌^◌, ℕ, List, codes, length, map, string_bytes, true, false, IfOk, IsSome, IsTrue, OnErr, OnOk, None, Ok, Err, Option};
 ghost use Rattle.std.specs.Option.{ForSome};
 ghost use Rattle.std.specs.Io.KnownBytes.{Appends};
 ghost use Rattle.nvd_media.specs.Causes.{LeavesOutside, Rose};
@@ -14,13 +14,13 @@ ghost use Rattle.shell_reports.specs.Sectors.{info_outcome, read_outcome};
 ghost use Rattle.shell_changes.specs.Answers.{ComesFrom, HasSizes, outcome_with};
 ghost use Rattle.shell_changes.specs.Remains.{LeavesBy};
 ghost use Rattle.shell_changes.specs.Saved.{AreSaved, HasContentsOf, Stores, copies_contents};
-ghost use Rattle.shell_export.specs.Printing.{ExportsFrom};
+ghost use Rattle.shell_export.specs.Printing.{IsPrinted};
 ghost use Rattle.shell_import.specs.Import.{ImportComes};
 ghost use Rattle.shell_replay.specs.Replay.{ReplayComes};
 ghost use Rattle.shell_set_check.specs.Whole.{set_check_outcome};
 ghost use Rattle.shell_run.specs.Scripts.{script_outcome};
 ghost use Rattle.shell_run.specs.Run.{AppendsPart, ComesTold, Ends, Holds, IsAnswered, IsDue, IsPlain, LeavesScript, LoadedComes, OnImages, OnSource, checks_set, copies, copies_by, has_sessions, reads_script, streams, streams_by};
-ghost use Rattle.shell_run.specs.Printed.{EndsPrinting, Exports, HoldsPrinted, IsMisused, IsReported, IsUnloaded};
+ghost use Rattle.shell_run.specs.Printed.{EndsPrinting, HoldsPrinted, IsMisused, IsReported, IsUnloaded, Streams, StreamsFrom};
 ghost use Rattle.shell_run.specs.Words.{HasGoodValues};
 
 use crate::scripts::{ScriptRefused, ScriptStop, read_bytes, read_schedule, script_answer};
@@ -39,6 +39,7 @@ use shell_reports::{
     Ending, Report, RunStop, Status, labels_answer, list_answer, load_answer, nfit_answer,
     usage_answer,
 };
+use shell_rescue::rescue_answer;
 use shell_sectors::{info_answer, read_answer, write_answer};
 use shell_set_check::set_check_answer;
 use std::alloc::{AllocError, Global};
@@ -149,6 +150,7 @@ fn reads_script(command: &CommandLine) -> bool
         CommandLine::Write(_, _, _) => false,
         CommandLine::Replay(_, _) => true,
         CommandLine::Export(_, _) => false,
+        CommandLine::Rescue(_, _) => false,
         CommandLine::Import(_) => true,
         CommandLine::Serve(_) => true,
         CommandLine::Load(_, _) => false,
@@ -172,6 +174,7 @@ pub fn has_sessions(command: &CommandLine) -> bool
         CommandLine::Write(_, _, _) => false,
         CommandLine::Replay(_, _) => false,
         CommandLine::Export(_, _) => false,
+        CommandLine::Rescue(_, _) => false,
         CommandLine::Import(_) => false,
         CommandLine::Serve(_) => true,
         CommandLine::Load(_, _) => true,
@@ -219,6 +222,7 @@ fn outlined_answer<S: ImageSource, C: Chooser>(
         }
         CommandLine::Replay(_, _) => unreachable!(),
         CommandLine::Export(_, _) => unreachable!(),
+        CommandLine::Rescue(_, _) => unreachable!(),
         CommandLine::Import(_) => unreachable!(),
         CommandLine::Serve(_) => unreachable!(),
         CommandLine::Load(_, _) => unreachable!(),
@@ -571,11 +575,48 @@ fn tell_unloaded<O: TextSink>(alloc: Global, fault: LoadFault, text: &mut O) -> 
     }
 }
 
-/// Carries out `export` on the set that it loads but for its contents: the namespace's bytes are printed as they are read.
-fn export_outlined<S: ImageSource, O: TextSink>(
+/// What a command prints piece by piece, as its text may be as long as the contents.
+#[derive(Clone, Copy, Debug)]
+enum Streamed {
+    /// All bytes of a namespace; whether bad sectors count as zeros.
+    Export(Uuid, bool),
+    /// All bytes of a namespace that can still be read, or the list of what is lost.
+    Rescue(Uuid, bool),
+}
+
+/// Prints what a command prints piece by piece, on the set that it loads but for its contents: the namespace's bytes are printed
+/// as they are read.
+fn stream_outlined<S: ImageSource, O: TextSink>(
     alloc: Global,
-    uuid: &Uuid,
-    zeros: bool,
+    what: Streamed,
+    outline: Outline,
+    images: &mut S,
+    text: &mut O,
+) -> Result<Status, RunStop>
+    requires sound { IsOutlined outline }
+    requires loadable { IsLoadable outline }
+    requires there { ForSome (S.held images.old) (HasContents outline.sizes) }
+    ensures printed { IfOk result (IsPrinted (StreamsFrom what (S.held images.old) outline) (O.written text.old) (O.written text.new) (O.kept text.old) (O.kept text.new)) }
+    ensures nothing { OnErr result (O.written text.new ≡ O.written text.old) }
+    ensures quiet { OnErr result (O.faults text.new ≡ O.faults text.old) }
+    ensures same { S.held images.new ≡ S.held images.old }
+    ensures later { S.faults images.old ≤ S.faults images.new }
+    ensures before { result ≡ Err RunStop.ReadFault → Rose (S.faults images.old) (S.faults images.new) }
+    ensures read { result ≡ Ok Status.ReadFault → Rose (S.faults images.old) (S.faults images.new) }
+    ensures failed { result ≡ Ok Status.WriteFault → Rose (O.faults text.old) (O.faults text.new) }
+{
+    match what {
+        Streamed::Export(uuid, zeros) => export_answer(alloc, &uuid, zeros, outline, images, text),
+        Streamed::Rescue(uuid, listing) => {
+            rescue_answer(alloc, &uuid, listing, outline, images, text)
+        }
+    }
+}
+
+/// The same, and why it stopped before the first byte.
+fn stream_or_stop<S: ImageSource, O: TextSink>(
+    alloc: Global,
+    what: Streamed,
     outline: Outline,
     images: &mut S,
     text: &mut O,
@@ -583,35 +624,34 @@ fn export_outlined<S: ImageSource, O: TextSink>(
     requires sound { IsOutlined outline }
     requires loadable { IsLoadable outline }
     requires there { ForSome (S.held images.old) (HasContents outline.sizes) }
-    ensures ends { EndsPrinting (Rose (S.faults images.old) (S.faults images.new)) true (ExportsFrom uuid.now zeros (S.held images.old) outline) (O.written text.old) (O.written text.new) result }
-    ensures stored { HoldsPrinted (ExportsFrom uuid.now zeros (S.held images.old) outline) (O.kept text.old) (O.kept text.new) result }
+    ensures ends { EndsPrinting (Rose (S.faults images.old) (S.faults images.new)) true (StreamsFrom what (S.held images.old) outline) (O.written text.old) (O.written text.new) result }
+    ensures stored { HoldsPrinted (StreamsFrom what (S.held images.old) outline) (O.kept text.old) (O.kept text.new) result }
     ensures read { result ≡ Status.ReadFault → Rose (S.faults images.old) (S.faults images.new) }
     ensures failed { result ≡ Status.WriteFault → Rose (O.faults text.old) (O.faults text.new) }
     ensures same { S.held images.new ≡ S.held images.old }
     ensures later { S.faults images.old ≤ S.faults images.new }
 {
-    match export_answer(alloc, uuid, zeros, outline, images, text) {
+    match stream_outlined(alloc, what, outline, images, text) {
         Ok(status) => status,
         Err(stop) => stopped(stop, text),
     }
 }
 
-/// Carries out `export`: the set is loaded but for its contents, and the namespace's bytes are printed as they are read.
-fn export<S: ImageSource, O: TextSink>(
+/// Carries out a command that prints its text piece by piece: the set is loaded but for its contents.
+fn stream<S: ImageSource, O: TextSink>(
     alloc: Global,
-    uuid: &Uuid,
-    zeros: bool,
+    what: Streamed,
     images: &mut S,
     text: &mut O,
 ) -> Status
-    ensures ends { EndsPrinting (Rose (S.faults images.old) (S.faults images.new)) true (OnImages (Exports uuid.now zeros) (S.held images.old)) (O.written text.old) (O.written text.new) result }
-    ensures stored { HoldsPrinted (OnImages (Exports uuid.now zeros) (S.held images.old)) (O.kept text.old) (O.kept text.new) result }
+    ensures ends { EndsPrinting (Rose (S.faults images.old) (S.faults images.new)) true (OnImages (Streams what) (S.held images.old)) (O.written text.old) (O.written text.new) result }
+    ensures stored { HoldsPrinted (OnImages (Streams what) (S.held images.old)) (O.kept text.old) (O.kept text.new) result }
     ensures read { result ≡ Status.ReadFault → Rose (S.faults images.old) (S.faults images.new) }
     ensures failed { result ≡ Status.WriteFault → Rose (O.faults text.old) (O.faults text.new) }
     ensures same { S.held images.new ≡ S.held images.old }
 {
     match load_outline(alloc, images) {
-        Ok(outline) => export_outlined(alloc, uuid, zeros, outline, images, text),
+        Ok(outline) => stream_or_stop(alloc, what, outline, images, text),
         Err(fault) => tell_unloaded(alloc, fault, text),
     }
 }
@@ -641,7 +681,12 @@ pub fn carry_out<S: ImageSource, T: TextSource, K: ImageSink, O: TextSink, C: Ch
     ensures unread { reads_script command ≡ false → T.left script.new ≡ T.left script.old }
 {
     match command {
-        CommandLine::Export(uuid, zeros) => export(alloc, &uuid, zeros, images, text),
+        CommandLine::Export(uuid, zeros) => {
+            stream(alloc, Streamed::Export(uuid, zeros), images, text)
+        }
+        CommandLine::Rescue(uuid, listing) => {
+            stream(alloc, Streamed::Rescue(uuid, listing), images, text)
+        }
         _ => answer(alloc, command, images, script, out, text, choose),
     }
 }

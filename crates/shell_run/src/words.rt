@@ -40,6 +40,8 @@ pub enum CommandLine {
     Replay(Uuid, u64),
     /// Print all bytes of a namespace; whether bad sectors count as zeros.
     Export(Uuid, bool),
+    /// Print all bytes of a namespace that can still be read, or list what is lost.
+    Rescue(Uuid, bool),
     /// Fill a namespace with the bytes of the script.
     Import(Uuid),
     /// Run the sessions of the script.
@@ -216,6 +218,10 @@ fn command_in(kind: CommandKind, values: &Parsed<'_>) -> Option<CommandLine>
         CommandKind::Export => {
             let uuid = values.uuid("uuid")?;
             Some(CommandLine::Export(uuid, values.flag("bad-as-zeros")))
+        }
+        CommandKind::Rescue => {
+            let uuid = values.uuid("uuid")?;
+            Some(CommandLine::Rescue(uuid, values.flag("lost")))
         }
     }
 }

@@ -150,6 +150,11 @@ unreachable-requires-in-Export g c =
     let both = sym c.requires.plain.1 ∙ ap streams c.in-Export.is in
     (let e = both in cc)
 
+pub unreachable-requires-in-Rescue : goal.unreachable-requires-in-Rescue
+unreachable-requires-in-Rescue g c =
+    let both = sym c.requires.plain.1 ∙ ap streams c.in-Rescue.is in
+    (let e = both in cc)
+
 pub unreachable-requires-in-Import : goal.unreachable-requires-in-Import
 unreachable-requires-in-Import g c =
     let both = sym c.requires.plain.0 ∙ ap reads_script c.in-Import.is in

@@ -1,0 +1,12 @@
+pub mod Causes
+pub mod Named
+pub mod Counted
+pub mod Sized
+pub mod Following
+pub mod Empty
+pub mod Rest
+pub mod Rows
+pub mod SoundArena
+pub mod SoundSectors
+pub mod SoundChain
+pub mod SoundLaws

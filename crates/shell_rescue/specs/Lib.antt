@@ -1,0 +1,6 @@
+pub mod Rescue
+pub mod Lost
+pub mod Reading
+pub mod Comes
+pub mod Causes
+pub mod Laws
