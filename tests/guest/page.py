@@ -2,20 +2,22 @@
 import os
 import re
 import sys
+from typing import NamedTuple
 
 sys.dont_write_bytecode = True
 HERE = os.path.dirname(os.path.realpath(__file__))
 sys.path.insert(1, HERE)
 from sides import AS_BEFORE, TRACE  # noqa: E402
 
-HEAD = ("what is wrong", "`check UUID`", "sectors here", "here after `--repair`",
+HEAD = ("what is wrong", "`check UUID`", "sectors here", "rescued here", "here after `--repair`",
         "`ndctl check-namespace -v`", "sectors under Linux", "Linux after `--repair`")
+FEW = 2  # if no more sectors are lost, nearly all are read
 # the words of a cell for each kind of sectors
 KINDS = {
     "right": "right",
     "size": "right, but fewer or more",
     "wrong": "wrong bytes, and no error",
-    "errors": "some sectors are refused",
+    "errors": "some sectors are refused, or listed as lost",
     "refused": "nothing is read",
     "raw device": "a raw device of all bytes, also of info block, map and log",
 }
@@ -30,39 +32,60 @@ def named_there(row):
     return check is None or check["status"] != 0 or bool(check["said"])
 
 
+class Readings(NamedTuple):
+    """What comes of the sectors in a row, or its kinds."""
+
+    here: str
+    rescued: str
+    repaired: str
+    linux: str
+    mended: str  # under Linux, after ndctl's repair
+
+
 def kind(text):
     """What a reader gets of the sectors: a key of KINDS."""
     if "error" in text or text.startswith("refused BadSector"):
         return "errors"
-    if text.startswith("wrong"):
+    if "wrong" in text:
         return "wrong"
+    if text.startswith("lost"):
+        return "errors"
     if text.startswith("right of"):
         return "size"
     return text if text in ("right", "raw device") else "refused"
 
 
 def reads(row):
-    """The four readings of a row: here, here after a repair, under Linux, there after a repair."""
     ours, linux = row["ours"], row["linux"]
     theirs = [linux["ended"]] * 2 if "ended" in linux else \
         [linux["attach"]["read"], linux["read after repair"]]
-    return [ours["read"], ours["read after repair"], *theirs]
+    return Readings(ours["read"], ours["rescue"]["read"], ours["read after repair"], *theirs)
 
 
 def kinds(row):
-    return [kind(it) for it in reads(row)]
+    return Readings(*map(kind, reads(row)))
 
 
 # ---- the cells of a row
 
 
+def at_most_six(found):
+    """A word and the sectors behind it: at most six, or else how many."""
+    count = len(found[2].split())
+    return f"{found[1]}: {count} sectors" if count > 6 else found[0]
+
+
 def cut(text):
-    """A reading in a cell: at most six sectors, and a refusal in one word."""
+    """A reading in a cell, with few sectors, and a refusal in one word."""
     if text.startswith("image arena"):
         return "refused"
-    found = re.fullmatch(r"wrong: ([\d ]*\d)(.*)", text)
-    count = len(found[1].split()) if found else 0
-    return f"wrong: {count} sectors{found[2]}" if count > 6 else text
+    return re.sub(r"(wrong|lost): ([\d ]*\d)", at_most_six, text)
+
+
+def by_rescue(text):
+    """What `rescue` gives, in a cell; a refusal is that of the info block."""
+    refusal = re.fullmatch("image arena (Info .*)", text)
+    return f"`{refusal[1]}`" if refusal else cut(text)
 
 
 def here(row):
@@ -94,12 +117,12 @@ def line_of(cells):
 
 
 def row_of(row):
-    ours, linux = row["ours"], row["linux"]
-    first, second, third, fourth = reads(row)
+    ours, linux, got = row["ours"], row["linux"], reads(row)
     log = linux["attach"]["log"] if "attach" in linux else []
-    mended = linux["repair"]["changed"] if "repair" in linux else []
-    return line_of([row["fault"], here(row), cut(first), after(ours["changed by repair"], second),
-                    there(row), "; ".join([cut(third), *log]), after(mended, fourth)])
+    changed = linux["repair"]["changed"] if "repair" in linux else []
+    return line_of([row["fault"], here(row), cut(got.here), by_rescue(got.rescued),
+                    after(ours["changed by repair"], got.repaired), there(row),
+                    "; ".join([cut(got.linux), *log]), after(changed, got.mended)])
 
 
 # ---- the counts and the lists
@@ -108,23 +131,24 @@ def row_of(row):
 def named(rows):
     """How many rows are named by whom."""
     said = [(named_here(it), named_there(it)) for it in rows]
-    blind = [it for it, who in zip(rows, said) if who == (False, False)]
-    right = sum(reads(it)[0] == reads(it)[2] == "right" for it in blind)
+    lost = sum(map(is_blind, rows))
+    right = said.count((False, False)) - lost
     yield from ("| who says that something is wrong | rows |", "|---|---|")
     yield line_of(["both", str(said.count((True, True)))])
     yield line_of(["`check UUID` alone", str(said.count((True, False)))])
     yield line_of(["ndctl alone", str(said.count((False, True)))])
     yield line_of(["neither, and both read the sectors rightly", str(right)])
-    yield line_of(["neither, and sectors are lost or others", str(len(blind) - right)])
+    yield line_of(["neither, and sectors are lost or others", str(lost)])
 
 
 def sectors(rows):
     """How many rows have which kind of sectors."""
-    yield line_of(["what comes of the sectors", "here", HEAD[3], "under Linux", HEAD[6]])
-    yield "|---|---|---|---|---|"
+    yield line_of(["what comes of the sectors", "here", "here, by `rescue`", HEAD[4],
+                   "under Linux", HEAD[7]])
+    yield "|---" * 6 + "|"
+    columns = list(zip(*map(kinds, rows)))
     for name, text in KINDS.items():
-        counts = (sum(kinds(it)[n] == name for it in rows) for n in range(4))
-        yield line_of([text, *map(str, counts)])
+        yield line_of([text, *(str(column.count(name)) for column in columns)])
 
 
 def has_new_backup(row, changed):
@@ -134,13 +158,49 @@ def has_new_backup(row, changed):
 
 
 def is_blind(row):
-    return not named_here(row) and not named_there(row) and kinds(row)[::2] != ["right", "right"]
+    got = kinds(row)
+    return not named_here(row) and not named_there(row) and {got.here, got.linux} != {"right"}
 
 
 def has_no_device(row):
     """Whether ndctl ends with status 0, and Linux gives no block device of the sectors."""
     check = row["linux"].get("check")
-    return bool(check) and check["status"] == 0 and reads(row)[2] in ("raw device", "no device")
+    no_device = reads(row).linux in ("raw device", "no device")
+    return bool(check) and check["status"] == 0 and no_device
+
+
+def is_nearly_whole(row):
+    """Whether `rescue` lists few sectors as lost, and all others come rightly."""
+    found = re.fullmatch(r"lost: ([\d ]+)", reads(row).rescued)
+    return bool(found) and len(found[1].split()) <= FEW
+
+
+def is_rescued(row):
+    """Whether `rescue` alone gives all sectors, or nearly all."""
+    got = kinds(row)
+    if "right" in (got.here, got.linux):
+        return False
+    return got.rescued == "right" or (got.linux != "errors" and is_nearly_whole(row))
+
+
+def of_reading():
+    """What is listed of the sectors: a title, and whether it holds of a row's kinds."""
+    yield "Linux returns other bytes without an error, and here `export` prints nothing", \
+        lambda got: (got.here, got.linux) == ("refused", "wrong")
+    yield "Both return other bytes without an error", \
+        lambda got: (got.here, got.linux) == ("wrong", "wrong")
+    yield "Linux reads the sectors rightly, and here `export` doesn't", \
+        lambda got: got.linux == "right" != got.here
+    yield "`export` reads them rightly, and Linux doesn't", \
+        lambda got: got.here == "right" != got.linux
+    yield "Linux reads them rightly, and `rescue` doesn't give all", \
+        lambda got: got.linux == "right" != got.rescued
+    yield "`rescue` returns other bytes of a sector that it doesn't list", \
+        lambda got: got.rescued == "wrong"
+    yield "After `check --repair` they are right, and after ndctl's not", \
+        lambda got: got.repaired == "right" != got.mended
+    yield "After ndctl's `--repair` they are right, and after that here not", \
+        lambda got: got.mended == "right" != got.repaired
 
 
 def questions():
@@ -149,17 +209,10 @@ def questions():
         lambda it: named_here(it) and not named_there(it)
     yield "Only ndctl says so", lambda it: named_there(it) and not named_here(it)
     yield "Neither says so, and sectors are lost or others", is_blind
-    yield "Linux returns other bytes without an error, and here nothing is read", \
-        lambda it: kinds(it)[::2] == ["refused", "wrong"]
-    yield "Both return other bytes without an error", \
-        lambda it: kinds(it)[::2] == ["wrong", "wrong"]
-    yield "Only Linux reads the sectors rightly", \
-        lambda it: kinds(it)[2] == "right" != kinds(it)[0]
-    yield "Only here they are read rightly", lambda it: kinds(it)[0] == "right" != kinds(it)[2]
-    yield "After `check --repair` they are right, and after ndctl's not", \
-        lambda it: kinds(it)[1] == "right" != kinds(it)[3]
-    yield "After ndctl's `--repair` they are right, and after that here not", \
-        lambda it: kinds(it)[3] == "right" != kinds(it)[1]
+    yield "Only `rescue` reads all or nearly all sectors where Linux refuses them or returns " \
+        "others, fewer or more", is_rescued
+    for title, test in of_reading():
+        yield title, lambda it, test=test: test(kinds(it))
     yield "`check --repair` writes the changed first info block over the good backup", \
         lambda it: has_new_backup(it, it["ours"]["changed by repair"])
     yield "ndctl's `--repair` does so", \
@@ -182,7 +235,8 @@ def lists(rows):
 
 def tables(rows):
     for group in dict.fromkeys(it["group"] for it in rows):
-        yield from (f"### {group[0].upper()}{group[1:]}", "", line_of(HEAD), "|---" * 7 + "|")
+        yield from (f"### {group[0].upper()}{group[1:]}", "", line_of(HEAD))
+        yield "|---" * len(HEAD) + "|"
         yield from (row_of(it) for it in rows if it["group"] == group)
         yield ""
 

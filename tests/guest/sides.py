@@ -102,18 +102,41 @@ class Ours:
         with open(os.path.join(self.out, f"contents-{MODULE}.bin"), "rb") as file:
             return short(lines[:-1]) + lines[-1:], file.read(SIZE)
 
+    def refusal(self, data):
+        text = data.decode("utf-8", "replace").strip()
+        return text.replace(f"image arena {UUID} 0 ", "image arena ")
+
     def read(self, source):
         """`right`, `wrong` with the sectors (of 4,096 bytes), or the refusal."""
         status, data = self.run(source, "-", "export", UUID)
+        return self.refusal(data) if status else compared(data, self.sectors)
+
+    def rescued(self):
+        """What `rescue --lost` says, and what comes of the sectors: `right`, `lost` with those
+        that it lists, `wrong` with others whose bytes aren't right, or the refusal.
+
+        A sector of the list must come as zeros, else it is wrong, too.
+        """
+        lines = self.lines(self.set, "-", "rescue", UUID, "--lost")
+        found = {"said": short(lines[:-1]) + lines[-1:]}
+        status, data = self.run(self.set, "-", "rescue", UUID)
         if status:
-            text = data.decode("utf-8", "replace").strip()
-            return text.replace(f"image arena {UUID} 0 ", "image arena ")
-        return compared(data, self.sectors)
+            return {**found, "read": self.refusal(data)}
+        lost = [int(it.split(" ")[1]) for it in lines[:-1] if it.startswith("lost ")]
+        due = bytearray(self.sectors)
+        for sector in lost:
+            due[sector * PAGE : (sector + 1) * PAGE] = bytes(PAGE)
+        text = compared(data, bytes(due))
+        if lost:
+            listed = f"lost: {' '.join(map(str, lost))}"
+            text = listed if text == "right" else f"{listed}; {text}"
+        return {**found, "read": text}
 
     def of(self, damaged):
         with open(self.contents, "r+b") as file:
             file.write(damaged)
         found = {"info": self.lines(self.set, "-", "info", UUID), "read": self.read(self.set)}
+        found["rescue"] = self.rescued()
         found["check"], after = self.checked()
         found["changed by check"] = places(damaged, after)
         shutil.rmtree(self.out)
