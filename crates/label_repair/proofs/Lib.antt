@@ -1,0 +1,4 @@
+pub mod Found
+pub mod Alone
+pub mod Repaired
+mod Rows
