@@ -1,0 +1,6 @@
+mod Rising
+mod Unbroken
+mod Placed
+pub mod Whole
+mod Kept
+mod Rows
