@@ -90,7 +90,7 @@ def no_line(line):
 def is_answer(words, status, text):
     """Whether a text is no fault of the command: with status 3 that of a whole set's check, or of a rescue, may be what was asked for."""
     of_whole = takes_whole(words) and text.startswith(("fault ", "notice "))
-    of_rescue = words[2] == RESCUE and text.startswith("arena ")
+    of_rescue = words[2] == RESCUE and text.startswith(("arena ", "labels "))
     return status in (0, 8) or status == 3 and (of_whole or of_rescue)
 
 

@@ -11,7 +11,7 @@ LIB = os.path.dirname(os.path.abspath(__file__))
 TABLE = os.path.join(LIB, "commands.txt")
 HEAD = """\
 # The program's commands, made from crates/shell_run by lib/commands.py --write. `-` stands for none; places are in their order. With `?` behind
-# its places a command may stand alone: it takes the whole set then, and writes none.
+# its places a command may stand without them: it takes the whole set then. It writes one only with its option without a value.
 # command, places, options that must be given, options that may be, those without a value, whether it writes an image set, for which it copies
 # the contents of modules, and whether it reads a script
 """
@@ -23,7 +23,7 @@ class Command:
     def __init__(self, fields):
         self.name, places, needed, others, flags, writes, script = fields
         self.places, self.needed, self.others, self.flags = ([] if it == "-" else it.split(",") for it in (places, needed, others, flags))
-        self.may_stand_alone = places.endswith("?")
+        self.may_take_whole = places.endswith("?")
         self.places = [it.rstrip("?") for it in self.places]
         self.writes, self.script = writes == "yes", script == "yes"
 
@@ -39,16 +39,21 @@ def commands():
     return ROWS
 
 
+def is_whole(row, rest):
+    """Whether the words behind a command's name make it one that takes the whole set, though it has places: there are none, or its options without a value."""
+    return row.may_take_whole and rest in ([], [f"--{it}" for it in row.flags])
+
+
 def takes_whole(words):
-    """Whether a command line's command stands alone, though it has places."""
-    row = commands().get(words[2]) if len(words) == 3 else None
-    return bool(row and row.may_stand_alone)
+    """Whether a command line's command takes the whole set, though it has places."""
+    row = commands().get(words[2]) if len(words) > 2 else None
+    return bool(row and is_whole(row, words[3:]))
 
 
 def writes(words):
     """Whether a command line is one of a command that writes an image set."""
     row = commands().get(words[2]) if len(words) > 2 else None
-    return bool(row and row.writes) and not takes_whole(words)
+    return bool(row and row.writes) and not (is_whole(row, words[3:]) and len(words) == 3)
 
 
 def source(*path):
@@ -85,7 +90,7 @@ def made():
     variants = re.findall(r"(?m)^    (\w+)(?:\(.*\))?,$", re.search(r"pub enum CommandLine \{(.*?)\n\}", source("shell_run", "src", "words.rt"), re.S)[1])
     words = cases(source("shell_run", "specs", "Words.antt").replace(" kind.", " "), "command_in")
     script, copies = (cases(run, it) for it in ("reads_script", "copies"))
-    alone = re.findall(r'if words\.is_empty\(\) && name == "(\w+)" \{', table)
+    alone = re.findall(r'\[\] if name == "(\w+)" =>', table)
     yield HEAD
     for name, kind in re.findall(r'if name == "(\w+)" \{\s*return Some\(CommandKind::(\w+)\);', table):
         # the variant of the command: it has the kind's name, or the values of its arguments make it

@@ -64,7 +64,7 @@ def ignored(words):
     """Says that OUT is ignored, if a command that only reads has one."""
     row = commands().get(words[2]) if len(words) > 2 else None
     if words[1:2] != ["-"] and (row and not writes(words) or words[2:3] == ["free"]):
-        say(f"OUT, '{words[1]}', is ignored, since '{words[2]}'{' without a UUID' if takes_whole(words) else ''} writes no set: give - there")
+        say(f"OUT, '{words[1]}', is ignored, since '{words[2]}'{' alone' if takes_whole(words) else ''} writes no set: give - there")
 
 
 def misplaced(run):

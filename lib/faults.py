@@ -2,8 +2,8 @@
 import re
 
 # A table with one of these heads has the ends of the texts that begin so; the others have whole texts.
-FAMILIES = {"FAULT of a region": r"image region (?P<REGION>\S+) ", "FAULT of an index block": r"fault labels (?P<M>\S+) index (?P<S>\S+) ",
-            "FINDING": r"arena (?P<ARENA>\S+) ", "repaired FINDING": r"arena (?P<ARENA>\S+) repaired ", "line of a rescue": r"rescue arena (?P<ARENA>\S+) ",
+FAMILIES = {"FAULT of a region": r"image region (?P<REGION>\S+) ", "FAULT of an index block": r"(?:fault|repaired) labels (?P<M>\S+) index (?P<S>\S+) ",
+            "FINDING": r"arena (?P<ARENA>\S+) ", "repaired FINDING": r"arena (?P<ARENA>\S+) repaired ", "line of a rescue": r"rescue arena (?P<ARENA>\S+) ", "first line of a rescue": "rescue ",
             "FAULT": r"(?:image arena (?P<ARENA>\S+) (?P<K>\S+)|(?:rescue )?arena \S+(?= Info | Flog )) "}
 # what stands before a line of `rescue`, since it means something else there than as a line of `check`
 RESCUE = "rescue "

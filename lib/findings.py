@@ -12,7 +12,7 @@ class Findings:
         """Takes the next piece of the text."""
         *lines, self.rest = (self.rest + piece).split(b"\n")
         for line in lines:
-            if line.startswith((b"arena ", b"fault ", b"notice ")):
+            if line.startswith((b"arena ", b"fault ", b"labels ", b"notice ", b"repaired ")):
                 text = line.decode()
                 self.first.setdefault(kind_of(text), text)
 

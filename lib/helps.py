@@ -28,14 +28,14 @@ WORDS = {
     "make": "make OUT [--modules N] [--size B] [--labels B] [--qemu] [NAME:SIZE[:raw|sector[:L]][@REGION] ..]",
     "sweep": "sweep [--every K] [--keep DIR] [--run CMD] IN COMMAND ..",
 }
-# a command's other form, if it has one
-OTHER_WORDS = {"check": "IN - check [--json]", "rescue": "IN - rescue UUID|NAME [--json] >FILE"}
+# a command's other forms, if it has some
+OTHER_WORDS = {"check": ["IN - check [--json]", "IN OUT check --repair [--json]"], "rescue": ["IN - rescue UUID|NAME [--json] >FILE"]}
 OTHER_PAGES = "FAULTS, OUTPUT, JSON, FROM_NDCTL, INTEROP and nvd"
 
 
 def forms(command):
     """The forms of a command's words, as parts of a sentence."""
-    return " or ".join(f"nvd {it}" for it in (OTHER_WORDS.get(command), WORDS[command]) if it)
+    return " or ".join(f"nvd {it}" for it in (*OTHER_WORDS.get(command, []), WORDS[command]))
 
 
 def names():
@@ -59,7 +59,7 @@ def no_command(word):
 
 def overview():
     lines = ["IN is the directory of an image set. OUT is a new directory for the set that a command writes."]
-    lines += [f"  nvd {form}" for it in names() for form in (OTHER_WORDS.get(it), WORDS[it]) if form]
+    lines += [f"  nvd {form}" for it in names() for form in (*OTHER_WORDS.get(it, []), WORDS[it])]
     lines += ["  nvd demo             makes a set in a temporary directory, cuts power, recovers, and shows each command",
               f"  nvd help COMMAND     the page of a command; also {OTHER_PAGES}",
               "  nvd --version        the commit, the kit and the build",

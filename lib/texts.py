@@ -1,5 +1,7 @@
 """Reads the lines that nvdimm_shell prints, by the grammar of docs/commands/OUTPUT.md."""
+import itertools
 import re
+from collections import Counter
 
 NUMBER, UUID, HEX = r"(\d+)", r"([0-9a-f]{8}(?:-[0-9a-f]{4}){3}-[0-9a-f]{12})", r"([0-9a-f]{16})"
 NAME = r'("(?:[^"\\]|\\.)*"|hex:(?:[0-9a-f]{2})*)'
@@ -9,6 +11,7 @@ INFO_FAULT = r"(Signature|Checksum|Version \d+ \d+|Parent|ErrorState|Layout (?:S
 FLOG_FAULT = r"(Padding|Sequences \d+ \d+|Range \d+)"
 LABEL_FAULT = r"Checksum|Slot \d+|OddSize (?:Dpa|RawSize)"
 TABLE_FAULT = r"Signature|Length \d+ \d+|Checksum \d+|Structure \d+|(?:TwiceIndex|MissingIndex) \d+ \d+|TooLarge \d+|Alias \d+ \d+ \d+"
+INDEX_FAULT = r"Signature|Version \d+ \d+|Offsets|Slots|Checksum"
 SET_FAULT = r"(?:Ways|Offsets|Size) \d+ \d+|(?:Twice|Line|Share|Cover) \d+"
 WHY = r"(?:Twice|Outside|Unaligned|Missing) \d+|(?:Cookie|Position) \d+ \d+|Differs (?:Count|Dpa|RawSize|LbaSize|Guids|Names)"
 # findings of some kinds are repaired
@@ -40,6 +43,7 @@ LINES = {
     "finding of a sector": (["arena", "repaired", "kind", "sector"], f"arena {NUMBER}{REPAIRED} (BadData) {NUMBER}"),
     "finding of a word": (["arena", "kind", "word"], f"arena {NUMBER} (BadMeta) {NUMBER}"),
     "move": (["arena", "sector", "old", "new"], f"arena {NUMBER} moved {NUMBER} {NUMBER} {NUMBER}"),
+    "missing label": (["module"], f"labels {NUMBER} Missing"),
     "loss of a sector": (["arena", "sector", "why"], f"arena {NUMBER} lost {NUMBER} (BadMap|Marked|BadData)"),
     "loss by its block": (["arena", "sector", "why", "block"], f"arena {NUMBER} lost {NUMBER} (Range|Twice) {NUMBER}"),
     "whole": ([], "whole"),
@@ -60,7 +64,7 @@ WHOLE = [
     (["region", "fault"], rf"(region) {NUMBER} ({SET_FAULT})"),
     (["module", "notice"], rf"(labels) {NUMBER} (NoIndex)"),
     (["module", "side", "notice"], rf"(labels) {NUMBER} index {NUMBER} (Sequence)"),
-    (["module", "side", "fault"], rf"(labels) {NUMBER} index {NUMBER} (Signature|Version \d+ \d+|Offsets|Slots|Checksum)"),
+    (["module", "side", "fault"], rf"(labels) {NUMBER} index {NUMBER} ({INDEX_FAULT})"),
     (["module", "slot", "fault"], rf"(labels) {NUMBER} slot {NUMBER} ({LABEL_FAULT})"),
     (["fault", "uuids"], rf"(labels) (Overlap) ({UUID[1:-1]} {UUID[1:-1]})"),
     (["notice"], "(namespaces|arenas) (Unchecked)"),
@@ -150,10 +154,11 @@ def checked_of(text):
 
 
 def rescued_of(text):
-    """What the lines of a rescue say: whether no sector is lost, how many are, and of each arena that has lines what it stands on, its moves and its losses."""
+    """What the lines of a rescue say: whether no sector is lost, how many are, which modules lack a label, and of each arena that has lines what it stands on, its moves and its losses."""
     *found, (last, fields) = records_of(text) or [(None, {})]
+    missing = [it["module"] for _, it in itertools.takewhile(lambda it: it[0] == "missing", found)]
     arenas = {}
-    for kind, it in found:
+    for kind, it in found[len(missing) :]:
         if kind not in ("finding", "move", "loss") or kind == "finding" and (it["kind"] not in ("Info", "Flog", "BadMeta") or it.get("repaired")):
             last = None
             break
@@ -161,12 +166,16 @@ def rescued_of(text):
         arena["losses" if kind == "loss" else f"{kind}s"].append({**it, "repaired": False} if kind == "finding" else it)
     if last not in ("whole", "lost"):
         raise NoLine(text.rstrip("\n").rsplit("\n", 1)[-1])
-    return {"whole": last == "whole", "lost": fields.get("lost", 0), "arenas": [{"arena": number, **it} for number, it in arenas.items()]}
+    return {"whole": last == "whole", "lost": fields.get("lost", 0), "missing_labels": missing, "arenas": [{"arena": number, **it} for number, it in arenas.items()]}
 
 
 def noted_of(line):
     """What a line of a whole set's check says, but for the last one."""
     severity, _, text = line.partition(" ")
+    found = re.fullmatch(rf"labels {NUMBER} index {NUMBER} ({INDEX_FAULT})", text)
+    if found and severity == "repaired":
+        module, side, fault = found.groups()
+        return {"severity": severity, "object": "labels", "module": int(module), "side": int(side), "fault": fault}
     found = re.fullmatch(rf"arena {UUID} (.*)", text)
     if found and severity == "fault":
         kind, fields = record_of(f"arena {found.group(2)}")
@@ -181,13 +190,13 @@ def noted_of(line):
 
 
 def whole_of(text):
-    """What the lines of a whole set's check say: whether there is no fault, how many faults and notices there are, and each of them."""
+    """What the lines of a whole set's check say: whether there is no fault, how many faults and notices there are, how many index blocks were repaired, and each of them."""
     *lines, last = text.splitlines() or [""]
     if record_of(last)[0] not in ("sound", "broken"):
         raise NoLine(last)
     found = [noted_of(it) for it in lines]
-    faults = sum(it["severity"] == "fault" for it in found)
-    return {"sound": last == "sound", "faults": faults, "notices": len(found) - faults, "findings": found}
+    count = Counter(it["severity"] for it in found)
+    return {"sound": last == "sound", "faults": count["fault"], "notices": count["notice"], "repaired": count["repaired"], "findings": found}
 
 
 def value_of_sector(text):

@@ -1,7 +1,7 @@
 """The words of a command line: which of them is wrong, and those that nvd adds or puts in another form."""
 import re
 
-from commands import commands
+from commands import commands, is_whole
 from helps import near
 from units import bytes_of
 
@@ -122,9 +122,9 @@ def fault_of(command, words, ask=None):
         return plain[0] if plain else fault
     names = [it[0] for it in got]
     places, _ = COMMANDS[command]
-    for name in [*(it[0] for it in places), *(f"--{it}" for it in TABLE[command].needed)] if words or not TABLE[command].may_stand_alone else []:
+    for name in [] if is_whole(TABLE[command], words) else [*(it[0] for it in places), *(f"--{it}" for it in TABLE[command].needed)]:
         if name not in names:
-            return f"{name} is missing" + (f": '{names[0]}' is for one namespace" if names and TABLE[command].may_stand_alone else "")
+            return f"{name} is missing"
     together = fault_of_load({name: value for name, value, _, _ in got}) if command == "load" else None
     return together or next((it for _, it in wrong if it), None)
 

@@ -91,11 +91,32 @@ class Rescue:
         return bytes(out)
 
 
-def text_of(rescues):
-    """The lines on what is lost, and the last one."""
+def text_of(missing, rescues):
+    """The lines on missing labels and on what is lost, and the last one."""
     lost = sum(it.lost for it in rescues)
-    lines = [line for place, it in enumerate(rescues) for line in it.lines(place)]
+    lines = [f"labels {number} Missing" for number in sorted(missing)]
+    lines += [line for place, it in enumerate(rescues) for line in it.lines(place)]
     return "".join(f"{it}\n" for it in [*lines, f"lost {lost}" if lost else "whole"])
+
+
+def is_disputed(namespaces, found):
+    """Whether a label of another namespace has bytes in the place of a missing label."""
+    for number in found.missing():
+        start = found.region.mapping_of(number).start + found.relative(found.labels[0])
+        end = start + found.labels[0].raw
+        others = [it for other in namespaces if other.uuid != found.uuid for it in other.labels]
+        if any(it.module == number and it.dpa < end and start < it.dpa + it.raw for it in others):
+            return True
+    return False
+
+
+def is_placed(namespaces, found):
+    """Whether it is known where a namespace lies: its labels are complete; or some are missing,
+    nothing else is wrong, and no other namespace claims the place of one that is missing."""
+    if found.is_complete:
+        return True
+    is_short = found.faults[:1] and found.faults[0].startswith("Missing ") and not found.notice
+    return bool(is_short) and not is_disputed(namespaces, found)
 
 
 def refusal(looked_at, uuid):
@@ -108,14 +129,15 @@ def refusal(looked_at, uuid):
     found = next((it for it in looked_at.namespaces if it.uuid == uuid), None)
     if not found:
         return REFUSED, "refused NoSuch\n"
-    if not found.is_complete:
+    if not found.is_complete and not is_placed([], found):
         return REFUSED, "refused NotComplete\n"
-    return None if found.has_sectors else (REFUSED, "refused NotSector\n")
+    if not found.has_sectors:
+        return REFUSED, "refused NotSector\n"
+    return None if is_placed(looked_at.namespaces, found) else (REFUSED, "refused NotComplete\n")
 
 
-def rescues_of(looked_at, uuid):
+def rescues_of(looked_at, namespace):
     """What can be read of each arena of a namespace."""
-    namespace = next(it for it in looked_at.namespaces if it.uuid == uuid)
     space = Space(looked_at.files, namespace, looked_at.records)
     return [Rescue(arena) for _, arena in space.arenas()]
 
@@ -126,8 +148,9 @@ def answers(folder, uuid):
     refused = refusal(looked_at, uuid)
     if refused:
         return [(refused[0], refused[1].encode())] * 2
-    rescues = rescues_of(looked_at, uuid)
-    text = text_of(rescues)
+    namespace = next(it for it in looked_at.namespaces if it.uuid == uuid)
+    rescues = rescues_of(looked_at, namespace)
+    text = text_of(namespace.missing(), rescues)
     first = rescues[0].arena
     plain = DONE, b"".join(it.bytes() for it in rescues)
     if not first.info:

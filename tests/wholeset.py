@@ -1,7 +1,7 @@
-"""What `check` without a UUID has to print of an image set, worked out from the files alone, without the program.
+"""What `check` and `check --repair` of a whole image set have to print, worked out from the files alone, without the program.
 
 The rules are those of docs/commands/check.md, over the formats of docs/FORMATS.md (UEFI 2.10, chapter 6 and section 13.19; ACPI 6.5, section 5.2.25).
-`text_of` gives the text of a folder's set. tests/rows compares it with the program on all sets that come by there, tests/linux on those of Linux.
+`text_of` gives the text of a folder's set, and `repair_of` that of its repair, with the label areas that this writes. tests/rows compares it with the program on all sets that come by there, tests/linux on those of Linux.
 Contents are read piece by piece, since a set may have 16 TiB of holes.
 """
 import bisect
@@ -43,19 +43,23 @@ def is_newer(one, other):
 
 
 class Files:
-    """The files of an image set."""
+    """The files of an image set; those in `written` stand for what is in the folder."""
 
-    def __init__(self, folder):
-        self.folder = folder
+    def __init__(self, folder, written=None):
+        self.folder, self.written = folder, written or {}
 
     def size(self, name):
         """The bytes of an object; None if there is none."""
+        if name in self.written:
+            return len(self.written[name])
         try:
             return os.stat(os.path.join(self.folder, name)).st_size
         except FileNotFoundError:
             return None
 
     def read(self, name, at=0, count=-1):
+        if name in self.written:
+            return self.written[name][at : None if count < 0 else at + count]
         with open(os.path.join(self.folder, name), "rb") as file:
             file.seek(at)
             return file.read(count)
@@ -228,6 +232,27 @@ def index_fault(area, side, size):
     if block[19] != 1 or slots < 1 or 72 + (slots + 7) // 8 > size or 2 * size + SLOT * slots > len(area):
         return "Slots"
     return None if sealed(block, 64) else "Checksum"
+
+
+def older_block(block, side, size):
+    """The block of a side as it was before the current one, `block`: the number before its own on the ring, and the same free slots."""
+    slots = number(block, 56, 4)
+    bits = "".join(str(block[72 + it // 8] >> it % 8 & 1) for it in range(slots))
+    free = int(bits[::-1], 2).to_bytes(-(-slots // 8), "little")
+    text = struct.pack("<16s3xBIQQQQIHH8x", b"NAMESPACE_INDEX\0", 1, (block[20] % 4 + 1) % 3 + 1, side * size, size, (1 - side) * size, 2 * size, slots, 1, 2) + free
+    text = text.ljust(size, b"\0")
+    return text[:64] + struct.pack("<Q", fletcher64(text)) + text[72:]
+
+
+def index_repair(area):
+    """The side of a label area that a repair writes, why it was refused, and the area after it; None if nothing is repaired. A closed block stays."""
+    size = block_size(len(area))
+    faults = [index_fault(area, side, size) for side in (0, 1)]
+    if faults.count(None) != 1 or "Sequence" in faults:
+        return None
+    side = 0 if faults[0] else 1
+    written = older_block(area[(1 - side) * size : (2 - side) * size], side, size)
+    return side, faults[side], area[: side * size] + written + area[(side + 1) * size :]
 
 
 class Placed:
@@ -554,10 +579,10 @@ class Space:
 
 
 class Set:
-    """The lines of a set, part by part."""
+    """The lines of a set, part by part. Files in `written` stand for those of the folder."""
 
-    def __init__(self, folder):
-        self.files, self.table = Files(folder), None
+    def __init__(self, folder, written=None):
+        self.files, self.table = Files(folder, written), None
         self.parts = {"table": [], "objects": [], "regions": [], "areas": [], "namespaces": [], "ranges": [], "arenas": []}
         try:
             self.table = self.read_table()
@@ -643,9 +668,27 @@ def is_area_size(size):
     return size % SLOT == 0 and 1024 <= size <= 1 << 20
 
 
-def lines_of(folder):
+def lines_of(folder, written=None):
     """The lines of a set but for the last one."""
-    return [line for part in Set(folder).parts.values() for line in part]
+    return [line for part in Set(folder, written).parts.values() for line in part]
+
+
+def is_loaded(folder):
+    """Whether commands load a set: its table is read, and no object has a fault."""
+    parts = Set(folder).parts
+    return not parts["table"] and not parts["objects"]
+
+
+def repair_of(folder):
+    """What `check --repair` prints of a set that is loaded, and the label areas that it writes, by the names of their files."""
+    files, lines, written = Files(folder), [], {}
+    for module in range(Table(files.read("nfit.bin")).modules):
+        name = f"labels-{module}.bin"
+        repair = index_repair(files.read(name)) if files.size(name) else None
+        if repair:
+            lines.append(f"repaired labels {module} index {repair[0]} {repair[1]}")
+            written[name] = repair[2]
+    return "".join(f"{it}\n" for it in lines) + ended(lines_of(folder, written)), written
 
 
 def ended(lines):

@@ -3,13 +3,14 @@
 import struct
 
 from sets import FIRST, INNER, LANES, LINE, OUTER, SECOND, SIZE, SLOTS, THIRD, area, checked, control, info, interleave, mapping, of_version, pair, part
-from sets import ARENA, BLOCK, HELD, LOG_AT, MAP_AT, bad, chain, fletcher64, group, past_the_limit, sectors, spa, table, two, wide
+from sets import ARENA, BLOCK, BTT_2_0, HELD, LOG_AT, MAP_AT, bad, chain, fletcher64, group, past_the_limit, sectors, spa, table, two, wide
 
 CREATE = ["OUT", "create", "--uuid", str(THIRD), "--name", "c", "--region", "0", "--size", "8192", "--mode", "raw"]
 LIST, NFIT, LABELS, INFO, READ = ["-", "list"], ["-", "nfit"], ["-", "labels", "0"], ["-", "info", str(FIRST)], ["-", "read", str(FIRST), "0"]
 CHECK = ["OUT", "check", str(FIRST)]
 REPAIR = [*CHECK, "--repair"]
 SET = ["-", "check"]
+MEND = ["OUT", "check", "--repair"]
 WRITE = ["OUT", "write", str(FIRST), "0", "fill:5a"]
 REPLAY = ["OUT", "replay", str(FIRST)]
 EXPORT = ["-", "export", str(FIRST)]
@@ -181,6 +182,7 @@ def statuses():
 
 def refusals():
     long = "n" * 64
+    mixed = pair(area([part(0)]), area([part(1, cookie=5)]))
     full = pair(area([part(0)], used=SLOTS), area([part(1)], used=SLOTS))
     half = pair(area([part(0)]))
     locked = pair(area([part(0)]), area([part(1, flags=1)]))
@@ -190,7 +192,7 @@ def refusals():
             ("Exists", whole(), create("--uuid", str(FIRST))), (f"NoSpace {SIZE}", whole(), create("--size", str(2 * SIZE))),
             ("NoSlot 0", full, CREATE), ("NoSlot 0", full, RENAME), ("NoSlot 0", full, DELETE),
             ("NoSuch", pair(), DELETE), ("NoSuch", pair(), RENAME), ("NoSuch", pair(), INFO), ("NoSuch", pair(), CHECK), ("NoSuch", pair(), READ), ("NoSuch", pair(), WRITE), ("NoSuch", pair(), REPLAY), ("NoSuch", pair(), EXPORT), ("NoSuch", pair(), RESCUE), ("NoSuch", pair(), LOST), ("NoSuch", pair(), IMPORT), ("NoSuch", pair(), LOAD),
-            ("NotComplete", half, DELETE), ("NotComplete", half, RENAME), ("NotComplete", half, INFO), ("NotComplete", half, CHECK), ("NotComplete", half, READ), ("NotComplete", half, WRITE), ("NotComplete", half, REPLAY), ("NotComplete", half, EXPORT), ("NotComplete", half, RESCUE), ("NotComplete", half, LOST), ("NotComplete", half, IMPORT), ("NotComplete", half, LOAD),
+            ("NotComplete", half, DELETE), ("NotComplete", half, RENAME), ("NotComplete", half, INFO), ("NotComplete", half, CHECK), ("NotComplete", half, READ), ("NotComplete", half, WRITE), ("NotComplete", half, REPLAY), ("NotComplete", half, EXPORT), ("NotComplete", mixed, RESCUE), ("NotComplete", mixed, LOST), ("NotSector", half, RESCUE), ("NotSector", half, LOST), ("NotComplete", half, IMPORT), ("NotComplete", half, LOAD),
             ("ReadOnlyLabel 1", locked, DELETE), ("ReadOnlyLabel 1", locked, RENAME),
             ("NotSector", whole(), INFO), ("NotSector", whole(), CHECK), ("NotSector", whole(), READ), ("NotSector", whole(), WRITE), ("NotSector", whole(), REPLAY), ("NotSector", whole(), RESCUE), ("NotSector", whole(), LOST), ("NotSector", whole(), LOAD), ("Range 3", small(3), LOAD),
             ("BadSector 1", sectors(entries={1: 1 << 30 | 1, 2: 1 << 30 | 2}), EXPORT),
@@ -341,6 +343,8 @@ def rescues():
             ("Info Checksum", sectors(info(seal=False)), "the arena's first info block is refused. Its sectors are read by its backup"),
             ("Info Checksum", sectors(info(seal=False)), "a byte of the info block was changed")):
         yield files, LOST, 0, f"arena 0 {line}", f"nvd: arena 0 {line}: {means}"
+    # a label is missing, and the place of its part is known by the other one
+    yield pair(area([part(0, abstraction=BTT_2_0, lba=4096)])), LOST, 3, "labels 1 Missing\narena 0 Info Signature\nlost 1", "nvd: labels 1 Missing: module 1 has no label of the namespace"
     # without an info block of the first arena nothing can be read
     yield image(f"arena {FIRST} 0 Info Signature", sectors(bytes(4096), last=bytes(4096)), RESCUE, f"nvd: image arena {FIRST} 0 Info Signature: {ARENA_MEANS['Info Signature']}")
     yield sectors(), [*RESCUE, "--lsot"], 2, "usage", "did you mean '--lost'?"
@@ -363,7 +367,8 @@ def whole_sets():
     unchecked = "notice arenas Unchecked"
     lost = f"fault namespace {FIRST} Missing 0"
     yield whole(), SET, 0, "sound", None
-    yield whole(), [*SET, "--repair"], 2, "usage", "UUID is missing: '--repair' is for one namespace"
+    yield whole(), MEND, 0, "sound", None
+    yield whole(), [*MEND, "--repair"], 2, "usage", "'--repair' is given twice"
     yield whole(), [*SET, "--"], 2, "usage", "UUID is missing"
     yield whole(), [*SET, "--repiar"], 2, "usage", "did you mean '--repair'?"
     yield from on_set(without("complete"), "IN has no file complete", "fault mark Missing")
@@ -391,6 +396,8 @@ def whole_sets():
             ("Offsets", sealed(changed(good[:BLOCK], 24, b"x")), "MyOff, MySize,"), ("Slots", sealed(changed(good[:BLOCK], 56, bytes(4))), "the block has no slots"), ("Checksum", changed(good[:BLOCK], 17, b"x"), "a byte of the block")):
         for hint in ("index block 0 of module 0 is refused", means):
             yield from on_set(pair(labels0=block + good[BLOCK:]), hint, f"fault labels 0 index 0 {fault}")
+        for hint in ("index block 0 of module 0 was refused; in OUT it is written anew", means):
+            yield pair(labels0=block + good[BLOCK:]), MEND, 0, f"repaired labels 0 index 0 {fault}", f"nvd: repaired labels 0 index 0 {fault}: {hint}"
     closed = sealed(changed(good[BLOCK : 2 * BLOCK], 20, bytes(4)))
     yield from on_set(pair(labels0=good[:BLOCK] + closed + good[2 * BLOCK :]), "index block 1 of module 0 has the sequence number 0", "notice labels 0 index 1 Sequence")
     for text, wrong, means in (("Checksum", changed(part(0), 20, b"x"), "slot 0 is used, but"), ("Slot 3", part(0, slot=3), "the label in slot 0 says that its slot is 3"), ("OddSize Dpa", part(0, dpa=512), "the label's field is no"),
@@ -413,6 +420,9 @@ def whole_sets():
     lines = [f"fault arena {FIRST} 0 {it}" for it in ("Info Checksum", "Twice 1", "Missing 0")]
     for line, means in ((lines[0], FINDING_MEANS["Info"]), (lines[0], "a byte of the info block was changed"), (lines[1], FINDING_MEANS["Twice"]), (lines[2], FINDING_MEANS["Missing"])):
         yield broken, SET, 3, said(*lines), f"nvd: {line}: {means}"
+    # what a repair doesn't mend is explained too; a set that no command loads isn't repaired
+    yield pair(area([part(0)]), area([])), MEND, 0, "broken 1", f"nvd: fault namespace {FIRST} Missing 1: module 1 has no label of it"
+    yield image("labels 0 Size 1000", pair(labels0=bytes(1000)), MEND, "labels-0.bin has 1000 bytes")
     # all lines of a set are explained, a fault of an area behind that of an object
     many = {**pair(labels0=bytes(1000), labels1=area([part(1)])), "contents-1.bin": 4096}
     for line in ("fault labels 0 Size 1000", "fault contents 1 Size 4096", lost, unchecked):

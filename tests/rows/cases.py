@@ -218,9 +218,11 @@ def sectors():
         # a raw namespace is exported
         for words in (["-", "export", uuid], ["-", "export", uuid, "--bad-as-zeros"]):
             yield files, words, *((OK, "\0" * 2 * 4096) if text == "refused NotSector\n" else (status, text))
-        # a raw namespace isn't rescued, and without an info block nothing can be read; that is what is lost
-        yield files, ["-", "rescue", uuid], status, text
-        yield files, ["-", "rescue", uuid, "--lost"], status, "arena 0 Info Signature\nlost 1\n" if text.startswith("image arena") else text
+        # a raw namespace isn't rescued, and without an info block nothing can be read; that is what is lost. A missing label is passed over
+        lacks = "labels 1 Missing\n" if text == "refused NotComplete\n" else ""
+        plain = (IMAGE, f"image arena {FIRST} 0 Info Signature\n") if lacks else (status, text)
+        yield files, ["-", "rescue", uuid], *plain
+        yield files, ["-", "rescue", uuid, "--lost"], plain[0], f"{lacks}arena 0 Info Signature\nlost 1\n" if plain[1].startswith("image arena") else text
         # to check, an arena that breaks the format is no fault; the last 4,096 bytes are no info block either
         for words in (["OUT", "check", uuid], ["OUT", "check", uuid, "--repair"]):
             yield files, words, *((OK, "arena 0 Info Signature\nbroken 1\n") if text.startswith("image arena") else (status, text))

@@ -17,8 +17,9 @@ sys.path.insert(
     1, os.path.join(os.path.dirname(os.path.dirname(os.path.abspath(__file__))), "faults")
 )
 from checks import BLOCK, ERROR, NORMAL, WORD, ZERO, block, changed, halves  # noqa: E402
-from sets import (ARENA, FIRST, INFO_AT, INNER, LOG_AT, MAP_AT, OUTER, bad, chain,  # noqa: E402
-                  info, sectors, wide)
+from sets import (ARENA, BTT_2_0, FIRST, INFO_AT, INNER, LOG_AT, MAP_AT, OUTER, SECOND,  # noqa: E402
+                  THIRD, area, bad, chain, control, cookie, info, interleave, label, mapping,
+                  sectors, spa, table, wide)
 
 # blocks of arenas that have bytes: the byte that fills each
 BYTES = {0: 0xA0, 7: 0xA7, 9: 0xA9, OUTER: 0xB0, OUTER + 1: 0xB1}
@@ -304,6 +305,69 @@ def chains():
     yield "the first one's backup", with_piece(linked(), INFO_AT, bytes(4096)), lost(), both
     yield "the first one's log", with_piece(linked(), LOG_AT, bytes(64 * 256)), \
         lost(*(f"arena 0 Flog {lane} Sequences 0 0" for lane in range(256))), both
+
+
+PART = ARENA // 2
+
+
+def spread(files, first=None, second=None, **other):
+    """A set of one module as one of two, which take turns every 4,096 bytes; each has this label
+    area, or that with its label of the namespace."""
+    pieces = [{}, {}]
+    for at, data in files["contents-0.bin"][1].items():
+        for begin in range(at - at % 4096, at + len(data), 4096):
+            part = data[max(begin - at, 0) : begin + 4096 - at]
+            to = begin // 8192 * 4096 + max(at - begin, 0)
+            pieces[begin // 4096 % 2][to] = part
+    nfit = table(spa(length=ARENA), mapping(0, size=PART), mapping(1, size=PART), interleave(),
+                 control(0), control(1))
+    areas = [area([own(module)]) if it is None else it for module, it in enumerate((first, second))]
+    found = {"nfit.bin": nfit, "complete": b"", **other,
+             **{f"labels-{it}.bin": data for it, data in enumerate(areas)},
+             **{f"contents-{it}.bin": (PART, its) for it, its in enumerate(pieces)}}
+    return {name: data for name, data in found.items() if data != b"none"}
+
+
+def own(module, who=FIRST, slot=0, raw=PART, **fields):
+    """A module's label of the namespace over both modules."""
+    fields = {"count": 2, "position": module, "cookie": cookie(), "lba": 4096,
+              "abstraction": BTT_2_0, **fields}
+    return label(who, b"a", slot, raw, **fields)
+
+
+def labels():
+    """Labels that are missing: the sectors are read all the same."""
+    good = damaged()
+    yield "no label is missing", spread(good), lost(), OWN
+    for module, areas in ((0, {"first": area()}), (1, {"second": area()})):
+        yield f"the label of module {module}", spread(good, **areas), \
+            lost(f"labels {module} Missing"), OWN
+    hurt = area([changed(own(1), 20)])
+    for what, it in (("no label area", b"none"), ("a blank label area", bytes(4096)),
+                     ("a label that isn't valid", hurt)):
+        yield what, spread(good, second=it), lost("labels 1 Missing"), OWN
+    yield "another name is missing with it", spread(good, area([own(0, flags=1)]), area()), \
+        lost("labels 1 Missing"), OWN
+    yield "a missing label, and a lost sector", \
+        spread(damaged(entries={9: NORMAL | 7}), second=area()), \
+        lost("labels 1 Missing", "arena 0 lost 7 Twice 7", "arena 0 lost 9 Twice 7", count=2), \
+        without(7, 9)
+    yield "a missing label, and no first info block", spread(damaged(bytes(4096)), area()), \
+        lost("labels 0 Missing", "arena 0 Info Signature"), OWN
+
+
+def refused():
+    """Namespaces whose place isn't known, and the refusal."""
+    good = damaged()
+    yield "both labels are missing", spread(good, area(), area()), "NoSuch"
+    yield "a label with UPDATING alone", spread(good, area([own(0, flags=8)]), area()), \
+        "NotComplete"
+    yield "a local label alone", spread(good, area([own(0, flags=2)]), area()), "NotComplete"
+    yield "another cookie", spread(good, area([own(0, cookie=5)]), area()), "NotComplete"
+    yield "another count", spread(good, area([own(0, count=3)]), area()), "NotComplete"
+    yield "another mode", spread(good, area([own(0, abstraction=THIRD)]), area()), "NotSector"
+    taken = own(1, SECOND, raw=8192, dpa=4096)
+    yield "another namespace in the place", spread(good, second=area([taken])), "NotComplete"
 
 
 def rows():

@@ -1,4 +1,5 @@
-"""The rows of `check` on whole sets: what is wrong, the files of the set, and the lines but for the last one, worked out by hand.
+"""The rows of `check` on whole sets: what is wrong, the files of the set, and the lines but for the last one, worked out by hand; and those of
+`check --repair`, with the label areas that it writes.
 
 Sets are those of tests/faults/sets.py: two modules of 64 KiB, which take turns every 4,096 bytes, with a namespace over both; or one module with a
 sector namespace. Index block 1 is current there. tests/wholeset.py has to say the same of each row as the program.
@@ -275,6 +276,60 @@ def several():
     yield "many kinds", {**pair(first, second), "contents-1.bin": 4096, "badranges-0.bin": bad((0, 1))}, \
         ["fault contents 1 Size 4096", "fault labels 0 index 0 Checksum", "fault labels 0 slot 2 Checksum", "notice labels 1 index 1 Sequence", *namespace(FIRST, "Position 1 0"),
          *namespace(SECOND, "Cookie 0 5"), "notice badranges 0 1", UNCHECKED]
+
+
+def repairs():
+    """Repairs of label areas: what is wrong, the files, the lines but for the last one, and the areas that are written."""
+    used, free = range(1, SLOTS), range(SLOTS)
+    blocks = [index_block(0, 1, BLOCK, SLOTS, used), index_block(1, 2, BLOCK, SLOTS, used)]
+    label_of = part(0).ljust(4096 - 2 * BLOCK, b"\0")
+
+    def hurt(*pieces):
+        return whole(labels_0=b"".join(pieces) + label_of)
+
+    def written(*pieces):
+        return {"labels-0.bin": b"".join(pieces) + label_of}
+
+    wrong = changed(blocks[0], 17, b"x")
+    yield "nothing", whole(), [], {}
+    yield "the older block", hurt(wrong, blocks[1]), ["repaired labels 0 index 0 Checksum"], written(*blocks)
+    # the newer block is lost, and the older one counts: it has no label, and stays the current one
+    empty = index_block(0, 3, BLOCK, SLOTS, free)
+    yield "the newer block", hurt(empty, changed(blocks[1], 17, b"x")), ["repaired labels 0 index 1 Checksum", *namespace(FIRST, "Missing 0")], \
+        written(empty, index_block(1, 2, BLOCK, SLOTS, free))
+    # the number before, on the ring
+    for seq, before in ((1, 3), (2, 1), (3, 2)):
+        for side in (0, 1):
+            current, other = (index_block(it, its, BLOCK, SLOTS, used) for it, its in ((side, seq), (1 - side, before)))
+            pieces, after = ([current, bytes(BLOCK)], [current, other]) if side == 0 else ([bytes(BLOCK), current], [other, current])
+            yield f"beside number {seq} on side {side}", hurt(*pieces), [f"repaired labels 0 index {1 - side} Signature"], written(*after)
+    # each other reason, also a block of another version; free slots are those of the block that counts
+    for fault, block in (("Version 1 1", of_version(blocks[0], 1, 1)), ("Offsets", sealed(changed(blocks[0], 24, b"\1"))), ("Slots", sealed(changed(blocks[0], 19, b"\0"))),
+                         ("Checksum", changed(blocks[0], 72, b"\0"))):
+        yield f"a block: {fault}", hurt(block, blocks[1]), [f"repaired labels 0 index 0 {fault}"], written(*blocks)
+    # what readers ignore isn't copied: Flags, the high bits of Seq, and bits behind the last slot
+    odd = sealed(changed(changed(changed(blocks[1], 16, b"xyz"), 20, b"\xf2\xff\xff\xff"), 73, bytes([blocks[1][73] | 0xC0])))
+    yield "beside a block with other unused bits", hurt(bytes(BLOCK), odd), ["repaired labels 0 index 0 Signature"], written(blocks[0], odd)
+    closed = sealed(changed(blocks[0], 20, b"\0"))
+    yield "a closed block stays", hurt(closed, blocks[1]), ["notice labels 0 index 0 Sequence"], {}
+    yield "two blocks that are refused stay", hurt(wrong, changed(blocks[1], 17, b"x")), \
+        ["fault labels 0 index 0 Checksum", "fault labels 0 index 1 Checksum", *namespace(FIRST, "Missing 0")], {}
+    yield "a blank area stays", whole(labels_0=bytes(4096)), ["notice labels 0 NoIndex", *namespace(FIRST, "Missing 0")], {}
+    # a larger area, whose blocks have 512 bytes; its last 256 bytes have no slot
+    large = [index_block(it, it + 1, 512, 1600, range(1, 1600)) for it in (0, 1)]
+    behind = part(0).ljust(256 * 1601, b"\0")
+    yield "a larger area", whole(labels_0=bytes(512) + large[1] + behind), ["repaired labels 0 index 0 Signature"], {"labels-0.bin": b"".join(large) + behind}
+    both = pair(wrong + blocks[1] + label_of, blocks[0] + bytes(BLOCK) + part(1).ljust(4096 - 2 * BLOCK, b"\0"))
+    yield "both modules", both, ["repaired labels 0 index 0 Checksum", "repaired labels 1 index 1 Signature"], \
+        {**written(*blocks), "labels-1.bin": blocks[0] + index_block(1, 3, BLOCK, SLOTS, used) + part(1).ljust(4096 - 2 * BLOCK, b"\0")}
+    broken = hurt(wrong, blocks[1])
+    yield "what stays is said behind it", {**broken, "labels-1.bin": area([part(1, cookie=5), JUNK]), "badranges-0.bin": bad((0, 1))}, \
+        ["repaired labels 0 index 0 Checksum", "fault labels 1 slot 1 Checksum", *namespace(FIRST, "Cookie 1 5"), "notice badranges 0 1"], written(*blocks)
+    yield "a region and labels that are refused", {**broken, "nfit.bin": two(spa(length=4 * SIZE), mapping(0), mapping(1), interleave())}, \
+        ["repaired labels 0 index 0 Checksum", f"fault region 0 Size {4 * SIZE} {2 * SIZE}", NO_NAMESPACES, UNCHECKED], written(*blocks)
+    arena_set = sectors(bytes(4096))
+    yield "arenas aren't repaired", {**arena_set, "labels-0.bin": changed(arena_set["labels-0.bin"], 17, b"x")}, \
+        ["repaired labels 0 index 0 Checksum", *arena(FIRST, "Info Signature")], {"labels-0.bin": arena_set["labels-0.bin"]}
 
 
 def rows():

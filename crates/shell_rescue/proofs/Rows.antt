@@ -1,5 +1,5 @@
 -- Rows that are computed: the lines, and lanes that don't count.
-use Rattle.std.proofs.Common.{◌≡◌, ℕ, Bool, true, List, [], ◌++◌, None, refl}
+use Rattle.std.proofs.Common.{◌≡◌, ℕ, Bool, true, List, [], ◌∷◌, ◌++◌, None, refl}
 use Rattle.std.specs.Prelude.{codes}
 use Rattle.std.specs.Fmt.{digits}
 use Rattle.arena_layout.specs.declared.layout.Layout.{Layout}
@@ -7,7 +7,7 @@ use Rattle.arena_layout.specs.Info.{has_signature}
 use Rattle.nvd_words.specs.Checks.{first_fault}
 use Rattle.arena_rescue.specs.declared.loss.Loss.TheVariants as loss
 use Rattle.shell_reports.specs.Outcome.{lf}
-use Rattle.shell_rescue.specs.Lost.{last_line, loss_line, lost_text, lost_within, move_line}
+use Rattle.shell_rescue.specs.Lost.{last_line, loss_line, lost_text, lost_within, missing_lines, move_line}
 use Rattle.shell_rescue.specs.Rescue.{counted_group}
 
 bad_map : loss_line 0 (loss.BadMap 17) ≡ codes "arena 0 lost 17 BadMap" ++ lf
@@ -33,6 +33,10 @@ bad_data = refl
 one_move : move_line 0 (record { lba = 3; old = 7; new = 8; seq = 2 }) ≡ codes "arena 0 moved 3 7 8" ++ lf
 unfolding digits
 one_move = refl
+
+missing : missing_lines (1 ∷ 3 ∷ []) ≡ codes "labels 1 Missing" ++ (lf ++ (codes "labels 3 Missing" ++ lf))
+unfolding digits
+missing = refl
 
 none_lost : last_line 0 ≡ codes "whole" ++ lf
 none_lost = refl

@@ -27,6 +27,8 @@ use Rattle.namespace_map.specs.Commands.{is_complete, is_sector}
 use Rattle.namespace_map.specs.Namespaces.{NamespaceEntry, Part, entry_at}
 use Rattle.namespace_map.specs.declared.refused.OpRefused.{OpRefused}
 use Rattle.namespace_map.specs.declared.refused.OpRefused.TheVariants.{NotComplete, NotSector}
+use Rattle.label_rescue.specs.declared.rescued.RescueFound.{RescueFound}
+use Rattle.label_rescue.proofs.Whole.{complete_found}
 use Rattle.namespace_areas.specs.declared.found.Found.{Found}
 use Rattle.namespace_areas.specs.Finding.{found_at, found_by, found_of, set_at}
 use Rattle.namespace_ops.specs.Opening.{sets_of}
@@ -206,7 +208,8 @@ sound_rescue_ends_as_export loaded uuid found states is none opens =
     let first : refused_by (source_of words uuid) ≡ None = none_refused words uuid states opens in
     let p : Placed (sets_of loaded.nfit) (entry_at (sets_of loaded.nfit) (labels_in_set loaded) uuid) found =
     placed (sets_of loaded.nfit) (entry_at (sets_of loaded.nfit) (labels_in_set loaded) uuid) found is in
-    ap (λ (r : Result Found OpRefused). unless_fault (fault_in loaded) (on_named uuid false loaded r)) is
+    ap (λ (r : Result RescueFound OpRefused). unless_fault (fault_in loaded) (on_named uuid false loaded r))
+    (complete_found (sets_of loaded.nfit) (labels_in_set loaded) (λ e. 0) uuid found is)
     ∙ (λ i. unless_fault (fault_in loaded) (bytes_unless uuid (first i) (bytes i)))
     ∙ sym (
     ap (λ (r : Result Found OpRefused). unless_fault (fault_in loaded) (on_place uuid true (sets_of loaded.nfit) loaded.contents r)) p.place

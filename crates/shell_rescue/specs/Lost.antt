@@ -42,6 +42,14 @@ abbrev pub move_lines : ℕ → List Half → List ℕ
 move_lines k [] = []
 move_lines k (half ∷ halves) = move_line k half ++ move_lines k halves
 
+-- labels M Missing: the module has no label of the namespace
+abbrev pub missing_line : ℕ → List ℕ
+missing_line number = joined (codes "labels " ∷ decimal number ∷ codes " Missing" ∷ lf ∷ [])
+
+abbrev pub missing_lines : List ℕ → List ℕ
+missing_lines [] = []
+missing_lines (number ∷ numbers) = missing_line number ++ missing_lines numbers
+
 -- ---- an arena
 
 -- a finding if the first info block isn't used, by why not

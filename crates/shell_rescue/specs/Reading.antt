@@ -1,5 +1,5 @@
 -- What was read of the arenas of a namespace whose contents stay in an image source.
-use Rattle.std.specs.Prelude.{◌≡◌, ◌≢◌, ℕ, ◌+◌, ◌-◌, ◌*◌, ◌<◌, ◌≤◌, Bool, List, [], length, All, IfSome, MatchBool, Option, Some, None}
+use Rattle.std.specs.Prelude.{◌≡◌, ◌≢◌, ℕ, ◌+◌, ◌-◌, ◌*◌, ◌<◌, ◌≤◌, Bool, List, [], ◌++◌, length, All, IfSome, MatchBool, Option, Some, None}
 use Rattle.std.specs.List.{cons_option}
 use Rattle.arena_layout.specs.declared.info.Info.{Info}
 use Rattle.arena_layout.specs.declared.info.InfoFault.{InfoFault}
@@ -15,7 +15,7 @@ use Rattle.shell_rescue.specs.declared.arena.ArenaRescued.{ArenaRescued}
 use Rattle.shell_rescue.specs.declared.arena.SectorsRead.{SectorsRead}
 use Rattle.shell_rescue.specs.declared.chain.Rescued.{Rescued}
 use Rattle.shell_rescue.specs.declared.log.LogRead.{LogRead}
-use Rattle.shell_rescue.specs.Lost.{count_in, lines_from, lost_arenas, lost_by, lost_in, notes_with}
+use Rattle.shell_rescue.specs.Lost.{count_in, lines_from, lost_arenas, lost_by, lost_in, missing_lines, notes_with}
 use Rattle.shell_rescue.specs.Rescue.{arena_by, counted_groups, entries_in, losses_in, moves_in, rescued_arenas}
 
 -- An arena of a namespace of so many bytes, with an entry for each sector, which names a block that exists.
@@ -79,4 +79,11 @@ pub record IsRescued (listing : Bool) (bad : ℕ → Bool) (words parent : List 
   pub arenas : r.arenas ≡ rescued_arenas bad words parent
   pub refused : r.refused ≡ refused_by (source_of words parent)
   pub text : MatchBool listing (r.text.items ≡ lines_from 0 (lost_arenas bad words parent)) (r.text.items ≡ [])
+  pub count : r.count ≡ count_in (lost_arenas bad words parent)
+
+-- The same, with a line before the others for each module without a label.
+pub record IsTold (listing : Bool) (missing : List ℕ) (bad : ℕ → Bool) (words parent : List ℕ) (r : Rescued) : Type 0 where
+  pub arenas : r.arenas ≡ rescued_arenas bad words parent
+  pub refused : r.refused ≡ refused_by (source_of words parent)
+  pub text : MatchBool listing (r.text.items ≡ missing_lines missing ++ lines_from 0 (lost_arenas bad words parent)) (r.text.items ≡ [])
   pub count : r.count ≡ count_in (lost_arenas bad words parent)

@@ -1,5 +1,5 @@
 //! The command `rescue`.
-ghost use Rattle.std.specs.Prelude.{◌≡◌, ℕ, ◌%◌, ◌^◌, ◌≤◌, All, IfOk, Err, Ok, List, OnErr, length};
+ghost use Rattle.std.specs.Prelude.{◌≡◌, ◌≢◌, ℕ, ◌%◌, ◌^◌, ◌≤◌, All, Bool, IfOk, Err, Ok, List, OnErr, length};
 ghost use Rattle.std.specs.Option.{ForSome};
 ghost use Rattle.nvd_media.specs.Causes.{Rose};
 ghost use Rattle.bad_ranges.specs.Bad.{bad_words};
@@ -14,15 +14,16 @@ ghost use Rattle.shell_reports.specs.Saved.{outcome_of};
 ghost use Rattle.shell_sectors.specs.Opening.{IsOpenOutline};
 ghost use Rattle.shell_export.specs.Printing.{AreHeld, IsPrinted, PrintsDue};
 ghost use Rattle.shell_rescue.specs.Comes.{RescuesFrom, made_outcome, rescue_outcome};
-ghost use Rattle.shell_rescue.specs.Reading.{IsReadable, IsRescued};
+ghost use Rattle.shell_rescue.specs.Reading.{IsReadable, IsRescued, IsTold};
 
 use crate::chain::Rescued;
 use crate::extent::rescue_extent;
-use crate::lost::lost_report;
+use crate::lost::{lost_report, with_missing};
 use crate::print::print_arenas;
 use arena_layout::InfoFault;
 use arena_open::{ChainRefused, OpenRefused};
 use image_set::{Outline, OutlineRest};
+use label_rescue::find_rescued;
 use namespace_ops::Registry;
 use nvd_media::{Failed, ImageSource, TextSink};
 use nvd_words::Items;
@@ -47,7 +48,19 @@ fn no_arena(alloc: Global, uuid: &Uuid, fault: InfoFault) -> Result<Report, Allo
     )
 }
 
-/// Reads what can be read of a namespace's arenas.
+/// Puts a line for each module without a label before the others, if lines are asked for.
+fn told(alloc: Global, rescued: Rescued, listing: bool, missing: &[u32]) -> Result<Rescued, RunStop>
+    ensures told { IfOk result (λ r. (bad : ℕ → Bool) (words parent : List ℕ) → IsRescued listing bad words parent rescued → IsTold listing missing.now bad words parent r) }
+    ensures arenas { IfOk result (λ r. r.arenas ≡ rescued.arenas) }
+    ensures memory { result ≢ Err RunStop.ReadFault }
+{
+    match with_missing(alloc, rescued, listing, missing) {
+        Ok(rescued) => Ok(rescued),
+        Err(_) => Err(RunStop::OutOfMemory),
+    }
+}
+
+/// Reads what can be read of a namespace's arenas. `missing` has the modules without a label.
 fn rescue_found<S: ImageSource>(
     alloc: Global,
     images: &mut S,
@@ -55,19 +68,20 @@ fn rescue_found<S: ImageSource>(
     bad: &[Option<Items<u8>>],
     uuid: &Uuid,
     listing: bool,
+    missing: &[u32],
 ) -> Result<Rescued, RunStop>
     requires laid { IsLaid extent.now }
     requires pages { raw_bytes extent.now % 4096 ≡ 0 }
     requires few { raw_bytes extent.now ≤ 2 ^ 55 }
     requires there { HasEnds (S.held images.old) extent.now.set }
-    ensures told { IfOk result (λ r. (contents : List (List ℕ)) → Reveals (S.held images.old) extent.now.set contents → IsRescued listing (bad_words extent.now bad.now) (words_by extent.now contents) uuid.now r) }
+    ensures told { IfOk result (λ r. (contents : List (List ℕ)) → Reveals (S.held images.old) extent.now.set contents → IsTold listing missing.now (bad_words extent.now bad.now) (words_by extent.now contents) uuid.now r) }
     ensures readable { IfOk result (λ r. All (IsReadable (raw_bytes extent.now)) r.arenas) }
     ensures same { S.held images.new ≡ S.held images.old }
     ensures failed { result ≡ Err RunStop.ReadFault → Rose (S.faults images.old) (S.faults images.new) }
     ensures later { S.faults images.old ≤ S.faults images.new }
 {
     match rescue_extent(alloc, images, extent, bad, uuid, listing) {
-        Ok(Ok(rescued)) => Ok(rescued),
+        Ok(Ok(rescued)) => told(alloc, rescued, listing, missing),
         Ok(Err(_)) => Err(RunStop::OutOfMemory),
         Err(Failed) => Err(RunStop::ReadFault),
     }
@@ -126,12 +140,17 @@ fn named_answer<S: ImageSource, O: TextSink>(
     ensures read { result ≡ Ok Status.ReadFault → Rose (S.faults images.old) (S.faults images.new) }
     ensures failed { result ≡ Ok Status.WriteFault → Rose (O.faults text.old) (O.faults text.new) }
 {
-    match registry.find(uuid) {
-        Ok(found) => {
+    let Ok(answer) = find_rescued(alloc, registry, uuid) else {
+        return Err(RunStop::OutOfMemory);
+    };
+    match answer {
+        Ok(place) => {
+            let found = &place.found;
             let set = registry.set(found.region);
             let extent = SetExtent::of(set, found.offset, found.raw);
             let bad = rest.bad.as_slice();
-            let rescued = rescue_found(alloc, images, &extent, bad, uuid, listing)?;
+            let missing = place.missing.as_slice();
+            let rescued = rescue_found(alloc, images, &extent, bad, uuid, listing, missing)?;
             print_rescued(alloc, &extent, uuid, listing, rescued, images, text)
         }
         Err(refused) => print_made(op_refused_answer(alloc, refused), text),
@@ -144,8 +163,12 @@ fn named_answer<S: ImageSource, O: TextSink>(
 /// It prints the bytes of a sector namespace that can still be read: all sectors of its arenas in
 /// order, a lost one as zeros. Or, with `listing`, the lines on what is lost and on what the rest
 /// stands on. Or it prints a refusal, the first that holds: a region isn't an interleave set, or two
-/// UUIDs have overlapping extents; the namespace isn't found; without `listing`, no info block of
-/// its first arena can be used. No image set is written.
+/// UUIDs have overlapping extents; the namespace isn't found by the labels that are there (crate
+/// `label_rescue`); without `listing`, no info block of its first arena can be used. No image set is
+/// written.
+///
+/// Labels of the namespace may be missing on some modules. The list names these modules first. They
+/// are no lost sectors: they change neither the last line nor the status.
 ///
 /// Of the contents the arenas' info blocks, logs and maps are read before the first byte is printed,
 /// and then the bytes that are printed, 256 KiB or less at a time. Nothing is read for a sector that

@@ -16,12 +16,16 @@
 //! on: a backup in place of the first info block, lanes whose group is refused, bad words, and the
 //! pending moves that were made. Nothing is guessed and nothing is written.
 //!
+//! The namespace is found by the labels that are there, so some of its modules may have none
+//! (crate `label_rescue`). Then `--lost` names these modules first.
+//!
 //! | what | definition |
 //! |---|---|
+//! | the namespace, some of whose labels may be missing | `rescued_in` of `specs/Found.antt` |
 //! | which lanes count | `counted_groups` of `specs/Rescue.antt` |
 //! | which sectors are lost | `losses_of` of `arena_rescue` |
 //! | the bytes | `rescued_bytes` of `specs/Rescue.antt` |
-//! | the list | `lost_text` of `specs/Lost.antt` |
+//! | the list | `missing_lines`, `lost_text` of `specs/Lost.antt` |
 //! | what the command comes to | `rescue_outcome` of `specs/Comes.antt` |
 //!
 //! Which info block is used, and how the chain of arenas goes on, is as for `check` (crates

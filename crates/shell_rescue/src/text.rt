@@ -2,7 +2,7 @@
 ghost use Rattle.std.specs.Prelude.{◌≡◌, ◌++◌, ◌∷◌, [], IfOk, MatchBool, OnOk, codes, length, string_bytes};
 ghost use Rattle.std.specs.Fmt.{decimal};
 ghost use Rattle.shell_reports.specs.Outcome.{joined, lf};
-ghost use Rattle.shell_rescue.specs.Lost.{arena_lines, last_line, loss_line, loss_lines, loss_text, move_line, move_lines};
+ghost use Rattle.shell_rescue.specs.Lost.{arena_lines, last_line, loss_line, loss_lines, loss_text, missing_line, missing_lines, move_line, move_lines};
 
 use crate::arena::ArenaLost;
 use arena_rescue::Loss;
@@ -84,6 +84,28 @@ pub(crate) fn push_lost(
 {
     if listing {
         return push_arena(alloc, k, lost, text);
+    }
+    Ok(())
+}
+
+/// Returns the line of a module that has no label of the namespace.
+fn missing_line(alloc: Global, module: u32) -> Result<String, AllocError>
+    ensures { IfOk result (λ text. string_bytes text ≡ missing_line «module») }
+{
+    format!(in alloc; "labels {} Missing\n", module)
+}
+
+/// Appends the lines of the modules that have no label of the namespace.
+pub(crate) fn push_missing(
+    alloc: Global,
+    modules: &[u32],
+    text: &mut Vec<u8>,
+) -> Result<(), AllocError>
+    ensures { OnOk result (text.new.items ≡ text.old.items ++ missing_lines modules.now) }
+{
+    for module in modules {
+        let line = missing_line(alloc, *module)?;
+        text.extend_from_slice(line.as_bytes())?;
     }
     Ok(())
 }

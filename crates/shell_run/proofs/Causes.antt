@@ -20,7 +20,7 @@ use Rattle.shell_reports.specs.declared.status.Ending.{Ending}
 use Rattle.shell_reports.specs.declared.status.Ending.TheVariants as ending
 use Rattle.shell_reports.specs.declared.status.Status.TheVariants as status
 use Rattle.shell_run.specs.declared.words.CommandLine.{CommandLine}
-use Rattle.shell_run.specs.declared.words.CommandLine.TheVariants.{Labels, Nfit, Init, Change, Info, Check, CheckSet, Read, Write, Replay, Export, Rescue, Import, Serve, Load}
+use Rattle.shell_run.specs.declared.words.CommandLine.TheVariants.{Labels, Nfit, Init, Change, Info, Check, CheckSet, RepairSet, Read, Write, Replay, Export, Rescue, Import, Serve, Load}
 use Rattle.shell_run.specs.declared.words.CommandLine.TheVariants as command
 use Rattle.shell_reports.specs.declared.power.Power.{Power}
 use Rattle.nfit_reader.specs.declared.table.Mapping.{Mapping}
@@ -42,7 +42,7 @@ use Rattle.arena_open.specs.ChainCells.{sectors_of}
 use Rattle.namespace_areas.specs.declared.found.Found.{Found}
 use Rattle.shell_reports.specs.Faults.{arena_outcome, held_text, most_held, refusal_text, refused_outcome}
 use Rattle.shell_reports.specs.Sectors.{arena_lines, sector_outcome}
-use Rattle.shell_reports.specs.Causes.{breaks, fault_in, found_in, is_broken, is_unfound, lacks, lacks_found, opened_in, refuses_info}
+use Rattle.shell_reports.specs.Causes.{breaks, fault_in, found_in, is_broken, is_unfound, lacks, lacks_found, opened_in}
 use Rattle.shell_reports.proofs.Causes.{SectorsCase, faulty, unfound, broken, opened, sectors_case}
 use Rattle.shell_reports.proofs.More.{ending_of}
 use Rattle.session_script.specs.declared.payload.Payload.{Payload}
@@ -54,7 +54,7 @@ use Rattle.shell_sectors.proofs.Causes.{SetCase, set_broken, set_case, set_fault
 use Rattle.shell_export.specs.Causes.{breaks_export, refuses_export}
 use Rattle.shell_export.specs.Export.{export_outcome}
 use Rattle.shell_export.proofs.Causes.{export_ends, ending_for as ending_by_cause}
-use Rattle.shell_rescue.specs.Causes.{breaks_rescue}
+use Rattle.shell_rescue.specs.Causes.{breaks_rescue, refuses_rescue}
 use Rattle.shell_rescue.specs.Comes.{rescue_outcome}
 use Rattle.shell_rescue.proofs.Causes.{rescue_ends}
 use Rattle.session_script.specs.declared.schedule.Replay.{Replay as Schedules}
@@ -295,14 +295,14 @@ export_case uuid zeros loaded outcome comes =
 
 -- ---- `rescue`
 
-rescue_by : (uuid : List ℕ) (listing : Bool) (loaded : ImageSet) (e : Ending) (b c : Bool) → breaks_rescue loaded uuid listing ≡ b → refuses_info loaded uuid ≡ c → e ≡ ending_by_cause b c → CommandCase (Rescue uuid listing) (Ok loaded) e
+rescue_by : (uuid : List ℕ) (listing : Bool) (loaded : ImageSet) (e : Ending) (b c : Bool) → breaks_rescue loaded uuid listing ≡ b → refuses_rescue loaded uuid ≡ c → e ≡ ending_by_cause b c → CommandCase (Rescue uuid listing) (Ok loaded) e
 rescue_by uuid listing loaded e true c p q is = is_refused p is
 rescue_by uuid listing loaded e false true p q is = is_turned_down p refl q is
 rescue_by uuid listing loaded e false false p q is = is_done p refl q is
 
 rescue_case : (uuid : List ℕ) (listing : Bool) (loaded : ImageSet) (outcome : Outcome) → outcome ≡ rescue_outcome uuid listing loaded → CommandCase (Rescue uuid listing) (Ok loaded) outcome.ending
 rescue_case uuid listing loaded outcome comes =
-    rescue_by uuid listing loaded outcome.ending (breaks_rescue loaded uuid listing) (refuses_info loaded uuid) refl refl (ending_of outcome (rescue_outcome uuid listing loaded) comes ∙ (rescue_ends loaded uuid listing).0)
+    rescue_by uuid listing loaded outcome.ending (breaks_rescue loaded uuid listing) (refuses_rescue loaded uuid) refl refl (ending_of outcome (rescue_outcome uuid listing loaded) comes ∙ (rescue_ends loaded uuid listing).0)
 
 -- ---- `import`
 
@@ -358,6 +358,7 @@ module _ (leaves : ℕ → List (Option Words) → List (Option (List ℕ)) → 
   command_case (Info uuid) (Ok loaded) outcome comes = info_case uuid loaded outcome (sectors_case (λ states. printed (arena_lines 0 states)) loaded uuid outcome comes)
   command_case (Check uuid repair) (Ok loaded) outcome comes = check_case uuid repair loaded outcome (fault_in loaded) (found_in loaded uuid) refl refl comes
   command_case CheckSet (Ok loaded) outcome comes = absurd comes
+  command_case RepairSet (Ok loaded) outcome comes = is_done refl refl refl comes.ends
   command_case (Read uuid sector) (Ok loaded) outcome comes = read_case uuid sector loaded outcome (sectors_case (sector_outcome sector) loaded uuid outcome comes)
   command_case (Write uuid sector value) (Ok loaded) outcome comes =
       write_case uuid sector value loaded outcome (set_case (WritesArenas uuid sector value loaded outcome) loaded uuid outcome comes)
@@ -421,6 +422,7 @@ module _ (leaves : ℕ → List (Option Words) → List (Option (List ℕ)) → 
   script_ending (Info uuid) script set outcome comes = plain_ending (Info uuid) set outcome comes
   script_ending (Check uuid repair) script set outcome comes = plain_ending (Check uuid repair) set outcome comes
   script_ending CheckSet script set outcome comes = ending_of outcome (set_check_outcome set) (comes set refl)
+  script_ending RepairSet script set outcome comes = plain_ending RepairSet set outcome comes
   script_ending (Read uuid sector) script set outcome comes = plain_ending (Read uuid sector) set outcome comes
   script_ending (Write uuid sector value) script set outcome comes = plain_ending (Write uuid sector value) set outcome comes
   script_ending (Export uuid zeros) script set outcome comes = plain_ending (Export uuid zeros) set outcome comes

@@ -32,7 +32,7 @@ use Rattle.shell_serve.specs.declared.serving.Running.{Running}
 use Rattle.shell_serve.specs.Serve.{ServeComes}
 use Rattle.shell_run.specs.declared.scripts.ScriptRefused.{ScriptRefused}
 use Rattle.shell_run.specs.declared.words.CommandLine.{CommandLine}
-use Rattle.shell_run.specs.declared.words.CommandLine.TheVariants.{Labels, Nfit, Init, Change, Info, Check, CheckSet, Read, Write, Replay as AskReplay, Export, Rescue, Import, Serve, Load}
+use Rattle.shell_run.specs.declared.words.CommandLine.TheVariants.{Labels, Nfit, Init, Change, Info, Check, CheckSet, RepairSet, Read, Write, Replay as AskReplay, Export, Rescue, Import, Serve, Load}
 use Rattle.shell_run.specs.declared.words.CommandLine.TheVariants as command
 use Rattle.shell_run.specs.declared.top.Streamed.{Streamed}
 use Rattle.shell_run.specs.declared.top.Streamed.TheVariants as streamed
@@ -238,6 +238,7 @@ session_copies (command.Change c power) some = let e = some in cc
 session_copies (command.Info uuid) some = let e = some in cc
 session_copies (command.Check uuid repair) some = let e = some in cc
 session_copies command.CheckSet some = let e = some in cc
+session_copies command.RepairSet some = let e = some in cc
 session_copies (command.Read uuid sector) some = let e = some in cc
 session_copies (command.Write uuid sector value) some = let e = some in cc
 session_copies (command.Replay uuid seed) some = let e = some in cc
@@ -268,6 +269,7 @@ module _ (leaves : ℕ → List (Option Words) → List (Option (List ℕ)) → 
   plain_comes (Info uuid) plain other on = on
   plain_comes (Check uuid repair) plain other on = on
   plain_comes CheckSet plain other on = absurd (let e = other in cc)
+  plain_comes RepairSet plain other on = on
   plain_comes (Read uuid sector) plain other on = on
   plain_comes (Write uuid sector value) plain other on = on
   plain_comes (AskReplay uuid seed) plain other on = absurd (let e = plain in cc)

@@ -2,7 +2,7 @@
 use Rattle.std.proofs.Common.{◌≡◌, [], ◌∷◌, Some, None, refl, codes}
 use Rattle.clap.proofs.OnLiterals.{clap_on_literals}
 use Rattle.command_words.specs.Parsed.{parsed}
-use Rattle.shell_run.specs.declared.words.CommandLine.TheVariants.{Labels, Nfit, CheckSet}
+use Rattle.shell_run.specs.declared.words.CommandLine.TheVariants.{Labels, Nfit, CheckSet, RepairSet}
 use Rattle.shell_run.specs.Commands.{kind_of}
 use Rattle.shell_run.specs.Words.{command_of}
 
@@ -46,9 +46,13 @@ pub check_alone : command_of (codes "check" ∷ []) ≡ Some CheckSet
 unfolding clap_on_literals parsed kind_of
 check_alone = refl
 
-pub check_repair_alone : command_of (codes "check" ∷ codes "--repair" ∷ []) ≡ None
+pub check_repair_alone : command_of (codes "check" ∷ codes "--repair" ∷ []) ≡ Some RepairSet
 unfolding clap_on_literals parsed kind_of
 check_repair_alone = refl
+
+pub check_repair_twice : command_of (codes "check" ∷ codes "--repair" ∷ codes "--repair" ∷ []) ≡ None
+unfolding clap_on_literals parsed kind_of
+check_repair_twice = refl
 
 pub no_command : command_of (codes "help" ∷ []) ≡ None
 unfolding clap_on_literals parsed kind_of

@@ -1,5 +1,5 @@
 -- The table of commands: each has a name, and a list of arguments for the words after it.
-use Rattle.std.specs.Prelude.{List, [], ◌∷◌, ℕ, Option, Some, None, if◌then◌else◌, codes}
+use Rattle.std.specs.Prelude.{List, [], ◌∷◌, ℕ, Option, Some, None, ◌&&◌, if◌then◌else◌, codes}
 use Rattle.std.specs.Str.{bytes_eq}
 use Rattle.command_words.specs.App.{Described}
 use Rattle.command_words.specs.declared.argument.Form.TheVariants.{Place, Optional, Required, Flag}
@@ -28,10 +28,11 @@ kind_of name =
     else if bytes_eq name (codes "load") then Some kind.Load
     else None
 
--- the same with the words after it: `check` alone is the check of the whole set
+-- the same with the words after it: `check` alone is the check of the whole set, and `check --repair` its repair
 abbrev pub kind_with : List ℕ → List (List ℕ) → Option CommandKind
 kind_with name [] = if bytes_eq name (codes "check") then Some kind.CheckSet else kind_of name
-kind_with name (word ∷ words) = kind_of name
+kind_with name (word ∷ []) = if bytes_eq name (codes "check") && bytes_eq word (codes "--repair") then Some kind.RepairSet else kind_of name
+kind_with name (word ∷ another ∷ words) = kind_of name
 
 -- the options on power cuts
 abbrev pub power_arguments : List Described
@@ -51,6 +52,7 @@ arguments_of kind.Rename = (codes "uuid", Place) ∷ (codes "name", Place) ∷ p
 arguments_of kind.Info = (codes "uuid", Place) ∷ []
 arguments_of kind.Check = (codes "uuid", Place) ∷ (codes "repair", Flag) ∷ []
 arguments_of kind.CheckSet = []
+arguments_of kind.RepairSet = (codes "repair", Flag) ∷ []
 arguments_of kind.Read = (codes "uuid", Place) ∷ (codes "sector", Place) ∷ []
 arguments_of kind.Write = (codes "uuid", Place) ∷ (codes "sector", Place) ∷ (codes "value", Place) ∷ []
 arguments_of kind.Replay = (codes "uuid", Place) ∷ (codes "evict", Optional) ∷ []

@@ -13,7 +13,7 @@ use Rattle.shell_reports.specs.declared.status.Ending.TheVariants as ending
 use Rattle.shell_reports.specs.declared.status.Status.{Status}
 use Rattle.shell_reports.specs.declared.status.Status.TheVariants as status
 use Rattle.shell_run.specs.declared.words.CommandLine.{CommandLine}
-use Rattle.shell_run.specs.declared.words.CommandLine.TheVariants.{Labels, Nfit, Init, Change, Info, Check, CheckSet, Read, Write, Replay, Export, Rescue, Import, Serve, Load}
+use Rattle.shell_run.specs.declared.words.CommandLine.TheVariants.{Labels, Nfit, Init, Change, Info, Check, CheckSet, RepairSet, Read, Write, Replay, Export, Rescue, Import, Serve, Load}
 use Rattle.shell_run.specs.declared.words.CommandLine.TheVariants as command
 use Rattle.shell_run.specs.Words.{HasGoodValues, command_of}
 use Rattle.shell_reports.specs.Outcome.{Outcome, usage, lf, status_of}
@@ -30,6 +30,7 @@ use Rattle.shell_reports.specs.List.{list_outcome}
 use Rattle.shell_reports.specs.Sectors.{info_outcome, read_outcome}
 use Rattle.shell_check.specs.Comes.{CheckComes}
 use Rattle.shell_set_check.specs.Whole.{set_check_outcome}
+use Rattle.shell_set_check.specs.Repair.{SetRepairComes}
 use Rattle.shell_sectors.specs.Write.{WriteComes}
 use Rattle.shell_export.specs.Export.{export_outcome}
 use Rattle.shell_rescue.specs.Comes.{rescue_outcome}
@@ -55,6 +56,7 @@ LoadedComes leaves (Change c power) loaded outcome = ChangeComes leaves c power 
 LoadedComes leaves (Info uuid) loaded outcome = outcome ≡ info_outcome uuid loaded
 LoadedComes leaves (Check uuid repair) loaded outcome = CheckComes uuid repair loaded outcome
 LoadedComes leaves CheckSet loaded outcome = ⊥
+LoadedComes leaves RepairSet loaded outcome = SetRepairComes loaded outcome
 LoadedComes leaves (Read uuid sector) loaded outcome = outcome ≡ read_outcome uuid sector loaded
 LoadedComes leaves (Write uuid sector value) loaded outcome = WriteComes uuid sector value loaded outcome
 LoadedComes leaves (Replay uuid seed) loaded outcome = ⊥
@@ -103,6 +105,7 @@ reads_script (Change c power) = false
 reads_script (Info uuid) = false
 reads_script (Check uuid repair) = false
 reads_script CheckSet = false
+reads_script RepairSet = false
 reads_script (Read uuid sector) = false
 reads_script (Write uuid sector value) = false
 reads_script (Replay uuid seed) = true
@@ -122,6 +125,7 @@ streams (Change c power) = false
 streams (Info uuid) = false
 streams (Check uuid repair) = false
 streams CheckSet = false
+streams RepairSet = false
 streams (Read uuid sector) = false
 streams (Write uuid sector value) = false
 streams (Replay uuid seed) = false
@@ -154,6 +158,7 @@ has_sessions (Change c power) = false
 has_sessions (Info uuid) = false
 has_sessions (Check uuid repair) = false
 has_sessions CheckSet = false
+has_sessions RepairSet = false
 has_sessions (Read uuid sector) = false
 has_sessions (Write uuid sector value) = false
 has_sessions (Replay uuid seed) = false
@@ -173,6 +178,7 @@ copies (Change c power) = true
 copies (Info uuid) = false
 copies (Check uuid repair) = true
 copies CheckSet = false
+copies RepairSet = true
 copies (Read uuid sector) = false
 copies (Write uuid sector value) = true
 copies (Replay uuid seed) = true

@@ -21,7 +21,7 @@ use Rattle.shell_changes.specs.Namespaces.{sets_in, refuses}
 use Rattle.shell_set_check.specs.Whole.{set_check_outcome}
 use Rattle.shell_sectors.specs.Causes.{refuses_write}
 use Rattle.shell_export.specs.Causes.{breaks_export, refuses_export}
-use Rattle.shell_rescue.specs.Causes.{breaks_rescue}
+use Rattle.shell_rescue.specs.Causes.{breaks_rescue, refuses_rescue}
 use Rattle.shell_import.specs.Causes.{refuses_import}
 use Rattle.shell_replay.specs.Causes.{refuses_replay}
 use Rattle.session_script.specs.declared.script.Script.{Script}
@@ -31,7 +31,7 @@ use Rattle.shell_serve.specs.Causes.{breaks_load, breaks_serve, refuses_load, re
 use Rattle.shell_run.specs.declared.scripts.ScriptRefused.{ScriptRefused}
 use Rattle.shell_run.specs.Scripts.{bytes_in, script_in}
 use Rattle.shell_run.specs.declared.words.CommandLine.{CommandLine}
-use Rattle.shell_run.specs.declared.words.CommandLine.TheVariants.{Labels, Nfit, Init, Change, Info, Check, CheckSet, Read, Write, Replay, Export, Rescue, Import, Serve, Load}
+use Rattle.shell_run.specs.declared.words.CommandLine.TheVariants.{Labels, Nfit, Init, Change, Info, Check, CheckSet, RepairSet, Read, Write, Replay, Export, Rescue, Import, Serve, Load}
 use Rattle.shell_run.specs.declared.words.CommandLine.TheVariants as command
 use Rattle.shell_run.specs.Words.{command_of}
 
@@ -70,6 +70,7 @@ refuses_images (Change c power) (Ok loaded) = is_err (sets_in loaded)
 refuses_images (Info uuid) (Ok loaded) = is_broken loaded uuid
 refuses_images (Check uuid repair) (Ok loaded) = is_some (fault_in loaded)
 refuses_images CheckSet (Ok loaded) = false
+refuses_images RepairSet (Ok loaded) = false
 refuses_images (Read uuid sector) (Ok loaded) = is_broken loaded uuid
 refuses_images (Write uuid sector value) (Ok loaded) = is_broken loaded uuid
 refuses_images (Replay uuid seed) (Ok loaded) = is_broken loaded uuid
@@ -101,7 +102,7 @@ is_barred (Read uuid sector) (Ok loaded) = refuses_read loaded uuid sector
 is_barred (Write uuid sector value) (Ok loaded) = refuses_write loaded uuid sector value
 is_barred (Replay uuid seed) (Ok loaded) = refuses_replay loaded uuid
 is_barred (Export uuid zeros) (Ok loaded) = refuses_export loaded uuid zeros
-is_barred (Rescue uuid listing) (Ok loaded) = refuses_info loaded uuid
+is_barred (Rescue uuid listing) (Ok loaded) = refuses_rescue loaded uuid
 is_barred (Load l workers) (Ok loaded) = refuses_load l loaded
 is_barred command found = false
 

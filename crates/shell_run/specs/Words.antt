@@ -7,7 +7,7 @@ use Rattle.shell_run.specs.declared.commands.CommandKind.{CommandKind}
 use Rattle.shell_run.specs.declared.commands.CommandKind.TheVariants as kind
 use Rattle.shell_run.specs.declared.words.CommandLine.{CommandLine}
 use Rattle.shell_run.specs.declared.words.LoadSize.{LoadSize}
-use Rattle.shell_run.specs.declared.words.CommandLine.TheVariants.{Labels, Nfit, Init, Change, Info, Check, CheckSet, Read, Write, Replay, Export, Rescue, Import, Serve, Load}
+use Rattle.shell_run.specs.declared.words.CommandLine.TheVariants.{Labels, Nfit, Init, Change, Info, Check, CheckSet, RepairSet, Read, Write, Replay, Export, Rescue, Import, Serve, Load}
 use Rattle.shell_run.specs.declared.words.CommandLine.TheVariants as command
 use Rattle.shell_reports.specs.declared.power.Power.{Power}
 use Rattle.namespace_ops.specs.Carried.{HasGoodName}
@@ -78,6 +78,7 @@ command_in kind.Rename values = option_and_then (λ c. option_map (λ power. Cha
 command_in kind.Info values = option_map (λ uuid. Info uuid) (uuid_in (codes "uuid") values)
 command_in kind.Check values = option_map (λ uuid. Check uuid (flag_in (codes "repair") values)) (uuid_in (codes "uuid") values)
 command_in kind.CheckSet values = Some CheckSet
+command_in kind.RepairSet values = Some RepairSet
 command_in kind.Read values = option_and_then (λ uuid. option_map (λ sector. Read uuid sector) (number_in 0 most (codes "sector") values)) (uuid_in (codes "uuid") values)
 command_in kind.Write values = write_in values
 command_in kind.Replay values = replay_in values
@@ -107,6 +108,7 @@ HasGoodValues (Change c power) = HasGoodName c
 HasGoodValues (Info uuid) = ⊤
 HasGoodValues (Check uuid repair) = ⊤
 HasGoodValues CheckSet = ⊤
+HasGoodValues RepairSet = ⊤
 HasGoodValues (Read uuid sector) = ⊤
 HasGoodValues (Write uuid sector value) = ⊤
 HasGoodValues (Replay uuid seed) = ⊤

@@ -24,6 +24,9 @@ pub enum CommandKind {
     Check,
     /// Checks the whole set. It has no name of its own: it is `check` without another word.
     CheckSet,
+    /// Repairs the label areas of the whole set, and checks it. It is `check` with the word
+    /// `--repair` alone.
+    RepairSet,
     /// Prints a sector of a namespace.
     Read,
     /// Writes a sector of a namespace.
@@ -239,14 +242,17 @@ impl CommandKind {
     }
 
     /// The command that a name says with the words after it: `check` alone is the check of the whole
-    /// set.
+    /// set, and `check --repair` its repair.
     pub fn of_words(name: &str, words: &[String]) -> Option<CommandKind>
         ensures { result ≡ kind_with name.now (map string_bytes words.now) }
     {
-        if words.is_empty() && name == "check" {
-            return Some(CommandKind::CheckSet);
+        match words {
+            [] if name == "check" => Some(CommandKind::CheckSet),
+            [word] if name == "check" && word.as_str() == "--repair" => {
+                Some(CommandKind::RepairSet)
+            }
+            _ => CommandKind::of_name(name),
         }
-        CommandKind::of_name(name)
     }
 
     /// The command's arguments.
@@ -274,6 +280,7 @@ impl CommandKind {
             CommandKind::Info => &[UUID],
             CommandKind::Check => &[UUID, REPAIR],
             CommandKind::CheckSet => &[],
+            CommandKind::RepairSet => &[REPAIR],
             CommandKind::Read => &[UUID, SECTOR],
             CommandKind::Write => &[UUID, SECTOR, VALUE],
             CommandKind::Replay => &[UUID, EVICT],

@@ -41,7 +41,7 @@ use shell_reports::{
 };
 use shell_rescue::rescue_answer;
 use shell_sectors::{info_answer, read_answer, write_answer};
-use shell_set_check::set_check_answer;
+use shell_set_check::{set_check_answer, set_repair_answer};
 use std::alloc::{AllocError, Global};
 use std::sync::Wait;
 use std::thread::Threads;
@@ -146,6 +146,7 @@ fn reads_script(command: &CommandLine) -> bool
         CommandLine::Info(_) => false,
         CommandLine::Check(_, _) => false,
         CommandLine::CheckSet => false,
+        CommandLine::RepairSet => false,
         CommandLine::Read(_, _) => false,
         CommandLine::Write(_, _, _) => false,
         CommandLine::Replay(_, _) => true,
@@ -170,6 +171,7 @@ pub fn has_sessions(command: &CommandLine) -> bool
         CommandLine::Info(_) => false,
         CommandLine::Check(_, _) => false,
         CommandLine::CheckSet => false,
+        CommandLine::RepairSet => false,
         CommandLine::Read(_, _) => false,
         CommandLine::Write(_, _, _) => false,
         CommandLine::Replay(_, _) => false,
@@ -216,6 +218,7 @@ fn outlined_answer<S: ImageSource, C: Chooser>(
         CommandLine::Info(uuid) => arenas_found(alloc, &uuid, outline, images),
         CommandLine::Check(uuid, repair) => { check_answer(alloc, &uuid, repair, outline, images) }
         CommandLine::CheckSet => unreachable!(),
+        CommandLine::RepairSet => set_repair_answer(alloc, outline, images),
         CommandLine::Read(uuid, sector) => sector_found(alloc, &uuid, sector, outline, images),
         CommandLine::Write(uuid, sector, value) => {
             write_answer(alloc, &uuid, sector, value, outline, images)

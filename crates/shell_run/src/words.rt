@@ -31,6 +31,8 @@ pub enum CommandLine {
     Check(Uuid, bool),
     /// Check the whole set.
     CheckSet,
+    /// Repair the label areas of the whole set, and check it.
+    RepairSet,
     /// Print a sector of a namespace.
     Read(Uuid, u64),
     /// Write a sector of a namespace.
@@ -202,6 +204,7 @@ fn command_in(kind: CommandKind, values: &Parsed<'_>) -> Option<CommandLine>
             Some(CommandLine::Check(uuid, values.flag("repair")))
         }
         CommandKind::CheckSet => Some(CommandLine::CheckSet),
+        CommandKind::RepairSet => Some(CommandLine::RepairSet),
         CommandKind::Read => {
             let uuid = values.uuid("uuid")?;
             Some(CommandLine::Read(uuid, values.number("sector", 0, u64::MAX)?))

@@ -1,3 +1,6 @@
 pub mod Text
 pub mod Namespaces
 pub mod Whole
+pub mod Repair
+pub mod Repairing
+pub mod Laws

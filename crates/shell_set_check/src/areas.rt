@@ -37,7 +37,12 @@ fn index_fault_text(alloc: Global, fault: IndexFault) -> Result<String, AllocErr
 }
 
 /// Returns the text of an index block that is refused.
-fn side_text(alloc: Global, module: u32, side: u32, fault: IndexFault) -> Result<String, AllocError>
+pub(crate) fn side_text(
+    alloc: Global,
+    module: u32,
+    side: u32,
+    fault: IndexFault,
+) -> Result<String, AllocError>
     ensures text { IfOk result (λ text. string_bytes text ≡ side_text «module» side fault) }
     ensures finding { IfOk result (λ _. fault ≢ IndexFault.OutOfMemory) }
 {

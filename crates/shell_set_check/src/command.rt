@@ -25,7 +25,7 @@ use shell_sectors::{OutlineOpened, open_outline};
 use std::alloc::{AllocError, Global};
 
 /// Returns what was made, or the stop if memory ran out.
-fn in_memory<T>(made: Result<T, AllocError>) -> Result<T, RunStop>
+pub(crate) fn in_memory<T>(made: Result<T, AllocError>) -> Result<T, RunStop>
     ensures same { IfOk result (λ x. made ≡ Ok x) }
     ensures memory { result ≢ Err RunStop.ReadFault }
 {
@@ -36,7 +36,11 @@ fn in_memory<T>(made: Result<T, AllocError>) -> Result<T, RunStop>
 }
 
 /// Appends the lines of everything but the arenas. It returns the set as it was.
-fn push_outline(alloc: Global, read: SetRead, text: &mut Vec<u8>) -> Result<Outline, AllocError>
+pub(crate) fn push_outline(
+    alloc: Global,
+    read: SetRead,
+    text: &mut Vec<u8>,
+) -> Result<Outline, AllocError>
     requires { IsSetRead read }
     ensures lines { OnOk result (text.new.items ≡ text.old.items ++ outline_lines read.outline.nfit read.faults (map (option_map bytes_kept) read.outline.labels) read.outline.bad) }
     ensures same { IfOk result (λ outline. outline ≡ read.outline) }
@@ -72,7 +76,7 @@ fn push_found<S: ImageSource>(
 
 /// Appends the lines of the arenas of a set whose objects have no fault, or that its arenas aren't
 /// checked, since its table or its labels have one.
-fn push_opened<S: ImageSource>(
+pub(crate) fn push_opened<S: ImageSource>(
     alloc: Global,
     outline: Outline,
     images: &mut S,

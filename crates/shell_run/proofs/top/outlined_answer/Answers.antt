@@ -7,7 +7,7 @@ use Rattle.shell_changes.specs.Answers.{HasSizes}
 use Rattle.shell_changes.specs.Remains.{LeavesBy}
 use Rattle.shell_changes.specs.Saved.{copies_contents}
 use Rattle.shell_changes.proofs.Remains.{copies_none, no_sizes}
-use Rattle.shell_run.specs.declared.words.CommandLine.TheVariants.{Labels, Nfit, Init, Change, Info, Check, Read, Write}
+use Rattle.shell_run.specs.declared.words.CommandLine.TheVariants.{Labels, Nfit, Init, Change, Info, Check, RepairSet, Read, Write}
 use Rattle.shell_run.specs.declared.words.CommandLine.TheVariants as command
 use Rattle.shell_run.specs.Run.{LoadedComes, OnSource, checks_set, copies, has_sessions, reads_script, streams}
 use Rattle.shell_run.specs.Words.{HasGoodValues}
@@ -106,6 +106,20 @@ returns-in-Check-clause-sizes g c = if_more _ (HasSizes c.args.outline.sizes) c.
 pub returns-in-Check-clause-copying : goal.returns-in-Check-clause-copying
 returns-in-Check-clause-copying g c =
     copies_by_it (LeavesBy g.C.Chooser.begins g.C.Chooser.picks c.args.choose.now) c.args.command (Check c.in-Check.uuid c.in-Check.repair) c.in-Check.is c.check_answer.result refl
+
+pub returns-in-RepairSet-clause-comes : goal.returns-in-RepairSet-clause-comes
+returns-in-RepairSet-clause-comes g c =
+    let leaves = LeavesBy g.C.Chooser.begins g.C.Chooser.picks c.args.choose.now in
+    let held = g.S.ImageSource.held c.args.images.now in
+    source_of leaves c.args.command RepairSet c.in-RepairSet.is held c.args.outline c.set_repair_answer.result
+    (if_more _ (OnSource (LoadedComes leaves RepairSet) held c.args.outline) c.set_repair_answer.result (λ answer from. from.comes) c.set_repair_answer.ensures.told)
+
+pub returns-in-RepairSet-clause-sizes : goal.returns-in-RepairSet-clause-sizes
+returns-in-RepairSet-clause-sizes g c = if_more _ (HasSizes c.args.outline.sizes) c.set_repair_answer.result (λ answer from. from.sizes) c.set_repair_answer.ensures.told
+
+pub returns-in-RepairSet-clause-copying : goal.returns-in-RepairSet-clause-copying
+returns-in-RepairSet-clause-copying g c =
+    copies_by_it (LeavesBy g.C.Chooser.begins g.C.Chooser.picks c.args.choose.now) c.args.command RepairSet c.in-RepairSet.is c.set_repair_answer.result refl
 
 pub returns-in-Read-clause-comes : goal.returns-in-Read-clause-comes
 returns-in-Read-clause-comes g c =
